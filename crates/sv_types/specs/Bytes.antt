@@ -1,0 +1,55 @@
+-- Bytes, words and pages of guest memory. A byte is a number below 256, memory is a list of bytes.
+-- RISC-V Unprivileged manual, "Memory" and "Base Instruction-Length Encoding": bytes, little-endian words.
+-- RISC-V Privileged manual, "Sv39": pages of 4,096 bytes.
+use Rattle.std.specs.Prelude.{ℕ, zero, suc, ◌+◌, ◌-◌, ◌*◌, ◌/◌, ◌%◌, Bool, ◌&&◌, List, [], ◌∷◌, ◌++◌, length, take, drop, nat_le}
+
+-- the number that the bytes write, the lowest byte first
+abbrev pub little_endian : List ℕ → ℕ
+little_endian [] = 0
+little_endian (b ∷ bs) = b + 256 * little_endian bs
+
+-- the n lowest bytes of a number, the lowest first
+abbrev pub low_bytes : ℕ → ℕ → List ℕ
+low_bytes zero value = []
+low_bytes (suc n) value = value % 256 ∷ low_bytes n (value / 256)
+
+-- n bytes of a list, from place `at` on
+abbrev pub part : List ℕ → ℕ → ℕ → List ℕ
+part list at n = take n (drop at list)
+
+-- the word of n bytes at place `at`
+unfoldable pub word : List ℕ → ℕ → ℕ → ℕ
+word list at n = little_endian (part list at n)
+
+-- the list with bytes written from place `at` on
+unfoldable pub overwrite : List ℕ → ℕ → List ℕ → List ℕ
+overwrite list at bytes = take at list ++ (bytes ++ drop (at + length bytes) list)
+
+-- the list with the n lowest bytes of a value written at place `at`
+abbrev pub write_word : List ℕ → ℕ → ℕ → ℕ → List ℕ
+write_word list at n value = overwrite list at (low_bytes n value)
+
+-- where guest RAM begins, and the bytes of a page
+abbrev pub ram_base : ℕ
+ram_base = 0x80000000
+
+abbrev pub page_size : ℕ
+page_size = 4096
+
+-- the place in RAM of a guest-physical address, its page, and its place in the page
+abbrev pub ram_place : ℕ → ℕ
+ram_place gpa = gpa - ram_base
+
+abbrev pub page_of : ℕ → ℕ
+page_of gpa = ram_place gpa / page_size
+
+abbrev pub place_in_page : ℕ → ℕ
+place_in_page gpa = ram_place gpa % page_size
+
+-- all n bytes at a guest-physical address lie in RAM
+abbrev pub in_ram : List ℕ → ℕ → ℕ → Bool
+in_ram ram gpa n = nat_le ram_base gpa && nat_le (ram_place gpa + n) (length ram)
+
+-- the bytes of a page
+abbrev pub page_bytes : List ℕ → ℕ → List ℕ
+page_bytes ram page = part ram (page_size * page) page_size

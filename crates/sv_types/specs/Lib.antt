@@ -1,0 +1,14 @@
+pub mod Causes
+pub mod Bytes
+pub mod Regions
+pub mod Instructions
+pub mod Effects
+pub mod Reference
+pub mod Turn
+pub mod Run
+pub mod Measure
+pub mod Boot
+pub mod Numbers
+pub mod Words
+pub mod Output
+pub mod Start

@@ -1,0 +1,86 @@
+-- What a run prints, and its status. This project's own.
+use Rattle.std.specs.Prelude.{ℕ, zero, suc, ◌/◌, ◌%◌, List, [], ◌∷◌, ◌++◌, codes}
+use Rattle.std.specs.Fmt.{decimal}
+use Rattle.std.specs.Char.{digit_char}
+use Rattle.sv_types.specs.Reference.{State}
+use Rattle.sv_types.specs.declared.event.Counts.{Counts}
+use Rattle.sv_types.specs.declared.event.Verdict.{Verdict}
+use Rattle.sv_types.specs.declared.event.Verdict.TheVariants.{Running, Shutdown, Stopped}
+use Rattle.sv_types.specs.declared.event.Rule.{Rule}
+use Rattle.sv_types.specs.declared.event.Rule.TheVariants.{Outside, Word, Write}
+use Rattle.sv_types.specs.declared.status.Status.{Status}
+
+abbrev pub line_feed : List ℕ
+line_feed = 10 ∷ []
+
+-- the lowest n hexadecimal digits of a number, in lower case
+unfoldable pub hexadecimal : ℕ → ℕ → List ℕ
+hexadecimal zero value = []
+hexadecimal (suc n) value = hexadecimal n (value / 16) ++ digit_char (value % 16) ∷ []
+
+-- the hexadecimal digits of bytes
+abbrev pub hexadecimal_bytes : List ℕ → List ℕ
+hexadecimal_bytes [] = []
+hexadecimal_bytes (b ∷ bs) = digit_char (b / 16) ∷ digit_char (b % 16) ∷ hexadecimal_bytes bs
+
+unfoldable pub address_text : ℕ → List ℕ
+address_text a = codes "0x" ++ hexadecimal 16 a
+
+unfoldable pub word_text : ℕ → List ℕ
+word_text w = codes "0x" ++ hexadecimal 8 w
+
+-- ---- counts
+
+unfoldable pub notes_line : Counts → List ℕ
+notes_line c = codes "notes " ++ (decimal c.notes ++ line_feed)
+
+unfoldable pub events_line : Counts → List ℕ
+events_line c =
+    codes "turns " ++ (decimal c.turns ++ (codes " beats " ++ (decimal c.beats ++ (codes " keys " ++ (decimal c.keys ++
+    (codes " ticks " ++ (decimal c.ticks ++ line_feed)))))))
+
+unfoldable pub retired_line : Counts → List ℕ
+retired_line c =
+    codes "retired " ++ (decimal c.retired ++ (codes " traps " ++ (decimal c.traps ++ (codes " enters " ++ (decimal c.enters ++
+    (codes " leaves " ++ (decimal c.leaves ++ (codes " demotes " ++ (decimal c.demotes ++ line_feed)))))))))
+
+unfoldable pub denied_line : Counts → List ℕ
+denied_line c =
+    codes "denied " ++ (decimal c.denied ++ (codes " dropped " ++ (decimal c.dropped ++ (codes " loads " ++ (decimal c.loads ++
+    (codes " unloads " ++ (decimal c.unloads ++ (codes " refused " ++ (decimal c.refused ++ line_feed)))))))))
+
+-- ---- the verdict
+
+unfoldable pub rule_name : Rule → List ℕ
+rule_name (Outside pc) = codes "outside"
+rule_name (Word pc word) = codes "word"
+rule_name (Write pc gpa) = codes "write"
+
+unfoldable pub rule_places : Rule → List ℕ
+rule_places (Outside pc) = codes " pc " ++ address_text pc
+rule_places (Word pc word) = codes " pc " ++ address_text pc ++ codes " word " ++ word_text word
+rule_places (Write pc gpa) = codes " pc " ++ address_text pc ++ codes " gpa " ++ address_text gpa
+
+unfoldable pub stop_head : Rule → ℕ → ℕ → List ℕ
+stop_head rule hart turn =
+    codes "verdict stopped " ++ (rule_name rule ++ (codes " hart " ++ (decimal hart ++ (codes " turn " ++ decimal turn))))
+
+unfoldable pub verdict_line : Verdict → List ℕ
+verdict_line Running = codes "verdict ended" ++ line_feed
+verdict_line Shutdown = codes "verdict shutdown" ++ line_feed
+verdict_line (Stopped rule hart turn) = stop_head rule hart turn ++ rule_places rule ++ line_feed
+
+-- ---- the whole
+
+-- the report's lines. The lines of the notes will stand before the first of these, once there are notes
+unfoldable pub report_lines : Verdict → Counts → List ℕ
+report_lines verdict counts = notes_line counts ++ events_line counts ++ retired_line counts ++ denied_line counts ++ verdict_line verdict
+
+-- all printed bytes, a line feed, and the report
+abbrev pub output : State → List ℕ
+output r = r.printed ++ (line_feed ++ report_lines r.verdict r.counts)
+
+abbrev pub run_status : Verdict → Status
+run_status Running = Status.Ended
+run_status Shutdown = Status.Done
+run_status (Stopped rule hart turn) = Status.Stopped

@@ -1,0 +1,46 @@
+-- The words of a command line: which command they are of, and the first one that is out of its range. This project's
+-- own.
+use Rattle.std.specs.Prelude.{ℕ, ◌^◌, Bool, false, ◌&&◌, List, [], ◌∷◌, length, ◌==◌, if◌then◌else◌, Option, Some, None, codes, slice_index_or}
+use Rattle.std.specs.List.{list_any}
+use Rattle.std.specs.Str.{bytes_eq}
+use Rattle.sv_types.specs.Numbers.{number_within, digest_of}
+
+pub data Judged : Type 0 where
+  NoCommand : Judged
+  -- the name of the first word that is out of its range
+  OutOfRange : (name : List ℕ) → Judged
+  Flat : (file wanted : List ℕ) → (events : ℕ) → Judged
+
+-- a word begins with a dash
+abbrev pub has_dash : List ℕ → Bool
+has_dash [] = false
+has_dash (first ∷ rest) = first == 45
+
+-- the word at a place
+abbrev pub word_at : List (List ℕ) → ℕ → List ℕ
+word_at words i = slice_index_or words i []
+
+-- ---- flat FILE MEASURE EVENTS
+
+abbrev pub most_events : ℕ
+most_events = 2 ^ 32
+
+abbrev pub flat_file : List (List ℕ) → List ℕ
+flat_file words = word_at words 1
+
+unfoldable pub flat_words : List ℕ → Option (List ℕ) → Option ℕ → Judged
+flat_words file None events = OutOfRange (codes "MEASURE")
+flat_words file (Some wanted) None = OutOfRange (codes "EVENTS")
+flat_words file (Some wanted) (Some events) = Flat file wanted events
+
+abbrev pub is_flat : List (List ℕ) → Bool
+is_flat words = length words == 4 && bytes_eq (word_at words 0) (codes "flat")
+
+-- the ranges are judged from left to right
+abbrev pub flat_judged : List (List ℕ) → Judged
+flat_judged words = flat_words (flat_file words) (digest_of (word_at words 2)) (number_within 0 most_events (word_at words 3))
+
+-- ---- all commands
+
+unfoldable pub judged : List (List ℕ) → Judged
+judged words = if list_any has_dash words then NoCommand else if is_flat words then flat_judged words else NoCommand

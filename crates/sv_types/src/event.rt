@@ -1,0 +1,65 @@
+// What happens to the machine, and what it records.
+
+/// The rule by which a machine stops.
+#[derive(Clone, Copy, Debug, PartialEq, Eq, Drop)]
+pub enum Rule {
+    /// The pc lies in no approved page.
+    Outside { pc: u64 },
+    /// The word at the pc can't be carried out.
+    Word { pc: u64, word: u32 },
+    /// A store into an approved page, at a guest-physical address.
+    Write { pc: u64, gpa: u64 },
+}
+
+/// Whether the machine runs. `turn` is the count of turns with the one that stopped it.
+#[derive(Clone, Copy, Debug, PartialEq, Eq, Drop)]
+pub enum Verdict {
+    Running,
+    Shutdown,
+    Stopped { rule: Rule, hart: u8, turn: u64 },
+}
+
+/// One atomic action: a turn of a hart, a move of the block device, a byte of input, time that passes.
+#[derive(Clone, Copy, Debug, PartialEq, Eq, Drop)]
+pub enum Event {
+    Turn(u8),
+    Beat,
+    Key(u8),
+    Tick(u64),
+}
+
+/// One line of the machine's journal.
+#[derive(Clone, Copy, Debug, PartialEq, Eq, Drop)]
+pub enum Note {
+    /// A hart left kernel mode, since its next instruction isn't approved.
+    Demote {
+        hart: u8,
+        turn: u64,
+        pc: u64,
+        gpa: u64,
+    },
+    /// The block device was kept from writing into a protected page.
+    Denied {
+        gpa: u64,
+    },
+}
+
+/// How often each thing happened.
+#[derive(Clone, Copy, Debug, PartialEq, Eq, Drop)]
+pub struct Counts {
+    pub turns: u64,
+    pub beats: u64,
+    pub keys: u64,
+    pub ticks: u64,
+    pub retired: u64,
+    pub traps: u64,
+    pub enters: u64,
+    pub leaves: u64,
+    pub demotes: u64,
+    pub denied: u64,
+    pub dropped: u64,
+    pub loads: u64,
+    pub unloads: u64,
+    pub refused: u64,
+    pub notes: u64,
+}

@@ -1,0 +1,16 @@
+//! The plain data that every layer names. In `specs/` stand the definitions that contracts cite.
+#![tactic(auto)]
+
+mod cause;
+mod effect;
+mod event;
+mod instruction;
+mod status;
+mod wires;
+
+pub use cause::Cause;
+pub use effect::Effect;
+pub use event::{Counts, Event, Note, Rule, Verdict};
+pub use instruction::{Instr, OpImmOp, StoreOp};
+pub use status::Status;
+pub use wires::{Access, Exit, HRegs, Interrupt, Lines, Mode, Protection, View};

@@ -1,0 +1,68 @@
+// What a hart sees from outside, and how it looks at memory.
+
+/// A hart's privilege.
+#[derive(Clone, Copy, Debug, PartialEq, Eq, Drop)]
+pub enum Mode {
+    Kernel,
+    User,
+}
+
+/// Which second-stage tree a hart looks through.
+#[derive(Clone, Copy, Debug, PartialEq, Eq, Drop)]
+pub enum View {
+    Kernel,
+    User,
+}
+
+/// A kind of access to memory.
+#[derive(Clone, Copy, Debug, PartialEq, Eq, Drop)]
+pub enum Access {
+    Fetch,
+    Load,
+    Store,
+}
+
+/// How a page of RAM is guarded.
+#[derive(Clone, Copy, Debug, PartialEq, Eq, Drop)]
+pub enum Protection {
+    Free,
+    Held,
+    Approved,
+}
+
+/// An interrupt of the guest.
+#[derive(Clone, Copy, Debug, PartialEq, Eq, Drop)]
+pub enum Interrupt {
+    External,
+    Software,
+    Timer,
+}
+
+/// The hypervisor registers of one hart.
+#[derive(Clone, Copy, Debug, PartialEq, Eq, Drop)]
+pub struct HRegs {
+    pub mode: Mode,
+    pub hgatp: u64,
+    pub hedeleg: u64,
+    pub hideleg: u64,
+    pub vtsr: bool,
+}
+
+/// The wires that a hart sees.
+#[derive(Clone, Copy, Debug, PartialEq, Eq, Drop)]
+pub struct Lines {
+    pub time: u64,
+    pub external: bool,
+    pub timer: bool,
+}
+
+/// What an attempt hands to SecVisor.
+#[derive(Clone, Copy, Debug, PartialEq, Eq, Drop)]
+pub struct Exit {
+    pub interrupt: bool,
+    pub cause: u64,
+    pub pc: u64,
+    pub stval: u64,
+    pub htval: u64,
+    pub htinst: u32,
+}
