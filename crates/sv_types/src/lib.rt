@@ -5,6 +5,7 @@ mod cause;
 mod effect;
 mod event;
 mod instruction;
+mod name;
 mod status;
 mod wires;
 
@@ -12,5 +13,6 @@ pub use cause::Cause;
 pub use effect::Effect;
 pub use event::{Counts, Event, Note, Rule, Verdict};
 pub use instruction::{Instr, OpImmOp, StoreOp};
+pub use name::{MOST_NAME_BYTES, Name};
 pub use status::Status;
 pub use wires::{Access, Exit, HRegs, Interrupt, Lines, Mode, Protection, View};

@@ -1,0 +1,4 @@
+pub mod Outside
+pub mod Answers
+pub mod Words
+pub mod Console
