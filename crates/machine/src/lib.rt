@@ -5,7 +5,6 @@ mod boot;
 mod effect;
 mod guest_memory;
 mod machine;
-mod measure;
 
 pub use boot::BootRefusal;
 pub use machine::Machine;

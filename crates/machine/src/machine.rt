@@ -10,7 +10,7 @@ ghost use Rattle.machine.specs.Boot.{RefusesFlat};
 use crate::boot::BootRefusal;
 use crate::effect::effect;
 use crate::guest_memory::{GuestMemory, RAM_BASE};
-use crate::measure::measure;
+use page_measure::measure;
 use rv64_decode::decode;
 use std::alloc::{AllocError, Global};
 use std::marker::Model;
