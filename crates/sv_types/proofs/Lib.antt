@@ -1,2 +1,4 @@
 pub mod RunLemmas
 pub mod Growth
+pub mod ByteLemmas
+pub mod RegionLemmas
