@@ -1,5 +1,6 @@
 // Guest RAM and its approved pages.
-ghost use Rattle.std.specs.Prelude.{◌≡◌, ◌≤◌, ◌%◌, ◌*◌, ◌/◌, length, IfOk, IsTrue, option_map, false, Option};
+ghost use Rattle.std.specs.Prelude.{◌≡◌, ◌==◌, ◌≤◌, ◌%◌, ◌*◌, ◌/◌, length, IfOk, IsTrue, option_map, false, Option};
+ghost use Rattle.std.specs.List.{list_any};
 ghost use Rattle.sv_types.specs.Bytes.{padded, in_ram, page_of, page_size, ram_place, write_word};
 ghost use Rattle.sv_types.specs.Reference.{is_approved, approved_pages, numbers_from};
 ghost use Rattle.sv_types.specs.Turn.{approved_bytes_at, word_in_page};
@@ -59,7 +60,7 @@ impl GuestMemory {
         ensures { result ≡ is_approved self.now.approved (page_of gpa) }
     {
         let page = (gpa.saturating_sub(RAM_BASE)) / PAGE_BYTES;
-        self.approved.iter().any(|p| *p as u64 == page)
+        is_listed(&self.approved, page)
     }
 
     /// The word at an address, where its page is approved.
@@ -84,6 +85,12 @@ impl GuestMemory {
         let at = self.mem.table_bytes() + (gpa - RAM_BASE) as usize;
         self.mem.write(at, 1, value);
     }
+}
+
+fn is_listed(pages: &[u32], page: u64) -> bool
+    ensures { result ≡ list_any (λ p. p == page) pages.now }
+{
+    pages.iter().any(|p| *p as u64 == page)
 }
 
 fn flat_region(alloc: Global, pages: &[u8]) -> Result<HostMem, AllocError>
