@@ -57,6 +57,15 @@ prefix_behind old now new a b taken part = record {
   taken = part.taken ∙ ap (λ (s : SinkState). appended s.taken part.written) taken ∙ appended-append old.taken a part.written;
 }
 
+-- bytes that were taken whole, and more of which a write failed
+pub breaks_behind : (old now new : SinkState) (a b : List ℕ) → now ≡ after_taking old a → BreaksOff now new b → BreaksOff old new (a ++ b)
+unfolding prefix_behind
+breaks_behind old now new a b taken broke = record {
+  prefix = prefix_behind old now new a b taken broke.prefix;
+  some_left = broke.some_left;
+  faults = subst (λ (n : ℕ). n < new.faults) (ap (λ (s : SinkState). s.faults) taken) broke.faults;
+}
+
 pub prefix_of_front : (old new : SinkState) (a b : List ℕ) → TookPrefix old new a → TookPrefix old new (a ++ b)
 prefix_of_front old new a b part = record {
   written = part.written;

@@ -68,7 +68,7 @@ pub trait Sink {
 
     /// Takes the first bytes of a piece, and says how many: at least one of a piece that isn't empty.
     fn write(&mut self, piece: &[u8]) -> Result<usize, Failed>
-        requires open { IsTrue (state self.old).is_open }
+        requires is_open { IsTrue (state self.old).is_open }
         requires count { (state self.old).faults < 2 ^ 64 - 1 }
         ensures took { IfOk result (λ n. state self.new ≡ after_taking (state self.old) (take n piece.now)) }
         ensures within { IfOk result (λ n. n ≤ length piece.now) }

@@ -1,21 +1,28 @@
 -- From what was found under the name of the file to what is asked.
-use Rattle.std.proofs.Common.{◌≡◌, ◌≢◌, ℕ, ◌+◌, ◌%◌, ◌≤◌, ◌<◌, List, [], length, Bool, true, false, IsTrue, refl, sym, ◌∙◌, ap, subst, arith, rules, inl, inr, Option, Some, None, Result, Ok, Err, if◌then◌else◌, IsErrOf}
+use Rattle.std.proofs.Common.{◌≡◌, ◌≢◌, ℕ, ◌≤◌, ◌<◌, List, [], length, Bool, true, false, IsTrue, refl, sym, ◌∙◌, ap, subst, arith, rules, inl, Option, Some, None, Result, Err, if◌then◌else◌, IsErrOf, codes, ◌++◌}
 use Rattle.std.specs.Str.{bytes_eq}
+use Rattle.std.specs.Fmt.{digits}
+use Rattle.sv_types.specs.Output.{line_feed, run_status}
+use Rattle.sv_types.specs.declared.event.Verdict.{Verdict}
+use Rattle.sv_types.specs.declared.event.Verdict.TheVariants.{Running, Shutdown, Stopped}
+use Rattle.sv_types.specs.Words.{judged, flat_file, Judged, Flat}
 use Rattle.std.proofs.lemmas.Slice.Eq.{bytes_eq-Decides}
 use Rattle.std.proofs.lemmas.Bool.Decides.{nat_tests}
 use Rattle.sv_types.specs.declared.event.Event.{Event}
 use Rattle.sv_types.specs.declared.status.Status.{Status}
-use Rattle.sv_types.specs.declared.status.Status.TheVariants.{Refused, ReadFault}
+use Rattle.sv_types.specs.declared.status.Status.TheVariants.{Refused, ReadFault, Usage}
 use Rattle.sv_types.specs.Reference.{State}
 use Rattle.sv_types.specs.Run.{CountsAtMost}
 use Rattle.sv_types.specs.Measure.{measure}
 use Rattle.sv_types.specs.Boot.{flat_start, boot_state, no_counts}
-use Rattle.sv_types.specs.Start.{Asked, Refuse, RunFrom, Found, Faulty, Missing, Held, bytes_due, measure_judged, flat_file_judged, is_whole_pages, measure_line, refused_line, flat_part, flat_read_fault}
+use Rattle.sv_types.specs.Start.{Asked, Refuse, RunFrom, Found, Faulty, Missing, Held, bytes_due, measure_judged, flat_file_judged, is_whole_pages, measure_line, refused_line, read_fault_line, asked_of, turns}
 use Rattle.outside.specs.Outside.{FilesState, SinkState}
 use Rattle.outside.proofs.SinkLemmas.{prefix_none}
 use Rattle.secvisor_cli.specs.declared.trouble.Trouble.{Trouble}
-use Rattle.secvisor_cli.specs.declared.trouble.Trouble.TheVariants.{Write, Memory}
-use Rattle.secvisor_cli.specs.Answers.{Writes, Answers, BenchAfter, FoundAs}
+use Rattle.secvisor_cli.specs.declared.trouble.Trouble.TheVariants.{Memory}
+use Rattle.secvisor_cli.specs.Answers.{Writes, Answers, Accounts, BenchAfter, FoundAs, usage_text, is_command, is_answer}
+use Rattle.secvisor_cli.specs.Words.{AreJudged}
+use Rattle.secvisor_cli.specs.declared.words.UsageFault.{UsageFault}
 
 -- ---- want of memory
 
@@ -72,20 +79,20 @@ pub file_whole : (bytes wanted : List ℕ) (events : List Event) → length byte
 unfolding flat_file_judged
 file_whole bytes wanted events le whole = grind (arith, nat_tests)
 
-pub file_part : (bytes wanted : List ℕ) (events : List Event) → length bytes ≤ 65536 → is_whole_pages bytes ≡ false → Refuse Refused (refused_line flat_part 1) ≡ flat_file_judged (Held bytes) wanted events
-unfolding flat_file_judged
+pub file_part : (bytes wanted : List ℕ) (events : List Event) → length bytes ≤ 65536 → is_whole_pages bytes ≡ false → Refuse Refused (codes "refused flat 1" ++ line_feed) ≡ flat_file_judged (Held bytes) wanted events
+unfolding flat_file_judged refused_line digits
 file_part bytes wanted events le part = grind (arith, nat_tests)
 
-pub file_long : (bytes wanted : List ℕ) (events : List Event) → 65536 < length bytes → Refuse Refused (refused_line flat_part 0) ≡ flat_file_judged (Held bytes) wanted events
-unfolding flat_file_judged
+pub file_long : (bytes wanted : List ℕ) (events : List Event) → 65536 < length bytes → Refuse Refused (codes "refused flat 0" ++ line_feed) ≡ flat_file_judged (Held bytes) wanted events
+unfolding flat_file_judged refused_line digits
 file_long bytes wanted events over = grind (arith, nat_tests)
 
-pub file_missing : (wanted : List ℕ) (events : List Event) → flat_read_fault ≡ flat_file_judged Missing wanted events
-unfolding flat_file_judged
+pub file_missing : (wanted : List ℕ) (events : List Event) → Refuse ReadFault (codes "read fault flat" ++ line_feed) ≡ flat_file_judged Missing wanted events
+unfolding flat_file_judged read_fault_line
 file_missing wanted events = refl
 
-pub file_faulty : (wanted : List ℕ) (events : List Event) → flat_read_fault ≡ flat_file_judged Faulty wanted events
-unfolding flat_file_judged
+pub file_faulty : (wanted : List ℕ) (events : List Event) → Refuse ReadFault (codes "read fault flat" ++ line_feed) ≡ flat_file_judged Faulty wanted events
+unfolding flat_file_judged read_fault_line
 file_faulty wanted events = refl
 
 -- ---- what is found where nothing was read, or where memory was wanting
@@ -96,9 +103,10 @@ told true (Some bytes) = Held bytes
 told false held = Held []
 
 told_as : (tells : Bool) (files : FilesState) (name : List ℕ) (held : Option (List ℕ)) → files.tells ≡ tells → files.held name ≡ held → FoundAs files files name (told tells held)
-told_as true files name None t h = (subst (λ (b : Bool). IsTrue b) (sym t) tt, h, refl)
+unfolding told
+told_as true files name None t h = (t, h, refl)
 told_as true files name (Some bytes) t h = (λ _. h, refl)
-told_as false files name held t h = (λ yes. absurd (subst (λ (b : Bool). IsTrue b) t yes), refl)
+told_as false files name held t h = (λ yes. absurd (cc (sym yes ∙ t)), refl)
 
 pub unread_found : FilesState → List ℕ → Found
 unread_found files name = told files.tells (files.held name)
@@ -118,3 +126,50 @@ flat_counts pages m is =
 pub flat_console : (pages : List ℕ) (m : State) → m ≡ flat_start pages → m.printed ≡ []
 unfolding flat_start boot_state
 flat_console pages m is = ap (λ (r : State). r.printed) is
+
+-- ---- the words
+
+-- the same, asked in other words
+pub accounts_same : (asked other : Found → Asked) (name named : List ℕ) (f0 f1 : FilesState) (old new : SinkState) (b0 b1 : Option State) (result : Result Status Trouble) →
+    ((found : Found) → asked found ≡ other found) → name ≡ named → Accounts asked name f0 f1 old new b0 b1 result → Accounts other named f0 f1 old new b0 b1 result
+accounts_same asked other name named f0 f1 old new b0 b1 result same same_name a = record {
+  found = a.found;
+  found_as = subst (λ (n : List ℕ). FoundAs f0 f1 n a.found) same_name a.found_as;
+  answers = subst (λ (x : Asked). Answers x old new b0 b1 result) (same a.found) a.answers;
+}
+
+pub flat_asked : (j : Judged) (file wanted : List ℕ) (events : ℕ) (found : Found) → j ≡ Flat file wanted events → flat_file_judged found wanted (turns events) ≡ asked_of j found
+unfolding asked_of
+flat_asked j file wanted events found is = ap (λ (k : Judged). asked_of k found) (sym is)
+
+pub flat_is_command : (j : Judged) (file wanted : List ℕ) (events : ℕ) → j ≡ Flat file wanted events → is_command j ≡ false → ⊥
+flat_is_command j file wanted events is none = cc (sym none ∙ ap is_command is)
+
+pub usage_asked : (words : List (List ℕ)) (fault : UsageFault) (found : Found) → AreJudged words (Err fault) → Refuse Usage (usage_text fault) ≡ asked_of (judged words) found
+unfolding asked_of
+usage_asked words UsageFault.NoCommand found is = ap (λ (j : Judged). asked_of j found) (sym is)
+usage_asked words UsageFault.Measure found is = ap (λ (j : Judged). asked_of j found) (sym is)
+usage_asked words UsageFault.Events found is = ap (λ (j : Judged). asked_of j found) (sym is)
+
+-- a refusal that reads no file
+pub usage_accounts : (words : List (List ℕ)) (fault : UsageFault) (files : FilesState) (old new : SinkState) (bench : Option State) (result : Result Status Trouble) →
+    AreJudged words (Err fault) → Writes Usage (usage_text fault) old new result → Accounts (asked_of (judged words)) (flat_file words) files files old new bench bench result
+usage_accounts words fault files old new bench result is w = record {
+  found = unread_found files (flat_file words);
+  found_as = unread_found_as files (flat_file words);
+  answers = refuse_answers _ Usage (usage_text fault) old new bench result (usage_asked words fault (unread_found files (flat_file words)) is) w;
+}
+
+-- want of memory while the file was read
+pub wanting_accounts : (asked : Found → Asked) (name : List ℕ) (f0 f1 : FilesState) (sink : SinkState) (bench : Option State) → f1 ≡ f0 → Accounts asked name f0 f1 sink sink bench bench (Err Memory)
+wanting_accounts asked name f0 f1 sink bench same = record {
+  found = unread_found f0 name;
+  found_as = subst (λ (f : FilesState). FoundAs f0 f name (unread_found f0 name)) (sym same) (unread_found_as f0 name);
+  answers = wanting_answers (asked (unread_found f0 name)) sink bench;
+}
+
+-- the status of a run is neither a write fault nor want of memory
+pub run_is_answer : (v : Verdict) → IsTrue (is_answer (run_status v))
+run_is_answer Running = refl
+run_is_answer Shutdown = refl
+run_is_answer (Stopped rule hart turn) = refl

@@ -8,8 +8,8 @@ use Rattle.sv_types.specs.Run.{run, step, with_printed, CountsAtMost}
 use Rattle.sv_types.specs.Start.{turns}
 use Rattle.sv_types.proofs.Growth.{step-grows}
 use Rattle.sv_types.proofs.RunLemmas.{step-with_printed, run-turns-suc}
-use Rattle.outside.specs.Outside.{SinkState, after_taking, TookPrefix, BreaksOff}
-use Rattle.outside.proofs.SinkLemmas.{after_taking-append, after_taking-nil, prefix_behind}
+use Rattle.outside.specs.Outside.{SinkState, after_taking, BreaksOff}
+use Rattle.outside.proofs.SinkLemmas.{after_taking-append, after_taking-nil, breaks_behind}
 use Rattle.secvisor_cli.specs.Console.{Flushed, HasRun, RunBroke}
 
 with_printed-append : (a b : List ℕ) (r : State) → with_printed (a ++ b) r ≡ with_printed a (with_printed b r)
@@ -39,14 +39,6 @@ has_run_more start m next flushed i old now new ran stepped f = record {
       with_printed-append ran.cleared f.cleared flushed ∙ ap (λ (r : State). with_printed ran.cleared r) f.state
       ∙ one_turn start m next i ran.cleared ran.state stepped;
   taken = f.taken ∙ ap (λ (s : SinkState). after_taking s f.cleared) ran.taken ∙ after_taking-append old ran.cleared f.cleared;
-}
-
--- bytes that were taken whole, and more of which a write failed
-breaks_behind : (old now new : SinkState) (a b : List ℕ) → now ≡ after_taking old a → BreaksOff now new b → BreaksOff old new (a ++ b)
-breaks_behind old now new a b taken broke = record {
-  prefix = prefix_behind old now new a b taken broke.prefix;
-  some_left = broke.some_left;
-  faults = subst (λ (n : ℕ). n < new.faults) (ap (λ (s : SinkState). s.faults) taken) broke.faults;
 }
 
 pub run_broke : (start m next left : State) (i events : ℕ) (old now new : SinkState) → i < events → HasRun start (turns i) m old now → next ≡ step m (Turn 0) →

@@ -1,5 +1,5 @@
 -- The end of a run: the rest of the console, and the report.
-use Rattle.std.proofs.Common.{◌≡◌, ℕ, List, [], ◌∷◌, ◌++◌, ◌<◌, refl, sym, ◌∙◌, ap, subst, append_assoc, inl, inr, Result, Ok, Err}
+use Rattle.std.proofs.Common.{◌≡◌, ℕ, List, [], ◌++◌, ◌<◌, refl, sym, ◌∙◌, ap, subst, append_assoc, inl, inr, Result, Ok, Err}
 use Rattle.std.proofs.lemmas.List.{append-nil}
 use Rattle.sv_types.specs.declared.event.Event.{Event}
 use Rattle.sv_types.specs.declared.status.Status.{Status}
@@ -7,12 +7,29 @@ use Rattle.sv_types.specs.Reference.{State}
 use Rattle.sv_types.specs.Run.{run, with_printed}
 use Rattle.sv_types.specs.Output.{output, report_lines, run_status, line_feed}
 use Rattle.sv_types.proofs.RunLemmas.{run-with_printed, run-append}
-use Rattle.outside.specs.Outside.{SinkState, after_taking, TookPrefix}
-use Rattle.outside.proofs.SinkLemmas.{after_taking-append, prefix_behind, prefix_of_front, prefix_same}
+use Rattle.outside.specs.Outside.{SinkState, after_taking, TookPrefix, BreaksOff}
+use Rattle.outside.proofs.SinkLemmas.{after_taking-append, prefix_behind, prefix_of_front, prefix_same, breaks_behind}
 use Rattle.secvisor_cli.specs.declared.trouble.Trouble.{Trouble}
-use Rattle.secvisor_cli.specs.declared.trouble.Trouble.TheVariants.{Write, Memory}
 use Rattle.secvisor_cli.specs.Console.{HasRun, RunBroke}
 use Rattle.secvisor_cli.specs.Answers.{Writes, Reaches}
+
+-- ---- the rest of the console, and then the report
+
+pub finish_broke : (m : State) (old mid new : SinkState) (printed text : List ℕ) → mid ≡ after_taking old printed → printed ≡ m.printed →
+    BreaksOff mid new text → text ≡ line_feed ++ report_lines m.verdict m.counts → (TookPrefix old new (output m)) × (old.faults < new.faults)
+finish_broke m old mid new printed text first printed_is broke text_is =
+    let whole : printed ++ text ≡ output m = ap (λ (p : List ℕ). p ++ text) printed_is ∙ ap (λ (t : List ℕ). m.printed ++ t) text_is in
+    (prefix_same old new _ _ whole (prefix_behind old mid new printed text first broke.prefix), (breaks_behind old mid new printed text first broke).faults)
+
+pub finish_whole : (m : State) (old mid new : SinkState) (printed text : List ℕ) → mid ≡ after_taking old printed → printed ≡ m.printed →
+    new ≡ after_taking mid text → text ≡ line_feed ++ report_lines m.verdict m.counts → new ≡ after_taking old (output m)
+finish_whole m old mid new printed text first printed_is second text_is =
+    let whole : printed ++ text ≡ output m = ap (λ (p : List ℕ). p ++ text) printed_is ∙ ap (λ (t : List ℕ). m.printed ++ t) text_is in
+    second ∙ ap (λ (k : SinkState). after_taking k text) first ∙ after_taking-append old printed text ∙ ap (λ (b : List ℕ). after_taking old b) whole
+
+pub printed_broke : (m : State) (old new : SinkState) (printed : List ℕ) → printed ≡ m.printed → BreaksOff old new printed → TookPrefix old new (output m)
+printed_broke m old new printed is broke =
+    prefix_of_front old new m.printed (line_feed ++ report_lines m.verdict m.counts) (prefix_same old new _ _ is broke.prefix)
 
 -- ---- the console only grows
 

@@ -2,12 +2,10 @@
 use Rattle.std.specs.Prelude.{◌≡◌, ◌≢◌, ◌<◌, ◌⊎◌, ℕ, List, [], ◌++◌, length, Bool, true, false, IsTrue, Option, Some, None, Result, OnOk, IfOk, IsErrOf, codes}
 use Rattle.sv_types.specs.declared.event.Event.{Event}
 use Rattle.sv_types.specs.declared.status.Status.{Status}
-use Rattle.sv_types.specs.declared.status.Status.TheVariants as Status
 use Rattle.sv_types.specs.Reference.{State}
 use Rattle.sv_types.specs.Run.{run, with_printed}
 use Rattle.sv_types.specs.Output.{line_feed}
 use Rattle.secvisor_cli.specs.declared.words.UsageFault.{UsageFault}
-use Rattle.secvisor_cli.specs.declared.words.UsageFault.TheVariants as UsageFault
 use Rattle.sv_types.specs.Start.{usage_line, Asked, Refuse, RunFrom, Found, Faulty, Missing, Held, asked_of, bytes_due, status_due}
 use Rattle.sv_types.specs.Words.{Judged, NoCommand, OutOfRange, Flat}
 use Rattle.outside.specs.Outside.{FilesState, SinkState, after_taking, TookPrefix, BreaksOff}

@@ -1,4 +1,3 @@
-pub mod Outside
 pub mod Answers
 pub mod Words
 pub mod Console

@@ -3,7 +3,6 @@ use Rattle.std.specs.Prelude.{◌≡◌, ℕ, List, Result, Ok, Err, codes}
 use Rattle.sv_types.specs.Words.{judged, flat_file, NoCommand, OutOfRange, Flat}
 use Rattle.secvisor_cli.specs.declared.words.FlatWords.{FlatWords}
 use Rattle.secvisor_cli.specs.declared.words.UsageFault.{UsageFault}
-use Rattle.secvisor_cli.specs.declared.words.UsageFault.TheVariants as UsageFault
 
 -- the words are judged so
 abbrev pub AreJudged : List (List ℕ) → Result FlatWords UsageFault → Type 0

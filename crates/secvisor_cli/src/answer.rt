@@ -2,17 +2,16 @@
 ghost use Rattle.std.specs.Prelude.{◌≡◌, ◌<◌, ◌≤◌, ◌-◌, ◌^◌, ◌%◌, ◌⊎◌, ℕ, List, Option, [], length, map, string_bytes, IsTrue, false};
 ghost use Rattle.sv_types.specs.Output.{output, run_status};
 ghost use Rattle.sv_types.specs.Run.{CountsAtMost, run};
-ghost use Rattle.sv_types.specs.Start.{turns, RunFrom, Held, measure_judged, flat_file_judged, asked_of, is_whole_pages};
+ghost use Rattle.sv_types.specs.Start.{turns, RunFrom, Held, measure_judged, flat_file_judged, asked_of, is_whole_pages, measure_line};
 ghost use Rattle.sv_types.specs.Words.{judged, flat_file};
 ghost use Rattle.secvisor_cli.specs.Answers.{Writes, Answers, usage_text, Accounts, Reaches, Headline, is_answer, is_command};
 
-use outside::{FileRefusal, Files, Sink};
 use crate::report::{measure_line, report};
 use crate::run::run;
 use crate::trouble::Trouble;
 use crate::words::{FlatWords, UsageFault, judge};
-use crate::write::write_all;
 use machine::{BootRefusal, Machine, Verdict};
+use outside::{FileRefusal, Files, Sink, write_all};
 use std::alloc::Global;
 use sv_types::Status;
 
@@ -36,7 +35,7 @@ pub fn secvisor<F: Files, O: Sink>(
 ) -> Status
     // Nothing but the file in the words may be asked for.
     requires permitted { IsTrue ((F.state files.old).permits (flat_file (map string_bytes words.now))) }
-    requires open { IsTrue (O.state out.old).is_open }
+    requires is_open { IsTrue (O.state out.old).is_open }
     requires reads { (F.state files.old).read_faults < 2 ^ 64 - 1 }
     requires saves { (F.state files.old).save_faults < 2 ^ 64 - 1 }
     requires writes { (O.state out.old).faults < 2 ^ 64 - 1 }
@@ -76,7 +75,7 @@ fn answer_words<F: Files, O: Sink>(
     bench: &mut Bench,
 ) -> Result<Status, Trouble>
     requires permitted { IsTrue ((F.state files.old).permits (flat_file (map string_bytes words.now))) }
-    requires open { IsTrue (O.state out.old).is_open }
+    requires is_open { IsTrue (O.state out.old).is_open }
     requires reads { (F.state files.old).read_faults < 2 ^ 64 - 1 }
     requires writes { (O.state out.old).faults < 2 ^ 64 - 1 }
     ensures accounts { let words = map string_bytes words.now in
@@ -93,8 +92,9 @@ fn answer_words<F: Files, O: Sink>(
     }
 }
 
+#[tactic(auto, unfolding(sv_types::specs::Start::usage_line))]
 fn refuse_usage<O: Sink>(fault: UsageFault, out: &mut O) -> Result<Status, Trouble>
-    requires open { IsTrue (O.state out.old).is_open }
+    requires is_open { IsTrue (O.state out.old).is_open }
     requires count { (O.state out.old).faults < 2 ^ 64 - 1 }
     ensures { Writes Status.Usage (usage_text fault) (O.state out.old) (O.state out.new) result }
 {
@@ -115,7 +115,7 @@ fn answer_flat<F: Files, O: Sink>(
     bench: &mut Bench,
 ) -> Result<Status, Trouble>
     requires permitted { IsTrue ((F.state files.old).permits name.now) }
-    requires open { IsTrue (O.state out.old).is_open }
+    requires is_open { IsTrue (O.state out.old).is_open }
     requires reads { (F.state files.old).read_faults < 2 ^ 64 - 1 }
     requires writes { (O.state out.old).faults < 2 ^ 64 - 1 }
     requires events { flat.events ≤ 2 ^ 32 }
@@ -139,7 +139,7 @@ fn answer_bytes<O: Sink>(
     out: &mut O,
     bench: &mut Bench,
 ) -> Result<Status, Trouble>
-    requires open { IsTrue (O.state out.old).is_open }
+    requires is_open { IsTrue (O.state out.old).is_open }
     requires count { (O.state out.old).faults < 2 ^ 64 - 1 }
     requires events { flat.events ≤ 2 ^ 32 }
     requires size { length bytes.now ≤ 65536 }
@@ -168,7 +168,7 @@ fn boot_and_run<O: Sink>(
     out: &mut O,
     bench: &mut Bench,
 ) -> Result<Status, Trouble>
-    requires open { IsTrue (O.state out.old).is_open }
+    requires is_open { IsTrue (O.state out.old).is_open }
     requires count { (O.state out.old).faults < 2 ^ 64 - 1 }
     requires events { flat.events ≤ 2 ^ 32 }
     requires whole { length pages.now % 4096 ≡ 0 }
@@ -190,7 +190,7 @@ fn refuse_measure<O: Sink>(
     wanted: &[u8; 32],
     out: &mut O,
 ) -> Result<Status, Trouble>
-    requires open { IsTrue (O.state out.old).is_open }
+    requires is_open { IsTrue (O.state out.old).is_open }
     requires count { (O.state out.old).faults < 2 ^ 64 - 1 }
     ensures { Writes Status.Refused (measure_line found.now wanted.now) (O.state out.old) (O.state out.new) result }
 {
@@ -206,7 +206,7 @@ fn run_on_bench<O: Sink>(
     out: &mut O,
     bench: &mut Bench,
 ) -> Result<Status, Trouble>
-    requires open { IsTrue (O.state out.old).is_open }
+    requires is_open { IsTrue (O.state out.old).is_open }
     requires count { (O.state out.old).faults < 2 ^ 64 - 1 }
     requires events { events ≤ 2 ^ 32 }
     requires counts { CountsAtMost 0 machine.counts }
@@ -225,7 +225,7 @@ fn run_and_report<O: Sink>(
     events: u64,
     out: &mut O,
 ) -> Result<Status, Trouble>
-    requires open { IsTrue (O.state out.old).is_open }
+    requires is_open { IsTrue (O.state out.old).is_open }
     requires count { (O.state out.old).faults < 2 ^ 64 - 1 }
     requires events { events ≤ 2 ^ 32 }
     requires counts { CountsAtMost 0 machine.old.counts }
@@ -240,7 +240,7 @@ fn run_and_report<O: Sink>(
 
 // The rest of the console, and the report.
 fn finish<O: Sink>(alloc: Global, machine: &Machine, out: &mut O) -> Result<Status, Trouble>
-    requires open { IsTrue (O.state out.old).is_open }
+    requires is_open { IsTrue (O.state out.old).is_open }
     requires count { (O.state out.old).faults < 2 ^ 64 - 1 }
     ensures { Writes (run_status machine.now.verdict) (output machine.now) (O.state out.old) (O.state out.new) result }
 {
@@ -266,7 +266,7 @@ fn status_of(verdict: Verdict) -> Status
 
 // One line, and a status.
 fn refuse<O: Sink>(out: &mut O, status: Status, line: &[u8]) -> Result<Status, Trouble>
-    requires open { IsTrue (O.state out.old).is_open }
+    requires is_open { IsTrue (O.state out.old).is_open }
     requires count { (O.state out.old).faults < 2 ^ 64 - 1 }
     requires proper { IsTrue (is_answer status) }
     ensures { Writes status line.now (O.state out.old) (O.state out.new) result }

@@ -2,13 +2,10 @@
 #![tactic(auto)]
 
 mod answer;
-mod outside;
 mod report;
 mod run;
 mod trouble;
 mod words;
-mod write;
 
 pub use answer::{Bench, secvisor};
-pub use outside::{Failed, FileRefusal, Files, SaveFailed, Sink};
 pub use sv_types::Status;

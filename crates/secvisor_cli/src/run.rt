@@ -5,15 +5,14 @@ ghost use Rattle.sv_types.specs.Start.{turns};
 ghost use Rattle.outside.specs.Outside.{BreaksOff};
 ghost use Rattle.secvisor_cli.specs.Console.{Flushed, HasRun, RunBroke};
 
-use outside::{Failed, Sink};
-use crate::write::write_all;
 use machine::{Event, Machine};
+use outside::{Failed, Sink, write_all};
 
 const CONSOLE_ROOM: usize = 4096;
 
 /// Writes the console's bytes where 4,096 of them stand.
 fn flush_full<O: Sink>(machine: &mut Machine, out: &mut O) -> Result<(), Failed>
-    requires open { IsTrue (O.state out.old).is_open }
+    requires is_open { IsTrue (O.state out.old).is_open }
     requires count { (O.state out.old).faults < 2 ^ 64 - 1 }
     requires room { length machine.old.printed ≤ 4096 }
     ensures flushed { OnOk result (Flushed machine.old machine.new (O.state out.old) (O.state out.new)) }
@@ -31,7 +30,7 @@ fn flush_full<O: Sink>(machine: &mut Machine, out: &mut O) -> Result<(), Failed>
 
 /// Runs a fresh machine for a number of turns. Where a write fails it stands after some of them.
 pub fn run<O: Sink>(machine: &mut Machine, events: u64, out: &mut O) -> Result<(), Failed>
-    requires open { IsTrue (O.state out.old).is_open }
+    requires is_open { IsTrue (O.state out.old).is_open }
     requires count { (O.state out.old).faults < 2 ^ 64 - 1 }
     requires events { events ≤ 2 ^ 32 }
     requires counts { CountsAtMost 0 machine.old.counts }

@@ -28,7 +28,7 @@ pub enum UsageFault {
 }
 
 /// Judges the words, from left to right.
-#[tactic(auto, unfolding(sv_types::specs::Words::judged, sv_types::specs::Words::flat_words))]
+#[tactic(auto, using(crate::proofs::WordLemmas::list_any_map), unfolding(sv_types::specs::Words::judged, sv_types::specs::Words::flat_words))]
 pub fn judge(words: &[String]) -> Result<FlatWords, UsageFault>
     ensures judged { AreJudged (map string_bytes words.now) result }
     ensures events { IfOk result (λ flat. flat.events ≤ 2 ^ 32) }
@@ -37,8 +37,12 @@ pub fn judge(words: &[String]) -> Result<FlatWords, UsageFault>
     if !is_flat(words) || any_has_dash(words) {
         return Err(UsageFault::NoCommand);
     }
-    let wanted = digest_of(words[2].as_str()).ok_or(UsageFault::Measure)?;
-    let events = number_within(words[3].as_str().as_bytes(), 0, MOST_EVENTS).ok_or(UsageFault::Events)?;
+    let Some(wanted) = digest_of(words[2].as_str()) else {
+        return Err(UsageFault::Measure);
+    };
+    let Some(events) = number_within(words[3].as_str().as_bytes(), 0, MOST_EVENTS) else {
+        return Err(UsageFault::Events);
+    };
     Ok(FlatWords { wanted, events })
 }
 
@@ -51,7 +55,7 @@ fn is_flat(words: &[String]) -> bool
 }
 
 fn any_has_dash(words: &[String]) -> bool
-    ensures { result ≡ list_any has_dash (map string_bytes words.now) }
+    ensures { result ≡ list_any (λ word. has_dash (string_bytes word)) words.now }
 {
     words.iter().any(|word| has_dash(word.as_str()))
 }

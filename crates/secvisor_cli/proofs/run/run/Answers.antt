@@ -1,4 +1,4 @@
-use Rattle.std.proofs.Common.{IsTrue, ◌<◌, length, ap, subst, sym, refl, ◌∙◌, arith}
+use Rattle.std.proofs.Common.{IsTrue, ◌<◌, length, ap, subst, sym, arith}
 use Rattle.outside.specs.Outside.{SinkState}
 use Rattle.secvisor_cli.proofs.ConsoleLemmas.{has_run_none, has_run_more, run_broke, counts_after, room_after, counts_within}
 use Rattle.outside.proofs.SinkLemmas.{on_err}
@@ -26,7 +26,7 @@ step-requires g c = record {
 
 pub flush_full-requires : goal.flush_full-requires
 flush_full-requires g c = record {
-  open = subst (λ b. IsTrue b) (sym (ap (λ (s : SinkState). s.is_open) c.turns.invariant.ran.taken)) c.requires.open;
+  is_open = subst (λ b. IsTrue b) (sym (ap (λ (s : SinkState). s.is_open) c.turns.invariant.ran.taken)) c.requires.is_open;
   count = subst (λ n. n < 18446744073709551615) (sym (ap (λ (s : SinkState). s.faults) c.turns.invariant.ran.taken)) c.requires.count;
   room = room_after c.turns.i c.turns.machine c.step.new.self c.turns.invariant.counts c.step.ensures c.turns.invariant.room;
 }
