@@ -84,3 +84,14 @@ abbrev pub run_status : Verdict → Status
 run_status Running = Status.Ended
 run_status Shutdown = Status.Done
 run_status (Stopped rule hart turn) = Status.Stopped
+
+-- the exit status of the program's process
+abbrev pub status_number : Status → ℕ
+status_number Status.Done = 0
+status_number Status.Stopped = 1
+status_number Status.Usage = 2
+status_number Status.Refused = 3
+status_number Status.ReadFault = 4
+status_number Status.WriteFault = 5
+status_number Status.Memory = 6
+status_number Status.Ended = 7
