@@ -11,6 +11,6 @@ mod wires;
 pub use cause::Cause;
 pub use effect::Effect;
 pub use event::{Counts, Event, Note, Rule, Verdict};
-pub use instruction::{Instr, OpImmOp, StoreOp};
+pub use instruction::{AmoOp, BranchOp, CsrOp, HyperOp, Instr, LoadOp, Op32Op, OpImm32Op, OpImmOp, OpOp, StoreOp};
 pub use status::Status;
 pub use wires::{Access, Exit, HRegs, Interrupt, Lines, Mode, Protection, View};
