@@ -5,12 +5,16 @@ mod cause;
 mod effect;
 mod event;
 mod instruction;
+mod laws;
 mod status;
 mod wires;
 
 pub use cause::Cause;
 pub use effect::Effect;
 pub use event::{Counts, Event, Note, Rule, Verdict};
-pub use instruction::{AmoOp, BranchOp, CsrOp, HyperOp, Instr, LoadOp, Op32Op, OpImm32Op, OpImmOp, OpOp, StoreOp};
+pub use instruction::{
+    AmoOp, BranchOp, CsrOp, HyperOp, Instr, LoadOp, Op32Op, OpImm32Op, OpImmOp, OpOp, StoreOp,
+};
+pub use laws::law_rows;
 pub use status::Status;
 pub use wires::{Access, Exit, HRegs, Interrupt, Lines, Mode, Protection, View};
