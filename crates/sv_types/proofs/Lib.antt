@@ -1,3 +1,4 @@
 pub mod Decoding
 pub mod Fitting
 pub mod ApartRows
+pub mod WordFields
