@@ -3,6 +3,7 @@ pub mod Bytes
 pub mod Regions
 pub mod Instructions
 pub mod Effects
+pub mod Encoding
 pub mod Reference
 pub mod Turn
 pub mod Run

@@ -61,6 +61,7 @@ after_effect r w (Effect.Set rd value next) =
 after_effect r w (Effect.MisalignedJump target) = stopped_by_word r w
 after_effect r w (Effect.Store address width value) = after_store r w address width value
 after_effect r w Effect.Ecall = after_call r w
+after_effect r w _ = stopped_by_word r w
 
 unfoldable pub after_instruction : State → ℕ → Option Instr → State
 after_instruction r w None = stopped_by_word r w

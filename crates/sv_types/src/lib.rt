@@ -6,13 +6,17 @@ mod effect;
 mod event;
 mod instruction;
 mod name;
+mod laws;
 mod status;
 mod wires;
 
 pub use cause::Cause;
 pub use effect::Effect;
 pub use event::{Counts, Event, Note, Rule, Verdict};
-pub use instruction::{Instr, OpImmOp, StoreOp};
 pub use name::{MOST_NAME_BYTES, Name};
+pub use instruction::{
+    AmoOp, BranchOp, CsrOp, HyperOp, Instr, LoadOp, Op32Op, OpImm32Op, OpImmOp, OpOp, StoreOp,
+};
+pub use laws::law_rows;
 pub use status::Status;
 pub use wires::{Access, Exit, HRegs, Interrupt, Lines, Mode, Protection, View};

@@ -1,0 +1,8 @@
+use Rattle.std.proofs.Common.{sym, refl, arith, [], ◌∷◌}
+use Rattle.sv_types.specs.Instructions.{rows}
+use Rattle.sv_types.proofs.Decoding.{missing, mask_opcode}
+use Rattle.rv64_decode.proofs.integer.op_32.Goals as goal
+
+pub returns-in_default : goal.returns-in_default
+unfolding rows
+returns-in_default c = sym (missing c.args.word 0x7F (0x3B) 25 32 (0 ∷ 1 ∷ 0x20 ∷ []) (mask_opcode c.args.word 0x3B c.requires) (omega arith, (omega arith, (omega arith, tt))) refl)

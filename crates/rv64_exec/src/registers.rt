@@ -1,0 +1,51 @@
+// The integer registers.
+
+use std::marker::Model;
+
+/// The 32 integer registers, of which register 0 is 0. Contracts see the list of their values.
+#[derive(Drop)]
+pub struct Regs {
+    values: [u64; 32],
+}
+
+impl Model for Regs {
+    ghost use Rattle.std.specs.Prelude.{◌≡◌, ℕ, List, slice_index};
+
+    ghost Value = { List ℕ };
+
+    ghost view = { λ regs. regs.values };
+
+    ghost invariant = { λ regs. slice_index regs.values 0 ≡ 0 };
+}
+
+impl Regs {
+    ghost use Rattle.std.specs.Prelude.{◌≡◌, ◌<◌, length, replicate};
+    ghost use Rattle.sv_types.specs.Effects.{register, set_register};
+
+    /// All registers are 0.
+    pub fn new() -> Self
+        ensures { result ≡ replicate 32 0 }
+    {
+        Regs { values: [0; 32] }
+    }
+
+    /// The value of a register.
+    pub fn get(&self, n: u8) -> u64
+        requires { n < 32 }
+        ensures value { result ≡ register self.now n }
+        ensures zero { n ≡ 0 → result ≡ 0 }
+        ensures count { length self.now ≡ 32 }
+    {
+        self.values[usize::from(n)]
+    }
+
+    /// Sets a register. Register 0 stays 0.
+    pub fn set(&mut self, n: u8, value: u64)
+        requires { n < 32 }
+        ensures { self.new ≡ set_register self.old n value }
+    {
+        if n != 0 {
+            self.values[usize::from(n)] = value;
+        }
+    }
+}

@@ -1,0 +1,31 @@
+// Machine words and their low 32 bits.
+
+ghost use Rattle.std.specs.Int.{w32, cast_signed};
+ghost use Rattle.std.specs.Prelude.{◌≡◌};
+ghost use Rattle.sv_types.specs.Effects as table;
+
+pub fn low_word(a: u64) -> u32
+    ensures { result ≡ table.low_word a }
+{
+    (a % 0x1_0000_0000) as u32
+}
+
+pub fn signed_low(a: u64) -> i32
+    ensures { result ≡ table.signed_low a }
+{
+    low_word(a).cast_signed()
+}
+
+// A signed number as a machine word.
+pub fn sign_extended(low: i32) -> u64
+    ensures { result ≡ table.machine_word low }
+{
+    i64::from(low).cast_unsigned()
+}
+
+// The low 32 bits, sign-extended.
+pub fn extended(a: u64) -> u64
+    ensures { result ≡ table.extended a }
+{
+    sign_extended(signed_low(a))
+}
