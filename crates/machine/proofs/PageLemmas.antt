@@ -1,5 +1,5 @@
 -- Approved pages of RAM: which there are, the words in them, and writes beside them.
-use Rattle.std.proofs.Common.{◌≡◌, ℕ, zero, suc, ◌+◌, ◌-◌, ◌*◌, ◌/◌, ◌%◌, ◌≤◌, ◌<◌, ◌==◌, ◌≢◌, ◌||◌, ◌&&◌, IsTrue, eq-eqb, Bool, true, false, List, [], ◌∷◌, ◌++◌, map, length, drop, replicate, refl, sym, ◌∙◌, ap, subst, arith, if◌then◌else◌, Option, Some, None, is_some, option_map, ◌⊎◌, inl, inr}
+use Rattle.std.proofs.Common.{◌≡◌, ℕ, zero, suc, ◌+◌, ◌*◌, ◌/◌, ◌%◌, ◌≤◌, ◌<◌, ◌==◌, ◌≢◌, IsTrue, eq-eqb, true, false, List, [], ◌∷◌, ◌++◌, length, drop, replicate, refl, sym, ◌∙◌, ap, arith, if◌then◌else◌, Option, Some, None, is_some, option_map, ◌⊎◌, inl, inr}
 use Rattle.std.specs.List.{list_any}
 use Rattle.std.proofs.lemmas.List.{drop-replicate}
 use Rattle.std.proofs.lemmas.Bool.Decides.{nat_tests}
@@ -8,7 +8,7 @@ use Rattle.sv_types.specs.Regions.{Region, IsRegion, host_bytes, host_word, writ
 use Rattle.sv_types.specs.Turn.{word_in_page, approved_bytes_at}
 use Rattle.sv_types.proofs.RegionLemmas.{word_in_ram, write_in_ram, copied_into_ram}
 use Rattle.sv_types.specs.Reference.{ApprovedPage, approved_page, approved_pages, approved_bytes, is_approved, numbers_from}
-use Rattle.sv_types.proofs.ByteLemmas.{page_elsewhere, length_low_bytes, lt_or_le, word_in_page_bytes, length_write_word}
+use Rattle.sv_types.proofs.ByteLemmas.{page_elsewhere, lt_or_le, word_in_page_bytes, length_write_word}
 
 -- the bytes of an approved page are those in RAM
 pub approved_bytes-pages : (ram : List ℕ) (pages : List ℕ) (p : ℕ) →
@@ -73,8 +73,8 @@ word_there r pages gpa at inside approved aligned place =
     ∙ sym (word_in_page_bytes r.ram (page_of gpa) (place_in_page gpa) 4 fits) in
     ap Some word_is
     ∙ sym (ap (option_map (word_in_page gpa)) (
-      ap (λ b. if b then approved_bytes (approved_pages r.ram pages) (page_of gpa) else None) inside
-      ∙ bytes ∙ ap (λ b. if b then Some (page_bytes r.ram (page_of gpa)) else None) approved))
+    ap (λ b. if b then approved_bytes (approved_pages r.ram pages) (page_of gpa) else None) inside
+    ∙ bytes ∙ ap (λ b. if b then Some (page_bytes r.ram (page_of gpa)) else None) approved))
 
 pub none_outside : (ram : List ℕ) (approved : List ApprovedPage) (gpa : ℕ) → in_ram ram gpa 1 ≡ false →
     None ≡ option_map (word_in_page gpa) (approved_bytes_at ram approved gpa)

@@ -1,6 +1,5 @@
 -- What the machine's fields stand for, and what is true of them.
-use Rattle.std.specs.Prelude.{◌≡◌, ◌≤◌, ◌%◌, vec_capacity}
-use Rattle.sv_types.specs.Reference.{State, Hart, approved_pages}
+use Rattle.sv_types.specs.Reference.{approved_pages}
 use Rattle.sv_types.specs.Regions.{IsRegion}
 use Rattle.machine.specs.Memory.{Memory}
 use Rattle.machine.specs.declared.guest_memory.GuestMemory.TheInside as memory

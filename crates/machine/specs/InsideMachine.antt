@@ -1,6 +1,6 @@
 -- What the machine's fields stand for, and what is true of them.
 use Rattle.std.specs.Prelude.{◌≡◌, ◌≤◌, ◌%◌, vec_capacity}
-use Rattle.sv_types.specs.Reference.{State, Hart}
+use Rattle.sv_types.specs.Reference.{State}
 use Rattle.machine.specs.declared.machine.Machine.TheInside.{Inside}
 
 abbrev pub state_of : Inside → State

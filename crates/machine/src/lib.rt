@@ -2,7 +2,7 @@
 #![tactic(auto)]
 
 mod boot;
-mod effect;
+mod carried_out;
 mod guest_memory;
 mod machine;
 

@@ -1,26 +1,28 @@
 // The machine: its state, and one event.
-ghost use Rattle.std.specs.Prelude.{◌≡◌, ◌<◌, ◌≤◌, ◌^◌, ◌-◌, ◌%◌, ◌↔◌, [], length, IfOk, OnOk, IfErr, IsTrue};
-ghost use Rattle.sv_types.specs.Turn.{stopped_by, after_call, after_store, after_effect, after_word, turn};
+ghost use Rattle.std.specs.Prelude.{◌≡◌, ◌<◌, ◌≤◌, ◌^◌, ◌-◌, ◌%◌, ◌↔◌, [], length, IfOk, OnOk, IfErr, IsTrue, Some};
+ghost use Rattle.sv_types.specs.Turn.{stopped_by, after_call, after_store, after_effect, after_instruction, after_word, turn};
+ghost use Rattle.sv_types.specs.Encoding.{fits};
 ghost use Rattle.sv_types.specs.Run.{step, happen, CountsAtMost};
 ghost use Rattle.sv_types.specs.Measure.{measure};
 ghost use Rattle.sv_types.specs.Boot.{flat_start, no_counts};
-ghost use Rattle.machine.specs.Effect.{IsOneByte};
+ghost use Rattle.machine.specs.Effect.{IsSupported};
 ghost use Rattle.machine.specs.Boot.{RefusesFlat};
 
 use crate::boot::BootRefusal;
-use crate::effect::effect;
+use crate::carried_out::is_carried_out;
 use crate::guest_memory::{GuestMemory, RAM_BASE};
 use page_measure::measure;
 use rv64_decode::decode;
+use rv64_exec::{Regs, effect};
 use std::alloc::{AllocError, Global};
 use std::marker::Model;
-use sv_types::{Counts, Effect, Event, Note, Rule, Verdict};
+use sv_types::{Counts, Effect, Event, Instr, Note, Rule, Verdict};
 
 const PRINTED_ROOM: usize = 4096;
 
-const A0: usize = 10;
+const A0: u8 = 10;
 
-const A7: usize = 17;
+const A7: u8 = 17;
 
 const PRINT: u64 = 1;
 
@@ -30,7 +32,7 @@ const SHUTDOWN: u64 = 8;
 #[derive(Drop)]
 pub struct Machine {
     memory: GuestMemory,
-    registers: [u64; 32],
+    registers: Regs,
     pc: u64,
     counts: Counts,
     notes: Vec<Note>,
@@ -146,11 +148,23 @@ impl Machine {
         ensures { self.new ≡ after_word self.old word }
     {
         match decode(word) {
-            Some(instr) => {
-                let effect = effect(instr, &self.registers, self.pc);
-                self.apply(word, effect);
-            }
+            Some(instr) => self.execute(word, &instr),
             None => self.stop(Rule::Word { pc: self.pc, word }),
+        }
+    }
+
+    #[tactic(auto, unfolding(sv_types::specs::Turn::after_instruction))]
+    fn execute(&mut self, word: u32, instr: &Instr)
+        requires room { length self.old.printed < 4096 }
+        requires counts { self.old.counts.retired < 2 ^ 64 - 1 }
+        requires fits { IsTrue (fits instr.now) }
+        ensures { self.new ≡ after_instruction self.old word (Some instr.now) }
+    {
+        if is_carried_out(instr) {
+            let effect = effect(instr, &self.registers, self.pc);
+            self.apply(word, effect);
+        } else {
+            self.stop(Rule::Word { pc: self.pc, word });
         }
     }
 
@@ -158,14 +172,12 @@ impl Machine {
     fn apply(&mut self, word: u32, effect: Effect)
         requires room { length self.old.printed < 4096 }
         requires counts { self.old.counts.retired < 2 ^ 64 - 1 }
-        requires one_byte { IsOneByte effect }
+        requires supported { IsSupported effect }
         ensures { self.new ≡ after_effect self.old word effect }
     {
         match effect {
             Effect::Set { rd, value, next } => {
-                if rd != 0 {
-                    self.registers[rd as usize] = value;
-                }
+                self.registers.set(rd, value);
                 self.pc = next;
                 self.counts.retired += 1;
             }
@@ -176,6 +188,7 @@ impl Machine {
                 value,
             } => self.store(word, addr, value),
             Effect::Ecall => self.call(word),
+            _ => self.stop(Rule::Word { pc: self.pc, word }),
         }
     }
 
@@ -203,10 +216,11 @@ impl Machine {
         requires { length self.old.printed < 4096 }
         ensures { self.new ≡ after_call self.old word }
     {
-        match self.registers[A7] {
+        match self.registers.get(A7) {
             PRINT => {
-                self.printed.push_reserved((self.registers[A0] % 256) as u8);
-                self.registers[A0] = 0;
+                self.printed
+                    .push_reserved((self.registers.get(A0) % 256) as u8);
+                self.registers.set(A0, 0);
                 self.pc = self.pc.wrapping_add(4);
             }
             SHUTDOWN => self.verdict = Verdict::Shutdown,
@@ -248,7 +262,7 @@ fn assemble(alloc: Global, pages: &[u8]) -> Result<Machine, AllocError>
     let printed = Vec::with_capacity(alloc, PRINTED_ROOM)?;
     Ok(Machine {
         memory,
-        registers: [0; 32],
+        registers: Regs::new(),
         pc: RAM_BASE,
         counts: no_counts(),
         notes: Vec::new(alloc),

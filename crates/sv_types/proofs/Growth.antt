@@ -12,7 +12,7 @@ use Rattle.sv_types.specs.declared.event.Verdict.TheVariants.{Running, Shutdown,
 use Rattle.sv_types.specs.Effects.{effect_of}
 use Rattle.sv_types.specs.Instructions.{instruction_of}
 use Rattle.sv_types.specs.Reference.{State}
-use Rattle.sv_types.specs.Turn.{stopped_by, after_call, after_store, after_effect, after_instruction, after_word, after_fetch, turn, word_in_page, approved_bytes_at}
+use Rattle.sv_types.specs.Turn.{is_carried_out, stopped_by_word, stopped_by, after_call, after_store, after_effect, after_instruction, after_word, after_fetch, turn, word_in_page, approved_bytes_at}
 use Rattle.sv_types.specs.Run.{with_counts, count_turn, happen, happen_under, step, CountsAtMost}
 
 -- what a turn does to the counts and the console, the count of turns raised already
@@ -58,11 +58,17 @@ effect-advances r w (Effect.Set rd value next) = record { turns = refl; beats = 
 effect-advances r w (Effect.MisalignedJump target) = stop-advances r _
 effect-advances r w (Effect.Store address width value) = store-advances r w address width value
 effect-advances r w Effect.Ecall = call-advances r w
+effect-advances r w _ = stop-advances r _
 
 instruction-advances : (r : State) (w : ℕ) (i : Option Instr) → Advances r (after_instruction r w i)
 unfolding after_instruction
 instruction-advances r w None = stop-advances r _
-instruction-advances r w (Some i) = effect-advances r w (effect_of i r.hart.registers r.hart.pc)
+instruction-advances r w (Some i) =
+    let e : Effect = effect_of i r.hart.registers r.hart.pc in
+    elim (is_carried_out i) as (λ b. Advances r (if b then after_effect r w e else stopped_by_word r w)) [
+      | true ↦ effect-advances r w e
+      | false ↦ stop-advances r _
+    ]
 
 word-advances : (r : State) (w : ℕ) → Advances r (after_word r w)
 unfolding after_word

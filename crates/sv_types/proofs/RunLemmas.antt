@@ -10,7 +10,7 @@ use Rattle.sv_types.specs.declared.event.Verdict.TheVariants.{Running, Shutdown,
 use Rattle.sv_types.specs.Effects.{effect_of}
 use Rattle.sv_types.specs.Instructions.{instruction_of}
 use Rattle.sv_types.specs.Reference.{State}
-use Rattle.sv_types.specs.Turn.{after_call, after_store, after_effect, after_instruction, after_word, after_fetch, turn, word_in_page, approved_bytes_at}
+use Rattle.sv_types.specs.Turn.{is_carried_out, stopped_by_word, after_call, after_store, after_effect, after_instruction, after_word, after_fetch, turn, word_in_page, approved_bytes_at}
 use Rattle.sv_types.specs.Run.{with_counts, count_turn, happen, happen_under, step, run, with_printed}
 use Rattle.sv_types.specs.Start.{turns}
 
@@ -30,11 +30,17 @@ effect-with_printed p r w (Effect.Set rd value next) = refl
 effect-with_printed p r w (Effect.MisalignedJump target) = refl
 effect-with_printed p r w (Effect.Store address width value) = store-with_printed p r w address width value
 effect-with_printed p r w Effect.Ecall = call-with_printed p r w
+effect-with_printed p r w _ = refl
 
 instruction-with_printed : (p : List ℕ) (r : State) (w : ℕ) (i : Option Instr) → after_instruction (with_printed p r) w i ≡ with_printed p (after_instruction r w i)
 unfolding after_instruction
 instruction-with_printed p r w None = refl
-instruction-with_printed p r w (Some i) = effect-with_printed p r w (effect_of i r.hart.registers r.hart.pc)
+instruction-with_printed p r w (Some i) =
+    let e : Effect = effect_of i r.hart.registers r.hart.pc in
+    elim (is_carried_out i) as (λ b. (if b then after_effect (with_printed p r) w e else stopped_by_word (with_printed p r) w) ≡ with_printed p (if b then after_effect r w e else stopped_by_word r w)) [
+      | true ↦ effect-with_printed p r w e
+      | false ↦ refl
+    ]
 
 word-with_printed : (p : List ℕ) (r : State) (w : ℕ) → after_word (with_printed p r) w ≡ with_printed p (after_word r w)
 unfolding after_word

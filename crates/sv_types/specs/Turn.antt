@@ -1,7 +1,10 @@
 -- One turn of the hart: a fetch from an approved page, and the instruction. The first case that applies is done.
 -- RISC-V Unprivileged manual, "RV32I Base Integer Instruction Set"; RISC-V SBI, "Legacy Extensions", for the two calls.
-use Rattle.std.specs.Prelude.{ℕ, ◌+◌, ◌%◌, [], ◌∷◌, ◌++◌, List, ◌==◌, if◌then◌else◌, Option, Some, None}
+use Rattle.std.specs.Prelude.{ℕ, Bool, true, false, ◌+◌, ◌%◌, [], ◌∷◌, ◌++◌, List, ◌==◌, if◌then◌else◌, Option, Some, None}
 use Rattle.sv_types.specs.declared.instruction.Instr.{Instr}
+use Rattle.sv_types.specs.declared.instruction.Instr.TheVariants as Instr
+use Rattle.sv_types.specs.declared.instruction.OpImmOp.TheVariants.{Addi}
+use Rattle.sv_types.specs.declared.instruction.StoreOp.TheVariants.{Sb}
 use Rattle.sv_types.specs.declared.effect.Effect.{Effect}
 use Rattle.sv_types.specs.declared.event.Counts.{Counts}
 use Rattle.sv_types.specs.declared.event.Rule.{Rule}
@@ -55,6 +58,15 @@ after_store r w address width value =
 
 -- ---- an instruction
 
+-- the instructions that the machine carries out: LUI, JAL, SB, ADDI and ECALL
+abbrev pub is_carried_out : Instr → Bool
+is_carried_out (Instr.Lui rd imm) = true
+is_carried_out (Instr.Jal rd imm) = true
+is_carried_out (Instr.Store Sb rs1 rs2 imm) = true
+is_carried_out (Instr.OpImm Addi rd rs1 imm shamt) = true
+is_carried_out Instr.Ecall = true
+is_carried_out _ = false
+
 unfoldable pub after_effect : State → ℕ → Effect → State
 after_effect r w (Effect.Set rd value next) =
     retire r (record r.hart { registers = set_register r.hart.registers rd value; pc = next })
@@ -65,7 +77,8 @@ after_effect r w _ = stopped_by_word r w
 
 unfoldable pub after_instruction : State → ℕ → Option Instr → State
 after_instruction r w None = stopped_by_word r w
-after_instruction r w (Some instr) = after_effect r w (effect_of instr r.hart.registers r.hart.pc)
+after_instruction r w (Some instr) =
+    if is_carried_out instr then after_effect r w (effect_of instr r.hart.registers r.hart.pc) else stopped_by_word r w
 
 unfoldable pub after_word : State → ℕ → State
 after_word r w = after_instruction r w (instruction_of w)

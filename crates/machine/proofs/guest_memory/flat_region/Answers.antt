@@ -1,7 +1,3 @@
-use Rattle.std.proofs.Common.{◌∙◌, ap, ℕ, List, replicate}
-use Rattle.sv_types.specs.Bytes.{overwrite}
-use Rattle.sv_types.specs.Regions.{Region}
-use Rattle.sv_types.proofs.RegionLemmas.{copied_into_ram}
 use Rattle.machine.proofs.PageLemmas.{copied_start}
 use Rattle.machine.proofs.guest_memory.flat_region.Goals as goal
 

@@ -22,6 +22,6 @@ returns-then-is_approved c =
 pub returns-else-is_in_ram : goal.returns-else-is_in_ram
 returns-else-is_in_ram c = elim c.else-is_in_ram.branch [
   | else-is_in_ram-via-then-is_in_ram+else-is_approved w ↦
-    none_free c.args.self.now.ram c.args.self.now.approved c.args.gpa (sym c.is_in_ram.ensures ∙ w.if-is_in_ram.true) (sym w.is_approved.ensures ∙ w.if-is_approved.false)
+      none_free c.args.self.now.ram c.args.self.now.approved c.args.gpa (sym c.is_in_ram.ensures ∙ w.if-is_in_ram.true) (sym w.is_approved.ensures ∙ w.if-is_approved.false)
   | else-is_in_ram-via-else-is_in_ram w ↦ none_outside c.args.self.now.ram c.args.self.now.approved c.args.gpa (sym c.is_in_ram.ensures ∙ w.if-is_in_ram.false)
 ]

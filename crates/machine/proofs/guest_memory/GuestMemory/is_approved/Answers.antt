@@ -1,4 +1,4 @@
-use Rattle.std.proofs.Common.{◌≡◌, ◌==◌, ◌/◌, ℕ, List, sym, ◌∙◌, ap}
+use Rattle.std.proofs.Common.{◌==◌, ◌/◌, ℕ, List, sym, ◌∙◌, ap}
 use Rattle.std.specs.List.{list_any}
 use Rattle.sv_types.specs.Bytes.{page_of}
 use Rattle.sv_types.specs.Reference.{is_approved}

@@ -1,4 +1,4 @@
-use Rattle.std.proofs.Common.{◌≡◌, ℕ, List, IsTrue, ◌+◌, false, sym, ◌∙◌, ap, subst, arith}
+use Rattle.std.proofs.Common.{◌≡◌, ℕ, List, IsTrue, ◌+◌, false, ◌∙◌, ap}
 use Rattle.sv_types.specs.Bytes.{in_ram, page_of, ram_place, write_word}
 use Rattle.sv_types.specs.Reference.{ApprovedPage, is_approved, approved_pages}
 use Rattle.machine.specs.Memory.{Memory}
