@@ -1,11 +1,10 @@
 -- The fields of a word that is put together from them.
-use Rattle.std.proofs.Common.{◌≡◌, ℕ, suc, ◌+◌, ◌-◌, ◌*◌, ◌/◌, ◌%◌, ◌^◌, ◌<◌, ◌≤◌, refl, sym, ◌∙◌, ap, Bool, true, false, arith, ℤ, pos, negsuc}
-use Rattle.std.specs.Prelude.{unsigned_abs, int_le, int_lt, nat_lt}
+use Rattle.std.proofs.Common.{◌≡◌, ℕ, suc, ◌+◌, ◌-◌, ◌*◌, ◌/◌, ◌%◌, ◌^◌, ◌<◌, true, arith, ℤ, pos, negsuc}
 use Rattle.std.specs.Int.{w64, cast_unsigned}
 use Rattle.std.proofs.lemmas.Int.{ints}
 use Rattle.std.proofs.lemmas.Bool.Decides.{nat_tests}
 use Rattle.sv_types.specs.Instructions.{bits, signed_bits}
-use Rattle.sv_types.specs.Encoding.{r_word, i_word, u_word, j_word, is_immediate, imm_bits}
+use Rattle.sv_types.specs.Encoding.{r_word, i_word, is_immediate, imm_bits}
 
 module _ (o g f d a b : ℕ) (in_o : o < 128) (in_g : g < 128) (in_f : f < 8) (in_d : d < 32) (in_a : a < 32) (in_b : b < 32) where
   pub r_opcode : bits (r_word o g f d a b) 0 7 ≡ o
