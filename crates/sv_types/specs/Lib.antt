@@ -13,3 +13,5 @@ pub mod Numbers
 pub mod Words
 pub mod Output
 pub mod Start
+pub mod Translation
+pub mod SecondStage

@@ -6,7 +6,9 @@ mod effect;
 mod event;
 mod instruction;
 mod name;
+mod pte_bits;
 mod status;
+mod translation;
 mod wires;
 
 pub use cause::Cause;
@@ -14,5 +16,7 @@ pub use effect::Effect;
 pub use event::{Counts, Event, Note, Rule, Verdict};
 pub use instruction::{Instr, OpImmOp, StoreOp};
 pub use name::{MOST_NAME_BYTES, Name};
+pub use pte_bits::PteBits;
 pub use status::Status;
+pub use translation::{Fault, GuestFault, Place};
 pub use wires::{Access, Exit, HRegs, Interrupt, Lines, Mode, Protection, View};
