@@ -2,7 +2,7 @@
 -- RISC-V Privileged manual, H extension: "Two-Stage Address Translation", "Guest Physical Address Translation",
 -- "Hypervisor Guest Address Translation and Protection (hgatp) Register"; Sv39x4.
 use Rattle.std.specs.Prelude.{◌≡◌, ℕ, ◌+◌, ◌*◌, ◌/◌, ◌^◌, ◌<◌, Bool, true, false, ◌&&◌, List, [], ◌∷◌, length, ◌==◌, if◌then◌else◌, nat_le, nat_lt, Option, Some, None, Result, Ok, Err}
-use Rattle.sv_types.specs.Bytes.{ram_base, ram_place, page_of, page_size}
+use Rattle.sv_types.specs.Bytes.{word, ram_base, ram_place, page_of, page_size}
 use Rattle.sv_types.specs.Regions.{Region, host_word}
 use Rattle.sv_types.specs.Instructions.{bits}
 use Rattle.sv_types.specs.Translation.{Destination, At, PageFault, Unreadable, Settings, walk, root_of, first_stage, entry_user, entry_accessed, entry_dirty, entry_readable, entry_writable, entry_executable}
@@ -107,7 +107,30 @@ view_answer table_bytes ram_pages view protections gpa access =
 abbrev pub with_ram : List ℕ → List ℕ → Region
 with_ram tables ram = record { tables = tables; ram = ram }
 
--- whatever RAM holds, every gpa of 64 bits is answered as the view says
+-- the entry at a host place in the tables, none elsewhere
+unfoldable pub entry_in_tables : List ℕ → ℕ → Option ℕ
+entry_in_tables tables at = if nat_le (at + 8) (length tables) then Some (word tables at 8) else None
+
+-- where a second-stage walk over a reader of entries leads
+abbrev pub guest_destination : (ℕ → Option ℕ) → ℕ → ℕ → Access → Destination
+guest_destination read hgatp gpa access = walk read (permits_guest access) (sv39x4_indices gpa) (root_of hgatp) gpa
+
+-- whatever RAM holds, every gpa of 64 bits is answered as the view says, and a walk that can read the tables alone
+-- leads to the same place
 pub record IsView (tables : List ℕ) (ram_pages : ℕ) (protections : ℕ → Protection) (view : View) (hgatp : ℕ) : Type 0 where
   pub answers : (ram : List ℕ) (gpa : ℕ) (access : Access) → length ram ≡ page_size * ram_pages → gpa < 2 ^ 64 →
       walk_guest (with_ram tables ram) hgatp gpa access ≡ view_answer (length tables) ram_pages view protections gpa access
+  pub reads : (ram : List ℕ) (gpa : ℕ) (access : Access) → length ram ≡ page_size * ram_pages → gpa < 2 ^ 41 →
+      guest_destination (entry_in_tables tables) hgatp gpa access ≡ guest_destination (entry_in_region (with_ram tables ram)) hgatp gpa access
+
+-- the hgatp values of the two views: mode 8 (Sv39x4), VMIDs 1 and 2, and roots at host places 0 and 0x4000
+abbrev pub view_hgatp : View → ℕ
+view_hgatp Kernel = 0x8000100000000000
+view_hgatp User = 0x8000200000000004
+
+-- the protections with that of one page changed
+abbrev pub protect : (ℕ → Protection) → ℕ → Protection → ℕ → Protection
+protect protections page protection p = if p == page then protection else protections p
+
+abbrev pub all_free : ℕ → Protection
+all_free page = Free
