@@ -97,7 +97,8 @@ impl HostMem {
     /// The bytes of page `n` of guest RAM.
     pub fn page(&self, n: u32) -> &[u8]
         requires { page_size * (n + 1) ≤ length self.now.ram }
-        ensures { result.now ≡ page_bytes self.now.ram n }
+        ensures bytes { result.now ≡ page_bytes self.now.ram n }
+        ensures size { length result.now ≡ page_size }
     {
         let start = self.table_bytes + PAGE_SIZE * n as usize;
         &self.bytes[start..start + PAGE_SIZE]
@@ -112,3 +113,6 @@ impl HostMem {
         self.bytes[at..at + bytes.len()].copy_from_slice(bytes);
     }
 }
+
+#[cfg(test)]
+mod tests;

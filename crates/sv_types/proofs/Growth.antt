@@ -1,7 +1,6 @@
 -- How far one event moves the counts and the console: by one at most.
 use Rattle.std.proofs.Common.{◌≡◌, ℕ, ◌+◌, ◌≤◌, ◌==◌, true, false, List, length, refl, arith, if◌then◌else◌, Option, Some, None, length-append}
 use Rattle.sv_types.specs.declared.effect.Effect.{Effect}
-use Rattle.sv_types.specs.declared.effect.Effect.TheVariants as Effect
 use Rattle.sv_types.specs.declared.instruction.Instr.{Instr}
 use Rattle.sv_types.specs.declared.event.Event.{Event}
 use Rattle.sv_types.specs.declared.event.Event.TheVariants.{Turn, Beat, Key, Tick}

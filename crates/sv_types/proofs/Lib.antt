@@ -7,3 +7,6 @@ pub mod Fitting
 pub mod ApartRows
 pub mod WordFields
 pub mod WordDecodes
+pub mod EntryBits
+pub mod Walks
+pub mod Views

@@ -104,3 +104,10 @@ region_of_bytes r tables e =
 
 pub bytes_of_region : (tables : ℕ) (bytes : List ℕ) → host_bytes (region_of tables bytes) ≡ bytes
 bytes_of_region tables bytes = take-append-drop tables bytes
+
+-- ---- places in the tables
+
+-- a write there changes the tables alone
+pub write_in_tables : (r : Region) (at n value : ℕ) → at < length r.tables → write_host r at n value ≡ record r { tables = write_word r.tables at n value }
+unfolding write_host
+write_in_tables r at n value below = let test : nat_lt at (length r.tables) ≡ true = grind (arith, nat_tests) in rw test refl

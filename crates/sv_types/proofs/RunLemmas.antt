@@ -1,7 +1,6 @@
 -- Whole runs: bytes that were printed before change nothing, and a run goes on where it stands.
 use Rattle.std.proofs.Common.{◌≡◌, ℕ, zero, suc, ◌+◌, ◌==◌, true, false, List, [], ◌∷◌, ◌++◌, refl, ◌∙◌, ap, append_assoc, arith, if◌then◌else◌, Option, Some, None}
 use Rattle.sv_types.specs.declared.effect.Effect.{Effect}
-use Rattle.sv_types.specs.declared.effect.Effect.TheVariants as Effect
 use Rattle.sv_types.specs.declared.instruction.Instr.{Instr}
 use Rattle.sv_types.specs.declared.event.Event.{Event}
 use Rattle.sv_types.specs.declared.event.Event.TheVariants.{Turn, Beat, Key, Tick}

@@ -14,3 +14,5 @@ pub mod Numbers
 pub mod Words
 pub mod Output
 pub mod Start
+pub mod Translation
+pub mod SecondStage

@@ -7,7 +7,9 @@ mod event;
 mod instruction;
 mod name;
 mod laws;
+mod pte_bits;
 mod status;
+mod translation;
 mod wires;
 
 pub use cause::Cause;
@@ -18,5 +20,7 @@ pub use instruction::{
     AmoOp, BranchOp, CsrOp, HyperOp, Instr, LoadOp, Op32Op, OpImm32Op, OpImmOp, OpOp, StoreOp,
 };
 pub use laws::law_rows;
+pub use pte_bits::PteBits;
 pub use status::Status;
+pub use translation::{Fault, GuestFault, Place};
 pub use wires::{Access, Exit, HRegs, Interrupt, Lines, Mode, Protection, View};

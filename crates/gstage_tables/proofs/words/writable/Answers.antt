@@ -1,0 +1,6 @@
+use Rattle.std.proofs.Common.{ℕ, ◌∙◌, ap}
+use Rattle.std.specs.Int.Bits.{bit_or}
+use Rattle.gstage_tables.proofs.words.writable.Goals as goal
+
+pub returns : goal.returns
+returns c = c.union-2.ensures tt ∙ ap (λ (x : ℕ). bit_or x 128) (c.union.ensures tt ∙ ap (λ (x : ℕ). bit_or x 4) c.readable.ensures)

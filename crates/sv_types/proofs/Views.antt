@@ -1,0 +1,128 @@
+-- Under a view, a first-stage entry is read as it stands in RAM. So translation through both stages is the plain one
+-- followed by the second stage's answer for the page that it leads to.
+use Rattle.std.proofs.Common.{◌≡◌, ℕ, ◌+◌, ◌*◌, ◌/◌, ◌%◌, ◌^◌, ◌<◌, ◌≤◌, inl, inr, List, length, refl, sym, ◌∙◌, ap, arith, Bool, true, false, ◌&&◌}
+use Rattle.std.specs.Prelude.{Some, None, if◌then◌else◌, nat_le, nat_lt, ◌==◌, Result, Err}
+use Rattle.std.proofs.lemmas.Bool.Decides.{nat_tests}
+use Rattle.sv_types.specs.Bytes.{word, in_ram, ram_base, ram_place, page_of, page_size}
+use Rattle.sv_types.specs.Regions.{Region, host_word}
+use Rattle.sv_types.specs.Translation.{Destination, At, PageFault, Unreadable, entry_in_ram, first_stage, place, Settings}
+use Rattle.sv_types.specs.SecondStage.{IsView, WalksInside, with_ram, page_in_ram, view_permits, view_answer, walk_guest, entry_there, entry_through, place_through, after_first_stage, two_stages}
+use Rattle.sv_types.specs.declared.wires.Access.{Access}
+use Rattle.sv_types.specs.declared.wires.Access.TheVariants.{Load}
+use Rattle.sv_types.specs.declared.wires.Mode.{Mode}
+use Rattle.sv_types.specs.declared.wires.View.{View}
+use Rattle.sv_types.specs.declared.wires.Protection.{Protection}
+use Rattle.sv_types.specs.declared.translation.Place.{Place}
+use Rattle.sv_types.specs.declared.translation.Fault.{Fault}
+use Rattle.sv_types.proofs.ByteLemmas.{lt_or_le}
+use Rattle.sv_types.proofs.RegionLemmas.{word_in_ram}
+use Rattle.sv_types.proofs.Walks.{Agree, Fits, first_stage_agrees, first_stage_fits}
+
+-- 8 aligned bytes from p on are in n pages exactly where p's page is one of them
+whole_entry : (p n : ℕ) → p % 8 ≡ 0 → nat_le (p + 8) (4096 * n) ≡ nat_lt (p / 4096) n
+whole_entry p n h = grind (arith, nat_tests)
+
+place_aligned : (a : ℕ) → a % 8 ≡ 0 → ram_place a % 8 ≡ 0
+place_aligned a h = grind arith
+
+and_true : (b : Bool) → (b && true) ≡ b
+and_true true = refl
+and_true false = refl
+
+and_false : (b : Bool) → (b && false) ≡ false
+and_false true = refl
+and_false false = refl
+
+-- what is read where a gpa leads, as a choice
+read_choice : (r : Region) (b : Bool) (at : ℕ) → entry_there r (if b then Some at else None) ≡ (if b then Some (host_word r at 8) else None)
+read_choice r true at = refl
+read_choice r false at = refl
+
+pub entries_agree : (tables ram : List ℕ) (ram_pages hgatp : ℕ) (protections : ℕ → Protection) (view : View)
+    → IsView tables ram_pages protections view hgatp → length ram ≡ page_size * ram_pages
+    → Agree (entry_in_ram ram) (entry_through (with_ram tables ram) hgatp)
+unfolding entry_in_ram entry_through view_answer
+entries_agree tables ram ram_pages hgatp protections view is_view size a aligned small =
+    let p : ℕ = ram_place a in
+    let r : Region = with_ram tables ram in
+    let tests : in_ram ram a 8 ≡ page_in_ram ram_pages a =
+    ap (λ (n : ℕ). nat_le ram_base a && nat_le (p + 8) n) size
+    ∙ ap (λ (b : Bool). nat_le ram_base a && b) (whole_entry p ram_pages (place_aligned a aligned)) in
+    let left : entry_in_ram ram a ≡ (if page_in_ram ram_pages a then Some (host_word r (length tables + p) 8) else None) =
+    ap (λ (b : Bool). if b then Some (word ram p 8) else None) tests
+    ∙ ap (λ (x : ℕ). if page_in_ram ram_pages a then Some x else None) (sym (word_in_ram r p 8)) in
+    let right : entry_through r hgatp a ≡ (if page_in_ram ram_pages a then Some (host_word r (length tables + p) 8) else None) =
+    ap (entry_there r) (is_view.answers ram a Load size small)
+    ∙ read_choice r (page_in_ram ram_pages a && true) (length tables + p)
+    ∙ ap (λ (b : Bool). if b then Some (host_word r (length tables + p) 8) else None) (and_true (page_in_ram ram_pages a)) in
+    left ∙ sym right
+
+-- so under a view the hardware's first stage is the plain translation over RAM
+pub first_stage_is_plain : (tables ram : List ℕ) (ram_pages hgatp : ℕ) (protections : ℕ → Protection) (view : View)
+    → IsView tables ram_pages protections view hgatp → length ram ≡ page_size * ram_pages
+    → (s : Settings) (mode : Mode) (va : ℕ) (access : Access)
+    → place ram s mode va access ≡ first_stage (entry_through (with_ram tables ram) hgatp) s mode va access
+unfolding place
+first_stage_is_plain tables ram ram_pages hgatp protections view is_view size s mode va access =
+    first_stage_agrees (entry_in_ram ram) (entry_through (with_ram tables ram) hgatp) s mode va access
+    (entries_agree tables ram ram_pages hgatp protections view is_view size)
+
+-- what a view makes of where the first stage leads
+abbrev pub under_view : ℕ → ℕ → View → (ℕ → Protection) → Access → Destination → Result Place Fault
+under_view table_bytes ram_pages view protections access (At gpa) = place_through gpa (view_answer table_bytes ram_pages view protections gpa access)
+under_view table_bytes ram_pages view protections access PageFault = Err Fault.Page
+under_view table_bytes ram_pages view protections access (Unreadable entry) = Err (Fault.Guest entry true)
+
+then_view : (tables ram : List ℕ) (ram_pages hgatp : ℕ) (protections : ℕ → Protection) (view : View)
+    → IsView tables ram_pages protections view hgatp → length ram ≡ page_size * ram_pages
+    → (va : ℕ) (access : Access) (d : Destination) → Fits va d
+    → after_first_stage (with_ram tables ram) hgatp access d ≡ under_view (length tables) ram_pages view protections access d
+unfolding after_first_stage
+then_view tables ram ram_pages hgatp protections view is_view size va access (At gpa) fits =
+    ap (place_through gpa) (is_view.answers ram gpa access size fits.1)
+then_view tables ram ram_pages hgatp protections view is_view size va access PageFault fits = refl
+then_view tables ram ram_pages hgatp protections view is_view size va access (Unreadable entry) fits = refl
+
+-- and translation through both stages the plain one, followed by the view's answer
+pub two_stages_under_view : (tables ram : List ℕ) (ram_pages hgatp : ℕ) (protections : ℕ → Protection) (view : View)
+    → IsView tables ram_pages protections view hgatp → length ram ≡ page_size * ram_pages
+    → (s : Settings) (mode : Mode) (va : ℕ) (access : Access) → va < 2 ^ 64
+    → two_stages (with_ram tables ram) hgatp s mode va access ≡ under_view (length tables) ram_pages view protections access (place ram s mode va access)
+unfolding two_stages
+two_stages_under_view tables ram ram_pages hgatp protections view is_view size s mode va access small =
+    then_view tables ram ram_pages hgatp protections view is_view size va access (first_stage (entry_through (with_ram tables ram) hgatp) s mode va access)
+    (first_stage_fits (entry_through (with_ram tables ram) hgatp) s mode va access small)
+    ∙ ap (under_view (length tables) ram_pages view protections access)
+    (sym (first_stage_is_plain tables ram ram_pages hgatp protections view is_view size s mode va access))
+
+-- ---- walks stay inside
+
+chosen_inside : (b : Bool) (at n x : ℕ) → (b ≡ true → at < n) → (if b then Some at else None) ≡ Some x → x < n
+chosen_inside true at n x h e = let same : at ≡ x = cc in let below = h refl in omega arith
+chosen_inside false at n x h e = absurd (cc)
+
+page_inside : (t n gpa : ℕ) (c : Bool) → (page_in_ram n gpa && c) ≡ true → t + ram_place gpa < t + 4096 * n
+page_inside t n gpa true h = let k : page_in_ram n gpa ≡ true = sym (and_true (page_in_ram n gpa)) ∙ h in grind (arith, nat_tests)
+page_inside t n gpa false h = let k = sym (and_false (page_in_ram n gpa)) ∙ h in absurd (cc)
+
+far_walk : (r : Region) (hgatp gpa x : ℕ) (access : Access) → 2 ^ 64 ≤ gpa → walk_guest r hgatp gpa access ≡ Some x → ⊥
+unfolding walk_guest
+far_walk r hgatp gpa x access far e =
+    let test : (gpa / 2 ^ 41 == 0) ≡ false = grind (arith, nat_tests) in
+    let none = rw test at e in cc
+
+-- under a view every walk leads into the region
+pub view_walks_inside : (tables ram : List ℕ) (ram_pages hgatp : ℕ) (protections : ℕ → Protection) (view : View)
+    → IsView tables ram_pages protections view hgatp → length ram ≡ page_size * ram_pages → WalksInside (with_ram tables ram) hgatp
+unfolding view_answer
+view_walks_inside tables ram ram_pages hgatp protections view is_view size = record {
+  inside = λ gpa hpa access e. elim (lt_or_le gpa (2 ^ 64)) [
+    | inl near ↦
+        let answer : (if page_in_ram ram_pages gpa && view_permits view (protections (page_of gpa)) access then Some (length tables + ram_place gpa) else None) ≡ Some hpa =
+        sym (is_view.answers ram gpa access size near) ∙ e in
+        let below : hpa < length tables + 4096 * ram_pages =
+        chosen_inside (page_in_ram ram_pages gpa && view_permits view (protections (page_of gpa)) access) (length tables + ram_place gpa) (length tables + 4096 * ram_pages) hpa
+        (page_inside (length tables) ram_pages gpa (view_permits view (protections (page_of gpa)) access)) answer in omega arith
+    | inr far ↦ absurd (far_walk (with_ram tables ram) hgatp gpa hpa access far e)
+  ];
+}
