@@ -12,3 +12,7 @@ pub mod Numbers
 pub mod Words
 pub mod Output
 pub mod Start
+pub mod Bits
+pub mod Registers
+pub mod Traps
+pub mod HypervisorRegisters
