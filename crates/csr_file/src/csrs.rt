@@ -107,16 +107,6 @@ fn refusal(mode: Mode, scounteren: u64, writes: bool, csr: Csr) -> Option<CsrFau
     }
 }
 
-/// The wires as `hip` shows them.
-#[tactic(auto, unfolding(sv_types::specs::HypervisorRegisters::hip_value))]
-fn hip(hvip: u64, lines: &Lines) -> u64
-    ensures { result ≡ hip_value hvip lines.now }
-{
-    let timer = if lines.timer { VIRTUAL_TIMER } else { 0 };
-    let external = if lines.external { VIRTUAL_EXTERNAL } else { 0 };
-    hvip | (timer + external)
-}
-
 /// A register of interrupts as the guest sees it.
 #[tactic(auto, unfolding(sv_types::specs::HypervisorRegisters::aliased))]
 fn aliased(hideleg: u64, register: u64) -> u64
@@ -189,6 +179,16 @@ impl Csrs {
         }
     }
 
+    /// The guest's interrupts that are pending, each one place higher than in `sip`: `hvip` ORed with the wires.
+    #[tactic(auto, unfolding(sv_types::specs::HypervisorRegisters::hip_value))]
+    pub fn hip(&self, lines: &Lines) -> u64
+        ensures { result ≡ hip_value self.now.hvip lines.now }
+    {
+        let timer = if lines.timer { VIRTUAL_TIMER } else { 0 };
+        let external = if lines.external { VIRTUAL_EXTERNAL } else { 0 };
+        self.hvip | (timer + external)
+    }
+
     /// The value of a register, as the guest reads it.
     #[tactic(auto, unfolding(sv_types::specs::HypervisorRegisters::read_virtual))]
     fn value(&self, hideleg: u64, lines: &Lines, csr: Csr) -> u64
@@ -203,7 +203,7 @@ impl Csrs {
             Csr::Sepc => self.vsepc,
             Csr::Scause => self.vscause,
             Csr::Stval => self.vstval,
-            Csr::Sip => aliased(hideleg, hip(self.hvip, lines)),
+            Csr::Sip => aliased(hideleg, self.hip(lines)),
             Csr::Satp => self.vsatp,
             Csr::Time => lines.time,
         }

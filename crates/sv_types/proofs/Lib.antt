@@ -1,1 +1,2 @@
 pub mod RegisterBits
+pub mod GuestViews

@@ -1,16 +1,17 @@
 -- What bits of a register stand after a write, a trap or its return.
 use Rattle.std.proofs.Common.{◌≡◌, ℕ, ◌+◌, ◌-◌, ◌*◌, ◌/◌, ◌%◌, ◌^◌, ◌<◌, ◌≤◌, refl, sym, ◌∙◌, ap, arith, Bool, true, false, lit<, bit_and, bit_or, min, max}
-use Rattle.std.specs.Prelude.{◌==◌, ◌||◌, if◌then◌else◌}
+use Rattle.std.specs.Prelude.{◌==◌, ◌&&◌, ◌||◌, if◌then◌else◌}
 use Rattle.std.proofs.lemmas.Bool.{eqb-true}
 use Rattle.std.specs.Int.{bit_at}
 use Rattle.std.specs.Int.Bits.{and_self}
-use Rattle.std.proofs.lemmas.Nat.{and_assoc, and_comm, and_block, and_le_r}
+use Rattle.std.proofs.lemmas.Nat.{and_assoc, and_comm, and_block, and_le_l, and_le_r}
 use Rattle.std.proofs.lemmas.Nat.Bits.{bit_at_and, bit_at_or, same_from_bits, and_high}
 use Rattle.sv_types.specs.Bits.{with_bits, without, bit}
 use Rattle.sv_types.specs.Registers.{legal_status, status_bits, legal_satp, satp_bits, is_satp_mode, legal_epc, interrupt_bits}
-use Rattle.sv_types.specs.Traps.{status_at_trap, status_at_return, is_kernel}
-use Rattle.sv_types.specs.HypervisorRegisters.{HypervisorRegisters, IsLegal, registers_at_boot, with_alias, write_virtual, virtual_interrupt_bits, virtual_software_bit}
+use Rattle.sv_types.specs.Traps.{trap_target, status_at_trap, status_at_return, is_kernel}
+use Rattle.sv_types.specs.HypervisorRegisters.{HypervisorRegisters, IsLegal, registers_at_boot, registers_at_trap, registers_at_return, registers_at_exit, with_alias, write_virtual, virtual_interrupt_bits, virtual_software_bit}
 use Rattle.sv_types.specs.declared.csr.Csr.{Csr}
+use Rattle.sv_types.specs.declared.wires.Exit.{Exit}
 use Rattle.sv_types.specs.declared.wires.Mode.{Mode}
 
 -- ---- masks
@@ -233,3 +234,67 @@ write_is_legal hideleg c Csr.Stval value l = record {
   htinst = l.htinst;
 }
 write_is_legal hideleg c Csr.Time value l = l
+
+-- what the legal bits of the guest's status are, and a pc that is a multiple of 4
+pub trap_is_legal : (c : HypervisorRegisters) (from : Mode) (pc : ℕ) (interrupt : Bool) (cause tval : ℕ) → IsLegal c → pc % 4 ≡ 0 → pc < 2 ^ 64
+    → IsLegal (registers_at_trap c from pc interrupt cause tval)
+unfolding registers_at_trap
+trap_is_legal c from pc interrupt cause tval l aligned small = record {
+  vsstatus = trap_status_legal c.vsstatus from l.vsstatus;
+  vstvec = l.vstvec;
+  vsepc = aligned_epc pc aligned small;
+  vsatp = l.vsatp;
+  scounteren = l.scounteren;
+  hie = l.hie;
+  hvip = l.hvip;
+  sepc = l.sepc;
+  htinst = l.htinst;
+}
+
+pub return_is_legal : (c : HypervisorRegisters) → IsLegal c → IsLegal (registers_at_return c)
+unfolding registers_at_return
+return_is_legal c l = record {
+  vsstatus = return_status_legal c.vsstatus l.vsstatus;
+  vstvec = l.vstvec;
+  vsepc = l.vsepc;
+  vsatp = l.vsatp;
+  scounteren = l.scounteren;
+  hie = l.hie;
+  hvip = l.hvip;
+  sepc = l.sepc;
+  htinst = l.htinst;
+}
+
+pub exit_is_legal : (c : HypervisorRegisters) (exit : Exit) → IsLegal c → exit.pc % 4 ≡ 0 → exit.pc < 2 ^ 64 → exit.htinst < 2 ^ 32
+    → IsLegal (registers_at_exit c exit)
+unfolding registers_at_exit
+exit_is_legal c exit l aligned small word = record {
+  vsstatus = l.vsstatus;
+  vstvec = l.vstvec;
+  vsepc = l.vsepc;
+  vsatp = l.vsatp;
+  scounteren = l.scounteren;
+  hie = l.hie;
+  hvip = l.hvip;
+  sepc = aligned_epc exit.pc aligned small;
+  htinst = word;
+}
+
+target_cases : (base : ℕ) (vectored : Bool) (cause : ℕ) → base % 4 ≡ 0 → (if vectored then (base + 4 * cause) % 2 ^ 64 else base) % 4 ≡ 0
+target_cases base true cause e = omega arith
+target_cases base false cause e = e
+
+small_cases : (base : ℕ) (vectored : Bool) (cause : ℕ) → base < 2 ^ 64 → (if vectored then (base + 4 * cause) % 2 ^ 64 else base) < 2 ^ 64
+small_cases base true cause e = omega arith
+small_cases base false cause e = e
+
+-- a target is a multiple of 4
+pub target_aligned : (stvec : ℕ) (interrupt : Bool) (cause : ℕ) → trap_target stvec interrupt cause % 4 ≡ 0
+unfolding trap_target
+target_aligned stvec interrupt cause = target_cases (legal_epc stvec) (interrupt && bit stvec 0) cause (epc_aligned stvec)
+
+-- and a word of 64 bits, where stvec is one
+pub target_small : (stvec : ℕ) (interrupt : Bool) (cause : ℕ) → stvec < 2 ^ 64 → trap_target stvec interrupt cause < 2 ^ 64
+unfolding trap_target
+target_small stvec interrupt cause small = small_cases (legal_epc stvec) (interrupt && bit stvec 0) cause
+    (let le = and_le_l stvec (2 ^ 64 - 2 ^ 2) in omega arith)

@@ -198,10 +198,10 @@ virtual_number interrupt = interrupt_number interrupt + 1
 
 -- the interrupt's bits in hip and in hie are set; one that is delegated waits until the guest takes interrupts, and one
 -- that isn't is taken at once
-unfoldable pub is_taken : HRegs → HypervisorRegisters → Lines → Interrupt → Bool
-is_taken regs c lines interrupt =
+unfoldable pub is_taken : ℕ → Mode → HypervisorRegisters → Lines → Interrupt → Bool
+is_taken hideleg mode c lines interrupt =
     bit (hip_value c.hvip lines) (virtual_number interrupt) && bit c.hie (virtual_number interrupt)
-    && (not (bit regs.hideleg (virtual_number interrupt)) || takes_interrupts regs.mode c.vsstatus)
+    && (not (bit hideleg (virtual_number interrupt)) || takes_interrupts mode c.vsstatus)
 
 unfoldable pub pending : HRegs → HypervisorRegisters → Lines → Option Interrupt
-pending regs c lines = first_interrupt (is_taken regs c lines)
+pending regs c lines = first_interrupt (is_taken regs.hideleg regs.mode c lines)

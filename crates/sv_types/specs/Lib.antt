@@ -16,3 +16,4 @@ pub mod Bits
 pub mod Registers
 pub mod Traps
 pub mod HypervisorRegisters
+pub mod GuestView
