@@ -1,16 +1,16 @@
 -- With V = 1 the hardware shows the guest its supervisor registers.
-use Rattle.std.proofs.Common.{◌≡◌, ℕ, zero, suc, ◌+◌, ◌-◌, ◌*◌, ◌/◌, ◌%◌, ◌^◌, ◌<◌, refl, sym, ◌∙◌, ap, arith, Bool, true, false, lit<, bit_and, bit_or}
+use Rattle.std.proofs.Common.{◌≡◌, ℕ, zero, suc, ◌+◌, ◌-◌, ◌*◌, ◌/◌, ◌%◌, ◌^◌, ◌<◌, refl, sym, ◌∙◌, ap, subst, arith, Bool, true, false, lit<, bit_and, bit_or}
 use Rattle.std.specs.Prelude.{Option, Some, None, ◌==◌, ◌&&◌, if◌then◌else◌}
 use Rattle.std.specs.Result.{result_ok}
 use Rattle.std.specs.Int.Bits.{or_zero_l, and_zero_r}
 use Rattle.std.specs.Int.{bit_at}
 use Rattle.std.proofs.lemmas.Nat.{and_assoc, and_block}
 use Rattle.std.proofs.lemmas.Nat.Bits.{and_pow, bit_at-lt}
-use Rattle.sv_types.proofs.RegisterBits.{and_twice}
+use Rattle.sv_types.proofs.RegisterBits.{and_twice, boot_is_legal, write_is_legal, trap_is_legal, return_is_legal}
 use Rattle.sv_types.specs.Bits.{bit, flag, without}
 use Rattle.sv_types.specs.Registers.{Supervisor, IsLegalSupervisor, legal_interrupts, interrupt_bits, csr_named, guest_access, allowed_csr, sip_value, read_csr, write_csr}
 use Rattle.sv_types.specs.Traps.{supervisor_at_trap, supervisor_at_return, deliverable, is_pending, takes_interrupts, first_interrupt, interrupt_number}
-use Rattle.sv_types.specs.HypervisorRegisters.{HypervisorRegisters, csr_access, reached_csr, unless_refused, read_virtual, write_virtual, hip_value, aliased, with_alias, registers_at_trap, registers_at_return, is_taken, pending, virtual_interrupt_bits, virtual_software_bit, virtual_number}
+use Rattle.sv_types.specs.HypervisorRegisters.{HypervisorRegisters, IsLegal, registers_at_boot, csr_access, reached_csr, unless_refused, read_virtual, write_virtual, hip_value, aliased, with_alias, registers_at_trap, registers_at_return, is_taken, pending, virtual_interrupt_bits, virtual_software_bit, virtual_number}
 use Rattle.sv_types.specs.GuestView.{with_guest, hideleg_in}
 use Rattle.sv_types.specs.declared.csr.Csr.{Csr}
 use Rattle.sv_types.specs.declared.csr.CsrFault.TheVariants as CsrFault
@@ -200,6 +200,66 @@ pub guest_accesses : (mode : Mode) (c : HypervisorRegisters) (s : Supervisor) (n
 unfolding guest_access csr_access
 guest_accesses mode c s number writes = allowed_agrees mode s.scounteren writes number (csr_named number)
 
+-- ---- by mode
+
+-- user mode reaches time alone, and reads it
+time_only : (enabled : Bool) (csr : Csr) → (if enabled then Some Csr.Time else None) ≡ Some csr → Csr.Time ≡ csr
+time_only true csr e = cc
+time_only false csr e = cc
+
+user_reaches : (scounteren : ℕ) (writes : Bool) (named : Option Csr) (csr : Csr) → allowed_csr User scounteren writes named ≡ Some csr
+    → (Csr.Time ≡ csr) × (writes ≡ false)
+unfolding allowed_csr
+user_reaches scounteren writes None csr e = cc
+user_reaches scounteren true (Some Csr.Sstatus) csr e = cc
+user_reaches scounteren false (Some Csr.Sstatus) csr e = cc
+user_reaches scounteren true (Some Csr.Sie) csr e = cc
+user_reaches scounteren false (Some Csr.Sie) csr e = cc
+user_reaches scounteren true (Some Csr.Stvec) csr e = cc
+user_reaches scounteren false (Some Csr.Stvec) csr e = cc
+user_reaches scounteren true (Some Csr.Scounteren) csr e = cc
+user_reaches scounteren false (Some Csr.Scounteren) csr e = cc
+user_reaches scounteren true (Some Csr.Sscratch) csr e = cc
+user_reaches scounteren false (Some Csr.Sscratch) csr e = cc
+user_reaches scounteren true (Some Csr.Sepc) csr e = cc
+user_reaches scounteren false (Some Csr.Sepc) csr e = cc
+user_reaches scounteren true (Some Csr.Scause) csr e = cc
+user_reaches scounteren false (Some Csr.Scause) csr e = cc
+user_reaches scounteren true (Some Csr.Stval) csr e = cc
+user_reaches scounteren false (Some Csr.Stval) csr e = cc
+user_reaches scounteren true (Some Csr.Sip) csr e = cc
+user_reaches scounteren false (Some Csr.Sip) csr e = cc
+user_reaches scounteren true (Some Csr.Satp) csr e = cc
+user_reaches scounteren false (Some Csr.Satp) csr e = cc
+user_reaches scounteren true (Some Csr.Time) csr e = cc
+user_reaches scounteren false (Some Csr.Time) csr e = (time_only (bit scounteren 1) csr e, refl)
+
+time_read : (c : HypervisorRegisters) (s : Supervisor) (lines : Lines)
+    → read_virtual (hideleg_in User) (with_guest c s) lines Csr.Time ≡ read_csr s lines Csr.Time
+unfolding read_virtual read_csr
+time_read c s lines = refl
+
+pub reached_reads : (mode : Mode) (c : HypervisorRegisters) (s : Supervisor) (lines : Lines) (number : ℕ) (writes : Bool) (csr : Csr)
+    → IsLegalSupervisor s → guest_access mode s number writes ≡ Some csr
+    → read_virtual (hideleg_in mode) (with_guest c s) lines csr ≡ read_csr s lines csr
+unfolding guest_access
+reached_reads Kernel c s lines number writes csr legal e = guest_reads c s lines csr legal
+reached_reads User c s lines number writes csr legal e =
+    let only = user_reaches s.scounteren writes (csr_named number) csr e in
+    subst (λ (k : Csr). read_virtual (hideleg_in User) (with_guest c s) lines k ≡ read_csr s lines k) only.0 (time_read c s lines)
+
+no_write : (P : Type 0) → true ≡ false → P
+no_write P e = cc
+
+pub reached_writes : (mode : Mode) (c : HypervisorRegisters) (s : Supervisor) (number : ℕ) (csr : Csr) (value : ℕ)
+    → IsLegalSupervisor s → guest_access mode s number true ≡ Some csr
+    → write_virtual (hideleg_in mode) (with_guest c s) csr value ≡ with_guest c (write_csr s csr value)
+unfolding guest_access
+reached_writes Kernel c s number csr value legal e = guest_writes c s csr value legal
+reached_writes User c s number csr value legal e =
+    let only = user_reaches s.scounteren true (csr_named number) csr e in
+    no_write (write_virtual (hideleg_in User) (with_guest c s) csr value ≡ with_guest c (write_csr s csr value)) only.1
+
 -- ---- traps
 
 pub guest_traps : (c : HypervisorRegisters) (s : Supervisor) (from : Mode) (pc : ℕ) (interrupt : Bool) (cause tval : ℕ)
@@ -246,3 +306,52 @@ guest_pending regs c s lines e =
     ∙ same_first (is_taken (hideleg_in regs.mode) regs.mode (with_guest c s) lines) (λ i. is_pending s lines i && takes_interrupts regs.mode s.sstatus)
     (taken_agrees regs.mode c s lines)
     ∙ guarded_first (is_pending s lines) (takes_interrupts regs.mode s.sstatus)
+
+-- ---- legal bits
+
+software_kept : (software : Bool) → bit_and (virtual_software_bit * flag software) virtual_software_bit ≡ virtual_software_bit * flag software
+software_kept true = refl
+software_kept false = refl
+
+pub shown_is_legal : (c : HypervisorRegisters) (s : Supervisor) → IsLegal c → IsLegalSupervisor s → IsLegal (with_guest c s)
+shown_is_legal c s l legal = record {
+  vsstatus = legal.sstatus;
+  vstvec = legal.stvec;
+  vsepc = legal.sepc;
+  vsatp = legal.satp;
+  scounteren = legal.scounteren;
+  hie = doubled_kept s.sie legal.sie;
+  hvip = software_kept s.software;
+  sepc = l.sepc;
+  htinst = l.htinst;
+}
+
+undoubled : (sie : ℕ) → bit_and (2 * sie) virtual_interrupt_bits ≡ 2 * sie → legal_interrupts sie ≡ sie
+undoubled sie e = let both : 2 * legal_interrupts sie ≡ 2 * sie = sym (double_and sie interrupt_bits) ∙ e in omega arith
+
+pub guest_is_legal : (c : HypervisorRegisters) (s : Supervisor) → IsLegal (with_guest c s) → IsLegalSupervisor s
+guest_is_legal c s l = record {
+  sstatus = l.vsstatus;
+  sie = undoubled s.sie l.hie;
+  stvec = l.vstvec;
+  scounteren = l.scounteren;
+  sepc = l.vsepc;
+  satp = l.vsatp;
+}
+
+pub guest_write_is_legal : (s : Supervisor) (csr : Csr) (value : ℕ) → IsLegalSupervisor s → IsLegalSupervisor (write_csr s csr value)
+guest_write_is_legal s csr value legal = guest_is_legal registers_at_boot (write_csr s csr value)
+    (subst IsLegal (guest_writes registers_at_boot s csr value legal)
+    (write_is_legal (hideleg_in Kernel) (with_guest registers_at_boot s) csr value (shown_is_legal registers_at_boot s boot_is_legal legal)))
+
+pub guest_trap_is_legal : (s : Supervisor) (from : Mode) (pc : ℕ) (interrupt : Bool) (cause tval : ℕ) → IsLegalSupervisor s → pc % 4 ≡ 0
+    → pc < 2 ^ 64 → IsLegalSupervisor (supervisor_at_trap s from pc interrupt cause tval)
+guest_trap_is_legal s from pc interrupt cause tval legal aligned small =
+    guest_is_legal registers_at_boot (supervisor_at_trap s from pc interrupt cause tval)
+    (subst IsLegal (guest_traps registers_at_boot s from pc interrupt cause tval)
+    (trap_is_legal (with_guest registers_at_boot s) from pc interrupt cause tval (shown_is_legal registers_at_boot s boot_is_legal legal) aligned small))
+
+pub guest_return_is_legal : (s : Supervisor) → IsLegalSupervisor s → IsLegalSupervisor (supervisor_at_return s)
+guest_return_is_legal s legal = guest_is_legal registers_at_boot (supervisor_at_return s)
+    (subst IsLegal (guest_returns registers_at_boot s)
+    (return_is_legal (with_guest registers_at_boot s) (shown_is_legal registers_at_boot s boot_is_legal legal)))

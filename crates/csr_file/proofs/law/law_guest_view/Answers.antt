@@ -1,12 +1,12 @@
 -- Each clause is a lemma of the definitions.
-use Rattle.sv_types.proofs.GuestViews.{guest_accesses, guest_reads, guest_writes, guest_traps, guest_returns, guest_pending}
+use Rattle.sv_types.proofs.GuestViews.{guest_accesses, reached_reads, reached_writes, guest_traps, guest_returns, guest_pending}
 use Rattle.csr_file.proofs.law.law_guest_view.Goals as goal
 
 pub returns : goal.returns
 returns c = record {
   accesses = guest_accesses;
-  reads = guest_reads;
-  writes = guest_writes;
+  reads = reached_reads;
+  writes = reached_writes;
   traps = guest_traps;
   returns = guest_returns;
   interrupts = guest_pending;
