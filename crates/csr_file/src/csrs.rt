@@ -18,9 +18,9 @@ const INTERRUPT_BITS: u64 = 1 << 1 | 1 << 5 | 1 << 9;
 const VIRTUAL_INTERRUPT_BITS: u64 = INTERRUPT_BITS << 1;
 /// The guest's software interrupt there, the only one that `hvip` keeps.
 const VIRTUAL_SOFTWARE: u64 = 1 << 2;
-
+/// The guest's timer interrupt there, a wire.
 const VIRTUAL_TIMER: u64 = 1 << 6;
-
+/// The guest's external interrupt there, a wire.
 const VIRTUAL_EXTERNAL: u64 = 1 << 10;
 /// The second of the two bits of `stvec`'s mode.
 const TVEC_RESERVED: u64 = 1 << 1;
