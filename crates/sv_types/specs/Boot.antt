@@ -1,6 +1,6 @@
 -- The state in which a machine of plain pages starts. This project's own.
-use Rattle.std.specs.Prelude.{ℕ, ◌-◌, ◌*◌, ◌/◌, List, [], ◌++◌, length, replicate}
-use Rattle.sv_types.specs.Bytes.{page_size, ram_base}
+use Rattle.std.specs.Prelude.{ℕ, ◌*◌, ◌/◌, List, [], length, replicate}
+use Rattle.sv_types.specs.Bytes.{padded, page_size, ram_base}
 use Rattle.sv_types.specs.Reference.{State, Hart, numbers_from, approved_pages}
 use Rattle.sv_types.specs.declared.event.Counts.{Counts}
 use Rattle.sv_types.specs.declared.event.Verdict.TheVariants.{Running}
@@ -42,10 +42,6 @@ boot_state ram text entry disk = record {
 
 abbrev pub flat_ram_pages : ℕ
 flat_ram_pages = 16
-
--- bytes, and zeros behind them
-abbrev pub padded : List ℕ → ℕ → List ℕ
-padded bytes size = bytes ++ replicate (size - length bytes) 0
 
 -- pages at the start of RAM, all of them approved, where the hart begins; no disk
 unfoldable pub flat_start : List ℕ → State

@@ -1,7 +1,7 @@
 -- Bytes, words and pages of guest memory. A byte is a number below 256, memory is a list of bytes.
 -- RISC-V Unprivileged manual, "Memory" and "Base Instruction-Length Encoding": bytes, little-endian words.
 -- RISC-V Privileged manual, "Sv39": pages of 4,096 bytes.
-use Rattle.std.specs.Prelude.{ℕ, zero, suc, ◌+◌, ◌-◌, ◌*◌, ◌/◌, ◌%◌, Bool, ◌&&◌, List, [], ◌∷◌, ◌++◌, length, take, drop, nat_le}
+use Rattle.std.specs.Prelude.{ℕ, zero, suc, ◌+◌, ◌-◌, ◌*◌, ◌/◌, ◌%◌, Bool, ◌&&◌, List, [], ◌∷◌, ◌++◌, length, take, drop, replicate, nat_le}
 
 -- the number that the bytes write, the lowest byte first
 abbrev pub little_endian : List ℕ → ℕ
@@ -28,6 +28,10 @@ overwrite list at bytes = take at list ++ (bytes ++ drop (at + length bytes) lis
 -- the list with the n lowest bytes of a value written at place `at`
 abbrev pub write_word : List ℕ → ℕ → ℕ → ℕ → List ℕ
 write_word list at n value = overwrite list at (low_bytes n value)
+
+-- bytes, and zeros behind them up to a size
+abbrev pub padded : List ℕ → ℕ → List ℕ
+padded bytes size = bytes ++ replicate (size - length bytes) 0
 
 -- where guest RAM begins, and the bytes of a page
 abbrev pub ram_base : ℕ

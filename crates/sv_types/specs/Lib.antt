@@ -8,6 +8,7 @@ pub mod Turn
 pub mod Run
 pub mod Measure
 pub mod Boot
+pub mod Names
 pub mod Numbers
 pub mod Words
 pub mod Output

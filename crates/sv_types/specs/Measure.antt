@@ -1,14 +1,23 @@
 -- The measure of whole pages: the digest of the pages' digests.
 -- FIPS 180-4, "SHA-256".
-use Rattle.std.specs.Prelude.{ℕ, zero, suc, ◌/◌, List, [], ◌++◌, length, take, drop}
+use Rattle.std.specs.Prelude.{ℕ, zero, suc, ◌/◌, List, [], ◌∷◌, length, take, drop}
+use Rattle.std.specs.List.{concat}
 use Rattle.sha2.specs.Sha256.{sha256}
 use Rattle.sv_types.specs.Bytes.{page_size}
 
--- the digests of the first n pages, one behind the other
-abbrev pub page_digests : ℕ → List ℕ → List ℕ
+-- the digest of a page's bytes
+abbrev pub page_digest : List ℕ → List ℕ
+page_digest page = sha256 page
+
+-- the digests of the first n pages, in order
+abbrev pub page_digests : ℕ → List ℕ → List (List ℕ)
 page_digests zero bytes = []
-page_digests (suc n) bytes = sha256 (take page_size bytes) ++ page_digests n (drop page_size bytes)
+page_digests (suc n) bytes = page_digest (take page_size bytes) ∷ page_digests n (drop page_size bytes)
+
+-- the digest of digests, one behind the other
+abbrev pub joined_digests : List (List ℕ) → List ℕ
+joined_digests digests = sha256 (concat digests)
 
 -- the digest of the pages' digests
 unfoldable pub measure : List ℕ → List ℕ
-measure bytes = sha256 (page_digests (length bytes / page_size) bytes)
+measure bytes = joined_digests (page_digests (length bytes / page_size) bytes)

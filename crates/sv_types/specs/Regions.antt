@@ -1,6 +1,6 @@
 -- A region of host memory, byte by byte: the table part, where page tables lie, and behind it guest RAM.
 -- RISC-V Privileged manual, "Two-Stage Address Translation": host places are supervisor-physical addresses.
-use Rattle.std.specs.Prelude.{◌≡◌, ℕ, ◌+◌, ◌-◌, ◌*◌, ◌≤◌, ◌<◌, ◌%◌, ◌^◌, ◌⊎◌, List, ◌++◌, length, nat_lt, if◌then◌else◌, refl}
+use Rattle.std.specs.Prelude.{◌≡◌, ℕ, ◌+◌, ◌-◌, ◌*◌, ◌≤◌, ◌<◌, ◌%◌, ◌^◌, ◌⊎◌, List, ◌++◌, length, take, drop, nat_lt, if◌then◌else◌, refl}
 use Rattle.std.specs.Coded.{Coded, code_by, coded×, coded_list, coded_ℕ}
 use Rattle.sv_types.specs.Bytes.{word, write_word, page_size}
 
@@ -14,6 +14,10 @@ region_code = code_by (List ℕ × List ℕ) (coded× (coded_list coded_ℕ) (co
 -- all bytes, in the order of their host places
 abbrev pub host_bytes : Region → List ℕ
 host_bytes r = r.tables ++ r.ram
+
+-- the region of these bytes whose table part has so many
+abbrev pub region_of : ℕ → List ℕ → Region
+region_of tables bytes = record { tables = take tables bytes; ram = drop tables bytes }
 
 -- the word of n bytes at a host place, which lies in the tables or behind them in RAM
 unfoldable pub host_word : Region → ℕ → ℕ → ℕ

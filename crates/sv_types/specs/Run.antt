@@ -1,5 +1,5 @@
 -- Events, and whole runs: the events one after another. This project's own.
-use Rattle.std.specs.Prelude.{ℕ, ◌+◌, List, [], ◌∷◌, ◌++◌, ◌==◌, if◌then◌else◌}
+use Rattle.std.specs.Prelude.{ℕ, ◌+◌, ◌≤◌, List, [], ◌∷◌, ◌++◌, ◌==◌, if◌then◌else◌}
 use Rattle.sv_types.specs.declared.event.Event.{Event}
 use Rattle.sv_types.specs.declared.event.Event.TheVariants.{Turn, Beat, Key, Tick}
 use Rattle.sv_types.specs.declared.event.Counts.{Counts}
@@ -47,3 +47,11 @@ run r (event ∷ events) = run (step r event) events
 -- the same state with bytes before those that were printed
 abbrev pub with_printed : List ℕ → State → State
 with_printed bytes r = record r { printed = bytes ++ r.printed }
+
+-- each count that an event may raise is at most n
+pub record CountsAtMost (n : ℕ) (counts : Counts) : Type 0 where
+  pub turns : counts.turns ≤ n
+  pub beats : counts.beats ≤ n
+  pub keys : counts.keys ≤ n
+  pub ticks : counts.ticks ≤ n
+  pub retired : counts.retired ≤ n

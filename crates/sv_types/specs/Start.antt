@@ -1,5 +1,5 @@
 -- What the words and the files that they name ask for: a run from a start, or the first refusal. This project's own.
-use Rattle.std.specs.Prelude.{ℕ, ◌%◌, ◌*◌, List, ◌++◌, length, replicate, Bool, ◌&&◌, ◌==◌, nat_lt, if◌then◌else◌, Option, Some, None, codes}
+use Rattle.std.specs.Prelude.{ℕ, ◌%◌, ◌*◌, List, ◌++◌, length, replicate, Bool, ◌&&◌, ◌==◌, nat_lt, if◌then◌else◌, codes}
 use Rattle.std.specs.Fmt.{decimal}
 use Rattle.std.specs.Str.{bytes_eq}
 use Rattle.sv_types.specs.declared.event.Event.{Event}
@@ -17,6 +17,14 @@ pub data Asked : Type 0 where
   -- a status, and the line that is written
   Refuse : (how : Status) → (refusal : List ℕ) → Asked
   RunFrom : (start : State) → (events : List Event) → Asked
+
+-- what reading the file that the words name gave
+pub data Found : Type 0 where
+  -- the read failed
+  Faulty : Found
+  -- no such name is held
+  Missing : Found
+  Held : (bytes : List ℕ) → Found
 
 -- ---- the lines of refusals
 
@@ -48,10 +56,14 @@ measure_judged pages wanted events =
 abbrev pub is_whole_pages : List ℕ → Bool
 is_whole_pages bytes = nat_lt 0 (length bytes) && length bytes % page_size == 0
 
--- a file that isn't held, one that is longer than RAM, and one that isn't whole pages
-unfoldable pub flat_file_judged : Option (List ℕ) → List ℕ → List Event → Asked
-flat_file_judged None wanted events = Refuse Status.ReadFault (read_fault_line flat_part)
-flat_file_judged (Some bytes) wanted events =
+abbrev pub flat_read_fault : Asked
+flat_read_fault = Refuse Status.ReadFault (read_fault_line flat_part)
+
+-- a read that failed or a name that isn't held; a file that is longer than RAM, and one that isn't whole pages
+unfoldable pub flat_file_judged : Found → List ℕ → List Event → Asked
+flat_file_judged Faulty wanted events = flat_read_fault
+flat_file_judged Missing wanted events = flat_read_fault
+flat_file_judged (Held bytes) wanted events =
     if nat_lt (page_size * flat_ram_pages) (length bytes) then Refuse Status.Refused (refused_line flat_part 0)
     else if is_whole_pages bytes then measure_judged bytes wanted events
     else Refuse Status.Refused (refused_line flat_part 1)
@@ -62,11 +74,11 @@ turns n = replicate n (Turn 0)
 
 -- ---- all commands
 
--- from the judged words, and what the file that they name holds
-unfoldable pub asked_of : Judged → Option (List ℕ) → Asked
-asked_of NoCommand held = Refuse Status.Usage (codes "usage" ++ line_feed)
-asked_of (OutOfRange name) held = Refuse Status.Usage (usage_line name)
-asked_of (Flat file wanted events) held = flat_file_judged held wanted (turns events)
+-- from the judged words, and what was found under the name of the file
+unfoldable pub asked_of : Judged → Found → Asked
+asked_of NoCommand found = Refuse Status.Usage (codes "usage" ++ line_feed)
+asked_of (OutOfRange name) found = Refuse Status.Usage (usage_line name)
+asked_of (Flat file wanted events) found = flat_file_judged found wanted (turns events)
 
 -- all bytes that are due, and the status
 abbrev pub bytes_due : Asked → List ℕ

@@ -7,6 +7,7 @@ mod csr;
 mod effect;
 mod event;
 mod instruction;
+mod name;
 mod status;
 mod wires;
 
@@ -16,5 +17,6 @@ pub use csr::{Csr, CsrFault};
 pub use effect::Effect;
 pub use event::{Counts, Event, Note, Rule, Verdict};
 pub use instruction::{Instr, OpImmOp, StoreOp};
+pub use name::{MOST_NAME_BYTES, Name};
 pub use status::Status;
 pub use wires::{Access, Exit, HRegs, Interrupt, Lines, Mode, Protection, View};

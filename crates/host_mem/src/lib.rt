@@ -1,0 +1,114 @@
+//! Host memory: one region of bytes, the table part and behind it guest RAM.
+#![tactic(auto)]
+
+ghost use Rattle.std.specs.Prelude.{◌≡◌, ◌+◌, ◌*◌, ◌<◌, ◌≤◌, ◌%◌, ◌^◌, length, IfOk, replicate};
+ghost use Rattle.sv_types.specs.Bytes.{page_size, page_bytes, overwrite};
+ghost use Rattle.sv_types.specs.Regions.{Region, IsRegion, IsHostPlace, most_ram_pages, host_bytes, host_word, write_host};
+
+mod words;
+
+use crate::words::{put_word, word_at};
+use std::alloc::{AllocError, Global};
+use std::marker::Model;
+
+/// The bytes of a page.
+pub const PAGE_SIZE: usize = 4096;
+
+/// The most pages of guest RAM.
+pub const MOST_RAM_PAGES: usize = 65536;
+
+/// A region of host memory. Contracts see its table part and its guest RAM, each as a list of bytes.
+#[derive(Drop)]
+pub struct HostMem {
+    bytes: Vec<u8>,
+    table_bytes: usize,
+    ram_pages: usize,
+}
+
+impl Model for HostMem {
+    ghost use Rattle.sv_types.specs.Regions.{Region, region_code};
+
+    ghost Value = { Region };
+
+    ghost coded = { region_code };
+
+    ghost use Rattle.std.specs.Prelude.{◌≡◌, ◌+◌, ◌*◌, ◌<◌, ◌≤◌, ◌%◌, ◌^◌, length};
+    ghost use Rattle.sv_types.specs.Bytes.{page_size};
+    ghost use Rattle.sv_types.specs.Regions.{region_of, most_ram_pages};
+
+    ghost view = { λ m. region_of m.table_bytes m.bytes.items };
+
+    ghost invariant = { λ m. (length m.bytes.items ≡ m.table_bytes + page_size * m.ram_pages) × ((m.table_bytes % page_size ≡ 0) × ((m.ram_pages ≤ most_ram_pages) × (length m.bytes.items < 2 ^ 63))) };
+}
+
+impl HostMem {
+    /// A region of `table_bytes` bytes and `ram_pages` pages, all of them zeros. Fails where memory is wanting.
+    pub fn new(alloc: Global, table_bytes: usize, ram_pages: usize) -> Result<HostMem, AllocError>
+        requires whole { table_bytes % page_size ≡ 0 }
+        requires few { ram_pages ≤ most_ram_pages }
+        ensures { IfOk result (λ m. m ≡ record { tables = replicate table_bytes 0; ram = replicate (page_size * ram_pages) 0 }) }
+    {
+        let Some(size) = table_bytes.checked_add(PAGE_SIZE * ram_pages) else {
+            return Err(AllocError);
+        };
+        let bytes = vec![in alloc; 0; size]?;
+        Ok(HostMem {
+            bytes,
+            table_bytes,
+            ram_pages,
+        })
+    }
+
+    /// The bytes of the table part, where guest RAM begins.
+    pub fn table_bytes(&self) -> usize
+        ensures value { result ≡ length self.now.tables }
+        ensures region { IsRegion self.now }
+    {
+        let _bytes = self.bytes.as_slice();
+        self.table_bytes
+    }
+
+    /// The pages of guest RAM.
+    pub fn ram_pages(&self) -> usize
+        ensures value { page_size * result ≡ length self.now.ram }
+        ensures region { IsRegion self.now }
+    {
+        let _bytes = self.bytes.as_slice();
+        self.ram_pages
+    }
+
+    /// The word of `width` bytes at a host place, the lowest byte first. The width is 1, 2, 4 or 8.
+    pub fn read(&self, at: usize, width: u8) -> u64
+        requires { IsHostPlace self.now at width }
+        ensures value { result ≡ host_word self.now at width }
+        ensures small { result < 256 ^ width }
+    {
+        word_at(self.bytes.as_slice(), at, width)
+    }
+
+    /// Writes the `width` lowest bytes of `value` at a host place, the lowest first. The width is 1, 2, 4 or 8.
+    pub fn write(&mut self, at: usize, width: u8, value: u64)
+        requires { IsHostPlace self.old at width }
+        ensures { self.new ≡ write_host self.old at width value }
+    {
+        put_word(self.bytes.as_mut_slice(), at, width, value);
+    }
+
+    /// The bytes of page `n` of guest RAM.
+    pub fn page(&self, n: u32) -> &[u8]
+        requires { page_size * (n + 1) ≤ length self.now.ram }
+        ensures { result.now ≡ page_bytes self.now.ram n }
+    {
+        let start = self.table_bytes + PAGE_SIZE * n as usize;
+        &self.bytes[start..start + PAGE_SIZE]
+    }
+
+    /// Copies `bytes` to the host places from `at` on.
+    pub fn copy_in(&mut self, at: usize, bytes: &[u8])
+        requires { at + length bytes.now ≤ length (host_bytes self.old) }
+        ensures bytes { host_bytes self.new ≡ overwrite (host_bytes self.old) at bytes.now }
+        ensures tables { length self.new.tables ≡ length self.old.tables }
+    {
+        self.bytes[at..at + bytes.len()].copy_from_slice(bytes);
+    }
+}

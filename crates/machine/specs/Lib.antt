@@ -1,0 +1,5 @@
+pub mod Memory
+pub mod Inside
+pub mod InsideMachine
+pub mod Effect
+pub mod Boot

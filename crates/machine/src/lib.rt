@@ -1,0 +1,11 @@
+//! The emulated machine: its state, its start, and one event.
+#![tactic(auto)]
+
+mod boot;
+mod effect;
+mod guest_memory;
+mod machine;
+
+pub use boot::BootRefusal;
+pub use machine::Machine;
+pub use sv_types::{Counts, Event, Note, Rule, Verdict};

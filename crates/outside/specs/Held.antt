@@ -1,0 +1,58 @@
+-- Files in memory: names with their bytes, of which the first of a name counts.
+use Rattle.std.specs.Prelude.{◌<◌, ℕ, List, Bool, true, false, find, map, option_map, Option, Some, None, Vec}
+use Rattle.std.specs.Str.{bytes_eq}
+use Rattle.std.specs.declared.alloc.Global.{Global}
+use Rattle.outside.specs.declared.FileRefusal.{FileRefusal}
+use Rattle.outside.specs.declared.FileRefusal.TheVariants.{Absent, Failed, TooLong, Memory}
+use Rattle.outside.specs.Outside.{FilesState, SinkState}
+
+-- a name and its bytes
+abbrev pub File : Type 0
+File = List ℕ × Vec ℕ Global
+
+abbrev pub has_name : List ℕ → File → Bool
+has_name name file = bytes_eq file.0 name
+
+abbrev pub file_bytes : File → List ℕ
+file_bytes file = file.1.items
+
+-- the names and their bytes
+abbrev pub contents : List File → List (List ℕ × List ℕ)
+contents files = map (λ file. (file.0, file_bytes file)) files
+
+-- the bytes of a name
+abbrev pub held_in : List File → List ℕ → Option (List ℕ)
+held_in files name = option_map file_bytes (find (has_name name) files)
+
+abbrev pub memory_state : List File → ℕ → ℕ → FilesState
+memory_state files read_faults save_faults = record {
+  tells = true;
+  held = held_in files;
+  permits = λ name. true;
+  read_faults = read_faults;
+  save_faults = save_faults;
+}
+
+-- more bytes than the limit, or want of memory
+abbrev pub IsTooLongOrMemory : ℕ → ℕ → FileRefusal → Type 0
+IsTooLongOrMemory size limit Absent = ⊥
+IsTooLongOrMemory size limit Failed = ⊥
+IsTooLongOrMemory size limit TooLong = limit < size
+IsTooLongOrMemory size limit Memory = Unit {0}
+
+abbrev pub memory_sink : List ℕ → ℕ → SinkState
+memory_sink taken faults = record { taken = Some taken; is_open = true; faults = faults }
+
+-- ---- real files and standard output tell nothing of content, and any name may be asked for
+
+abbrev pub real_state : ℕ → ℕ → FilesState
+real_state read_faults save_faults = record {
+  tells = false;
+  held = λ name. None;
+  permits = λ name. true;
+  read_faults = read_faults;
+  save_faults = save_faults;
+}
+
+abbrev pub real_sink : ℕ → SinkState
+real_sink faults = record { taken = None; is_open = true; faults = faults }

@@ -1,0 +1,71 @@
+-- What files and a sink mean to the program: what they hold and took, where they tell it, and how often they failed.
+use Rattle.std.specs.Prelude.{◌≡◌, ◌≢◌, ◌<◌, ◌≤◌, ℕ, List, [], ◌++◌, length, Bool, IsTrue, Option, Some, None, Result, Ok, Err, Vec}
+use Rattle.std.specs.declared.alloc.Global.{Global}
+use Rattle.outside.specs.declared.FileRefusal.{FileRefusal}
+use Rattle.outside.specs.declared.FileRefusal.TheVariants.{Absent, Failed, TooLong, Memory}
+
+-- ---- files
+
+pub record FilesState : Type 0 where
+  -- the files tell what they hold
+  pub tells : Bool
+  -- what each name holds
+  pub held : List ℕ → Option (List ℕ)
+  -- the names that may be asked for
+  pub permits : List ℕ → Bool
+  -- how often a read failed, and how often a save
+  pub read_faults : ℕ
+  pub save_faults : ℕ
+
+-- the files after an answer to a read: only a failure changes them, and that raises the count of reads alone
+abbrev pub ReadLeaves : FilesState → FilesState → Result (Vec ℕ Global) FileRefusal → Type 0
+ReadLeaves old new (Ok bytes) = new ≡ old
+ReadLeaves old new (Err Absent) = new ≡ old
+ReadLeaves old new (Err TooLong) = new ≡ old
+ReadLeaves old new (Err Memory) = new ≡ old
+ReadLeaves old new (Err Failed) = (old.read_faults < new.read_faults) × (new ≡ record old { read_faults = new.read_faults })
+
+-- what an answer to a read says of the name's bytes
+abbrev pub ReadTells : FilesState → List ℕ → ℕ → Result (Vec ℕ Global) FileRefusal → Type 0
+ReadTells files name limit (Ok bytes) = (length bytes.items ≤ limit) × (IsTrue files.tells → files.held name ≡ Some bytes.items)
+ReadTells files name limit (Err Absent) = IsTrue files.tells × (files.held name ≡ None)
+ReadTells files name limit (Err TooLong) =
+    (bytes : List ℕ) × (limit < length bytes) × (IsTrue files.tells → files.held name ≡ Some bytes)
+ReadTells files name limit (Err Failed) = Unit {0}
+ReadTells files name limit (Err Memory) = Unit {0}
+
+-- ---- a sink
+
+pub record SinkState : Type 0 where
+  -- the bytes taken so far, where the sink tells them
+  pub taken : Option (List ℕ)
+  -- the sink may be written to. Nothing says so after a write that failed
+  pub is_open : Bool
+  -- how often a write failed
+  pub faults : ℕ
+
+abbrev pub appended : Option (List ℕ) → List ℕ → Option (List ℕ)
+appended None bytes = None
+appended (Some taken) bytes = Some (taken ++ bytes)
+
+-- the sink when it has taken these bytes more
+abbrev pub after_taking : SinkState → List ℕ → SinkState
+after_taking sink bytes = record sink { taken = appended sink.taken bytes }
+
+-- a write failed, and took nothing
+pub record WriteFails (old new : SinkState) : Type 0 where
+  pub taken : new.taken ≡ old.taken
+  pub faults : old.faults < new.faults
+
+-- the sink took some of these bytes from their start on, perhaps all
+pub record TookPrefix (old new : SinkState) (bytes : List ℕ) : Type 0 where
+  pub written : List ℕ
+  pub left : List ℕ
+  pub whole : written ++ left ≡ bytes
+  pub taken : new.taken ≡ appended old.taken written
+
+-- a write failed before the sink had taken all of these bytes
+pub record BreaksOff (old new : SinkState) (bytes : List ℕ) : Type 0 where
+  pub prefix : TookPrefix old new bytes
+  pub some_left : prefix.left ≢ []
+  pub faults : old.faults < new.faults

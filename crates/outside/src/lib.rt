@@ -1,0 +1,77 @@
+//! The outside of the program: files by name, and a sink for what is printed.
+#![tactic(auto)]
+
+ghost use Rattle.std.specs.Prelude.{◌≡◌, ◌≢◌, ◌<◌, ◌≤◌, ◌-◌, ◌^◌, ℕ, List, Some, length, take, OnOk, OnErr, IfOk, IsTrue};
+ghost use Rattle.outside.specs.Outside.{FilesState, SinkState, ReadLeaves, ReadTells, after_taking, WriteFails};
+
+mod memory_files;
+mod memory_sink;
+mod real;
+mod writing;
+
+pub use memory_files::MemFiles;
+pub use memory_sink::MemSink;
+pub use real::{RealFiles, StdSink};
+pub use writing::write_all;
+
+use std::alloc::Global;
+
+/// Why a file isn't read.
+#[derive(Clone, Copy, Debug, PartialEq, Eq, Drop)]
+pub enum FileRefusal {
+    /// The name isn't held.
+    Absent,
+    /// The read failed.
+    Failed,
+    /// The name holds more bytes than the limit.
+    TooLong,
+    /// Memory was wanting.
+    Memory,
+}
+
+/// A save failed; the name may hold anything.
+#[derive(Clone, Copy, Debug, PartialEq, Eq, Drop)]
+pub struct SaveFailed;
+
+/// A write failed, and took nothing.
+#[derive(Clone, Copy, Debug, PartialEq, Eq, Drop)]
+pub struct Failed;
+
+/// Files by name.
+pub trait Files {
+    /// What the files hold, where they tell it, and how often they failed.
+    ghost state: { Self → FilesState };
+
+    /// All bytes that a name holds, if they are at most `limit`.
+    fn read(&mut self, alloc: Global, name: &str, limit: usize) -> Result<Vec<u8>, FileRefusal>
+        requires permitted { IsTrue ((state self.old).permits name.now) }
+        requires count { (state self.old).read_faults < 2 ^ 64 - 1 }
+        ensures tells { ReadTells (state self.old) name.now limit result }
+        ensures leaves { ReadLeaves (state self.old) (state self.new) result };
+
+    /// Puts bytes under a name. Other names stay.
+    fn save(&mut self, name: &str, bytes: &[u8]) -> Result<(), SaveFailed>
+        requires count { (state self.old).save_faults < 2 ^ 64 - 1 }
+        ensures saved { OnOk result (IsTrue (state self.old).tells → (state self.new).held name.now ≡ Some bytes.now) }
+        ensures others { (other : List ℕ) → other ≢ name.now → (state self.new).held other ≡ (state self.old).held other }
+        ensures fault { OnErr result ((state self.old).save_faults < (state self.new).save_faults) }
+        ensures no_fault { OnOk result ((state self.new).save_faults ≡ (state self.old).save_faults) }
+        ensures tells { (state self.new).tells ≡ (state self.old).tells }
+        ensures permits { (state self.new).permits ≡ (state self.old).permits }
+        ensures reads { (state self.new).read_faults ≡ (state self.old).read_faults };
+}
+
+/// Where lines and console bytes go.
+pub trait Sink {
+    /// What the sink took, where it tells it, and how often it failed.
+    ghost state: { Self → SinkState };
+
+    /// Takes the first bytes of a piece, and says how many: at least one of a piece that isn't empty.
+    fn write(&mut self, piece: &[u8]) -> Result<usize, Failed>
+        requires is_open { IsTrue (state self.old).is_open }
+        requires count { (state self.old).faults < 2 ^ 64 - 1 }
+        ensures took { IfOk result (λ n. state self.new ≡ after_taking (state self.old) (take n piece.now)) }
+        ensures within { IfOk result (λ n. n ≤ length piece.now) }
+        ensures progress { IfOk result (λ n. 0 < length piece.now → 0 < n) }
+        ensures failed { OnErr result (WriteFails (state self.old) (state self.new)) };
+}

@@ -1,0 +1,136 @@
+// Files in memory.
+ghost use Rattle.std.specs.Prelude.{◌≡◌, ◌≢◌, ◌<◌, ◌-◌, ◌^◌, ℕ, List, Option, IfOk, IfSome, IfErr, MatchOption, AllPairs, IsTrue, ◌≤◌, Some, length};
+ghost use Rattle.std.specs.Option.{option_copied};
+ghost use Rattle.outside.specs.Held.{contents, held_in, memory_state, IsTooLongOrMemory};
+
+use crate::{FileRefusal, Files, SaveFailed};
+use std::alloc::{AllocError, Global};
+use sv_types::Name;
+
+/// Files in memory, with the reads and saves that are to fail. They take all their room when they are made.
+#[derive(Drop)]
+pub struct MemFiles {
+    files: Vec<(Name, Vec<u8>)>,
+    spare: Vec<Vec<u8>>,
+    failing_reads: Vec<u64>,
+    failing_saves: Vec<u64>,
+    reads: u64,
+    saves: u64,
+    read_faults: u64,
+    save_faults: u64,
+}
+
+impl MemFiles {
+    /// Files that hold these names, with room for `saves` saves of `room` bytes each. The reads and saves of the given
+    /// numbers, counted from 1, fail; so does a save beyond the room, or under a text that is no `Name`.
+    pub fn new(
+        alloc: Global,
+        held: &[(Name, Vec<u8>)],
+        saves: usize,
+        room: usize,
+        failing_reads: &[u64],
+        failing_saves: &[u64],
+    ) -> Result<MemFiles, AllocError>
+        requires once { AllPairs (λ a b. a.0 ≢ b.0) held.now }
+        ensures held { IfOk result (λ f. contents f.files.items ≡ contents held.now) }
+        ensures reads { IfOk result (λ f. f.read_faults ≡ 0) }
+        ensures saves { IfOk result (λ f. f.save_faults ≡ 0) }
+    {
+        Ok(MemFiles {
+            files: copied_files(alloc, held, saves)?,
+            spare: spare_rooms(alloc, saves, room)?,
+            failing_reads: failing_reads.to_vec(alloc)?,
+            failing_saves: failing_saves.to_vec(alloc)?,
+            reads: 0,
+            saves: 0,
+            read_faults: 0,
+            save_faults: 0,
+        })
+    }
+
+    /// The bytes that a name holds. None exactly where it isn't held.
+    pub fn bytes(&self, name: &str) -> Option<&[u8]>
+        ensures { option_copied result ≡ held_in self.now.files.items name.now }
+    {
+        self.files
+            .iter()
+            .find(|file| file.0.text() == name)
+            .map(|file| file.1.as_slice())
+    }
+}
+
+fn copied_files(alloc: Global, held: &[(Name, Vec<u8>)], saves: usize) -> Result<Vec<(Name, Vec<u8>)>, AllocError>
+    ensures { IfOk result (λ files. contents files.items ≡ contents held.now) }
+{
+    let mut files = Vec::with_capacity(alloc, held.len().saturating_add(saves))?;
+    for file in held {
+        let bytes = file.1.to_vec(alloc)?;
+        files.push((file.0, bytes))?;
+    }
+    Ok(files)
+}
+
+fn spare_rooms(alloc: Global, saves: usize, room: usize) -> Result<Vec<Vec<u8>>, AllocError> {
+    let mut rooms = Vec::new(alloc);
+    for _ in 0..saves {
+        rooms.push(Vec::with_capacity(alloc, room)?)?;
+    }
+    Ok(rooms)
+}
+
+impl Files for MemFiles {
+    ghost state = { λ f. memory_state f.files.items f.read_faults f.save_faults };
+
+    fn read(&mut self, alloc: Global, name: &str, limit: usize) -> Result<Vec<u8>, FileRefusal> {
+        self.reads = self.reads.saturating_add(1);
+        if self.failing_reads.contains(&self.reads) {
+            self.read_faults += 1;
+            return Err(FileRefusal::Failed);
+        }
+        match self.bytes(name) {
+            None => Err(FileRefusal::Absent),
+            Some(bytes) => copy_within(alloc, bytes, limit),
+        }
+    }
+
+    fn save(&mut self, name: &str, bytes: &[u8]) -> Result<(), SaveFailed> {
+        self.saves = self.saves.saturating_add(1);
+        let is_to_fail = self.failing_saves.contains(&self.saves);
+        if is_to_fail || !put(&mut self.files, &mut self.spare, name, bytes) {
+            self.save_faults += 1;
+            return Err(SaveFailed);
+        }
+        Ok(())
+    }
+}
+
+fn copy_within(alloc: Global, bytes: &[u8], limit: usize) -> Result<Vec<u8>, FileRefusal>
+    ensures ok { IfOk result (λ v. (v.items ≡ bytes.now) × (length v.items ≤ limit)) }
+    ensures err { IfErr result (λ e. IsTooLongOrMemory (length bytes.now) limit e) }
+{
+    if bytes.len() > limit {
+        return Err(FileRefusal::TooLong);
+    }
+    match bytes.to_vec(alloc) {
+        Ok(copy) => Ok(copy),
+        Err(_) => Err(FileRefusal::Memory),
+    }
+}
+
+// Puts a file in front, in a room that is spare. It takes no memory.
+fn put(files: &mut Vec<(Name, Vec<u8>)>, spare: &mut Vec<Vec<u8>>, name: &str, bytes: &[u8]) -> bool
+    ensures put { IsTrue result → held_in files.new.items name.now ≡ Some bytes.now }
+    ensures others { (other : List ℕ) → other ≢ name.now → held_in files.new.items other ≡ held_in files.old.items other }
+{
+    let Some(name) = Name::new(name) else {
+        return false;
+    };
+    let Some(mut room) = spare.pop() else {
+        return false;
+    };
+    if files.len() == files.capacity() || room.capacity() < bytes.len() {
+        return false;
+    }
+    room.clear();
+    room.extend_from_slice(bytes).is_ok() && files.insert(0, (name, room)).is_ok()
+}

@@ -1,0 +1,8 @@
+use Rattle.std.proofs.Common.{take}
+use Rattle.std.specs.List.{concat}
+use Rattle.sha2.specs.Hashers.{Holds256}
+use Rattle.page_measure.proofs.join_digests.Given as goal
+
+-- the hasher holds the digests so far
+abbrev pub invariant-loop-digest : goal.invariant-loop-digest
+invariant-loop-digest l = Holds256 l.hasher (concat (take l.digest-index l.digests))

@@ -1,0 +1,30 @@
+-- The words of the command line.
+use Rattle.std.proofs.Common.{◌≡◌, ℕ, ◌≤◌, ◌||◌, Bool, true, false, List, [], ◌∷◌, map, refl, sym, ◌∙◌, ap, arith, Option, Some, None, ◌<◌, length, get_or, string_bytes, String, Global, codes, if◌then◌else◌}
+use Rattle.std.proofs.lemmas.List.{get_or-map}
+use Rattle.std.specs.List.{list_any}
+use Rattle.std.proofs.lemmas.Bool.Decides.{nat_tests}
+use Rattle.sv_types.specs.Numbers.{number_within, digest_of}
+use Rattle.sv_types.specs.Words.{word_at, has_dash, is_flat, judged, flat_words, flat_judged, flat_file, most_events, OutOfRange, NoCommand}
+
+pub list_any_map : {A B : Type 0} (p : B → Bool) (f : A → B) (xs : List A) → list_any p (map f xs) ≡ list_any (λ x. p (f x)) xs
+list_any_map p f [] = refl
+list_any_map p f (x ∷ xs) = ap (λ b. p (f x) || b) (list_any_map p f xs)
+
+pub number_within-most : (low high : ℕ) (text : List ℕ) (n : ℕ) → number_within low high text ≡ Some n → n ≤ high
+unfolding number_within
+number_within-most low high text n is = grind (arith, nat_tests)
+
+-- the bytes of a word
+pub word_is : (words : List (String Global)) (i : ℕ) (w : String Global) → i < length words → w ≡ get_or words i w → string_bytes w ≡ word_at (map string_bytes words) i
+word_is words i w lt is = ap (λ (v : String Global). string_bytes v) is ∙ sym (get_or-map (λ (v : String Global). string_bytes v) words i w [] lt)
+
+-- the first word that is out of its range is the measure
+pub judged_measure : (words : List (String Global)) → list_any (λ (w : String Global). has_dash (string_bytes w)) words ≡ false → is_flat (map string_bytes words) ≡ true →
+    digest_of (word_at (map string_bytes words) 2) ≡ None → judged (map string_bytes words) ≡ OutOfRange (codes "MEASURE")
+unfolding judged flat_words
+judged_measure words no_dash flat none =
+    let bytes : List (List ℕ) = map string_bytes words in
+    let dash : list_any has_dash bytes ≡ false = list_any_map has_dash (λ (w : String Global). string_bytes w) words ∙ no_dash in
+    ap (λ b. if b then NoCommand else if is_flat bytes then flat_judged bytes else NoCommand) dash
+    ∙ ap (λ b. if b then flat_judged bytes else NoCommand) flat
+    ∙ ap (λ (d : Option (List ℕ)). flat_words (flat_file bytes) d (number_within 0 most_events (word_at bytes 3))) none

@@ -1,0 +1,24 @@
+use Rattle.std.proofs.Common.{rules}
+use Rattle.secvisor_cli.proofs.EndLemmas.{broke_prefix, broke_reaches, ran_writes, ran_reaches}
+use Rattle.secvisor_cli.proofs.answer.run_and_report.Goals as goal
+
+pub returns-in_err-run-clause-writes : goal.returns-in_err-run-clause-writes
+returns-in_err-run-clause-writes g c =
+    let some = c.in_err-run.ensures.some in
+    record {
+      status = search rules;
+      proper = search rules;
+      whole = search rules;
+      prefix = broke_prefix c.args.machine.now _ c.run.new.machine _ _ some;
+      write = λ _. some.broke.faults;
+      memory = search rules;
+    }
+
+pub returns-in_err-run-clause-machine : goal.returns-in_err-run-clause-machine
+returns-in_err-run-clause-machine g c = broke_reaches c.args.machine.now _ c.run.new.machine _ _ c.in_err-run.ensures.some
+
+pub returns-clause-writes : goal.returns-clause-writes
+returns-clause-writes g c = ran_writes c.args.machine.now c.run.new.machine _ _ _ _ _ c.in_ok-run.ensures.all c.finish.ensures
+
+pub returns-clause-machine : goal.returns-clause-machine
+returns-clause-machine g c = ran_reaches c.args.machine.now _ c.run.new.machine _ _ _ c.in_ok-run.ensures.all

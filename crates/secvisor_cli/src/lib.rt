@@ -1,0 +1,11 @@
+//! The program's one call, `secvisor`: words, files and a sink in, a status out.
+#![tactic(auto)]
+
+mod answer;
+mod report;
+mod run;
+mod trouble;
+mod words;
+
+pub use answer::{Bench, secvisor};
+pub use sv_types::Status;

@@ -1,0 +1,192 @@
+// The lines of a report, and the line of a boot that is refused by the measure.
+ghost use Rattle.std.specs.Prelude.{◌≡◌, ◌<◌, ◌++◌, OnOk, IfOk, string_bytes};
+ghost use Rattle.std.specs.Char.{digit_char};
+ghost use Rattle.sv_types.specs.Output.{hexadecimal, hexadecimal_bytes, address_text, word_text, notes_line, events_line, retired_line, denied_line, rule_name, rule_places, stop_head, verdict_line, report_lines, line_feed};
+ghost use Rattle.sv_types.specs.Start.{measure_line};
+
+use machine::{Counts, Rule, Verdict};
+use std::alloc::{AllocError, Global};
+
+fn hexadecimal_digit(d: u8) -> char
+    requires { d < 16 }
+    ensures { result ≡ digit_char d }
+{
+    if d < 10 {
+        (b'0' + d) as char
+    } else {
+        (b'a' + d - 10) as char
+    }
+}
+
+#[tactic(auto, unfolding(sv_types::specs::Output::hexadecimal))]
+fn push_hexadecimal(text: &mut String, digits: u8, value: u64) -> Result<(), AllocError>
+    ensures { OnOk result (string_bytes text.new ≡ string_bytes text.old ++ hexadecimal digits value) }
+{
+    if digits == 0 {
+        return Ok(());
+    }
+    push_hexadecimal(text, digits - 1, value / 16)?;
+    text.push(hexadecimal_digit((value % 16) as u8))
+}
+
+#[tactic(auto, unfolding(sv_types::specs::Output::address_text))]
+fn push_address(text: &mut String, value: u64) -> Result<(), AllocError>
+    ensures { OnOk result (string_bytes text.new ≡ string_bytes text.old ++ address_text value) }
+{
+    text.push_str("0x")?;
+    push_hexadecimal(text, 16, value)
+}
+
+#[tactic(auto, unfolding(sv_types::specs::Output::word_text))]
+fn push_word(text: &mut String, value: u32) -> Result<(), AllocError>
+    ensures { OnOk result (string_bytes text.new ≡ string_bytes text.old ++ word_text value) }
+{
+    text.push_str("0x")?;
+    push_hexadecimal(text, 8, value as u64)
+}
+
+#[tactic(auto, unfolding(sv_types::specs::Output::notes_line))]
+fn notes_line(alloc: Global, c: &Counts) -> Result<String, AllocError>
+    ensures { IfOk result (λ t. string_bytes t ≡ notes_line c.now) }
+{
+    let notes = c.notes;
+    format!(in alloc; "notes {notes}\n")
+}
+
+#[tactic(auto, unfolding(sv_types::specs::Output::events_line))]
+fn events_line(alloc: Global, c: &Counts) -> Result<String, AllocError>
+    ensures { IfOk result (λ t. string_bytes t ≡ events_line c.now) }
+{
+    let turns = c.turns;
+    let beats = c.beats;
+    let keys = c.keys;
+    let ticks = c.ticks;
+    format!(in alloc; "turns {turns} beats {beats} keys {keys} ticks {ticks}\n")
+}
+
+#[tactic(auto, unfolding(sv_types::specs::Output::retired_line))]
+fn retired_line(alloc: Global, c: &Counts) -> Result<String, AllocError>
+    ensures { IfOk result (λ t. string_bytes t ≡ retired_line c.now) }
+{
+    let retired = c.retired;
+    let traps = c.traps;
+    let enters = c.enters;
+    let leaves = c.leaves;
+    let demotes = c.demotes;
+    format!(in alloc;
+        "retired {retired} traps {traps} enters {enters} leaves {leaves} demotes {demotes}\n"
+    )
+}
+
+#[tactic(auto, unfolding(sv_types::specs::Output::denied_line))]
+fn denied_line(alloc: Global, c: &Counts) -> Result<String, AllocError>
+    ensures { IfOk result (λ t. string_bytes t ≡ denied_line c.now) }
+{
+    let denied = c.denied;
+    let dropped = c.dropped;
+    let loads = c.loads;
+    let unloads = c.unloads;
+    let refused = c.refused;
+    format!(in alloc;
+        "denied {denied} dropped {dropped} loads {loads} unloads {unloads} refused {refused}\n"
+    )
+}
+
+#[tactic(auto, unfolding(sv_types::specs::Output::rule_name))]
+fn rule_name(rule: Rule) -> &'static str
+    ensures { result.now ≡ rule_name rule }
+{
+    match rule {
+        Rule::Outside { pc: _ } => "outside",
+        Rule::Word { pc: _, word: _ } => "word",
+        Rule::Write { pc: _, gpa: _ } => "write",
+    }
+}
+
+#[tactic(auto, unfolding(sv_types::specs::Output::rule_places))]
+fn push_places(text: &mut String, rule: Rule) -> Result<(), AllocError>
+    ensures { OnOk result (string_bytes text.new ≡ string_bytes text.old ++ rule_places rule) }
+{
+    text.push_str(" pc ")?;
+    match rule {
+        Rule::Outside { pc } => push_address(text, pc),
+        Rule::Word { pc, word } => {
+            push_address(text, pc)?;
+            text.push_str(" word ")?;
+            push_word(text, word)
+        }
+        Rule::Write { pc, gpa } => {
+            push_address(text, pc)?;
+            text.push_str(" gpa ")?;
+            push_address(text, gpa)
+        }
+    }
+}
+
+#[tactic(auto, unfolding(sv_types::specs::Output::stop_head))]
+fn stop_head(alloc: Global, rule: Rule, hart: u8, turn: u64) -> Result<String, AllocError>
+    ensures { IfOk result (λ t. string_bytes t ≡ stop_head rule hart turn) }
+{
+    let name = rule_name(rule);
+    format!(in alloc; "verdict stopped {name} hart {hart} turn {turn}")
+}
+
+#[tactic(auto, unfolding(sv_types::specs::Output::verdict_line))]
+fn stop_line(alloc: Global, rule: Rule, hart: u8, turn: u64) -> Result<String, AllocError>
+    ensures { IfOk result (λ t. string_bytes t ≡ verdict_line (Verdict.Stopped rule hart turn)) }
+{
+    let mut text = stop_head(alloc, rule, hart, turn)?;
+    push_places(&mut text, rule)?;
+    text.push_str("\n")?;
+    Ok(text)
+}
+
+#[tactic(auto, unfolding(sv_types::specs::Output::verdict_line))]
+fn push_verdict(alloc: Global, text: &mut String, verdict: Verdict) -> Result<(), AllocError>
+    ensures { OnOk result (string_bytes text.new ≡ string_bytes text.old ++ verdict_line verdict) }
+{
+    match verdict {
+        Verdict::Running => text.push_str("verdict ended\n"),
+        Verdict::Shutdown => text.push_str("verdict shutdown\n"),
+        Verdict::Stopped { rule, hart, turn } => {
+            text.push_str(stop_line(alloc, rule, hart, turn)?.as_str())
+        }
+    }
+}
+
+/// The report behind the console's bytes: a line feed, and the report's lines.
+#[tactic(auto, unfolding(sv_types::specs::Output::report_lines))]
+pub fn report(alloc: Global, verdict: Verdict, counts: &Counts) -> Result<String, AllocError>
+    ensures { IfOk result (λ t. string_bytes t ≡ line_feed ++ report_lines verdict counts.now) }
+{
+    let mut text = String::from_str(alloc, "\n")?;
+    text.push_str(notes_line(alloc, counts)?.as_str())?;
+    text.push_str(events_line(alloc, counts)?.as_str())?;
+    text.push_str(retired_line(alloc, counts)?.as_str())?;
+    text.push_str(denied_line(alloc, counts)?.as_str())?;
+    push_verdict(alloc, &mut text, verdict)?;
+    Ok(text)
+}
+
+fn push_digest(text: &mut String, digest: &[u8]) -> Result<(), AllocError>
+    ensures { OnOk result (string_bytes text.new ≡ string_bytes text.old ++ hexadecimal_bytes digest.now) }
+{
+    for b in digest {
+        text.push(hexadecimal_digit(*b / 16))?;
+        text.push(hexadecimal_digit(*b % 16))?;
+    }
+    Ok(())
+}
+
+/// The line of a boot that is refused by the measure.
+#[tactic(auto, unfolding(sv_types::specs::Start::measure_line))]
+pub fn measure_line(alloc: Global, found: &[u8], wanted: &[u8]) -> Result<String, AllocError>
+    ensures { IfOk result (λ t. string_bytes t ≡ measure_line found.now wanted.now) }
+{
+    let mut text = String::from_str(alloc, "refused measure found ")?;
+    push_digest(&mut text, found)?;
+    text.push_str(" wanted ")?;
+    push_digest(&mut text, wanted)?;
+    text.push_str("\n")?;
+    Ok(text)
+}

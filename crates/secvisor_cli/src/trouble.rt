@@ -1,0 +1,31 @@
+// What may end an answer early.
+ghost use Rattle.std.specs.Prelude.{◌≡◌};
+ghost use Rattle.secvisor_cli.specs.declared.trouble.Trouble.TheVariants.{Write, Memory};
+
+use outside::Failed;
+use std::alloc::AllocError;
+
+/// What ends an answer before its status stands.
+#[derive(Clone, Copy, Debug, PartialEq, Eq, Drop)]
+pub enum Trouble {
+    /// A write failed.
+    Write,
+    /// Memory was wanting.
+    Memory,
+}
+
+impl From<Failed> for Trouble {
+    ghost from_gives = { λ _ e. e ≡ Write };
+
+    fn from(_: Failed) -> Self {
+        Trouble::Write
+    }
+}
+
+impl From<AllocError> for Trouble {
+    ghost from_gives = { λ _ e. e ≡ Memory };
+
+    fn from(_: AllocError) -> Self {
+        Trouble::Memory
+    }
+}

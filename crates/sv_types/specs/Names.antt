@@ -1,0 +1,24 @@
+-- Names: 1 to 64 bytes of text, kept in 64 bytes with zeros behind.
+-- The Unicode Standard, "UTF-8".
+use Rattle.std.specs.Prelude.{◌≡◌, ◌<◌, ◌≤◌, ℕ, List, length, take, IsUtf8}
+use Rattle.std.proofs.Common.{◌∙◌, ap}
+use Rattle.sv_types.specs.Bytes.{padded}
+use Rattle.sv_types.specs.declared.name.Name.TheInside.{Inside}
+
+abbrev pub name_bytes : Inside → List ℕ
+name_bytes name = take name.length name.bytes
+
+abbrev pub name_inside : List ℕ → Inside
+name_inside bytes = record { bytes = padded bytes 64; length = length bytes }
+
+pub record IsName (name : Inside) : Type 0 where
+  pub some : 0 < name.length
+  pub most : name.length ≤ 64
+  pub length_is : length (name_bytes name) ≡ name.length
+  pub zeros : padded (name_bytes name) 64 ≡ name.bytes
+  pub text : IsUtf8 (name_bytes name)
+
+pub name_inside-name_bytes : (name : Inside) → IsName name → name_inside (name_bytes name) ≡ name
+name_inside-name_bytes name is =
+    ap (λ (n : ℕ). let inside : Inside = record { bytes = padded (name_bytes name) 64; length = n } in inside) is.length_is
+    ∙ ap (λ (bytes : List ℕ). let inside : Inside = record { bytes = bytes; length = name.length } in inside) is.zeros

@@ -1,0 +1,68 @@
+// The name of a file, of a module or of an export.
+ghost use Rattle.sv_types.specs.Bytes.{padded};
+ghost use Rattle.std.specs.Prelude.{◌≡◌, ◌<◌, ◌≤◌, ◌↔◌, length, IsSome, IfSome, IsUtf8};
+
+use std::marker::Model;
+use std::str;
+
+/// The most bytes of a name.
+pub const MOST_NAME_BYTES: usize = 64;
+
+/// 1 to 64 bytes of UTF-8 text. Contracts see the list of its bytes.
+#[derive(Clone, Copy, Drop)]
+pub struct Name {
+    bytes: [u8; 64],
+    length: usize,
+}
+
+impl Model for Name {
+    ghost use Rattle.std.specs.Prelude.{ℕ, List};
+    ghost use Rattle.std.specs.Coded.{coded_ℕ, coded_list};
+
+    ghost Value = { List ℕ };
+
+    ghost coded = { coded_list coded_ℕ };
+
+    ghost use Rattle.sv_types.specs.Names.{name_bytes, name_inside, name_inside-name_bytes, IsName};
+
+    ghost view = { name_bytes };
+
+    ghost invariant = { IsName };
+
+    ghost inverse = { name_inside };
+
+    ghost inverse_ok = { name_inside-name_bytes };
+}
+
+fn with_zeros(text: &[u8]) -> [u8; 64]
+    requires { length text.now ≤ 64 }
+    ensures { result ≡ padded text.now 64 }
+{
+    let mut bytes = [0u8; 64];
+    bytes[..text.len()].copy_from_slice(text);
+    bytes
+}
+
+impl Name {
+    /// The name of this text. None exactly where it has no byte, or more than 64.
+    pub fn new(text: &str) -> Option<Name>
+        ensures name { IfSome result (λ name. name ≡ text.now) }
+        ensures some { (0 < length text.now) × (length text.now ≤ 64) → IsSome result }
+        ensures none { IfSome result (λ name. (0 < length text.now) × (length text.now ≤ 64)) }
+    {
+        let text = text.as_bytes();
+        if text.is_empty() || text.len() > MOST_NAME_BYTES {
+            return None;
+        }
+        Some(Name {
+            bytes: with_zeros(text),
+            length: text.len(),
+        })
+    }
+
+    pub fn text(&self) -> &str
+        ensures { result.now ≡ self.now }
+    {
+        unsafe { str::from_utf8_unchecked(&self.bytes[..self.length]) }
+    }
+}
