@@ -16,3 +16,8 @@ pub mod Output
 pub mod Start
 pub mod Translation
 pub mod SecondStage
+pub mod Bits
+pub mod Registers
+pub mod Traps
+pub mod HypervisorRegisters
+pub mod GuestView

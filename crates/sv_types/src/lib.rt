@@ -1,7 +1,9 @@
 //! The plain data that every layer names. In `specs/` stand the definitions that contracts cite.
 #![tactic(auto)]
 
+mod bits;
 mod cause;
+mod csr;
 mod effect;
 mod event;
 mod instruction;
@@ -12,7 +14,9 @@ mod status;
 mod translation;
 mod wires;
 
+pub use bits::{has_bit, with_bits};
 pub use cause::Cause;
+pub use csr::{Csr, CsrFault};
 pub use effect::Effect;
 pub use event::{Counts, Event, Note, Rule, Verdict};
 pub use name::{MOST_NAME_BYTES, Name};

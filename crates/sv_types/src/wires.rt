@@ -1,5 +1,8 @@
 // What a hart sees from outside, and how it looks at memory.
 
+ghost use Rattle.std.specs.Prelude.{◌≡◌};
+ghost use Rattle.sv_types.specs.Traps.{interrupt_number};
+
 /// A hart's privilege.
 #[derive(Clone, Copy, Debug, PartialEq, Eq, Drop)]
 pub enum Mode {
@@ -36,6 +39,19 @@ pub enum Interrupt {
     External,
     Software,
     Timer,
+}
+
+impl Interrupt {
+    /// The interrupt's number in `sip` and `sie`.
+    pub fn number(self) -> u64
+        ensures { result ≡ interrupt_number self }
+    {
+        match self {
+            Interrupt::External => 9,
+            Interrupt::Software => 1,
+            Interrupt::Timer => 5,
+        }
+    }
 }
 
 /// The hypervisor registers of one hart.

@@ -1,0 +1,121 @@
+// Entry into a trap handler, and return from it.
+
+ghost use Rattle.std.specs.Prelude.{◌≡◌, ◌%◌};
+ghost use Rattle.sv_types.specs.HypervisorRegisters.{registers_at_trap, registers_at_return, registers_at_exit};
+ghost use Rattle.sv_types.specs.Traps.{trap_target, trap_cause, status_at_trap, status_at_return, mode_at_return};
+
+use csr_file::Csrs;
+use sv_types::{Exit, Mode, has_bit, with_bits};
+
+/// SIE of a status: kernel mode takes interrupts.
+const SIE: u64 = 1 << 1;
+/// SPIE: SIE before the trap.
+const SPIE: u64 = 1 << 5;
+/// SPP: the mode before the trap was kernel mode.
+const SPP: u64 = 1 << 8;
+/// The mode of a trap vector stands in its low bits.
+const VECTOR_MODE: u64 = 3;
+/// The bit of a cause that says that it is an interrupt.
+const INTERRUPT: u64 = 1 << 63;
+
+/// The cause as `scause` shows it.
+#[tactic(auto, unfolding(sv_types::specs::Traps::trap_cause))]
+fn shown_cause(interrupt: bool, cause: u64) -> u64
+    ensures { result ≡ trap_cause interrupt cause }
+{
+    if interrupt { cause | INTERRUPT } else { cause }
+}
+
+/// The status in a trap handler: SPIE has SIE, SIE is clear, SPP has the mode before.
+#[tactic(auto, unfolding(sv_types::specs::Traps::status_at_trap))]
+fn status_at_trap(status: u64, from: Mode) -> u64
+    ensures { result ≡ status_at_trap status from }
+{
+    let kept = with_bits(status, SPIE, has_bit(status, 1));
+    let closed = with_bits(kept, SIE, false);
+    with_bits(closed, SPP, matches!(from, Mode::Kernel))
+}
+
+/// The status behind a trap handler: SIE has SPIE, SPIE is set, SPP is user mode.
+#[tactic(auto, unfolding(sv_types::specs::Traps::status_at_return))]
+fn status_at_return(status: u64) -> u64
+    ensures { result ≡ status_at_return status }
+{
+    let opened = with_bits(status, SIE, has_bit(status, 5));
+    let set = with_bits(opened, SPIE, true);
+    with_bits(set, SPP, false)
+}
+
+/// The mode that SPP names.
+#[tactic(auto, unfolding(sv_types::specs::Traps::mode_at_return))]
+fn mode_at_return(status: u64) -> Mode
+    ensures { result ≡ mode_at_return status }
+{
+    if has_bit(status, 8) {
+        Mode::Kernel
+    } else {
+        Mode::User
+    }
+}
+
+/// Where a guest's trap goes: to the base of `vstvec`, or for an interrupt, where its bit 0 is set, to the place of the
+/// cause behind it, modulo 2^64.
+#[tactic(auto, unfolding(sv_types::specs::Traps::trap_target))]
+pub fn target(csrs: &Csrs, interrupt: bool, cause: u64) -> u64
+    ensures { result ≡ trap_target csrs.now.vstvec interrupt cause }
+{
+    let base = csrs.vstvec & !VECTOR_MODE;
+    if interrupt && has_bit(csrs.vstvec, 0) {
+        base.wrapping_add(cause.wrapping_mul(4))
+    } else {
+        base
+    }
+}
+
+/// Enters the guest's kernel from a mode by a trap at a pc. Gives where it goes on, in kernel mode.
+#[tactic(auto, unfolding(sv_types::specs::HypervisorRegisters::registers_at_trap))]
+pub fn into_guest(
+    csrs: &mut Csrs,
+    from: Mode,
+    interrupt: bool,
+    cause: u64,
+    tval: u64,
+    pc: u64,
+) -> u64
+    requires { pc % 4 ≡ 0 }
+    ensures target { result ≡ trap_target csrs.old.vstvec interrupt cause }
+    ensures registers { csrs.new ≡ registers_at_trap csrs.old from pc interrupt cause tval }
+{
+    csrs.vsstatus = status_at_trap(csrs.vsstatus, from);
+    csrs.vsepc = pc;
+    csrs.vscause = shown_cause(interrupt, cause);
+    csrs.vstval = tval;
+    target(csrs, interrupt, cause)
+}
+
+/// Leaves the fields of an exit for the hypervisor, and gives the exit. The guest's registers stay.
+#[tactic(auto, unfolding(sv_types::specs::HypervisorRegisters::registers_at_exit))]
+pub fn into_hypervisor(csrs: &mut Csrs, exit: Exit) -> Exit
+    requires { exit.pc % 4 ≡ 0 }
+    ensures exit { result ≡ exit }
+    ensures registers { csrs.new ≡ registers_at_exit csrs.old exit }
+{
+    csrs.sepc = exit.pc;
+    csrs.scause = shown_cause(exit.interrupt, exit.cause);
+    csrs.stval = exit.stval;
+    csrs.htval = exit.htval;
+    csrs.htinst = exit.htinst as u64;
+    exit
+}
+
+/// Returns from the guest's trap handler, as SRET does. Gives the pc and the mode in which the hart goes on.
+#[tactic(auto, unfolding(sv_types::specs::HypervisorRegisters::registers_at_return))]
+pub fn return_to_guest(csrs: &mut Csrs) -> (u64, Mode)
+    ensures pc { result.0 ≡ csrs.old.vsepc }
+    ensures mode { result.1 ≡ mode_at_return csrs.old.vsstatus }
+    ensures registers { csrs.new ≡ registers_at_return csrs.old }
+{
+    let mode = mode_at_return(csrs.vsstatus);
+    csrs.vsstatus = status_at_return(csrs.vsstatus);
+    (csrs.vsepc, mode)
+}
