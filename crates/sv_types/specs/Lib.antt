@@ -12,3 +12,5 @@ pub mod Numbers
 pub mod Words
 pub mod Output
 pub mod Start
+pub mod Console
+pub mod Clock
