@@ -14,3 +14,4 @@ pub mod Output
 pub mod Start
 pub mod Console
 pub mod Clock
+pub mod Schedule
