@@ -132,7 +132,9 @@ impl Auto {
         ensures event { Some result ≡ next_event self.old }
         ensures rest { self.new ≡ after_event self.old }
     {
-        self.number = random_behind(self.number);
-        drawn(self.harts, self.number)
+        let number = random_behind(self.number);
+        let event = drawn(self.harts, number);
+        self.number = number;
+        event
     }
 }

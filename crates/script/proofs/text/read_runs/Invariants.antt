@@ -1,6 +1,5 @@
-use Rattle.std.proofs.Common.{◌≡◌, ◌+◌, ◌≤◌, ◌++◌, ◌==◌, [], length, flat_map}
-use Rattle.std.specs.Option.{option_map_or}
-use Rattle.sv_types.specs.Schedule.{lines, events_of_line, script_events, is_of_no_form, first_of_no_form}
+use Rattle.std.proofs.Common.{◌≡◌, ◌+◌, ◌≤◌, ◌++◌, length, flat_map}
+use Rattle.sv_types.specs.Schedule.{events_of_line, script_events, is_of_no_form, first_of_no_form}
 use Rattle.std.specs.List.{position_from}
 use Rattle.script.specs.Listed.{events_of_runs}
 use Rattle.script.proofs.Lines.{lines_left, bytes_left}
