@@ -21,3 +21,6 @@ pub mod Registers
 pub mod Traps
 pub mod HypervisorRegisters
 pub mod GuestView
+pub mod Console
+pub mod Clock
+pub mod Schedule

@@ -1,7 +1,7 @@
 //! Whole numbers as text: 1 to 20 decimal digits, leading zeros among them.
 #![tactic(auto)]
 
-ghost use Rattle.std.specs.Prelude.{◌≡◌, ◌≤◌, length, true};
+ghost use Rattle.std.specs.Prelude.{◌≡◌, ◌≤◌, length, true, IfSome};
 ghost use Rattle.std.specs.Char.{is_ascii_digit};
 ghost use Rattle.std.specs.List.{list_all};
 ghost use Rattle.sv_types.specs.Numbers as spec;
@@ -37,7 +37,8 @@ fn decimal_value(digits: &[u8]) -> u128
 /// The number that a text writes, if it is from `low` to `high`. None where the text is no number or another one.
 #[tactic(auto, unfolding(sv_types::specs::Numbers::number_within))]
 pub fn number_within(text: &[u8], low: u64, high: u64) -> Option<u64>
-    ensures { result ≡ spec.number_within low high text.now }
+    ensures value { result ≡ spec.number_within low high text.now }
+    ensures within { IfSome result (λ n. (low ≤ n) × (n ≤ high)) }
 {
     if !is_number(text) {
         return None;

@@ -1,0 +1,115 @@
+// Bytes of input, and what a guest loads and stores.
+
+ghost use Rattle.std.specs.Prelude.{◌≡◌, ◌≤◌, [], length, slice_get};
+ghost use Rattle.sv_types.specs.Console.{most_queued, has_room, after_key, without_first, console_line, register_value, loaded, after_load, stored};
+ghost use Rattle.sv_types.specs.Console.ConsoleRegister.{Status};
+
+use arrayvec::ArrayVec;
+use std::marker::Model;
+
+/// The most bytes that wait.
+const MOST_QUEUED: usize = 256;
+
+/// The offsets of the registers, which are one byte wide.
+const DATA: u64 = 0;
+
+const STATUS: u64 = 5;
+
+/// The line status: the console can print (bits 5 and 6), and input is there (bit 0).
+const CAN_PRINT: u64 = 0x60;
+
+const HAS_INPUT: u64 = 0x01;
+
+/// A queue of at most 256 bytes of input, seen as the list of these bytes.
+#[derive(Drop)]
+pub struct Console {
+    queue: ArrayVec<u8, MOST_QUEUED>,
+}
+
+impl Model for Console {
+    ghost use Rattle.std.specs.Prelude.{List, ℕ};
+
+    ghost Value = { List ℕ };
+
+    ghost view = { λ c. c.queue.items };
+}
+
+impl Console {
+    /// A console without input.
+    pub fn new() -> Console
+        ensures { result ≡ [] }
+    {
+        Console {
+            queue: ArrayVec::new(),
+        }
+    }
+
+    /// Takes a byte of input. False where the queue is full, and then the byte is dropped.
+    pub fn key(&mut self, byte: u8) -> bool
+        ensures taken { result ≡ has_room self.old }
+        ensures queue { self.new ≡ after_key self.old byte }
+        ensures bound { length self.new ≤ most_queued }
+    {
+        self.queue.try_push(byte).is_ok()
+    }
+
+    /// The next byte of input, which leaves the queue.
+    pub fn take(&mut self) -> Option<u8>
+        ensures byte { result ≡ slice_get self.old 0 }
+        ensures queue { self.new ≡ without_first self.old }
+    {
+        self.queue.pop_at(0)
+    }
+
+    /// Whether input is there, which sets the interrupt line.
+    pub fn line(&self) -> bool
+        ensures { result ≡ console_line self.now }
+    {
+        !self.queue.is_empty()
+    }
+
+    /// The byte at place `i` of the queue, from the front.
+    pub fn queued(&self, i: usize) -> Option<u8>
+        ensures { result ≡ slice_get self.now i }
+    {
+        self.queue.get(i).copied()
+    }
+
+    fn status(&self) -> u64
+        ensures { result ≡ register_value self.now Status }
+    {
+        if self.line() {
+            CAN_PRINT | HAS_INPUT
+        } else {
+            CAN_PRINT
+        }
+    }
+
+    /// A load of `width` bytes at an offset. None where no register has that offset and width.
+    #[tactic(auto, unfolding(sv_types::specs::Console::loaded_register))]
+    pub fn load(&mut self, offset: u64, width: u8) -> Option<u64>
+        ensures value { result ≡ loaded self.old offset width }
+        ensures queue { self.new ≡ after_load self.old offset width }
+    {
+        if width != 1 {
+            return None;
+        }
+        match offset {
+            DATA => Some(self.take().map_or(0, u64::from)),
+            STATUS => Some(self.status()),
+            _ => None,
+        }
+    }
+
+    /// A store of `width` bytes at an offset: the byte that it prints. None where no register has that offset and width.
+    pub fn store(&mut self, offset: u64, width: u8, value: u64) -> Option<u8>
+        ensures printed { result ≡ stored offset width value }
+        ensures queue { self.new ≡ self.old }
+    {
+        if offset == DATA && width == 1 {
+            Some((value % 256) as u8)
+        } else {
+            None
+        }
+    }
+}

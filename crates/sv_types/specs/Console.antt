@@ -1,0 +1,56 @@
+-- The console: a queue of input bytes, and two registers of one byte. This project's own; the registers have the layout
+-- of the receiver buffer and the line status of the National Semiconductor PC16550D.
+use Rattle.std.specs.Prelude.{ℕ, ◌+◌, ◌%◌, Bool, ◌&&◌, List, [], ◌∷◌, ◌++◌, length, drop, slice_index, ◌==◌, nat_lt, if◌then◌else◌, Option, Some, None, option_map}
+
+-- ---- the queue
+
+abbrev pub most_queued : ℕ
+most_queued = 256
+
+-- there is room for a byte
+abbrev pub has_room : List ℕ → Bool
+has_room queue = nat_lt (length queue) most_queued
+
+-- a byte of input waits behind the others, or is dropped
+abbrev pub after_key : List ℕ → ℕ → List ℕ
+after_key queue byte = if has_room queue then queue ++ byte ∷ [] else queue
+
+-- the queue without its first byte
+abbrev pub without_first : List ℕ → List ℕ
+without_first queue = drop 1 queue
+
+-- the interrupt line is set while input is there
+abbrev pub console_line : List ℕ → Bool
+console_line queue = nat_lt 0 (length queue)
+
+-- ---- registers
+
+pub data ConsoleRegister : Type 0 where
+  Data Status : ConsoleRegister
+
+-- the register that a load of a width at an offset reads
+unfoldable pub loaded_register : ℕ → ℕ → Option ConsoleRegister
+loaded_register offset width =
+    if width == 1 then (if offset == 0 then Some Data else if offset == 5 then Some Status else None) else None
+
+-- the first byte, 0 where there is none; bit 0 says that there is one, and bits 5 and 6 that the console can print
+abbrev pub register_value : List ℕ → ConsoleRegister → ℕ
+register_value queue Data = slice_index queue 0
+register_value queue Status = if console_line queue then 0x61 else 0x60
+
+-- a load of the data takes the byte
+abbrev pub after_register_load : List ℕ → Option ConsoleRegister → List ℕ
+after_register_load queue None = queue
+after_register_load queue (Some Data) = without_first queue
+after_register_load queue (Some Status) = queue
+
+-- what a load gives, none where there is no such register, and the queue behind it
+abbrev pub loaded : List ℕ → ℕ → ℕ → Option ℕ
+loaded queue offset width = option_map (register_value queue) (loaded_register offset width)
+
+abbrev pub after_load : List ℕ → ℕ → ℕ → List ℕ
+after_load queue offset width = after_register_load queue (loaded_register offset width)
+
+-- the byte that a store prints, none where there is no such register
+abbrev pub stored : ℕ → ℕ → ℕ → Option ℕ
+stored offset width value = if offset == 0 && width == 1 then Some (value % 256) else None
