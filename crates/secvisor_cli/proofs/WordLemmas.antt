@@ -10,10 +10,6 @@ pub list_any_map : {A B : Type 0} (p : B → Bool) (f : A → B) (xs : List A) �
 list_any_map p f [] = refl
 list_any_map p f (x ∷ xs) = ap (λ b. p (f x) || b) (list_any_map p f xs)
 
-pub number_within-most : (low high : ℕ) (text : List ℕ) (n : ℕ) → number_within low high text ≡ Some n → n ≤ high
-unfolding number_within
-number_within-most low high text n is = grind (arith, nat_tests)
-
 -- the bytes of a word
 pub word_is : (words : List (String Global)) (i : ℕ) (w : String Global) → i < length words → w ≡ get_or words i w → string_bytes w ≡ word_at (map string_bytes words) i
 word_is words i w lt is = ap (λ (v : String Global). string_bytes v) is ∙ sym (get_or-map (λ (v : String Global). string_bytes v) words i w [] lt)

@@ -1,6 +1,6 @@
 use Rattle.std.proofs.Common.{◌≡◌, length, sym, ◌∙◌, ap, arith}
 use Rattle.sv_types.specs.Numbers.{digest_of}
-use Rattle.secvisor_cli.proofs.WordLemmas.{number_within-most, judged_measure, word_is}
+use Rattle.secvisor_cli.proofs.WordLemmas.{judged_measure, word_is}
 use Rattle.secvisor_cli.proofs.words.judge.Goals as goal
 
 pub returns-in_default-clause-judged : goal.returns-in_default-clause-judged
@@ -9,6 +9,3 @@ returns-in_default-clause-judged c =
     let word = c.as_str.ensures.value ∙ word_is c.args.words.now 2 c.index-words-2.result (omega arith) c.index-words-2.is in
     judged_measure c.args.words.now (sym c.any_has_dash.ensures ∙ c.if-any_has_dash.false) (sym c.is_flat.ensures.value ∙ c.if-not-is_flat.false)
     (ap digest_of (sym word) ∙ sym c.digest_of.ensures ∙ c.in_default.is)
-
-pub returns-clause-events : goal.returns-clause-events
-returns-clause-events c = number_within-most _ _ _ _ (sym c.number_within.ensures ∙ c.in-Some-number_within.is)

@@ -1,0 +1,5 @@
+//! Whole runs of the program, over files and a sink in memory.
+#![tactic(auto)]
+
+#[cfg(test)]
+mod flat;
