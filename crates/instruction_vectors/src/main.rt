@@ -1,7 +1,8 @@
 //! Checks the decoder, the effects and the atomic operations against vectors from outside. `data/alu.txt`,
 //! `data/flow.txt` and `data/mem.txt` hold what QEMU's RISC-V (7.2, in user mode) made of words that GNU as had
-//! assembled; `data/decode.txt` holds what GNU objdump (2.40) says of words. The files `worked_` hold rows that were worked by hand from the manual. The first line of each file names its
-//! columns. Prints how many lines agree, and the first that doesn't.
+//! assembled; `data/decode.txt` holds what GNU objdump (2.40) says of words. The files `worked_` hold rows that were
+//! worked by hand from the manual. The first line of each file names its columns. Prints how many lines agree, and
+//! the first that doesn't.
 #![tactic(auto)]
 
 mod checks;
