@@ -1,8 +1,8 @@
 -- The word of an instruction whose fields are in range decodes to it.
-use Rattle.std.proofs.Common.{◌≡◌, ℕ, suc, ◌+◌, ◌*◌, ◌/◌, ◌%◌, ◌^◌, ◌<◌, refl, sym, ◌∙◌, ap, subst, Bool, true, false, arith, ℤ, pos, negsuc, ◌⊎◌, inl, inr}
-use Rattle.std.specs.Prelude.{◌==◌, ◌&&◌, ◌||◌, Some, nat_lt, if◌then◌else◌}
-use Rattle.std.specs.Int.{from_bool}
-use Rattle.std.proofs.lemmas.Bool.{ltb-true, eqb-true}
+use Rattle.std.proofs.Common.{◌≡◌, ℕ, suc, ◌+◌, ◌-◌, ◌*◌, ◌/◌, ◌%◌, ◌^◌, ◌<◌, ◌≤◌, List, [], ◌∷◌, refl, sym, ◌∙◌, ap, subst, Bool, true, false, arith, ℤ, pos, negsuc, ◌⊎◌, inl, inr}
+use Rattle.std.specs.Prelude.{bit_and, ◌==◌, ◌&&◌, ◌||◌, Some, None, Option, nat_lt, unsigned_abs, if◌then◌else◌}
+use Rattle.std.specs.Int.{w64, cast_unsigned, from_bool}
+use Rattle.std.proofs.lemmas.Bool.{ltb-true, eqb-true, eq-eqb}
 use Rattle.sv_types.specs.declared.instruction.Instr.{Instr}
 use Rattle.sv_types.specs.declared.instruction.BranchOp.{BranchOp}
 use Rattle.sv_types.specs.declared.instruction.BranchOp.TheVariants.{Beq, Bne, Blt, Bge, Bltu, Bgeu}
@@ -24,10 +24,10 @@ use Rattle.sv_types.specs.declared.instruction.AmoOp.{AmoOp}
 use Rattle.sv_types.specs.declared.instruction.AmoOp.TheVariants.{Amoswap, Amoadd, Amoxor, Amoand, Amoor, Amomin, Amomax, Amominu, Amomaxu}
 use Rattle.sv_types.specs.declared.instruction.HyperOp.{HyperOp}
 use Rattle.sv_types.specs.declared.instruction.HyperOp.TheVariants.{HlvB, HlvBu, HlvH, HlvHu, HlvxHu, HlvW, HlvWu, HlvxWu, HlvD, HsvB, HsvH, HsvW, HsvD, HfenceVvma, HfenceGvma}
-use Rattle.sv_types.specs.Instructions.{bits, lui, auipc, jal, jalr, branch, load, store, op_imm, shift, op_imm_32, shift_32, op_op, op_32, plain, sfence, csr, lr, sc, amo, hyper_load, hyper_store, rows, instruction_of}
-use Rattle.sv_types.specs.Encoding.{fits, is_register, is_immediate, is_operand, is_shift, is_shift_32, is_hyper_load, is_width, is_zero, imm_bits, r_word, i_word, s_word, b_word, u_word, j_word, branch_funct3, load_funct3, store_funct3, op_imm_funct3, op_imm_32_funct3, arithmetic_bit, arithmetic_bit_32, op_funct7, op_funct3, op_32_funct7, op_32_funct3, csr_funct3, amo_funct5, hyper_funct7, hyper_funct3, hyper_number, ordered, word_of}
-use Rattle.sv_types.proofs.Decoding.{IsOnlyRow, found, both, mask_opcode, mask_funct3, mask_funct7, mask_funct6, mask_funct5, mask_funct5_rs2, mask_funct7_rs2, mask_funct7_no_rd}
-use Rattle.sv_types.proofs.WordFields.{r_opcode, r_rd, r_funct3, r_rs1, r_rs2, r_funct7, r_rd_low, r_rd_high, r_funct7_low, r_funct7_high, r_funct5, r_aq, r_rl, i_opcode, i_rd, i_funct3, i_rs1, i_field, i_count, i_count_low, i_funct6, i_funct7, u_opcode, u_rd, u_field, j_opcode, j_rd, j_12_20, j_20, j_21_31, j_31, signed_12, signed_13, signed_21, signed_32, step_13, step_21, step_32}
+use Rattle.sv_types.specs.Instructions.{bits, signed_bits, rd, rs1, rs2, aq, rl, lui, auipc, jal, jalr, branch, load, store, op_imm, shift, op_imm_32, shift_32, op_op, op_32, plain, sfence, csr, lr, sc, amo, hyper_load, hyper_store, imm_i, imm_s, imm_b, imm_u, imm_j, rows, instruction_of}
+use Rattle.sv_types.specs.Encoding.{fits, is_register, is_immediate, is_operand, is_shift, is_shift_32, is_hyper_load, is_width, is_zero, imm_bits, r_word, i_word, s_word, b_word, u_word, j_word, branch_funct3, load_funct3, store_funct3, op_imm_funct3, op_imm_32_funct3, arithmetic_bit, arithmetic_bit_32, op_funct7, op_funct3, op_32_funct7, op_32_funct3, csr_funct3, amo_funct5, hyper_funct7, hyper_funct3, hyper_number, width_funct3, ordered, word_of}
+use Rattle.sv_types.proofs.Decoding.{IsOnlyRow, found, both, mask_opcode, mask_funct3, mask_funct7, mask_funct6, mask_funct5, mask_funct5_rs2, mask_funct7_rs2, mask_funct7_no_rd, mask_whole}
+use Rattle.sv_types.proofs.WordFields.{r_opcode, r_rd, r_funct3, r_rs1, r_rs2, r_funct7, r_rd_low, r_rd_high, r_funct7_low, r_funct7_high, r_funct5, r_aq, r_rl, r_below, i_opcode, i_rd, i_funct3, i_rs1, i_field, i_count, i_count_low, i_funct6, i_funct7, u_opcode, u_rd, u_field, j_opcode, j_rd, j_12_20, j_20, j_21_31, j_31, signed_12, signed_13, signed_21, signed_32, step_13, step_21, step_32}
 
 -- ---- tests that hold
 
@@ -306,6 +306,74 @@ hyper_funct7-below HsvW = omega arith
 hyper_funct7-below HsvD = omega arith
 hyper_funct7-below HfenceVvma = omega arith
 hyper_funct7-below HfenceGvma = omega arith
+
+-- ---- the field of 12 bits of a computation with an immediate
+
+zero_bits : (imm : ℤ) → is_zero imm ≡ true → imm_bits imm 0 12 ≡ 0
+zero_bits (pos n) h = omega (arith, eqb-true n 0 h)
+zero_bits (negsuc n) h = absurd (omega (arith, eqb-true (suc n) 0 h))
+
+operand_fits : (shifts : Bool) (limit : ℕ) (imm : ℤ) (n bit : ℕ) → is_operand shifts limit imm n ≡ true → limit ≤ 64
+    → (shifts ≡ false → bit ≡ 0) → bit ≤ 2 ^ 10 → imm_bits imm 0 12 + n + bit < 4096
+operand_fits true limit imm n bit h most none within =
+    let q = both (is_zero imm) (nat_lt n limit) h in omega (arith, zero_bits imm q.0, ltb-true n limit q.1)
+operand_fits false limit imm n bit h most none within =
+    let q = both (is_immediate 12 1 imm) (n == 0) h in omega (arith, eqb-true n 0 q.1, none refl)
+
+never : true ≡ false → ⊥
+never e = cc
+
+arithmetic_bit-none : (op : OpImmOp) → is_shift op ≡ false → arithmetic_bit op ≡ 0
+unfolding is_shift arithmetic_bit
+arithmetic_bit-none Addi h = refl
+arithmetic_bit-none Slti h = refl
+arithmetic_bit-none Sltiu h = refl
+arithmetic_bit-none Xori h = refl
+arithmetic_bit-none Ori h = refl
+arithmetic_bit-none Andi h = refl
+arithmetic_bit-none Slli h = refl
+arithmetic_bit-none Srli h = refl
+arithmetic_bit-none Srai h = absurd (never h)
+
+arithmetic_bit-most : (op : OpImmOp) → arithmetic_bit op ≤ 2 ^ 10
+unfolding arithmetic_bit
+arithmetic_bit-most Addi = omega arith
+arithmetic_bit-most Slti = omega arith
+arithmetic_bit-most Sltiu = omega arith
+arithmetic_bit-most Xori = omega arith
+arithmetic_bit-most Ori = omega arith
+arithmetic_bit-most Andi = omega arith
+arithmetic_bit-most Slli = omega arith
+arithmetic_bit-most Srli = omega arith
+arithmetic_bit-most Srai = omega arith
+
+pub field-below : (op : OpImmOp) (d a : ℕ) (imm : ℤ) (n : ℕ) → fits (Instr.OpImm op d a imm n) ≡ true
+    → imm_bits imm 0 12 + n + arithmetic_bit op < 4096
+unfolding fits
+field-below op d a imm n h =
+    let p = both_3 (is_register d) (is_register a) (is_operand (is_shift op) 64 imm n) h in
+    operand_fits (is_shift op) 64 imm n (arithmetic_bit op) p.2 (omega arith) (arithmetic_bit-none op) (arithmetic_bit-most op)
+
+arithmetic_bit_32-none : (op : OpImm32Op) → is_shift_32 op ≡ false → arithmetic_bit_32 op ≡ 0
+unfolding is_shift_32 arithmetic_bit_32
+arithmetic_bit_32-none Addiw h = refl
+arithmetic_bit_32-none Slliw h = refl
+arithmetic_bit_32-none Srliw h = refl
+arithmetic_bit_32-none Sraiw h = absurd (never h)
+
+arithmetic_bit_32-most : (op : OpImm32Op) → arithmetic_bit_32 op ≤ 2 ^ 10
+unfolding arithmetic_bit_32
+arithmetic_bit_32-most Addiw = omega arith
+arithmetic_bit_32-most Slliw = omega arith
+arithmetic_bit_32-most Srliw = omega arith
+arithmetic_bit_32-most Sraiw = omega arith
+
+pub field_32-below : (op : OpImm32Op) (d a : ℕ) (imm : ℤ) (n : ℕ) → fits (Instr.OpImm32 op d a imm n) ≡ true
+    → imm_bits imm 0 12 + n + arithmetic_bit_32 op < 4096
+unfolding fits
+field_32-below op d a imm n h =
+    let p = both_3 (is_register d) (is_register a) (is_operand (is_shift_32 op) 32 imm n) h in
+    operand_fits (is_shift_32 op) 32 imm n (arithmetic_bit_32 op) p.2 (omega arith) (arithmetic_bit_32-none op) (arithmetic_bit_32-most op)
 
 -- ---- the forms
 
