@@ -12,6 +12,7 @@ mod name;
 mod pte_bits;
 mod status;
 mod translation;
+mod view_laws;
 mod wires;
 
 pub use bits::{has_bit, with_bits};
@@ -27,4 +28,5 @@ pub use name::{MOST_NAME_BYTES, Name};
 pub use pte_bits::PteBits;
 pub use status::Status;
 pub use translation::{Fault, GuestFault, Place};
+pub use view_laws::{law_two_stages, law_walks_inside};
 pub use wires::{Access, Exit, HRegs, Interrupt, Lines, Mode, Protection, View};
