@@ -1,19 +1,17 @@
 -- Under a view, a first-stage entry is read as it stands in RAM. So translation through both stages is the plain one
 -- followed by the second stage's answer for the page that it leads to.
 use Rattle.std.proofs.Common.{◌≡◌, ℕ, ◌+◌, ◌*◌, ◌/◌, ◌%◌, ◌^◌, ◌<◌, ◌≤◌, inl, inr, List, length, refl, sym, ◌∙◌, ap, arith, Bool, true, false, ◌&&◌}
-use Rattle.std.specs.Prelude.{Some, None, if◌then◌else◌, nat_le, nat_lt, ◌==◌, Result, Err}
+use Rattle.std.specs.Prelude.{Some, None, if◌then◌else◌, nat_le, nat_lt, ◌==◌}
 use Rattle.std.proofs.lemmas.Bool.Decides.{nat_tests}
 use Rattle.sv_types.specs.Bytes.{word, in_ram, ram_base, ram_place, page_of, page_size}
 use Rattle.sv_types.specs.Regions.{Region, host_word}
 use Rattle.sv_types.specs.Translation.{Destination, At, PageFault, Unreadable, entry_in_ram, first_stage, place, Settings}
-use Rattle.sv_types.specs.SecondStage.{IsView, WalksInside, with_ram, page_in_ram, view_permits, view_answer, walk_guest, entry_there, entry_through, place_through, after_first_stage, two_stages}
+use Rattle.sv_types.specs.SecondStage.{IsView, WalksInside, with_ram, page_in_ram, view_permits, view_answer, walk_guest, entry_there, entry_through, place_through, after_first_stage, two_stages, under_view}
 use Rattle.sv_types.specs.declared.wires.Access.{Access}
 use Rattle.sv_types.specs.declared.wires.Access.TheVariants.{Load}
 use Rattle.sv_types.specs.declared.wires.Mode.{Mode}
 use Rattle.sv_types.specs.declared.wires.View.{View}
 use Rattle.sv_types.specs.declared.wires.Protection.{Protection}
-use Rattle.sv_types.specs.declared.translation.Place.{Place}
-use Rattle.sv_types.specs.declared.translation.Fault.{Fault}
 use Rattle.sv_types.proofs.ByteLemmas.{lt_or_le}
 use Rattle.sv_types.proofs.RegionLemmas.{word_in_ram}
 use Rattle.sv_types.proofs.Walks.{Agree, Fits, first_stage_agrees, first_stage_fits}
@@ -66,12 +64,6 @@ unfolding place
 first_stage_is_plain tables ram ram_pages hgatp protections view is_view size s mode va access =
     first_stage_agrees (entry_in_ram ram) (entry_through (with_ram tables ram) hgatp) s mode va access
     (entries_agree tables ram ram_pages hgatp protections view is_view size)
-
--- what a view makes of where the first stage leads
-abbrev pub under_view : ℕ → ℕ → View → (ℕ → Protection) → Access → Destination → Result Place Fault
-under_view table_bytes ram_pages view protections access (At gpa) = place_through gpa (view_answer table_bytes ram_pages view protections gpa access)
-under_view table_bytes ram_pages view protections access PageFault = Err Fault.Page
-under_view table_bytes ram_pages view protections access (Unreadable entry) = Err (Fault.Guest entry true)
 
 then_view : (tables ram : List ℕ) (ram_pages hgatp : ℕ) (protections : ℕ → Protection) (view : View)
     → IsView tables ram_pages protections view hgatp → length ram ≡ page_size * ram_pages

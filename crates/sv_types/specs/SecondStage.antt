@@ -123,6 +123,12 @@ pub record IsView (tables : List ℕ) (ram_pages : ℕ) (protections : ℕ → P
   pub reads : (ram : List ℕ) (gpa : ℕ) (access : Access) → length ram ≡ page_size * ram_pages → gpa < 2 ^ 41 →
       guest_destination (entry_in_tables tables) hgatp gpa access ≡ guest_destination (entry_in_region (with_ram tables ram)) hgatp gpa access
 
+-- what a view makes of where the first stage leads
+abbrev pub under_view : ℕ → ℕ → View → (ℕ → Protection) → Access → Destination → Result Place Fault
+under_view table_bytes ram_pages view protections access (At gpa) = place_through gpa (view_answer table_bytes ram_pages view protections gpa access)
+under_view table_bytes ram_pages view protections access PageFault = Err Fault.Page
+under_view table_bytes ram_pages view protections access (Unreadable entry) = Err (Fault.Guest entry true)
+
 -- the hgatp values of the two views: mode 8 (Sv39x4), VMIDs 1 and 2, and roots at host places 0 and 0x4000
 abbrev pub view_hgatp : View → ℕ
 view_hgatp Kernel = 0x8000100000000000

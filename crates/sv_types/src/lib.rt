@@ -7,11 +7,12 @@ mod csr;
 mod effect;
 mod event;
 mod instruction;
-mod name;
 mod laws;
+mod name;
 mod pte_bits;
 mod status;
 mod translation;
+mod view_laws;
 mod wires;
 
 pub use bits::{has_bit, with_bits};
@@ -19,12 +20,13 @@ pub use cause::Cause;
 pub use csr::{Csr, CsrFault};
 pub use effect::Effect;
 pub use event::{Counts, Event, Note, Rule, Verdict};
-pub use name::{MOST_NAME_BYTES, Name};
 pub use instruction::{
     AmoOp, BranchOp, CsrOp, HyperOp, Instr, LoadOp, Op32Op, OpImm32Op, OpImmOp, OpOp, StoreOp,
 };
 pub use laws::law_rows;
+pub use name::{MOST_NAME_BYTES, Name};
 pub use pte_bits::PteBits;
 pub use status::Status;
 pub use translation::{Fault, GuestFault, Place};
+pub use view_laws::{law_two_stages, law_walks_inside};
 pub use wires::{Access, Exit, HRegs, Interrupt, Lines, Mode, Protection, View};

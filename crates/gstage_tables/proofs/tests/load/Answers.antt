@@ -1,0 +1,11 @@
+use Rattle.std.proofs.Common.{ℕ, subst, sym}
+use Rattle.sv_types.specs.SecondStage.{WalksInside, all_free, view_hgatp}
+use Rattle.sv_types.specs.declared.wires.View.TheVariants.{Kernel}
+use Rattle.sv_types.proofs.Views.{view_walks_inside}
+use Rattle.gstage_tables.proofs.tests.load.Goals as goal
+
+pub translate-requires-clause-inside : goal.translate-requires-clause-inside
+translate-requires-clause-inside g c =
+    subst (λ (hgatp : ℕ). WalksInside c.new-trees.new.mem hgatp) (sym c.root.ensures)
+    (view_walks_inside c.new-trees.new.mem.tables c.new-trees.new.mem.ram c.new-trees.result (view_hgatp Kernel) all_free Kernel
+    c.new-trees.ensures.views.kernel (sym c.new-trees.ensures.pages))
