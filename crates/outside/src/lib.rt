@@ -12,9 +12,8 @@ mod writing;
 pub use memory_files::MemFiles;
 pub use memory_sink::MemSink;
 pub use real::{RealFiles, StdSink};
-pub use writing::write_all;
-
 use std::alloc::Global;
+pub use writing::write_all;
 
 /// Why a file isn't read.
 #[derive(Clone, Copy, Debug, PartialEq, Eq, Drop)]

@@ -59,7 +59,11 @@ impl MemFiles {
     }
 }
 
-fn copied_files(alloc: Global, held: &[(Name, Vec<u8>)], saves: usize) -> Result<Vec<(Name, Vec<u8>)>, AllocError>
+fn copied_files(
+    alloc: Global,
+    held: &[(Name, Vec<u8>)],
+    saves: usize,
+) -> Result<Vec<(Name, Vec<u8>)>, AllocError>
     ensures { IfOk result (λ files. contents files.items ≡ contents held.now) }
 {
     let mut files = Vec::with_capacity(alloc, held.len().saturating_add(saves))?;

@@ -21,7 +21,12 @@ pub struct MemSink {
 impl MemSink {
     /// A sink with room for `room` bytes in all, which takes at most `piece` bytes a write. The writes of the given
     /// numbers, counted from 1, fail, and so does one beyond the room.
-    pub fn new(alloc: Global, room: usize, piece: usize, failing: &[u64]) -> Result<MemSink, AllocError>
+    pub fn new(
+        alloc: Global,
+        room: usize,
+        piece: usize,
+        failing: &[u64],
+    ) -> Result<MemSink, AllocError>
         requires { 0 < piece }
         ensures { IfOk result (λ s. memory_sink s.bytes.items s.faults ≡ memory_sink [] 0) }
     {
@@ -49,7 +54,8 @@ impl Sink for MemSink {
     fn write(&mut self, piece: &[u8]) -> Result<usize, Failed> {
         self.writes = self.writes.saturating_add(1);
         let count = piece.len().min(self.piece);
-        let is_to_fail = self.failing.contains(&self.writes) || self.room - self.room.min(self.bytes.len()) < count;
+        let is_to_fail = self.failing.contains(&self.writes)
+            || self.room - self.room.min(self.bytes.len()) < count;
         if is_to_fail || self.bytes.extend_from_slice(&piece[..count]).is_err() {
             self.faults += 1;
             return Err(Failed);
