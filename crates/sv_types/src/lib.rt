@@ -9,6 +9,7 @@ mod event;
 mod instruction;
 mod name;
 mod laws;
+mod outcome;
 mod pte_bits;
 mod status;
 mod translation;
@@ -24,6 +25,7 @@ pub use instruction::{
     AmoOp, BranchOp, CsrOp, HyperOp, Instr, LoadOp, Op32Op, OpImm32Op, OpImmOp, OpOp, StoreOp,
 };
 pub use laws::law_rows;
+pub use outcome::{Exception, Outcome, Wrote};
 pub use pte_bits::PteBits;
 pub use status::Status;
 pub use translation::{Fault, GuestFault, Place};
