@@ -18,6 +18,6 @@ IsRequest (Effect.Load rd address width signed) = (rd < 32) × IsWidth width
 IsRequest (Effect.Store address width value) = IsWidth width
 IsRequest (Effect.LoadReserved rd address width) = (rd < 32) × IsWidth width
 IsRequest (Effect.StoreConditional rd address width value) = (rd < 32) × IsWidth width
-IsRequest (Effect.Amo rd address width op value) = (rd < 32) × ((width ≡ 4) ⊎ (width ≡ 8))
+IsRequest (Effect.Amo rd address width op value) = (rd < 32) × (((width ≡ 4) ⊎ (width ≡ 8)) × IsWidth width)
 IsRequest (Effect.Csr rd number op operand writes) = rd < 32
 IsRequest _ = Unit {0}
