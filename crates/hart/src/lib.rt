@@ -11,3 +11,6 @@ mod trap;
 pub use execution::attempt;
 pub use hart::Hart;
 pub use sv_types::{Outcome, Wrote};
+
+#[cfg(test)]
+mod tests;
