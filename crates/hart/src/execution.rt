@@ -6,15 +6,13 @@ ghost use Rattle.sv_types.specs.SecondStage.{WalksInside};
 ghost use Rattle.sv_types.specs.Effects.{set_register};
 ghost use Rattle.sv_types.specs.Encoding.{fits};
 ghost use Rattle.sv_types.specs.HardwareMemory.{load_htinst, store_htinst, atomic_htinst};
-ghost use Rattle.sv_types.specs.HardwareAttempt.{after_effect, after_instruction, after_word, after_fetch, after_set, attempt};
+ghost use Rattle.sv_types.specs.HardwareAttempt.{after_effect, after_instruction, after_word, after_fetch, attempt, OnlyWrites};
 ghost use Rattle.hart.specs.Cores.{core_of, step_of, attempted_of};
 ghost use Rattle.hart.specs.Conditions.{KeepsMode, IsRequest};
 
 use crate::hart::Hart;
 use crate::memory::{reached, translated};
-use crate::requests::{
-    Operation, atomic, load, load_reserved, retire, store, store_conditional,
-};
+use crate::requests::{Operation, atomic, load, load_reserved, retire, store, store_conditional};
 use crate::system::{
     CsrAccess, call, csr, csr_reached, illegal, sret, supervisor_only, virtual_instruction,
 };
@@ -38,6 +36,8 @@ pub fn attempt(hart: &mut Hart, regs: &HRegs, mem: &mut HostMem, lines: &Lines) 
     ensures attempted { attempted_of mem.new hart.new regs.now result ≡ attempt mem.old (core_of hart.old regs.now) lines.now }
     ensures id { hart.new.id ≡ hart.old.id }
     ensures started { hart.new.started ≡ hart.old.started }
+    ensures pc { hart.new.pc % 4 ≡ 0 }
+    ensures written { OnlyWrites mem.old mem.new result }
 {
     match pending(&hart.csrs, regs, lines) {
         Some(taken) => interrupt(hart, regs, taken),
@@ -65,6 +65,7 @@ fn fetch(
     ensures attempted { attempted_of mem.new hart.new regs.now result ≡ after_fetch mem.old (core_of hart.old regs.now) lines.now place }
     ensures id { hart.new.id ≡ hart.old.id }
     ensures started { hart.new.started ≡ hart.old.started }
+    ensures pc { hart.new.pc % 4 ≡ 0 }
 {
     match place {
         Ok(hpa) => {
@@ -76,13 +77,7 @@ fn fetch(
 }
 
 #[tactic(auto, unfolding(sv_types::specs::HardwareAttempt::after_word, sv_types::specs::HardwareAttempt::after_instruction))]
-fn carry_out(
-    hart: &mut Hart,
-    regs: &HRegs,
-    mem: &mut HostMem,
-    lines: &Lines,
-    word: u32,
-) -> Outcome
+fn carry_out(hart: &mut Hart, regs: &HRegs, mem: &mut HostMem, lines: &Lines, word: u32) -> Outcome
     requires aligned { hart.old.pc % 4 ≡ 0 }
     requires mode { KeepsMode regs.now }
     requires second { regs.now.hgatp / 2 ^ 60 ≡ 8 }
@@ -90,6 +85,7 @@ fn carry_out(
     ensures attempted { attempted_of mem.new hart.new regs.now result ≡ after_word mem.old (core_of hart.old regs.now) lines.now word }
     ensures id { hart.new.id ≡ hart.old.id }
     ensures started { hart.new.started ≡ hart.old.started }
+    ensures pc { hart.new.pc % 4 ≡ 0 }
 {
     match decode(word) {
         Some(instr) => execute(hart, regs, mem, lines, word, &instr),
@@ -114,6 +110,7 @@ fn execute(
     ensures attempted { attempted_of mem.new hart.new regs.now result ≡ after_instruction mem.old (core_of hart.old regs.now) lines.now word (Some instr.now) }
     ensures id { hart.new.id ≡ hart.old.id }
     ensures started { hart.new.started ≡ hart.old.started }
+    ensures pc { hart.new.pc % 4 ≡ 0 }
 {
     let effect = effect(instr, &hart.regs, hart.pc);
     apply(hart, regs, mem, lines, word, effect)
@@ -164,35 +161,102 @@ fn apply(
     ensures attempted { attempted_of mem.new hart.new regs.now result ≡ after_effect mem.old (core_of hart.old regs.now) lines.now word effect }
     ensures id { hart.new.id ≡ hart.old.id }
     ensures started { hart.new.started ≡ hart.old.started }
+    ensures pc { hart.new.pc % 4 ≡ 0 }
 {
     match effect {
         Effect::Set { rd, value, next } => set(hart, rd, value, next),
         Effect::MisalignedJump { target } => {
             raise(hart, regs, plain_exception(Cause::InstrMisaligned, target))
         }
-        Effect::Load { rd, addr, width, signed } => {
-            let place = reached(hart, regs, mem, Access::Load, addr, width, load_htinst(word));
-            load(hart, regs, mem, rd, width, signed, place)
+        Effect::Load {
+            rd,
+            addr,
+            width,
+            signed,
+        } => {
+            let source = reached(
+                hart,
+                regs,
+                mem,
+                Access::Load,
+                addr,
+                width,
+                load_htinst(word),
+            );
+            load(hart, regs, mem, rd, width, signed, source)
         }
         Effect::Store { addr, width, value } => {
-            let place = reached(hart, regs, mem, Access::Store, addr, width, store_htinst(word));
-            store(hart, regs, mem, width, value, place)
+            let target = reached(
+                hart,
+                regs,
+                mem,
+                Access::Store,
+                addr,
+                width,
+                store_htinst(word),
+            );
+            store(hart, regs, mem, width, value, target)
         }
         Effect::LoadReserved { rd, addr, width } => {
-            let place = reached(hart, regs, mem, Access::Load, addr, width, atomic_htinst(word));
-            load_reserved(hart, regs, mem, rd, width, place)
+            let source = reached(
+                hart,
+                regs,
+                mem,
+                Access::Load,
+                addr,
+                width,
+                atomic_htinst(word),
+            );
+            load_reserved(hart, regs, mem, rd, width, source)
         }
-        Effect::StoreConditional { rd, addr, width, value } => {
-            let place = reached(hart, regs, mem, Access::Store, addr, width, atomic_htinst(word));
-            store_conditional(hart, regs, mem, rd, width, value, place)
+        Effect::StoreConditional {
+            rd,
+            addr,
+            width,
+            value,
+        } => {
+            let target = reached(
+                hart,
+                regs,
+                mem,
+                Access::Store,
+                addr,
+                width,
+                atomic_htinst(word),
+            );
+            store_conditional(hart, regs, mem, rd, width, value, target)
         }
-        Effect::Amo { rd, addr, width, op, value } => {
-            let place = reached(hart, regs, mem, Access::Store, addr, width, atomic_htinst(word));
+        Effect::Amo {
+            rd,
+            addr,
+            width,
+            op,
+            value,
+        } => {
+            let place = reached(
+                hart,
+                regs,
+                mem,
+                Access::Store,
+                addr,
+                width,
+                atomic_htinst(word),
+            );
             atomic(hart, regs, mem, rd, width, Operation { op, value }, place)
         }
-        Effect::Csr { rd, number, op, value, writes } => {
+        Effect::Csr {
+            rd,
+            number,
+            op,
+            value,
+            writes,
+        } => {
             let reached = csr_reached(hart, regs, word, number, writes);
-            let access = CsrAccess { op, operand: value, writes };
+            let access = CsrAccess {
+                op,
+                operand: value,
+                writes,
+            };
             csr(hart, regs, lines, rd, access, reached)
         }
         Effect::Ecall => call(hart, regs),

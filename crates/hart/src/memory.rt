@@ -10,8 +10,8 @@ ghost use Rattle.sv39_walk.specs.Regimes.{settings_of};
 use crate::hart::Hart;
 use crate::trap::plain_exception;
 use host_mem::HostMem;
-use sv39_walk::{Regime, translate};
 use sv_types::{Access, Cause, Exception, Fault, HRegs, has_bit};
+use sv39_walk::{Regime, translate};
 
 /// `htinst` of a guest-page fault at an entry of the first stage: a read of 64 bits for its translation.
 const IMPLICIT_READ: u32 = 0x3000;

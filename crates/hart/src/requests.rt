@@ -71,6 +71,7 @@ pub(crate) fn load(
     ensures step { step_of hart.new regs.now result ≡ after_load mem.now (core_of hart.old regs.now) rd width signed place }
     ensures id { hart.new.id ≡ hart.old.id }
     ensures started { hart.new.started ≡ hart.old.started }
+    ensures pc { hart.new.pc % 4 ≡ 0 }
 {
     match place {
         Ok(hpa) => {
@@ -99,6 +100,7 @@ pub(crate) fn load_reserved(
     ensures step { step_of hart.new regs.now result ≡ after_load_reserved mem.now (core_of hart.old regs.now) rd width place }
     ensures id { hart.new.id ≡ hart.old.id }
     ensures started { hart.new.started ≡ hart.old.started }
+    ensures pc { hart.new.pc % 4 ≡ 0 }
 {
     match place {
         Ok(hpa) => {
@@ -126,6 +128,7 @@ pub(crate) fn store(
     ensures attempted { attempted_of mem.new hart.new regs.now result ≡ after_store mem.old (core_of hart.old regs.now) width value place }
     ensures id { hart.new.id ≡ hart.old.id }
     ensures started { hart.new.started ≡ hart.old.started }
+    ensures pc { hart.new.pc % 4 ≡ 0 }
 {
     match place {
         Ok(hpa) => {
@@ -165,6 +168,7 @@ pub(crate) fn store_conditional(
     ensures attempted { attempted_of mem.new hart.new regs.now result ≡ after_store_conditional mem.old (core_of hart.old regs.now) rd width value place }
     ensures id { hart.new.id ≡ hart.old.id }
     ensures started { hart.new.started ≡ hart.old.started }
+    ensures pc { hart.new.pc % 4 ≡ 0 }
 {
     match place {
         Ok(hpa) => {
@@ -207,13 +211,23 @@ pub(crate) fn atomic(
     ensures attempted { attempted_of mem.new hart.new regs.now result ≡ after_amo mem.old (core_of hart.old regs.now) rd width operation.op operation.value place }
     ensures id { hart.new.id ≡ hart.old.id }
     ensures started { hart.new.started ≡ hart.old.started }
+    ensures pc { hart.new.pc % 4 ≡ 0 }
 {
     match place {
         Ok(hpa) => {
             let word = mem.read(hpa as usize, width);
-            mem.write(hpa as usize, width, amo(operation.op, width, word, operation.value));
+            mem.write(
+                hpa as usize,
+                width,
+                amo(operation.op, width, word, operation.value),
+            );
             hart.forget(hpa, width);
-            retire_with(hart, rd, loaded_value(true, width, word), Some(Wrote { hpa, width }))
+            retire_with(
+                hart,
+                rd,
+                loaded_value(true, width, word),
+                Some(Wrote { hpa, width }),
+            )
         }
         Err(exception) => raise(hart, regs, exception),
     }

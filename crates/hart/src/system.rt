@@ -102,6 +102,7 @@ pub(crate) fn csr(
     ensures step { step_of hart.new regs.now result ≡ after_csr (core_of hart.old regs.now) lines.now rd access.op access.operand access.writes reached }
     ensures id { hart.new.id ≡ hart.old.id }
     ensures started { hart.new.started ≡ hart.old.started }
+    ensures pc { hart.new.pc % 4 ≡ 0 }
 {
     match reached {
         Ok(csr) => {
@@ -120,6 +121,7 @@ pub(crate) fn supervisor_only(hart: &mut Hart, regs: &HRegs, word: u32) -> Outco
     ensures step { step_of hart.new regs.now result ≡ after_supervisor_only (core_of hart.old regs.now) word regs.now.mode }
     ensures id { hart.new.id ≡ hart.old.id }
     ensures started { hart.new.started ≡ hart.old.started }
+    ensures pc { hart.new.pc % 4 ≡ 0 }
 {
     match regs.mode {
         Mode::Kernel => retire(hart, None),
@@ -135,6 +137,7 @@ pub(crate) fn sret(hart: &mut Hart, regs: &HRegs, word: u32) -> Outcome
     ensures step { step_of hart.new regs.now result ≡ after_sret (core_of hart.old regs.now) word }
     ensures id { hart.new.id ≡ hart.old.id }
     ensures started { hart.new.started ≡ hart.old.started }
+    ensures pc { hart.new.pc % 4 ≡ 0 }
 {
     raise(hart, regs, virtual_instruction(word))
 }
@@ -146,6 +149,7 @@ pub(crate) fn call(hart: &mut Hart, regs: &HRegs) -> Outcome
     ensures step { step_of hart.new regs.now result ≡ raise (core_of hart.old regs.now) (plain_exception (call_cause regs.now.mode) 0) }
     ensures id { hart.new.id ≡ hart.old.id }
     ensures started { hart.new.started ≡ hart.old.started }
+    ensures pc { hart.new.pc % 4 ≡ 0 }
 {
     let cause = match regs.mode {
         Mode::Kernel => Cause::GuestCall,

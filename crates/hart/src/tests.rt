@@ -18,6 +18,7 @@ const PAGES: usize = 16;
 
 // Kernel mode fetches from page 0, which is approved, and user mode from page 4, which isn't.
 const KERNEL_PC: u64 = 0x8000_0000;
+
 const USER_PC: u64 = 0x8000_4000;
 
 const QUIET: Lines = Lines {
@@ -44,11 +45,7 @@ fn draw_views(mem: &mut HostMem)
 }
 
 // RAM with these words at their places, under both views.
-fn region(
-    rt: &impl Abort,
-    alloc: Global,
-    words: &[(usize, u64)],
-) -> Result<HostMem, AllocError>
+fn region(rt: &impl Abort, alloc: Global, words: &[(usize, u64)]) -> Result<HostMem, AllocError>
     ensures views { IfOk result (λ m. AreViews m.tables 16 (protect all_free 0 Approved)) }
     ensures ram { IfOk result (λ m. length m.ram ≡ 4096 * 16) }
 {
@@ -148,26 +145,103 @@ fn each_instruction_has_its_outcome(rt: HostRuntime) -> Result<(), AllocError> {
         // addi
         (K, 0x0050_0193, 0, DONE, 5, true),
         // lb, ld
-        (K, 0x0000_8183, 0x8000_2000, DONE, 0xFFFF_FFFF_FFFF_FF80, true),
+        (
+            K,
+            0x0000_8183,
+            0x8000_2000,
+            DONE,
+            0xFFFF_FFFF_FFFF_FF80,
+            true,
+        ),
         (K, 0x0000_B183, 0x8000_2000, DONE, LOADED, true),
         (K, 0x0000_B183, 0x8000_2001, Outcome::GuestTrap, 0, false),
-        (K, 0x0000_B183, 0x200_0000_0000, exit(21, KERNEL_PC, 0x200_0000_0000, 0x80_0000_0000, 0x3183), 0, true),
+        (
+            K,
+            0x0000_B183,
+            0x200_0000_0000,
+            exit(21, KERNEL_PC, 0x200_0000_0000, 0x80_0000_0000, 0x3183),
+            0,
+            true,
+        ),
         // sd
-        (K, 0x0020_B023, 0x8000_3000, wrote(TABLES + 0x3000, 8), 0, true),
-        (K, 0x0020_B023, 0x8000_2000, wrote(TABLES + 0x2000, 8), 0, false),
-        (K, 0x0020_B023, 0x8000_0008, exit(23, KERNEL_PC, 0x8000_0008, 0x2000_0002, 0x0020_3023), 0, true),
-        (U, 0x0020_B023, 0x8000_0001, exit(6, USER_PC, 0x8000_0001, 0, 0), 0, true),
+        (
+            K,
+            0x0020_B023,
+            0x8000_3000,
+            wrote(TABLES + 0x3000, 8),
+            0,
+            true,
+        ),
+        (
+            K,
+            0x0020_B023,
+            0x8000_2000,
+            wrote(TABLES + 0x2000, 8),
+            0,
+            false,
+        ),
+        (
+            K,
+            0x0020_B023,
+            0x8000_0008,
+            exit(23, KERNEL_PC, 0x8000_0008, 0x2000_0002, 0x0020_3023),
+            0,
+            true,
+        ),
+        (
+            U,
+            0x0020_B023,
+            0x8000_0001,
+            exit(6, USER_PC, 0x8000_0001, 0, 0),
+            0,
+            true,
+        ),
         // lr.d, sc.d
         (K, 0x1000_B1AF, 0x8000_2000, DONE, LOADED, true),
-        (K, 0x1820_B1AF, 0x8000_2000, wrote(TABLES + 0x2000, 8), 0, false),
+        (
+            K,
+            0x1820_B1AF,
+            0x8000_2000,
+            wrote(TABLES + 0x2000, 8),
+            0,
+            false,
+        ),
         (K, 0x1820_B1AF, 0x8000_3000, DONE, 1, false),
-        (K, 0x1820_B1AF, 0x8000_0008, exit(23, KERNEL_PC, 0x8000_0008, 0x2000_0002, 0x1820_31AF), 0, true),
+        (
+            K,
+            0x1820_B1AF,
+            0x8000_0008,
+            exit(23, KERNEL_PC, 0x8000_0008, 0x2000_0002, 0x1820_31AF),
+            0,
+            true,
+        ),
         // amoadd.d, amoadd.w
-        (K, 0x0020_B1AF, 0x8000_2000, wrote(TABLES + 0x2000, 8), LOADED, false),
-        (K, 0x0020_A1AF, 0x1000_0000, exit(23, KERNEL_PC, 0x1000_0000, 0x400_0000, 0x0020_21AF), 0, true),
+        (
+            K,
+            0x0020_B1AF,
+            0x8000_2000,
+            wrote(TABLES + 0x2000, 8),
+            LOADED,
+            false,
+        ),
+        (
+            K,
+            0x0020_A1AF,
+            0x1000_0000,
+            exit(23, KERNEL_PC, 0x1000_0000, 0x400_0000, 0x0020_21AF),
+            0,
+            true,
+        ),
         // csrrs of sstatus, csrrw of time
         (K, 0x1000_21F3, 0, DONE, 0x2_0000_0000, true),
-        (U, 0x1000_21F3, 0, exit(22, USER_PC, 0x1000_21F3, 0, 0), 0, true),
+        (
+            U,
+            0x1000_21F3,
+            0,
+            exit(22, USER_PC, 0x1000_21F3, 0, 0),
+            0,
+            true,
+        ),
         (K, 0xC010_91F3, 0, Outcome::GuestTrap, 0, false),
         // ecall, ebreak
         (K, 0x0000_0073, 0, exit(10, KERNEL_PC, 0, 0, 0), 0, true),
@@ -176,12 +250,47 @@ fn each_instruction_has_its_outcome(rt: HostRuntime) -> Result<(), AllocError> {
         (U, 0x0010_0073, 0, exit(3, USER_PC, USER_PC, 0, 0), 0, true),
         // wfi, sret, sfence.vma, fence, hlv.b, jalr, no instruction
         (K, 0x1050_0073, 0, DONE, 0, true),
-        (U, 0x1050_0073, 0, exit(22, USER_PC, 0x1050_0073, 0, 0), 0, true),
-        (K, 0x1020_0073, 0, exit(22, KERNEL_PC, 0x1020_0073, 0, 0), 0, true),
-        (U, 0x1200_0073, 0, exit(22, USER_PC, 0x1200_0073, 0, 0), 0, true),
+        (
+            U,
+            0x1050_0073,
+            0,
+            exit(22, USER_PC, 0x1050_0073, 0, 0),
+            0,
+            true,
+        ),
+        (
+            K,
+            0x1020_0073,
+            0,
+            exit(22, KERNEL_PC, 0x1020_0073, 0, 0),
+            0,
+            true,
+        ),
+        (
+            U,
+            0x1200_0073,
+            0,
+            exit(22, USER_PC, 0x1200_0073, 0, 0),
+            0,
+            true,
+        ),
         (K, 0x0FF0_000F, 0, DONE, 0, true),
-        (K, 0x6000_C1F3, 0, exit(22, KERNEL_PC, 0x6000_C1F3, 0, 0), 0, true),
-        (U, 0x0000_81E7, 0x8000_0002, exit(0, USER_PC, 0x8000_0002, 0, 0), 0, true),
+        (
+            K,
+            0x6000_C1F3,
+            0,
+            exit(22, KERNEL_PC, 0x6000_C1F3, 0, 0),
+            0,
+            true,
+        ),
+        (
+            U,
+            0x0000_81E7,
+            0x8000_0002,
+            exit(0, USER_PC, 0x8000_0002, 0, 0),
+            0,
+            true,
+        ),
         (U, 0, 0, exit(2, USER_PC, 0, 0, 0), 0, true),
     ] {
         let mut hart = hart_with(address);
@@ -190,7 +299,11 @@ fn each_instruction_has_its_outcome(rt: HostRuntime) -> Result<(), AllocError> {
         let found = attempt_once(&rt, rt.alloc(), &words, &mut hart, mode, &QUIET)?;
         assert_eq!(rt; found, want, "of {word:x}");
         assert_eq!(rt; hart.regs.get(3), x3, "x3 of {word:x}");
-        assert_eq!(rt; hart.reservation.is_some(), stands, "reservation of {word:x}");
+        assert_eq!(rt;
+            hart.reservation.is_some(),
+            stands,
+            "reservation of {word:x}"
+        );
     }
     Ok(())
 }
@@ -214,9 +327,30 @@ fn interrupts_come_before_fetches(rt: HostRuntime) -> Result<(), AllocError> {
         (K, 0, 2, 0, TIMER, Outcome::GuestTrap),
         (K, 1, 2, 0, TIMER, Outcome::GuestTrap),
         (U, 4, 0, 0, TIMER, timer),
-        (K, 1, 2, 0, QUIET, exit(20, 0x8000_1000, 0x8000_1000, 0x2000_0400, 0)),
-        (U, 0, 2, 0, QUIET, exit(20, 0x8000_0000, 0x8000_0000, 0x2000_0000, 0)),
-        (U, 4, 0, 0x8000_0000_0010_0000, QUIET, exit(20, USER_PC, USER_PC, 0x4000_0004, 0x3000)),
+        (
+            K,
+            1,
+            2,
+            0,
+            QUIET,
+            exit(20, 0x8000_1000, 0x8000_1000, 0x2000_0400, 0),
+        ),
+        (
+            U,
+            0,
+            2,
+            0,
+            QUIET,
+            exit(20, 0x8000_0000, 0x8000_0000, 0x2000_0000, 0),
+        ),
+        (
+            U,
+            4,
+            0,
+            0x8000_0000_0010_0000,
+            QUIET,
+            exit(20, USER_PC, USER_PC, 0x4000_0004, 0x3000),
+        ),
     ] {
         let mut hart = hart_with(0);
         let regs = hypervisor_registers(K);
@@ -258,7 +392,11 @@ fn loads_through_sv39_fault_by_the_entry(rt: HostRuntime) -> Result<(), AllocErr
         let found = attempt_once(&rt, rt.alloc(), &words, &mut hart, Mode::Kernel, &QUIET)?;
         assert_eq!(rt; found, want, "at {address:x}");
         if found == Outcome::GuestTrap {
-            assert_eq!(rt; (hart.csrs.vscause, hart.csrs.vstval), (13, address), "at {address:x}");
+            assert_eq!(rt;
+                (hart.csrs.vscause, hart.csrs.vstval),
+                (13, address),
+                "at {address:x}"
+            );
             assert_eq!(rt; hart.pc, 0x8000_0100);
         }
     }

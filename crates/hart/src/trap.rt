@@ -30,6 +30,7 @@ pub(crate) fn raise(hart: &mut Hart, regs: &HRegs, exception: Exception) -> Outc
     ensures step { step_of hart.new regs.now result ≡ raise (core_of hart.old regs.now) exception }
     ensures id { hart.new.id ≡ hart.old.id }
     ensures started { hart.new.started ≡ hart.old.started }
+    ensures pc { hart.new.pc % 4 ≡ 0 }
 {
     let cause = exception.cause.number();
     if has_bit(regs.hedeleg, cause as u8) {
@@ -55,6 +56,7 @@ pub(crate) fn interrupt(hart: &mut Hart, regs: &HRegs, interrupt: Interrupt) -> 
     ensures step { step_of hart.new regs.now result ≡ after_interrupt (core_of hart.old regs.now) interrupt }
     ensures id { hart.new.id ≡ hart.old.id }
     ensures started { hart.new.started ≡ hart.old.started }
+    ensures pc { hart.new.pc % 4 ≡ 0 }
 {
     let cause = interrupt.number();
     if has_bit(regs.hideleg, cause as u8 + 1) {
@@ -73,13 +75,14 @@ pub(crate) fn interrupt(hart: &mut Hart, regs: &HRegs, interrupt: Interrupt) -> 
 }
 
 // Only kernel mode has a trap delegated, so the mode stays.
-#[tactic(auto, unfolding(sv_types::specs::Hardware::guest_trap))]
+#[tactic(auto, using(sv_types::proofs::RegisterBits::target_aligned), unfolding(sv_types::specs::Hardware::guest_trap))]
 fn guest_trap(hart: &mut Hart, regs: &HRegs, interrupt: bool, cause: u64, tval: u64) -> Outcome
     requires aligned { hart.old.pc % 4 ≡ 0 }
     requires kernel { regs.now.mode ≡ Mode.Kernel }
     ensures step { step_of hart.new regs.now result ≡ guest_trap (core_of hart.old regs.now) interrupt cause tval }
     ensures id { hart.new.id ≡ hart.old.id }
     ensures started { hart.new.started ≡ hart.old.started }
+    ensures pc { hart.new.pc % 4 ≡ 0 }
 {
     hart.pc = into_guest(&mut hart.csrs, regs.mode, interrupt, cause, tval, hart.pc);
     hart.reservation = None;
@@ -88,10 +91,12 @@ fn guest_trap(hart: &mut Hart, regs: &HRegs, interrupt: bool, cause: u64, tval: 
 
 #[tactic(auto, unfolding(sv_types::specs::Hardware::leave))]
 fn leave(hart: &mut Hart, regs: &HRegs, exit: Exit) -> Outcome
-    requires { exit.pc % 4 ≡ 0 }
+    requires aligned { hart.old.pc % 4 ≡ 0 }
+    requires exit { exit.pc % 4 ≡ 0 }
     ensures step { step_of hart.new regs.now result ≡ leave (core_of hart.old regs.now) exit }
     ensures id { hart.new.id ≡ hart.old.id }
     ensures started { hart.new.started ≡ hart.old.started }
+    ensures pc { hart.new.pc % 4 ≡ 0 }
 {
     Outcome::Exit(into_hypervisor(&mut hart.csrs, exit))
 }

@@ -1,8 +1,8 @@
 -- One attempt of a hart with the hypervisor extension, in VS or VU mode: an interrupt, a fetch, an instruction.
 -- RISC-V Privileged manual, "Supervisor Cause (scause) Register" for the order of exceptions, "Supervisor Instructions",
 -- and H extension: "Trap Cause Codes", "Virtual-Instruction Exceptions"; Unprivileged manual, "Zicsr".
-use Rattle.std.specs.Prelude.{ℕ, Bool, not, ◌&&◌, if◌then◌else◌, Option, Some, None, Result, Ok, Err}
-use Rattle.sv_types.specs.Regions.{Region, host_word}
+use Rattle.std.specs.Prelude.{◌≡◌, ℕ, Bool, not, ◌&&◌, if◌then◌else◌, Option, Some, None, Result, Ok, Err}
+use Rattle.sv_types.specs.Regions.{Region, host_word, write_host}
 use Rattle.sv_types.specs.Instructions.{instruction_of}
 use Rattle.sv_types.specs.Effects.{effect_of, set_register}
 use Rattle.sv_types.specs.Requests.{csr_value}
@@ -135,3 +135,12 @@ after_pending r core lines None = after_fetch r core lines (translated r core Ac
 
 unfoldable pub attempt : Region → Core → Lines → Attempted
 attempt r core lines = after_pending r core lines (pending core.hregs core.csrs lines)
+
+-- ---- what an attempt writes
+
+-- the region changes only where the outcome names the bytes that were written, and there to the bytes of some value
+abbrev pub OnlyWrites : Region → Region → Outcome → Type 0
+OnlyWrites before after (Outcome.Retired (Some wrote)) = (value : ℕ) × (after ≡ write_host before wrote.hpa wrote.width value)
+OnlyWrites before after (Outcome.Retired None) = after ≡ before
+OnlyWrites before after Outcome.GuestTrap = after ≡ before
+OnlyWrites before after (Outcome.Exit exit) = after ≡ before
