@@ -174,39 +174,18 @@ fn apply(
             width,
             signed,
         } => {
-            let source = reached(
-                hart,
-                regs,
-                mem,
-                Access::Load,
-                addr,
-                width,
-                load_htinst(word),
-            );
+            let htinst = load_htinst(word);
+            let source = reached(hart, regs, mem, Access::Load, addr, width, htinst);
             load(hart, regs, mem, rd, width, signed, source)
         }
         Effect::Store { addr, width, value } => {
-            let target = reached(
-                hart,
-                regs,
-                mem,
-                Access::Store,
-                addr,
-                width,
-                store_htinst(word),
-            );
+            let htinst = store_htinst(word);
+            let target = reached(hart, regs, mem, Access::Store, addr, width, htinst);
             store(hart, regs, mem, width, value, target)
         }
         Effect::LoadReserved { rd, addr, width } => {
-            let source = reached(
-                hart,
-                regs,
-                mem,
-                Access::Load,
-                addr,
-                width,
-                atomic_htinst(word),
-            );
+            let htinst = atomic_htinst(word);
+            let source = reached(hart, regs, mem, Access::Load, addr, width, htinst);
             load_reserved(hart, regs, mem, rd, width, source)
         }
         Effect::StoreConditional {
@@ -215,15 +194,8 @@ fn apply(
             width,
             value,
         } => {
-            let target = reached(
-                hart,
-                regs,
-                mem,
-                Access::Store,
-                addr,
-                width,
-                atomic_htinst(word),
-            );
+            let htinst = atomic_htinst(word);
+            let target = reached(hart, regs, mem, Access::Store, addr, width, htinst);
             store_conditional(hart, regs, mem, rd, width, value, target)
         }
         Effect::Amo {
@@ -233,15 +205,8 @@ fn apply(
             op,
             value,
         } => {
-            let place = reached(
-                hart,
-                regs,
-                mem,
-                Access::Store,
-                addr,
-                width,
-                atomic_htinst(word),
-            );
+            let htinst = atomic_htinst(word);
+            let place = reached(hart, regs, mem, Access::Store, addr, width, htinst);
             atomic(hart, regs, mem, rd, width, Operation { op, value }, place)
         }
         Effect::Csr {
@@ -252,11 +217,7 @@ fn apply(
             writes,
         } => {
             let reached = csr_reached(hart, regs, word, number, writes);
-            let access = CsrAccess {
-                op,
-                operand: value,
-                writes,
-            };
+            let access = CsrAccess { op, value, writes };
             csr(hart, regs, lines, rd, access, reached)
         }
         Effect::Ecall => call(hart, regs),

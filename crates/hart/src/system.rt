@@ -68,20 +68,21 @@ fn csr_value(op: CsrOp, old: u64, operand: u64) -> u64
 #[derive(Clone, Copy, Drop)]
 pub(crate) struct CsrAccess {
     pub(crate) op: CsrOp,
-    pub(crate) operand: u64,
+    pub(crate) value: u64,
     pub(crate) writes: bool,
 }
 
 // Writes the register, where the access writes, and gives its old value.
 fn exchange(hart: &mut Hart, regs: &HRegs, lines: &Lines, access: CsrAccess, csr: Csr) -> u64
     ensures value { result ≡ csr_read (core_of hart.old regs.now) lines.now csr }
-    ensures hart { core_of hart.new regs.now ≡ (if access.writes then with_csr (core_of hart.old regs.now) csr (csr_value access.op (csr_read (core_of hart.old regs.now) lines.now csr) access.operand) else core_of hart.old regs.now) }
+    ensures hart { core_of hart.new regs.now ≡ (if access.writes then with_csr (core_of hart.old regs.now) csr (csr_value access.op (csr_read (core_of hart.old regs.now) lines.now csr) access.value) else core_of hart.old regs.now) }
     ensures id { hart.new.id ≡ hart.old.id }
     ensures started { hart.new.started ≡ hart.old.started }
 {
     let old = hart.csrs.value(regs.hideleg, lines, csr);
     if access.writes {
-        hart.csrs.set(regs.hideleg, csr, csr_value(access.op, old, access.operand));
+        hart.csrs
+            .set(regs.hideleg, csr, csr_value(access.op, old, access.value));
     }
     old
 }
@@ -99,7 +100,7 @@ pub(crate) fn csr(
     requires aligned { hart.old.pc % 4 ≡ 0 }
     requires mode { KeepsMode regs.now }
     requires register { rd < 32 }
-    ensures step { step_of hart.new regs.now result ≡ after_csr (core_of hart.old regs.now) lines.now rd access.op access.operand access.writes reached }
+    ensures step { step_of hart.new regs.now result ≡ after_csr (core_of hart.old regs.now) lines.now rd access.op access.value access.writes reached }
     ensures id { hart.new.id ≡ hart.old.id }
     ensures started { hart.new.started ≡ hart.old.started }
     ensures pc { hart.new.pc % 4 ≡ 0 }
