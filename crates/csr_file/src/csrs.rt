@@ -189,9 +189,9 @@ impl Csrs {
         self.hvip | (timer + external)
     }
 
-    /// The value of a register, as the guest reads it.
+    /// The value of a register that an access reaches, as the guest reads it.
     #[tactic(auto, unfolding(sv_types::specs::HypervisorRegisters::read_virtual))]
-    fn value(&self, hideleg: u64, lines: &Lines, csr: Csr) -> u64
+    pub fn value(&self, hideleg: u64, lines: &Lines, csr: Csr) -> u64
         ensures { result ≡ read_virtual hideleg self.now lines.now csr }
     {
         match csr {
@@ -209,9 +209,9 @@ impl Csrs {
         }
     }
 
-    /// Writes a register, as the guest writes it.
+    /// Writes a register that an access reaches, as the guest writes it. No access writes the time.
     #[tactic(auto, unfolding(sv_types::specs::HypervisorRegisters::write_virtual))]
-    fn set(&mut self, hideleg: u64, csr: Csr, value: u64)
+    pub fn set(&mut self, hideleg: u64, csr: Csr, value: u64)
         ensures { self.new ≡ write_virtual hideleg self.old csr value }
     {
         match csr {

@@ -12,3 +12,4 @@ pub mod WordDecodes
 pub mod EntryBits
 pub mod Walks
 pub mod Views
+pub mod HardwareWrites

@@ -24,3 +24,7 @@ pub mod GuestView
 pub mod Console
 pub mod Clock
 pub mod Schedule
+pub mod Requests
+pub mod Hardware
+pub mod HardwareMemory
+pub mod HardwareAttempt

@@ -9,6 +9,7 @@ mod event;
 mod instruction;
 mod laws;
 mod name;
+mod outcome;
 mod pte_bits;
 mod status;
 mod translation;
@@ -25,6 +26,7 @@ pub use instruction::{
 };
 pub use laws::law_rows;
 pub use name::{MOST_NAME_BYTES, Name};
+pub use outcome::{Exception, Outcome, Wrote};
 pub use pte_bits::PteBits;
 pub use status::Status;
 pub use translation::{Fault, GuestFault, Place};

@@ -1,0 +1,58 @@
+-- Where both stages lead, a word of a width that divides the virtual address may be read and written.
+use Rattle.std.proofs.Common.{◌≡◌, ◌∙◌, ℕ, ◌+◌, ◌*◌, ◌%◌, ◌^◌, ◌<◌, ◌≤◌, ◌⊎◌, inl, inr, length, refl, sym, ap, arith}
+use Rattle.std.specs.Prelude.{Option, Some, None, Result, Ok, Err}
+use Rattle.sv_types.specs.declared.translation.Place.{Place}
+use Rattle.sv_types.specs.declared.translation.Fault.{Fault}
+use Rattle.sv_types.specs.declared.wires.Access.{Access}
+use Rattle.sv_types.specs.declared.wires.Mode.{Mode}
+use Rattle.sv_types.specs.Regions.{Region, IsRegion, IsWidth, IsHostPlace}
+use Rattle.sv_types.specs.Translation.{Destination, At, PageFault, Unreadable, Settings, first_stage}
+use Rattle.sv_types.specs.SecondStage.{walk_guest, place_through, after_first_stage, two_stages, entry_through, WalksInside}
+use Rattle.sv_types.proofs.Walks.{Fits, first_stage_fits, walk_guest_fits}
+
+second_leads : (gpa : ℕ) (o : Option ℕ) (place : Place) → place_through gpa o ≡ Ok place → o ≡ Some place.hpa
+second_leads gpa None place e = absurd (cc)
+second_leads gpa (Some hpa) place e = let same : record { gpa = gpa; hpa = hpa } ≡ place = cc in rw (← same) refl
+
+keeps_width : (n a b : ℕ) → IsWidth n → b % 4096 ≡ a % 4096 → a % n ≡ 0 → b % n ≡ 0
+keeps_width n a b (inl one) same aligned = rw one (omega arith)
+keeps_width n a b (inr (inl two)) same aligned = let e : a % 2 ≡ 0 = rw two at aligned in rw two (omega arith)
+keeps_width n a b (inr (inr (inl four))) same aligned = let e : a % 4 ≡ 0 = rw four at aligned in rw four (omega arith)
+keeps_width n a b (inr (inr (inr eight))) same aligned = let e : a % 8 ≡ 0 = rw eight at aligned in rw eight (omega arith)
+
+-- an aligned word that begins in whole pages ends there
+ends_inside : (n at size : ℕ) → IsWidth n → at % n ≡ 0 → size % 4096 ≡ 0 → at < size → at + n ≤ size
+ends_inside n at size (inl one) aligned whole below = omega arith
+ends_inside n at size (inr (inl two)) aligned whole below = let e : at % 2 ≡ 0 = rw two at aligned in omega arith
+ends_inside n at size (inr (inr (inl four))) aligned whole below = let e : at % 4 ≡ 0 = rw four at aligned in omega arith
+ends_inside n at size (inr (inr (inr eight))) aligned whole below = let e : at % 8 ≡ 0 = rw eight at aligned in omega arith
+
+whole_sum : (a b : ℕ) → a % 4096 ≡ 0 → b % 4096 ≡ 0 → (a + b) % 4096 ≡ 0
+whole_sum a b h k = omega arith
+
+-- a walk of an address in the same place of its page leads to a place for the width
+walk_places : (r : Region) (hgatp gpa va hpa n : ℕ) (access : Access) → IsRegion r → WalksInside r hgatp → IsWidth n → va % n ≡ 0
+    → gpa % 4096 ≡ va % 4096 → walk_guest r hgatp gpa access ≡ Some hpa → IsHostPlace r hpa n
+walk_places r hgatp gpa va hpa n access region inside width aligned same walked =
+    let fits = walk_guest_fits r hgatp gpa hpa access walked in
+    let at : hpa % n ≡ 0 = keeps_width n va hpa width (fits.0 ∙ same) aligned in
+    record {
+      width = width;
+      aligned = at;
+      inside = ends_inside n hpa (length r.tables + length r.ram) width at (whole_sum (length r.tables) (length r.ram) region.tables region.ram) (inside.inside gpa hpa access walked);
+    }
+
+first_leads : (r : Region) (hgatp va n : ℕ) (access : Access) (d : Destination) (place : Place) → IsRegion r → WalksInside r hgatp → IsWidth n
+    → va % n ≡ 0 → Fits va d → after_first_stage r hgatp access d ≡ Ok place → IsHostPlace r place.hpa n
+unfolding after_first_stage
+first_leads r hgatp va n access (At gpa) place region inside width aligned fits e =
+    walk_places r hgatp gpa va place.hpa n access region inside width aligned fits.0 (second_leads gpa (walk_guest r hgatp gpa access) place e)
+first_leads r hgatp va n access PageFault place region inside width aligned fits e = absurd (cc)
+first_leads r hgatp va n access (Unreadable entry) place region inside width aligned fits e = absurd (cc)
+
+pub stages_place : (r : Region) (hgatp va n : ℕ) (s : Settings) (mode : Mode) (access : Access) (place : Place) → IsRegion r → WalksInside r hgatp
+    → va < 2 ^ 64 → two_stages r hgatp s mode va access ≡ Ok place → IsWidth n → va % n ≡ 0 → IsHostPlace r place.hpa n
+unfolding two_stages
+stages_place r hgatp va n s mode access place region inside small e width aligned =
+    first_leads r hgatp va n access (first_stage (entry_through r hgatp) s mode va access) place region inside width aligned
+    (first_stage_fits (entry_through r hgatp) s mode va access small) e

@@ -1,0 +1,230 @@
+// One attempt of a hart.
+
+ghost use Rattle.std.specs.Prelude.{◌≡◌, ◌<◌, ◌/◌, ◌%◌, ◌^◌, IsTrue, IfOk, Some, None};
+ghost use Rattle.sv_types.specs.Regions.{IsHostPlace};
+ghost use Rattle.sv_types.specs.SecondStage.{WalksInside};
+ghost use Rattle.sv_types.specs.Effects.{set_register};
+ghost use Rattle.sv_types.specs.Encoding.{fits};
+ghost use Rattle.sv_types.specs.HardwareMemory.{load_htinst, store_htinst, atomic_htinst};
+ghost use Rattle.sv_types.specs.HardwareAttempt.{after_effect, after_instruction, after_word, after_fetch, attempt, OnlyWrites};
+ghost use Rattle.hart.specs.Cores.{core_of, step_of, attempted_of};
+ghost use Rattle.hart.specs.Conditions.{KeepsMode, IsRequest};
+
+use crate::hart::Hart;
+use crate::memory::{reached, translated};
+use crate::requests::{Operation, atomic, load, load_reserved, retire, store, store_conditional};
+use crate::system::{
+    CsrAccess, call, csr, csr_reached, illegal, sret, supervisor_only, virtual_instruction,
+};
+use crate::trap::{interrupt, plain_exception, raise};
+use host_mem::HostMem;
+use rv64_decode::decode;
+use rv64_exec::effect;
+use sv_types::{Access, Cause, Effect, Exception, HRegs, Instr, Lines, Outcome};
+use trap_entry::pending;
+
+/// One attempt of a hart in VS or VU mode: it takes an interrupt, or fetches an instruction through both stages of
+/// translation and carries it out. The bytes that it wrote are those that `Retired` names.
+///
+/// `hgatp` has mode 8 (Sv39x4).
+#[tactic(auto, unfolding(sv_types::specs::HardwareAttempt::attempt, sv_types::specs::HardwareAttempt::after_pending))]
+pub fn attempt(hart: &mut Hart, regs: &HRegs, mem: &mut HostMem, lines: &Lines) -> Outcome
+    requires aligned { hart.old.pc % 4 ≡ 0 }
+    requires mode { KeepsMode regs.now }
+    requires second { regs.now.hgatp / 2 ^ 60 ≡ 8 }
+    requires inside { WalksInside mem.old regs.now.hgatp }
+    ensures attempted { attempted_of mem.new hart.new regs.now result ≡ attempt mem.old (core_of hart.old regs.now) lines.now }
+    ensures id { hart.new.id ≡ hart.old.id }
+    ensures started { hart.new.started ≡ hart.old.started }
+    ensures pc { hart.new.pc % 4 ≡ 0 }
+    ensures written { OnlyWrites mem.old mem.new result }
+{
+    match pending(&hart.csrs, regs, lines) {
+        Some(taken) => interrupt(hart, regs, taken),
+        None => {
+            let place = translated(hart, regs, mem, Access::Fetch, hart.pc, 0);
+            fetch(hart, regs, mem, lines, place)
+        }
+    }
+}
+
+// The word at the place that the pc reached, carried out.
+#[tactic(auto, unfolding(sv_types::specs::HardwareAttempt::after_fetch))]
+fn fetch(
+    hart: &mut Hart,
+    regs: &HRegs,
+    mem: &mut HostMem,
+    lines: &Lines,
+    place: Result<u64, Exception>,
+) -> Outcome
+    requires aligned { hart.old.pc % 4 ≡ 0 }
+    requires mode { KeepsMode regs.now }
+    requires second { regs.now.hgatp / 2 ^ 60 ≡ 8 }
+    requires inside { WalksInside mem.old regs.now.hgatp }
+    requires place { IfOk place (λ hpa. IsHostPlace mem.old hpa 4) }
+    ensures attempted { attempted_of mem.new hart.new regs.now result ≡ after_fetch mem.old (core_of hart.old regs.now) lines.now place }
+    ensures id { hart.new.id ≡ hart.old.id }
+    ensures started { hart.new.started ≡ hart.old.started }
+    ensures pc { hart.new.pc % 4 ≡ 0 }
+{
+    match place {
+        Ok(hpa) => {
+            let word = mem.read(hpa as usize, 4) as u32;
+            carry_out(hart, regs, mem, lines, word)
+        }
+        Err(exception) => raise(hart, regs, exception),
+    }
+}
+
+#[tactic(auto, unfolding(sv_types::specs::HardwareAttempt::after_word, sv_types::specs::HardwareAttempt::after_instruction))]
+fn carry_out(hart: &mut Hart, regs: &HRegs, mem: &mut HostMem, lines: &Lines, word: u32) -> Outcome
+    requires aligned { hart.old.pc % 4 ≡ 0 }
+    requires mode { KeepsMode regs.now }
+    requires second { regs.now.hgatp / 2 ^ 60 ≡ 8 }
+    requires inside { WalksInside mem.old regs.now.hgatp }
+    ensures attempted { attempted_of mem.new hart.new regs.now result ≡ after_word mem.old (core_of hart.old regs.now) lines.now word }
+    ensures id { hart.new.id ≡ hart.old.id }
+    ensures started { hart.new.started ≡ hart.old.started }
+    ensures pc { hart.new.pc % 4 ≡ 0 }
+{
+    match decode(word) {
+        Some(instr) => execute(hart, regs, mem, lines, word, &instr),
+        None => raise(hart, regs, illegal(word)),
+    }
+}
+
+#[tactic(auto, using(crate::proofs::EffectLemmas::is_request), unfolding(sv_types::specs::HardwareAttempt::after_instruction))]
+fn execute(
+    hart: &mut Hart,
+    regs: &HRegs,
+    mem: &mut HostMem,
+    lines: &Lines,
+    word: u32,
+    instr: &Instr,
+) -> Outcome
+    requires aligned { hart.old.pc % 4 ≡ 0 }
+    requires mode { KeepsMode regs.now }
+    requires second { regs.now.hgatp / 2 ^ 60 ≡ 8 }
+    requires inside { WalksInside mem.old regs.now.hgatp }
+    requires fits { IsTrue (fits instr.now) }
+    ensures attempted { attempted_of mem.new hart.new regs.now result ≡ after_instruction mem.old (core_of hart.old regs.now) lines.now word (Some instr.now) }
+    ensures id { hart.new.id ≡ hart.old.id }
+    ensures started { hart.new.started ≡ hart.old.started }
+    ensures pc { hart.new.pc % 4 ≡ 0 }
+{
+    let effect = effect(instr, &hart.regs, hart.pc);
+    apply(hart, regs, mem, lines, word, effect)
+}
+
+fn load_htinst(word: u32) -> u32
+    ensures { result ≡ load_htinst word }
+{
+    word & 0x0000_7FFF
+}
+
+fn store_htinst(word: u32) -> u32
+    ensures { result ≡ store_htinst word }
+{
+    word & 0x01F0_707F
+}
+
+fn atomic_htinst(word: u32) -> u32
+    ensures { result ≡ atomic_htinst word }
+{
+    word & 0xFFF0_7FFF
+}
+
+fn set(hart: &mut Hart, rd: u8, value: u64, next: u64) -> Outcome
+    requires { rd < 32 }
+    ensures hart { hart.new ≡ record hart.old { regs = set_register hart.old.regs rd value; pc = next } }
+    ensures outcome { result ≡ Outcome.Retired None }
+{
+    hart.regs.set(rd, value);
+    hart.pc = next;
+    Outcome::Retired { wrote: None }
+}
+
+#[tactic(auto, unfolding(sv_types::specs::HardwareAttempt::after_effect))]
+fn apply(
+    hart: &mut Hart,
+    regs: &HRegs,
+    mem: &mut HostMem,
+    lines: &Lines,
+    word: u32,
+    effect: Effect,
+) -> Outcome
+    requires aligned { hart.old.pc % 4 ≡ 0 }
+    requires mode { KeepsMode regs.now }
+    requires second { regs.now.hgatp / 2 ^ 60 ≡ 8 }
+    requires inside { WalksInside mem.old regs.now.hgatp }
+    requires request { IsRequest effect }
+    ensures attempted { attempted_of mem.new hart.new regs.now result ≡ after_effect mem.old (core_of hart.old regs.now) lines.now word effect }
+    ensures id { hart.new.id ≡ hart.old.id }
+    ensures started { hart.new.started ≡ hart.old.started }
+    ensures pc { hart.new.pc % 4 ≡ 0 }
+{
+    match effect {
+        Effect::Set { rd, value, next } => set(hart, rd, value, next),
+        Effect::MisalignedJump { target } => {
+            raise(hart, regs, plain_exception(Cause::InstrMisaligned, target))
+        }
+        Effect::Load {
+            rd,
+            addr,
+            width,
+            signed,
+        } => {
+            let htinst = load_htinst(word);
+            let source = reached(hart, regs, mem, Access::Load, addr, width, htinst);
+            load(hart, regs, mem, rd, width, signed, source)
+        }
+        Effect::Store { addr, width, value } => {
+            let htinst = store_htinst(word);
+            let target = reached(hart, regs, mem, Access::Store, addr, width, htinst);
+            store(hart, regs, mem, width, value, target)
+        }
+        Effect::LoadReserved { rd, addr, width } => {
+            let htinst = atomic_htinst(word);
+            let source = reached(hart, regs, mem, Access::Load, addr, width, htinst);
+            load_reserved(hart, regs, mem, rd, width, source)
+        }
+        Effect::StoreConditional {
+            rd,
+            addr,
+            width,
+            value,
+        } => {
+            let htinst = atomic_htinst(word);
+            let target = reached(hart, regs, mem, Access::Store, addr, width, htinst);
+            store_conditional(hart, regs, mem, rd, width, value, target)
+        }
+        Effect::Amo {
+            rd,
+            addr,
+            width,
+            op,
+            value,
+        } => {
+            let htinst = atomic_htinst(word);
+            let place = reached(hart, regs, mem, Access::Store, addr, width, htinst);
+            atomic(hart, regs, mem, rd, width, Operation { op, value }, place)
+        }
+        Effect::Csr {
+            rd,
+            number,
+            op,
+            value,
+            writes,
+        } => {
+            let reached = csr_reached(hart, regs, word, number, writes);
+            let access = CsrAccess { op, value, writes };
+            csr(hart, regs, lines, rd, access, reached)
+        }
+        Effect::Ecall => call(hart, regs),
+        Effect::Ebreak => raise(hart, regs, plain_exception(Cause::Breakpoint, hart.pc)),
+        Effect::Sret => sret(hart, regs, word),
+        Effect::Wfi | Effect::SfenceVma => supervisor_only(hart, regs, word),
+        Effect::Fence => retire(hart, None),
+        Effect::Hyper => raise(hart, regs, virtual_instruction(word)),
+    }
+}

@@ -1,0 +1,58 @@
+// The hart's state.
+
+ghost use Rattle.std.specs.Prelude.{◌≡◌, replicate, None, false};
+ghost use Rattle.sv_types.specs.HypervisorRegisters.{registers_at_boot};
+ghost use Rattle.sv_types.specs.Requests.{touches, after_write};
+
+use csr_file::Csrs;
+use rv64_exec::Regs;
+
+/// A hart. Its reservation is the host place of the 8 aligned bytes; its mode is that of its hypervisor registers.
+#[derive(Drop)]
+pub struct Hart {
+    pub id: u8,
+    pub regs: Regs,
+    pub pc: u64,
+    pub csrs: Csrs,
+    pub reservation: Option<u64>,
+    pub started: bool,
+}
+
+impl Hart {
+    /// A stopped hart whose registers and pc are 0, without a reservation.
+    pub fn at_boot(id: u8) -> Hart
+        ensures { result ≡ record { id = id; regs = replicate 32 0; pc = 0; csrs = registers_at_boot; reservation = None; started = false } }
+    {
+        Hart {
+            id,
+            regs: Regs::new(),
+            pc: 0,
+            csrs: Csrs::at_boot(),
+            reservation: None,
+            started: false,
+        }
+    }
+
+    /// Clears a reservation of which some bytes are among the `width` bytes from a host place on.
+    #[tactic(auto, unfolding(sv_types::specs::Requests::after_write))]
+    pub fn forget(&mut self, hpa: u64, width: u8)
+        ensures { self.new ≡ record self.old { reservation = after_write hpa width self.old.reservation } }
+    {
+        if let Some(reserved) = self.reservation {
+            if touches(reserved, hpa, width) {
+                self.reservation = None;
+            }
+        }
+    }
+}
+
+#[tactic(auto, unfolding(sv_types::specs::Requests::touches))]
+fn touches(reserved: u64, hpa: u64, width: u8) -> bool
+    ensures { result ≡ touches reserved hpa width }
+{
+    if hpa < reserved {
+        reserved - hpa < width as u64
+    } else {
+        hpa - reserved < 8 && width > 0
+    }
+}

@@ -1,0 +1,16 @@
+//! A hart of hardware with the hypervisor extension: one attempt of an instruction under two stages of translation.
+#![tactic(auto)]
+
+mod execution;
+mod hart;
+mod memory;
+mod requests;
+mod system;
+mod trap;
+
+pub use execution::attempt;
+pub use hart::Hart;
+pub use sv_types::{Outcome, Wrote};
+
+#[cfg(test)]
+mod tests;

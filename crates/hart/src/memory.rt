@@ -1,0 +1,126 @@
+// Where an access to memory goes.
+
+ghost use Rattle.std.specs.Prelude.{◌≡◌, ◌⊎◌, ℕ, ◌/◌, ◌%◌, ◌^◌, IfOk};
+ghost use Rattle.sv_types.specs.Regions.{IsWidth, IsHostPlace};
+ghost use Rattle.sv_types.specs.SecondStage.{WalksInside};
+ghost use Rattle.sv_types.specs.HardwareMemory.{misaligned, page_fault, guest_page_fault, fault_exception, settings_at, translated, reached};
+ghost use Rattle.hart.specs.Cores.{core_of};
+ghost use Rattle.sv39_walk.specs.Regimes.{settings_of};
+
+use crate::hart::Hart;
+use crate::trap::plain_exception;
+use host_mem::HostMem;
+use sv_types::{Access, Cause, Exception, Fault, HRegs, has_bit};
+use sv39_walk::{Regime, translate};
+
+/// `htinst` of a guest-page fault at an entry of the first stage: a read of 64 bits for its translation.
+const IMPLICIT_READ: u32 = 0x3000;
+
+fn misaligned(access: Access) -> Cause
+    ensures { result ≡ misaligned access }
+{
+    match access {
+        Access::Fetch => Cause::InstrMisaligned,
+        Access::Load => Cause::LoadMisaligned,
+        Access::Store => Cause::StoreMisaligned,
+    }
+}
+
+fn page_fault(access: Access) -> Cause
+    ensures { result ≡ page_fault access }
+{
+    match access {
+        Access::Fetch => Cause::InstrPage,
+        Access::Load => Cause::LoadPage,
+        Access::Store => Cause::StorePage,
+    }
+}
+
+fn guest_page_fault(access: Access) -> Cause
+    ensures { result ≡ guest_page_fault access }
+{
+    match access {
+        Access::Fetch => Cause::GuestFetch,
+        Access::Load => Cause::GuestLoad,
+        Access::Store => Cause::GuestStore,
+    }
+}
+
+// The exception of an access that translation refuses. `htinst` is that of an access refused itself.
+fn fault_exception(access: Access, va: u64, htinst: u32, fault: Fault) -> Exception
+    ensures { result ≡ fault_exception access va htinst fault }
+{
+    match fault {
+        Fault::Page => plain_exception(page_fault(access), va),
+        Fault::Guest { gpa, implicit } => Exception {
+            cause: guest_page_fault(access),
+            tval: va,
+            htval: gpa >> 2,
+            htinst: if implicit { IMPLICIT_READ } else { htinst },
+        },
+    }
+}
+
+// What the hart's translation goes by.
+fn regime(hart: &Hart, regs: &HRegs) -> Regime
+    ensures hgatp { result.hgatp ≡ regs.now.hgatp }
+    ensures mode { result.mode ≡ regs.now.mode }
+    ensures settings { settings_of result ≡ settings_at (core_of hart.now regs.now) }
+    ensures first { (result.vsatp / 2 ^ 60 ≡ 0) ⊎ (result.vsatp / 2 ^ 60 ≡ 8) }
+{
+    let status = hart.csrs.vsstatus;
+    Regime {
+        hgatp: regs.hgatp,
+        vsatp: hart.csrs.vsatp,
+        mode: regs.mode,
+        sum: has_bit(status, 18),
+        mxr: has_bit(status, 19),
+    }
+}
+
+/// The host place of a virtual address, or the exception of an access there.
+#[tactic(auto, unfolding(sv_types::specs::HardwareMemory::translated))]
+pub(crate) fn translated(
+    hart: &Hart,
+    regs: &HRegs,
+    mem: &HostMem,
+    access: Access,
+    va: u64,
+    htinst: u32,
+) -> Result<u64, Exception>
+    requires second { regs.now.hgatp / 2 ^ 60 ≡ 8 }
+    requires inside { WalksInside mem.now regs.now.hgatp }
+    ensures value { result ≡ translated mem.now (core_of hart.now regs.now) access va htinst }
+    ensures place { (width : ℕ) → IsWidth width → va % width ≡ 0 → IfOk result (λ hpa. IsHostPlace mem.now hpa width) }
+{
+    let _table_bytes = mem.table_bytes();
+    match translate(mem, &regime(hart, regs), va, access) {
+        Ok(place) => Ok(place.hpa),
+        Err(fault) => Err(fault_exception(access, va, htinst, fault)),
+    }
+}
+
+/// The host place of `width` bytes at an address, or the exception of an access there: first that it is no multiple of
+/// the width, then those of its translation.
+#[tactic(auto, unfolding(sv_types::specs::HardwareMemory::reached))]
+pub(crate) fn reached(
+    hart: &Hart,
+    regs: &HRegs,
+    mem: &HostMem,
+    access: Access,
+    address: u64,
+    width: u8,
+    htinst: u32,
+) -> Result<u64, Exception>
+    requires second { regs.now.hgatp / 2 ^ 60 ≡ 8 }
+    requires inside { WalksInside mem.now regs.now.hgatp }
+    requires width { IsWidth width }
+    ensures value { result ≡ reached mem.now (core_of hart.now regs.now) access address width htinst }
+    ensures place { IfOk result (λ hpa. IsHostPlace mem.now hpa width) }
+{
+    if address.is_multiple_of(u64::from(width)) {
+        translated(hart, regs, mem, access, address, htinst)
+    } else {
+        Err(plain_exception(misaligned(access), address))
+    }
+}

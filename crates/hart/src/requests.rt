@@ -1,0 +1,234 @@
+// Loads, stores and atomic instructions, by the host place that they reached.
+
+ghost use Rattle.std.specs.Prelude.{◌≡◌, ◌⊎◌, ◌<◌, ◌%◌, ◌^◌, IfOk};
+ghost use Rattle.sv_types.specs.Effects.{set_register, next_pc};
+ghost use Rattle.sv_types.specs.Regions.{IsWidth, IsHostPlace};
+ghost use Rattle.sv_types.specs.Requests.{loaded_value, reserved_at, covers};
+ghost use Rattle.sv_types.specs.Hardware.{with_region};
+ghost use Rattle.sv_types.specs.HardwareMemory.{retire, retire_with, after_load, after_load_reserved, after_store, after_store_conditional, after_amo};
+ghost use Rattle.hart.specs.Cores.{core_of, step_of, attempted_of};
+ghost use Rattle.hart.specs.Conditions.{KeepsMode};
+
+use crate::hart::Hart;
+use crate::trap::raise;
+use host_mem::HostMem;
+use rv64_exec::amo;
+use sv_types::{AmoOp, Exception, HRegs, Outcome, Wrote};
+
+/// The hart goes on behind an instruction that is done.
+pub(crate) fn retire(hart: &mut Hart, wrote: Option<Wrote>) -> Outcome
+    ensures hart { hart.new ≡ record hart.old { pc = next_pc hart.old.pc } }
+    ensures outcome { result ≡ Outcome.Retired wrote }
+{
+    hart.pc = hart.pc.wrapping_add(4);
+    Outcome::Retired { wrote }
+}
+
+/// The same with a register set.
+pub(crate) fn retire_with(hart: &mut Hart, rd: u8, value: u64, wrote: Option<Wrote>) -> Outcome
+    requires { rd < 32 }
+    ensures hart { hart.new ≡ record hart.old { regs = set_register hart.old.regs rd value; pc = next_pc hart.old.pc } }
+    ensures outcome { result ≡ Outcome.Retired wrote }
+{
+    hart.regs.set(rd, value);
+    retire(hart, wrote)
+}
+
+// A word of `width` bytes as a register takes it.
+#[tactic(auto, unfolding(sv_types::specs::Requests::loaded_value))]
+fn loaded_value(signed: bool, width: u8, word: u64) -> u64
+    requires width { IsWidth width }
+    requires small { word < 256 ^ width }
+    ensures { result ≡ loaded_value signed width word }
+{
+    if !signed {
+        return word;
+    }
+    match width {
+        1 => i64::from((word as u8).cast_signed()).cast_unsigned(),
+        2 => i64::from((word as u16).cast_signed()).cast_unsigned(),
+        4 => i64::from((word as u32).cast_signed()).cast_unsigned(),
+        _ => word,
+    }
+}
+
+/// A load.
+#[tactic(auto, unfolding(sv_types::specs::HardwareMemory::after_load))]
+pub(crate) fn load(
+    hart: &mut Hart,
+    regs: &HRegs,
+    mem: &HostMem,
+    rd: u8,
+    width: u8,
+    signed: bool,
+    place: Result<u64, Exception>,
+) -> Outcome
+    requires aligned { hart.old.pc % 4 ≡ 0 }
+    requires mode { KeepsMode regs.now }
+    requires register { rd < 32 }
+    requires width { IsWidth width }
+    requires place { IfOk place (λ hpa. IsHostPlace mem.now hpa width) }
+    ensures step { step_of hart.new regs.now result ≡ after_load mem.now (core_of hart.old regs.now) rd width signed place }
+    ensures id { hart.new.id ≡ hart.old.id }
+    ensures started { hart.new.started ≡ hart.old.started }
+    ensures pc { hart.new.pc % 4 ≡ 0 }
+{
+    match place {
+        Ok(hpa) => {
+            let word = mem.read(hpa as usize, width);
+            retire_with(hart, rd, loaded_value(signed, width, word), None)
+        }
+        Err(exception) => raise(hart, regs, exception),
+    }
+}
+
+/// A load that reserves its place.
+#[tactic(auto, unfolding(sv_types::specs::HardwareMemory::after_load_reserved))]
+pub(crate) fn load_reserved(
+    hart: &mut Hart,
+    regs: &HRegs,
+    mem: &HostMem,
+    rd: u8,
+    width: u8,
+    place: Result<u64, Exception>,
+) -> Outcome
+    requires aligned { hart.old.pc % 4 ≡ 0 }
+    requires mode { KeepsMode regs.now }
+    requires register { rd < 32 }
+    requires width { IsWidth width }
+    requires place { IfOk place (λ hpa. IsHostPlace mem.now hpa width) }
+    ensures step { step_of hart.new regs.now result ≡ after_load_reserved mem.now (core_of hart.old regs.now) rd width place }
+    ensures id { hart.new.id ≡ hart.old.id }
+    ensures started { hart.new.started ≡ hart.old.started }
+    ensures pc { hart.new.pc % 4 ≡ 0 }
+{
+    match place {
+        Ok(hpa) => {
+            let word = mem.read(hpa as usize, width);
+            hart.reservation = Some(hpa - hpa % 8);
+            retire_with(hart, rd, loaded_value(true, width, word), None)
+        }
+        Err(exception) => raise(hart, regs, exception),
+    }
+}
+
+/// A store of the `width` lowest bytes of a value.
+#[tactic(auto, unfolding(sv_types::specs::HardwareMemory::after_store))]
+pub(crate) fn store(
+    hart: &mut Hart,
+    regs: &HRegs,
+    mem: &mut HostMem,
+    width: u8,
+    value: u64,
+    place: Result<u64, Exception>,
+) -> Outcome
+    requires aligned { hart.old.pc % 4 ≡ 0 }
+    requires mode { KeepsMode regs.now }
+    requires place { IfOk place (λ hpa. IsHostPlace mem.old hpa width) }
+    ensures attempted { attempted_of mem.new hart.new regs.now result ≡ after_store mem.old (core_of hart.old regs.now) width value place }
+    ensures id { hart.new.id ≡ hart.old.id }
+    ensures started { hart.new.started ≡ hart.old.started }
+    ensures pc { hart.new.pc % 4 ≡ 0 }
+{
+    match place {
+        Ok(hpa) => {
+            mem.write(hpa as usize, width, value);
+            hart.forget(hpa, width);
+            retire(hart, Some(Wrote { hpa, width }))
+        }
+        Err(exception) => raise(hart, regs, exception),
+    }
+}
+
+#[tactic(auto, unfolding(sv_types::specs::Requests::covers))]
+fn covers(reservation: Option<u64>, hpa: u64, width: u8) -> bool
+    ensures { result ≡ covers reservation hpa width }
+{
+    match reservation {
+        Some(reserved) => width <= 8 && reserved <= hpa && hpa - reserved <= 8 - u64::from(width),
+        None => false,
+    }
+}
+
+/// A store that is carried out where its bytes lie in the hart's reservation, which goes in both cases.
+#[tactic(auto, unfolding(sv_types::specs::HardwareMemory::after_store_conditional))]
+pub(crate) fn store_conditional(
+    hart: &mut Hart,
+    regs: &HRegs,
+    mem: &mut HostMem,
+    rd: u8,
+    width: u8,
+    value: u64,
+    place: Result<u64, Exception>,
+) -> Outcome
+    requires aligned { hart.old.pc % 4 ≡ 0 }
+    requires mode { KeepsMode regs.now }
+    requires register { rd < 32 }
+    requires place { IfOk place (λ hpa. IsHostPlace mem.old hpa width) }
+    ensures attempted { attempted_of mem.new hart.new regs.now result ≡ after_store_conditional mem.old (core_of hart.old regs.now) rd width value place }
+    ensures id { hart.new.id ≡ hart.old.id }
+    ensures started { hart.new.started ≡ hart.old.started }
+    ensures pc { hart.new.pc % 4 ≡ 0 }
+{
+    match place {
+        Ok(hpa) => {
+            let holds = covers(hart.reservation, hpa, width);
+            hart.reservation = None;
+            if holds {
+                mem.write(hpa as usize, width, value);
+                retire_with(hart, rd, 0, Some(Wrote { hpa, width }))
+            } else {
+                retire_with(hart, rd, 1, None)
+            }
+        }
+        Err(exception) => raise(hart, regs, exception),
+    }
+}
+
+/// What an atomic instruction makes of the word that it reads and the value of rs2.
+#[derive(Clone, Copy, Drop)]
+pub(crate) struct Operation {
+    pub(crate) op: AmoOp,
+    pub(crate) value: u64,
+}
+
+/// An atomic instruction: a load, and a store of what the operation makes of the loaded word.
+#[tactic(auto, unfolding(sv_types::specs::HardwareMemory::after_amo))]
+pub(crate) fn atomic(
+    hart: &mut Hart,
+    regs: &HRegs,
+    mem: &mut HostMem,
+    rd: u8,
+    width: u8,
+    operation: Operation,
+    place: Result<u64, Exception>,
+) -> Outcome
+    requires aligned { hart.old.pc % 4 ≡ 0 }
+    requires mode { KeepsMode regs.now }
+    requires register { rd < 32 }
+    requires width { (width ≡ 4) ⊎ (width ≡ 8) }
+    requires place { IfOk place (λ hpa. IsHostPlace mem.old hpa width) }
+    ensures attempted { attempted_of mem.new hart.new regs.now result ≡ after_amo mem.old (core_of hart.old regs.now) rd width operation.op operation.value place }
+    ensures id { hart.new.id ≡ hart.old.id }
+    ensures started { hart.new.started ≡ hart.old.started }
+    ensures pc { hart.new.pc % 4 ≡ 0 }
+{
+    match place {
+        Ok(hpa) => {
+            let word = mem.read(hpa as usize, width);
+            mem.write(
+                hpa as usize,
+                width,
+                amo(operation.op, width, word, operation.value),
+            );
+            hart.forget(hpa, width);
+            retire_with(
+                hart,
+                rd,
+                loaded_value(true, width, word),
+                Some(Wrote { hpa, width }),
+            )
+        }
+        Err(exception) => raise(hart, regs, exception),
+    }
+}

@@ -1,0 +1,32 @@
+// What an attempt of an instruction comes to.
+
+use crate::cause::Cause;
+use crate::wires::Exit;
+
+/// The bytes that an attempt wrote: `width` of them from a host place on.
+#[derive(Clone, Copy, Debug, PartialEq, Eq, Drop)]
+pub struct Wrote {
+    pub hpa: u64,
+    pub width: u8,
+}
+
+/// What an attempt of a hart comes to.
+#[derive(Clone, Copy, Debug, PartialEq, Eq, Drop)]
+pub enum Outcome {
+    /// The instruction is done, with the bytes that it wrote.
+    Retired { wrote: Option<Wrote> },
+    /// The guest's kernel was entered by a trap.
+    GuestTrap,
+    /// The hypervisor's turn.
+    Exit(Exit),
+}
+
+/// An exception: its cause, and what the registers of a trap or an exit show of it. `htval` and `htinst` are 0 but for a
+/// guest-page fault.
+#[derive(Clone, Copy, Debug, PartialEq, Eq, Drop)]
+pub struct Exception {
+    pub cause: Cause,
+    pub tval: u64,
+    pub htval: u64,
+    pub htinst: u32,
+}
