@@ -149,14 +149,14 @@ is_text_of page s =
 unfoldable pub text_pages : List LoadedSegment → List ℕ
 text_pages ss = filter (λ page. list_any (is_text_of page) ss) (numbers_from 0 most_ram_pages)
 
--- a page of a segment, with zeros behind the segment's bytes
-abbrev pub page_of_segment : LoadedSegment → ℕ → List ℕ
-page_of_segment s page = padded (part s.bytes (page_size * (page - page_of s.gpa)) page_size) page_size
+-- the bytes of a page of a segment's that the file holds
+abbrev pub filled_part : ℕ → LoadedSegment → List ℕ
+filled_part page s = part s.bytes (page_size * (page - page_of s.gpa)) page_size
 
--- a page of text, nothing where the page is none
+-- a page of text, with zeros behind the file's bytes; nothing where the page is none
 abbrev pub text_page_in : ℕ → Option LoadedSegment → List ℕ
 text_page_in page None = []
-text_page_in page (Some s) = page_of_segment s page
+text_page_in page (Some s) = padded (filled_part page s) page_size
 
 abbrev pub text_page : List LoadedSegment → ℕ → List ℕ
 text_page ss page = text_page_in page (find (is_text_of page) ss)
