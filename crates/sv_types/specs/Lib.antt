@@ -28,3 +28,4 @@ pub mod Requests
 pub mod Hardware
 pub mod HardwareMemory
 pub mod HardwareAttempt
+pub mod Kernel

@@ -7,6 +7,7 @@ mod csr;
 mod effect;
 mod event;
 mod instruction;
+mod kernel;
 mod laws;
 mod name;
 mod outcome;
@@ -24,6 +25,7 @@ pub use event::{Counts, Event, Note, Rule, Verdict};
 pub use instruction::{
     AmoOp, BranchOp, CsrOp, HyperOp, Instr, LoadOp, Op32Op, OpImm32Op, OpImmOp, OpOp, StoreOp,
 };
+pub use kernel::ProgramHeader;
 pub use laws::law_rows;
 pub use name::{MOST_NAME_BYTES, Name};
 pub use outcome::{Exception, Outcome, Wrote};

@@ -1,0 +1,88 @@
+-- Checks, one behind the other.
+use Rattle.std.proofs.Common.{◌≡◌, ℕ, suc, ◌+◌, ◌<◌, ◌≤◌, Bool, true, false, List, [], ◌∷◌, ◌++◌, length, get_or, drop, flat_map, Option, Some, None, refl, ap, sym, ◌∙◌, subst, arith, add-one, zero}
+use Rattle.std.proofs.Math.Seq.{drop-cons}
+use Rattle.std.specs.Prelude.{nat_lt}
+use Rattle.std.proofs.lemmas.Bool.Decides.{nat_tests}
+use Rattle.sv_types.specs.Kernel.{first_refusal, header_checks, segment_checks, image_checks, loaded_headers, kernel_refusal}
+use Rattle.sv_types.specs.declared.kernel.ProgramHeader.{ProgramHeader}
+
+-- checks that find no fault leave it to those behind them
+pub passed : (xs ys : List (ℕ × Bool)) → first_refusal xs ≡ None → first_refusal (xs ++ ys) ≡ first_refusal ys
+passed [] ys none = refl
+passed ((n, true) ∷ xs) ys none = cc
+passed ((n, false) ∷ xs) ys none = passed xs ys none
+
+-- and a fault that they find is the first
+pub refused : (xs ys : List (ℕ × Bool)) (n : ℕ) → first_refusal xs ≡ Some n → first_refusal (xs ++ ys) ≡ Some n
+refused [] ys n some = cc
+refused ((m, true) ∷ xs) ys n some = some
+refused ((m, false) ∷ xs) ys n some = refused xs ys n some
+
+-- what finds no fault as a whole finds none in its first part, and none in the rest
+pub first_passed : (xs ys : List (ℕ × Bool)) → first_refusal (xs ++ ys) ≡ None → first_refusal xs ≡ None
+first_passed [] ys none = refl
+first_passed ((n, true) ∷ xs) ys none = none
+first_passed ((n, false) ∷ xs) ys none = first_passed xs ys none
+
+pub rest_passed : (xs ys : List (ℕ × Bool)) → first_refusal (xs ++ ys) ≡ None → first_refusal ys ≡ None
+rest_passed xs ys none = sym (passed xs ys (first_passed xs ys none)) ∙ none
+
+here : {X : Type 0} (f : X → List (ℕ × Bool)) (hs : List X) (i : ℕ) (d : X) → i < length hs
+    → flat_map f (drop i hs) ≡ f (get_or hs i d) ++ flat_map f (drop (suc i) hs)
+here f hs i d h = ap (flat_map f) (drop-cons hs i d h)
+
+pub place_passed : {X : Type 0} (f : X → List (ℕ × Bool)) (hs : List X) (i : ℕ) (d : X) → i < length hs
+    → first_refusal (f (get_or hs i d)) ≡ None → first_refusal (flat_map f (drop (i + 1) hs)) ≡ first_refusal (flat_map f (drop i hs))
+place_passed {X = X} f hs i d h none =
+    rw add-one (sym (ap first_refusal (here f hs i d h) ∙ passed (f (get_or hs i d)) (flat_map f (drop (suc i) hs)) none))
+
+pub place_refused : {X : Type 0} (f : X → List (ℕ × Bool)) (hs : List X) (i : ℕ) (d : X) (n : ℕ) → i < length hs
+    → first_refusal (f (get_or hs i d)) ≡ Some n → first_refusal (flat_map f (drop i hs)) ≡ Some n
+place_refused f hs i d n h some =
+    ap first_refusal (here f hs i d h) ∙ refused (f (get_or hs i d)) (flat_map f (drop (suc i) hs)) n some
+
+-- where none of all finds a fault, none at a place does
+pub each_passed : {X : Type 0} (f : X → List (ℕ × Bool)) (hs : List X) (i : ℕ) (d : X) → i < length hs
+    → first_refusal (flat_map f hs) ≡ None → first_refusal (f (get_or hs i d)) ≡ None
+each_passed f [] i d h none = absurd (omega arith)
+each_passed f (x ∷ hs) zero d h none = first_passed (f x) (flat_map f hs) none
+each_passed f (x ∷ hs) (suc i) d h none = each_passed f hs i d (omega arith) (rest_passed (f x) (flat_map f hs) none)
+
+abbrev first_test : List (ℕ × Bool) → Bool
+first_test [] = false
+first_test (check ∷ checks) = check.1
+
+first_test_passed : (checks : List (ℕ × Bool)) → first_refusal checks ≡ None → first_test checks ≡ false
+first_test_passed [] none = refl
+first_test_passed ((n, true) ∷ checks) none = cc
+first_test_passed ((n, false) ∷ checks) none = refl
+
+-- a segment without a fault has its bytes in the file
+pub inside_file : (file_size ram_pages : ℕ) (h : ProgramHeader) → first_refusal (segment_checks file_size ram_pages h) ≡ None
+    → h.offset + h.file_size ≤ file_size
+unfolding segment_checks
+inside_file file_size ram_pages h none =
+    let e : nat_lt file_size (h.offset + h.file_size) ≡ false = first_test_passed (segment_checks file_size ram_pages h) none in
+    grind (arith, nat_tests)
+
+-- ---- the whole file
+
+pub header_refused : (file : List ℕ) (ram_pages n : ℕ) → first_refusal (header_checks file) ≡ Some n → kernel_refusal file ram_pages ≡ Some n
+unfolding kernel_refusal
+header_refused file ram_pages n some = refused (header_checks file) _ n some
+
+pub segment_refused : (file : List ℕ) (ram_pages n : ℕ) (hs : List ProgramHeader) → hs ≡ loaded_headers file → first_refusal (header_checks file) ≡ None
+    → first_refusal (flat_map (segment_checks (length file) ram_pages) hs) ≡ Some n → kernel_refusal file ram_pages ≡ Some n
+unfolding kernel_refusal
+segment_refused file ram_pages n hs same none some =
+    passed (header_checks file) _ none
+    ∙ subst (λ (ks : List ProgramHeader). first_refusal (flat_map (segment_checks (length file) ram_pages) ks ++ image_checks ks) ≡ Some n) same
+    (refused (flat_map (segment_checks (length file) ram_pages) hs) (image_checks hs) n some)
+
+pub image_judged : (file : List ℕ) (ram_pages : ℕ) (hs : List ProgramHeader) → hs ≡ loaded_headers file → first_refusal (header_checks file) ≡ None
+    → first_refusal (flat_map (segment_checks (length file) ram_pages) hs) ≡ None → kernel_refusal file ram_pages ≡ first_refusal (image_checks hs)
+unfolding kernel_refusal
+image_judged file ram_pages hs same none passes =
+    passed (header_checks file) _ none
+    ∙ subst (λ (ks : List ProgramHeader). first_refusal (flat_map (segment_checks (length file) ram_pages) ks ++ image_checks ks) ≡ first_refusal (image_checks hs)) same
+    (passed (flat_map (segment_checks (length file) ram_pages) hs) (image_checks hs) passes)

@@ -1,0 +1,80 @@
+-- Numbers in a row, headers one behind the other, and parts of lists.
+use Rattle.std.proofs.Common.{◌≡◌, ℕ, zero, suc, ◌+◌, ◌-◌, ◌*◌, ◌<◌, ◌≤◌, ◌⊎◌, inl, inr, min, Bool, true, false, List, [], ◌∷◌, ◌++◌, length, take, drop, map, filter, flat_map, refl, ap, sym, ◌∙◌, subst, arith, add-one, length-drop}
+use Rattle.std.proofs.lemmas.List.{take_min, map-append, append-nil}
+use Rattle.std.proofs.lemmas.List.Elements.{filter-append}
+use Rattle.std.proofs.lemmas.Grind.{flat_map-append}
+use Rattle.std.proofs.Math.ListN.{drop_of_length-le}
+use Rattle.std.specs.Prelude.{if◌then◌else◌}
+use Rattle.sv_types.specs.Bytes.{part}
+use Rattle.sv_types.specs.Kernel.{header_at, is_loaded, loaded_among, table_place}
+use Rattle.sv_types.specs.Reference.{numbers_from}
+use Rattle.sv_types.specs.declared.kernel.ProgramHeader.{ProgramHeader}
+use Rattle.sv_types.proofs.ByteLemmas.{lt_or_le}
+
+-- one more
+pub numbers_from-suc : (first n : ℕ) → numbers_from first (n + 1) ≡ numbers_from first n ++ (first + n) ∷ []
+numbers_from-suc first zero = let same : first ≡ first + 0 = omega arith in ap (λ (m : ℕ). m ∷ []) same
+numbers_from-suc first (suc n) =
+    let next : suc n + 1 ≡ suc (n + 1) = omega arith in
+    let place : first + 1 + n ≡ first + suc n = omega arith in
+    ap (numbers_from first) next ∙ ap (λ (ms : List ℕ). first ∷ ms) (numbers_from-suc (first + 1) n ∙ ap (λ (m : ℕ). numbers_from (first + 1) n ++ m ∷ []) place)
+
+pub numbers-suc : (n : ℕ) → numbers_from 0 (n + 1) ≡ numbers_from 0 n ++ n ∷ []
+numbers-suc n = let same : 0 + n ≡ n = omega arith in numbers_from-suc 0 n ∙ ap (λ (m : ℕ). numbers_from 0 n ++ m ∷ []) same
+
+pub flat_map-more : {X : Type 0} (f : ℕ → List X) (n : ℕ) → flat_map f (numbers_from 0 (n + 1)) ≡ flat_map f (numbers_from 0 n) ++ f n
+flat_map-more {X = X} f n =
+    ap {B = List X} (flat_map f) (numbers-suc n) ∙ flat_map-append f (numbers_from 0 n) (n ∷ [])
+    ∙ ap (λ (ys : List X). flat_map f (numbers_from 0 n) ++ ys) (append-nil (f n))
+
+-- ---- headers
+
+pub one_more : (file : List ℕ) (i : ℕ)
+    → loaded_among file (i + 1) ≡ loaded_among file i ++ filter is_loaded (header_at file (table_place file + 56 * i) ∷ [])
+unfolding loaded_among
+one_more file i =
+    let at : ℕ → ProgramHeader = λ (k : ℕ). header_at file (table_place file + 56 * k) in
+    ap (λ (ns : List ℕ). filter is_loaded (map at ns)) (numbers-suc i)
+    ∙ ap (filter is_loaded) (map-append at (numbers_from 0 i) (i ∷ []))
+    ∙ filter-append is_loaded (map at (numbers_from 0 i)) (at i ∷ [])
+
+-- a header more: it joins the others, or is passed over
+pub one_more_loaded : (file : List ℕ) (i table : ℕ) (h : ProgramHeader) (hs : List ProgramHeader) → table ≡ table_place file
+    → h ≡ header_at file (table + 56 * i) → is_loaded h ≡ true → hs ≡ loaded_among file i → hs ++ h ∷ [] ≡ loaded_among file (i + 1)
+one_more_loaded file i table h hs place is loaded so_far =
+    let here : h ≡ header_at file (table_place file + 56 * i) = is ∙ ap (λ (t : ℕ). header_at file (t + 56 * i)) place in
+    let kept : filter is_loaded (h ∷ []) ≡ h ∷ [] = rw loaded refl in
+    sym (one_more file i ∙ sym (ap (λ (k : ProgramHeader). loaded_among file i ++ filter is_loaded (k ∷ [])) here)
+        ∙ ap (λ (ks : List ProgramHeader). loaded_among file i ++ ks) kept
+        ∙ sym (ap (λ (ks : List ProgramHeader). ks ++ h ∷ []) so_far))
+
+pub one_more_passed : (file : List ℕ) (i table : ℕ) (h : ProgramHeader) (hs : List ProgramHeader) → table ≡ table_place file
+    → h ≡ header_at file (table + 56 * i) → is_loaded h ≡ false → hs ≡ loaded_among file i → hs ≡ loaded_among file (i + 1)
+one_more_passed file i table h hs place is loaded so_far =
+    let here : h ≡ header_at file (table_place file + 56 * i) = is ∙ ap (λ (t : ℕ). header_at file (t + 56 * i)) place in
+    let kept : filter is_loaded (h ∷ []) ≡ [] = rw loaded refl in
+    sym (one_more file i ∙ sym (ap (λ (k : ProgramHeader). loaded_among file i ++ filter is_loaded (k ∷ [])) here)
+        ∙ ap (λ (ks : List ProgramHeader). loaded_among file i ++ ks) kept
+        ∙ append-nil (loaded_among file i)
+        ∙ sym so_far)
+
+-- ---- parts
+
+take_none : (k : ℕ) → take {A = ℕ} k [] ≡ []
+take_none zero = refl
+take_none (suc k) = refl
+
+-- a part that ends with the list
+pub part_within : (list : List ℕ) (start n : ℕ)
+    → take (min (start + n) (length list) - min start (length list)) (drop (min start (length list)) list) ≡ part list start n
+part_within list start n = elim (lt_or_le start (length list)) [
+  | inl below ↦
+    let from : min start (length list) ≡ start = omega arith in
+    let size : min (start + n) (length list) - start ≡ min n (length (drop start list)) = simp length-drop (omega arith) in
+    rw (from, size) (take_min n (drop start list))
+  | inr above ↦
+    let none : drop start list ≡ [] = drop_of_length-le list above in
+    let from : min start (length list) ≡ length list = omega arith in
+    let all : drop (length list) list ≡ [] = drop_of_length-le list (omega arith) in
+    rw (from, all, none) (take_none (min (start + n) (length list) - length list) ∙ sym (take_none n))
+]

@@ -1,0 +1,201 @@
+// The checks of an image, of which the first that finds a fault refuses it.
+
+ghost use Rattle.std.specs.Prelude.{◌≡◌, ◌+◌, ◌*◌, ◌≤◌, ◌<◌, length, flat_map, IfNone};
+ghost use Rattle.std.specs.List.{list_any};
+ghost use Rattle.sv_types.specs.Kernel.{first_refusal, header_checks, segment_checks, image_checks, is_executable, is_writable, memory_in_ram, may_clash, text_is_shared, table_place, table_count, table_in_file, first_page, last_page};
+
+use crate::fields::{byte, double, half, word};
+use crate::headers::PROGRAM_HEADER_BYTES;
+use sv_types::{ProgramHeader, has_bit};
+
+/// The bytes of the file's header.
+const HEADER_BYTES: usize = 64;
+
+/// The bytes 0x7F, E, L and F.
+const MAGIC: u32 = 0x464C_457F;
+
+/// Files of 64 bits, little-endian.
+const CLASS_64: u8 = 2;
+const LITTLE_ENDIAN: u8 = 1;
+
+const VERSION: u8 = 1;
+
+/// RISC-V, and an executable file.
+const RISC_V: u16 = 243;
+const EXECUTABLE_FILE: u16 = 2;
+
+/// The flags of a file that ask for compressed instructions, floats or fewer registers.
+const UNKNOWN_FLAGS: u32 = 16;
+
+/// Where guest RAM begins, and the bytes of a page.
+const RAM_BASE: u64 = 0x8000_0000;
+const PAGE_BYTES: u64 = 4096;
+
+// The end of a range, as a whole number.
+fn end_of(start: u64, size: u64) -> u128
+    ensures { result ≡ start + size }
+{
+    start as u128 + size as u128
+}
+
+fn table_in_file(file: &[u8]) -> bool
+    requires { 64 ≤ length file.now }
+    ensures { result ≡ table_in_file file.now }
+{
+    let size = PROGRAM_HEADER_BYTES as u64 * half(file, 56) as u64;
+    half(file, 54) as usize == PROGRAM_HEADER_BYTES
+        && end_of(double(file, 32), size) <= file.len() as u128
+}
+
+/// The first fault of the header.
+#[tactic(auto, unfolding(sv_types::specs::Kernel::header_checks))]
+pub(crate) fn header_refusal(file: &[u8]) -> Option<u8>
+    ensures first { result ≡ first_refusal (header_checks file.now) }
+    ensures long { IfNone result (64 ≤ length file.now) }
+    ensures table { IfNone result (0 < table_count file.now → table_place file.now + 56 * table_count file.now ≤ length file.now) }
+{
+    if file.len() < HEADER_BYTES {
+        return Some(1);
+    }
+    if word(file, 0) != MAGIC {
+        return Some(2);
+    }
+    if byte(file, 4) != CLASS_64 || byte(file, 5) != LITTLE_ENDIAN {
+        return Some(3);
+    }
+    if byte(file, 6) != VERSION || word(file, 20) != VERSION as u32 {
+        return Some(4);
+    }
+    if half(file, 18) != RISC_V {
+        return Some(5);
+    }
+    if half(file, 16) != EXECUTABLE_FILE {
+        return Some(6);
+    }
+    if word(file, 48) % UNKNOWN_FLAGS != 0 {
+        return Some(7);
+    }
+    if half(file, 56) > 0 && !table_in_file(file) {
+        return Some(8);
+    }
+    None
+}
+
+pub(crate) fn is_executable(header: &ProgramHeader) -> bool
+    ensures { result ≡ is_executable header.now }
+{
+    has_bit(header.flags as u64, 0)
+}
+
+fn is_writable(header: &ProgramHeader) -> bool
+    ensures { result ≡ is_writable header.now }
+{
+    has_bit(header.flags as u64, 1)
+}
+
+fn memory_in_ram(ram_pages: u32, header: &ProgramHeader) -> bool
+    ensures { result ≡ memory_in_ram ram_pages header.now }
+{
+    header.gpa >= RAM_BASE
+        && end_of(header.gpa - RAM_BASE, header.memory_size)
+            <= (PAGE_BYTES * ram_pages as u64) as u128
+}
+
+/// The first fault of a segment.
+#[tactic(auto, unfolding(sv_types::specs::Kernel::segment_checks))]
+fn segment_refusal(file_size: usize, ram_pages: u32, header: &ProgramHeader) -> Option<u8>
+    ensures { result ≡ first_refusal (segment_checks file_size ram_pages header.now) }
+{
+    if end_of(header.offset, header.file_size) > file_size as u128 {
+        return Some(9);
+    }
+    if !memory_in_ram(ram_pages, header) {
+        return Some(10);
+    }
+    if header.file_size > header.memory_size {
+        return Some(11);
+    }
+    if is_executable(header) && is_writable(header) {
+        return Some(12);
+    }
+    if is_executable(header) && header.gpa % PAGE_BYTES != 0 {
+        return Some(13);
+    }
+    None
+}
+
+/// The first fault of the segments, in their order.
+pub(crate) fn segments_refusal(
+    file_size: usize,
+    ram_pages: u32,
+    headers: &[ProgramHeader],
+) -> Option<u8>
+    ensures { result ≡ first_refusal (flat_map (segment_checks file_size ram_pages) headers.now) }
+{
+    'headers: for header in headers {
+        if let Some(number) = segment_refusal(file_size, ram_pages, header) {
+            return Some(number);
+        }
+    }
+    None
+}
+
+fn first_page(header: &ProgramHeader) -> u64
+    ensures { result ≡ first_page header.now }
+{
+    header.gpa.saturating_sub(RAM_BASE) / PAGE_BYTES
+}
+
+fn last_page(header: &ProgramHeader) -> u64
+    ensures { result ≡ last_page header.now }
+{
+    let last = end_of(header.gpa, header.memory_size)
+        .saturating_sub(1)
+        .saturating_sub(RAM_BASE as u128);
+    (last / PAGE_BYTES as u128) as u64
+}
+
+// Whether two segments, one of them executable, touch one page.
+fn may_clash(header: &ProgramHeader, other: &ProgramHeader) -> bool
+    ensures { result ≡ may_clash header.now other.now }
+{
+    (is_executable(header) || is_executable(other))
+        && (first_page(header) <= last_page(other) && first_page(other) <= last_page(header))
+}
+
+fn clashes_with_some(header: &ProgramHeader, others: &[ProgramHeader]) -> bool
+    ensures { result ≡ list_any (may_clash header.now) others.now }
+{
+    others.iter().any(|other| may_clash(header, other))
+}
+
+fn text_is_shared(headers: &[ProgramHeader]) -> bool
+    ensures { result ≡ text_is_shared headers.now }
+{
+    'headers: for (i, header) in headers.iter().enumerate() {
+        if clashes_with_some(header, &headers[i + 1..]) {
+            return true;
+        }
+    }
+    false
+}
+
+fn some_are_executable(headers: &[ProgramHeader]) -> bool
+    ensures { result ≡ list_any is_executable headers.now }
+{
+    headers.iter().any(|header| is_executable(header))
+}
+
+/// The first fault of all segments together.
+#[tactic(auto, unfolding(sv_types::specs::Kernel::image_checks))]
+pub(crate) fn image_refusal(headers: &[ProgramHeader]) -> Option<u8>
+    ensures { result ≡ first_refusal (image_checks headers.now) }
+{
+    if text_is_shared(headers) {
+        return Some(14);
+    }
+    if !some_are_executable(headers) {
+        return Some(15);
+    }
+    None
+}

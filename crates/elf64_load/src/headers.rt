@@ -1,0 +1,38 @@
+// The program headers of the segments that are loaded.
+
+ghost use Rattle.std.specs.Prelude.{◌≡◌, ◌+◌, ◌*◌, ◌<◌, ◌≤◌, length, IfOk};
+ghost use Rattle.sv_types.specs.Kernel.{is_loaded, loaded_among, table_place, table_count};
+
+use crate::fields::{double, half, header_at};
+use std::alloc::{AllocError, Global};
+use sv_types::ProgramHeader;
+
+/// The bytes of a program header.
+pub(crate) const PROGRAM_HEADER_BYTES: usize = 56;
+
+/// The kind of segment that is loaded.
+const LOADED: u32 = 1;
+
+fn is_loaded(header: &ProgramHeader) -> bool
+    ensures { result ≡ is_loaded header.now }
+{
+    header.kind == LOADED && header.memory_size > 0
+}
+
+/// The headers of the segments that are loaded, in their order.
+pub(crate) fn loaded_headers(alloc: Global, file: &[u8]) -> Result<Vec<ProgramHeader>, AllocError>
+    requires header { 64 ≤ length file.now }
+    requires table { 0 < table_count file.now → table_place file.now + 56 * table_count file.now ≤ length file.now }
+    ensures { IfOk result (λ headers. headers.items ≡ loaded_among file.now (table_count file.now)) }
+{
+    let count = half(file, 56);
+    let table = double(file, 32);
+    let mut headers = Vec::new(alloc);
+    'headers: for i in 0..count as usize {
+        let header = header_at(file, table as usize + PROGRAM_HEADER_BYTES * i);
+        if is_loaded(&header) {
+            headers.push(header)?;
+        }
+    }
+    Ok(headers)
+}

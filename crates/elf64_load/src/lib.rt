@@ -1,0 +1,13 @@
+//! Kernel images: ELF-64 files whose segments are loaded into guest RAM.
+#![tactic(auto)]
+
+mod checks;
+mod fields;
+mod headers;
+mod image;
+mod read;
+#[cfg(test)]
+mod tests;
+
+pub use image::{KernelImage, Segment};
+pub use read::{ElfRefusal, read_kernel};

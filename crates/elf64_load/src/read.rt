@@ -1,0 +1,94 @@
+// The reading of a kernel.
+
+ghost use Rattle.std.specs.Prelude.{◌≡◌, ◌+◌, ◌≤◌, None, length, flat_map, map, IfOk, OnOk, IfErr};
+ghost use Rattle.sv_types.specs.Kernel.{first_refusal, segment_checks, loaded_headers, loaded_segment, header_entry, kernel_refusal, kernel_segments};
+ghost use Rattle.elf64_load.specs.Images.{segment_of, segments_of};
+ghost use Rattle.elf64_load.specs.Refusals.{IsRefusalOf};
+
+use crate::checks::{header_refusal, image_refusal, is_executable, segments_refusal};
+use crate::fields::double;
+use crate::headers::loaded_headers;
+use crate::image::{KernelImage, Segment};
+use std::alloc::{AllocError, Global};
+use sv_types::ProgramHeader;
+use thiserror::Error;
+
+/// Why a file is refused.
+#[derive(Clone, Copy, Debug, PartialEq, Eq, Drop, Error)]
+pub enum ElfRefusal {
+    /// The first fault. The header: 1 shorter than a header, 2 the magic bytes, 3 class or byte order, 4 version, 5
+    /// machine, 6 kind of file, 7 flags, 8 the table of program headers. A segment: 9 its bytes are outside the file, 10
+    /// its memory is outside RAM, 11 more bytes than memory, 12 executable and writable, 13 text that begins inside a page.
+    /// All segments: 14 a page of text is touched by two, 15 no text.
+    #[error("fault {0} of the image")]
+    Number(u8),
+    #[error("out of memory")]
+    Memory,
+}
+
+// The headers of the segments of a good file.
+fn judged_headers(alloc: Global, file: &[u8], ram_pages: u32) -> Result<Vec<ProgramHeader>, ElfRefusal>
+    ensures headers { IfOk result (λ headers. headers.items ≡ loaded_headers file.now) }
+    ensures inside { IfOk result (λ headers. first_refusal (flat_map (segment_checks (length file.now) ram_pages) headers.items) ≡ None) }
+    ensures header { OnOk result (64 ≤ length file.now) }
+    ensures accepted { OnOk result (kernel_refusal file.now ram_pages ≡ None) }
+    ensures refused { IfErr result (IsRefusalOf file.now ram_pages) }
+{
+    if let Some(number) = header_refusal(file) {
+        return Err(ElfRefusal::Number(number));
+    }
+    let Ok(headers) = loaded_headers(alloc, file) else {
+        return Err(ElfRefusal::Memory);
+    };
+    if let Some(number) = segments_refusal(file.len(), ram_pages, &headers) {
+        return Err(ElfRefusal::Number(number));
+    }
+    if let Some(number) = image_refusal(&headers) {
+        return Err(ElfRefusal::Number(number));
+    }
+    Ok(headers)
+}
+
+fn copied_segment(alloc: Global, file: &[u8], header: &ProgramHeader) -> Result<Segment, AllocError>
+    requires { header.now.offset + header.now.file_size ≤ length file.now }
+    ensures { IfOk result (λ segment. segment_of segment ≡ loaded_segment file.now header.now) }
+{
+    let start = header.offset as usize;
+    let bytes = &file[start..start + header.file_size as usize];
+    Ok(Segment {
+        va: header.va,
+        gpa: header.gpa,
+        bytes: Vec::from_slice(alloc, bytes)?,
+        memory: header.memory_size,
+        executable: is_executable(header),
+    })
+}
+
+fn copied_segments(alloc: Global, file: &[u8], ram_pages: u32, headers: &[ProgramHeader]) -> Result<Vec<Segment>, AllocError>
+    requires { first_refusal (flat_map (segment_checks (length file.now) ram_pages) headers.now) ≡ None }
+    ensures { IfOk result (λ segments. map segment_of segments.items ≡ map (loaded_segment file.now) headers.now) }
+{
+    let mut segments = Vec::new(alloc);
+    'headers: for header in headers {
+        segments.push(copied_segment(alloc, file, header)?)?;
+    }
+    Ok(segments)
+}
+
+/// Reads a kernel's file for a machine of `ram_pages` pages of RAM. A file with faults is refused for the first of them,
+/// and any file for want of memory.
+pub fn read_kernel(alloc: Global, bytes: &[u8], ram_pages: u32) -> Result<KernelImage, ElfRefusal>
+    ensures accepted { OnOk result (kernel_refusal bytes.now ram_pages ≡ None) }
+    ensures entry { IfOk result (λ image. image.entry ≡ header_entry bytes.now) }
+    ensures segments { IfOk result (λ image. segments_of image ≡ kernel_segments bytes.now) }
+    ensures refused { IfErr result (IsRefusalOf bytes.now ram_pages) }
+{
+    let headers = judged_headers(alloc, bytes, ram_pages)?;
+    let Ok(segments) = copied_segments(alloc, bytes, ram_pages, &headers) else {
+        return Err(ElfRefusal::Memory);
+    };
+    Ok(KernelImage {
+        entry: double(bytes, 24),
+        segments,
+    })
+}

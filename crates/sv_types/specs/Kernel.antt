@@ -1,0 +1,166 @@
+-- Kernel images: which are refused and why, and what a good one puts into memory.
+-- ELF-64 Object File Format, "ELF Header" and "Program Header Table"; RISC-V ELF psABI, "File Header".
+use Rattle.std.specs.Prelude.{ℕ, ◌+◌, ◌-◌, ◌*◌, ◌/◌, ◌%◌, Bool, true, false, not, ◌&&◌, ◌||◌, List, [], ◌∷◌, ◌++◌, length, replicate, map, filter, flat_map, fold, find, ◌==◌, if◌then◌else◌, nat_le, nat_lt, Option, Some, None}
+use Rattle.std.specs.List.{list_any}
+use Rattle.sv_types.specs.Bits.{bit}
+use Rattle.sv_types.specs.Bytes.{word, part, padded, overwrite, ram_base, ram_place, page_size, page_of, page_bytes}
+use Rattle.sv_types.specs.Reference.{numbers_from}
+use Rattle.sv_types.specs.Regions.{most_ram_pages}
+use Rattle.sv_types.specs.declared.kernel.ProgramHeader.{ProgramHeader}
+
+-- the number of the first check that finds a fault
+abbrev pub first_refusal : List (ℕ × Bool) → Option ℕ
+first_refusal [] = None
+first_refusal (check ∷ checks) = if check.1 then Some check.0 else first_refusal checks
+
+-- ---- the header
+
+abbrev pub header_entry : List ℕ → ℕ
+header_entry file = word file 24 8
+
+-- where the program headers begin, and how many there are
+abbrev pub table_place : List ℕ → ℕ
+table_place file = word file 32 8
+
+abbrev pub table_count : List ℕ → ℕ
+table_count file = word file 56 2
+
+-- the program headers are 56 bytes each, and in the file
+abbrev pub table_in_file : List ℕ → Bool
+table_in_file file = word file 54 2 == 56 && nat_le (table_place file + 56 * table_count file) (length file)
+
+-- 0x7F, E, L, F; 64 bits, little-endian; version 1; RISC-V; an executable file; no compressed instructions, no floats
+unfoldable pub header_checks : List ℕ → List (ℕ × Bool)
+header_checks file =
+    (1, nat_lt (length file) 64)
+    ∷ (2, not (word file 0 4 == 0x464C457F))
+    ∷ (3, not (word file 4 1 == 2 && word file 5 1 == 1))
+    ∷ (4, not (word file 6 1 == 1 && word file 20 4 == 1))
+    ∷ (5, not (word file 18 2 == 243))
+    ∷ (6, not (word file 16 2 == 2))
+    ∷ (7, not (word file 48 4 % 16 == 0))
+    ∷ (8, nat_lt 0 (table_count file) && not (table_in_file file))
+    ∷ []
+
+-- ---- segments
+
+unfoldable pub header_at : List ℕ → ℕ → ProgramHeader
+header_at file at = record {
+  kind = word file at 4;
+  flags = word file (at + 4) 4;
+  offset = word file (at + 8) 8;
+  va = word file (at + 16) 8;
+  gpa = word file (at + 24) 8;
+  file_size = word file (at + 32) 8;
+  memory_size = word file (at + 40) 8;
+}
+
+abbrev pub is_loaded : ProgramHeader → Bool
+is_loaded h = h.kind == 1 && nat_lt 0 h.memory_size
+
+-- those of the first n program headers that are loaded, in their order
+unfoldable pub loaded_among : List ℕ → ℕ → List ProgramHeader
+loaded_among file n = filter is_loaded (map (λ i. header_at file (table_place file + 56 * i)) (numbers_from 0 n))
+
+abbrev pub loaded_headers : List ℕ → List ProgramHeader
+loaded_headers file = loaded_among file (table_count file)
+
+abbrev pub is_executable : ProgramHeader → Bool
+is_executable h = bit h.flags 0
+
+abbrev pub is_writable : ProgramHeader → Bool
+is_writable h = bit h.flags 1
+
+abbrev pub memory_in_ram : ℕ → ProgramHeader → Bool
+memory_in_ram ram_pages h = nat_le ram_base h.gpa && nat_le (ram_place h.gpa + h.memory_size) (page_size * ram_pages)
+
+unfoldable pub segment_checks : ℕ → ℕ → ProgramHeader → List (ℕ × Bool)
+segment_checks file_size ram_pages h =
+    (9, nat_lt file_size (h.offset + h.file_size))
+    ∷ (10, not (memory_in_ram ram_pages h))
+    ∷ (11, nat_lt h.memory_size h.file_size)
+    ∷ (12, is_executable h && is_writable h)
+    ∷ (13, is_executable h && not (h.gpa % page_size == 0))
+    ∷ []
+
+-- the first and the last page that a segment touches
+abbrev pub first_page : ProgramHeader → ℕ
+first_page h = page_of h.gpa
+
+abbrev pub last_page : ProgramHeader → ℕ
+last_page h = page_of (h.gpa + h.memory_size - 1)
+
+-- two segments, one of them executable, touch one page
+abbrev pub may_clash : ProgramHeader → ProgramHeader → Bool
+may_clash h k =
+    (is_executable h || is_executable k) && (nat_le (first_page h) (last_page k) && nat_le (first_page k) (last_page h))
+
+abbrev pub text_is_shared : List ProgramHeader → Bool
+text_is_shared [] = false
+text_is_shared (h ∷ hs) = list_any (may_clash h) hs || text_is_shared hs
+
+unfoldable pub image_checks : List ProgramHeader → List (ℕ × Bool)
+image_checks hs = (14, text_is_shared hs) ∷ (15, not (list_any is_executable hs)) ∷ []
+
+-- the first refusal, in the order of the numbers, but for 9 to 13, which are judged segment by segment
+unfoldable pub kernel_refusal : List ℕ → ℕ → Option ℕ
+kernel_refusal file ram_pages =
+    first_refusal (header_checks file
+        ++ (flat_map (segment_checks (length file) ram_pages) (loaded_headers file) ++ image_checks (loaded_headers file)))
+
+-- ---- what a good image holds
+
+-- a segment with its bytes in the file, behind which its memory has zeros
+pub record LoadedSegment : Type 0 where
+  pub va : ℕ
+  pub gpa : ℕ
+  pub bytes : List ℕ
+  pub memory : ℕ
+  pub executable : Bool
+
+abbrev pub loaded_segment : List ℕ → ProgramHeader → LoadedSegment
+loaded_segment file h = record {
+  va = h.va;
+  gpa = h.gpa;
+  bytes = part file h.offset h.file_size;
+  memory = h.memory_size;
+  executable = is_executable h;
+}
+
+unfoldable pub kernel_segments : List ℕ → List LoadedSegment
+kernel_segments file = map (loaded_segment file) (loaded_headers file)
+
+-- RAM with a segment's bytes and zeros at its place
+abbrev pub with_segment : List ℕ → LoadedSegment → List ℕ
+with_segment ram s = overwrite ram (ram_place s.gpa) (padded s.bytes s.memory)
+
+-- zeros, with each segment at its place; the later one wins
+unfoldable pub segments_ram : List LoadedSegment → ℕ → List ℕ
+segments_ram ss ram_pages = fold with_segment (replicate (page_size * ram_pages) 0) ss
+
+-- ---- the text
+
+-- a page lies in an executable segment, which begins with a page
+abbrev pub is_text_of : ℕ → LoadedSegment → Bool
+is_text_of page s =
+    s.executable && (nat_le (page_of s.gpa) page && nat_lt (page_size * page) (ram_place s.gpa + s.memory))
+
+-- the pages that lie in executable segments, ascending
+unfoldable pub text_pages : List LoadedSegment → List ℕ
+text_pages ss = filter (λ page. list_any (is_text_of page) ss) (numbers_from 0 most_ram_pages)
+
+-- the bytes of a page of a segment's that the file holds
+abbrev pub filled_part : ℕ → LoadedSegment → List ℕ
+filled_part page s = part s.bytes (page_size * (page - page_of s.gpa)) page_size
+
+-- a page of text, with zeros behind the file's bytes; nothing where the page is none
+abbrev pub text_page_in : ℕ → Option LoadedSegment → List ℕ
+text_page_in page None = []
+text_page_in page (Some s) = padded (filled_part page s) page_size
+
+abbrev pub text_page : List LoadedSegment → ℕ → List ℕ
+text_page ss page = text_page_in page (find (is_text_of page) ss)
+
+-- the pages of text, one behind the other
+unfoldable pub text_of : List LoadedSegment → List ℕ
+text_of ss = flat_map (text_page ss) (numbers_from 0 most_ram_pages)
