@@ -106,7 +106,7 @@ image_checks hs = (14, text_is_shared hs) ∷ (15, not (list_any is_executable h
 unfoldable pub kernel_refusal : List ℕ → ℕ → Option ℕ
 kernel_refusal file ram_pages =
     first_refusal (header_checks file
-        ++ (flat_map (segment_checks (length file) ram_pages) (loaded_headers file) ++ image_checks (loaded_headers file)))
+    ++ (flat_map (segment_checks (length file) ram_pages) (loaded_headers file) ++ image_checks (loaded_headers file)))
 
 -- ---- what a good image holds
 
