@@ -1,3 +1,4 @@
 pub mod EffectLemmas
 pub mod Places
 pub mod Roots
+pub mod Returns

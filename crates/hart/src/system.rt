@@ -131,11 +131,11 @@ pub(crate) fn supervisor_only(hart: &mut Hart, regs: &HRegs, word: u32) -> Outco
 }
 
 /// SRET, which the hypervisor carries out: VTSR is set.
-#[tactic(auto, unfolding(sv_types::specs::HardwareAttempt::after_sret))]
+#[tactic(auto, using(crate::proofs::Returns::sret_raises))]
 pub(crate) fn sret(hart: &mut Hart, regs: &HRegs, word: u32) -> Outcome
     requires aligned { hart.old.pc % 4 ≡ 0 }
     requires mode { KeepsMode regs.now }
-    ensures step { step_of hart.new regs.now result ≡ after_sret (core_of hart.old regs.now) word }
+    ensures step { step_of hart.new regs.now result ≡ after_sret (core_of hart.old regs.now) word regs.now.mode }
     ensures id { hart.new.id ≡ hart.old.id }
     ensures started { hart.new.started ≡ hart.old.started }
     ensures pc { hart.new.pc % 4 ≡ 0 }

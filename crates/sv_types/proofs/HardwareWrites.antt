@@ -1,10 +1,10 @@
 -- An attempt of the hardware writes no bytes but those that its outcome names.
 use Rattle.std.proofs.Common.{◌≡◌, ℕ, refl, Bool, true, false}
-use Rattle.std.specs.Prelude.{Option, Some, None, Result, Ok, Err, not, ◌&&◌, if◌then◌else◌}
+use Rattle.std.specs.Prelude.{Option, Some, None, Result, Ok, Err, if◌then◌else◌}
 use Rattle.sv_types.specs.Bits.{bit}
 use Rattle.sv_types.specs.Causes.{cause_number}
 use Rattle.sv_types.specs.Regions.{Region, host_word}
-use Rattle.sv_types.specs.Traps.{is_kernel, interrupt_number}
+use Rattle.sv_types.specs.Traps.{interrupt_number}
 use Rattle.sv_types.specs.Instructions.{instruction_of}
 use Rattle.sv_types.specs.Effects.{effect_of, amo_value}
 use Rattle.sv_types.specs.Requests.{covers}
@@ -91,10 +91,11 @@ unfolding after_supervisor_only
 supervisor_writes r core w Kernel = refl
 supervisor_writes r core w User = raise_writes r core (virtual_instruction w)
 
-sret_writes : (r : Region) (core : Core) (w : ℕ) → Writes r (with_region r (after_sret core w))
+sret_writes : (r : Region) (core : Core) (w : ℕ) (mode : Mode) → Writes r (with_region r (after_sret core w mode))
 unfolding after_sret return_from_trap
-sret_writes r core w =
-    one_of r (is_kernel core.hregs.mode && not core.hregs.vtsr) (return_from_trap core) (raise core (virtual_instruction w)) refl (raise_writes r core (virtual_instruction w))
+sret_writes r core w Kernel =
+    one_of r core.hregs.vtsr (raise core (virtual_instruction w)) (return_from_trap core) (raise_writes r core (virtual_instruction w)) refl
+sret_writes r core w User = raise_writes r core (virtual_instruction w)
 
 effect_writes : (r : Region) (core : Core) (lines : Lines) (w : ℕ) (effect : Effect) → Writes r (after_effect r core lines w effect)
 unfolding after_effect
@@ -114,7 +115,7 @@ effect_writes r core lines w (Effect.Csr rd number op operand writes) =
     csr_writes r core lines rd op operand writes (csr_reached core w number writes)
 effect_writes r core lines w Effect.Ecall = raise_writes r core (plain_exception (call_cause core.hregs.mode) 0)
 effect_writes r core lines w Effect.Ebreak = raise_writes r core (plain_exception Cause.Breakpoint core.pc)
-effect_writes r core lines w Effect.Sret = sret_writes r core w
+effect_writes r core lines w Effect.Sret = sret_writes r core w core.hregs.mode
 effect_writes r core lines w Effect.Wfi = supervisor_writes r core w core.hregs.mode
 effect_writes r core lines w Effect.SfenceVma = supervisor_writes r core w core.hregs.mode
 effect_writes r core lines w Effect.Fence = refl

@@ -13,3 +13,4 @@ pub mod EntryBits
 pub mod Walks
 pub mod Views
 pub mod HardwareWrites
+pub mod Reservations

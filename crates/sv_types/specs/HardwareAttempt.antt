@@ -1,12 +1,12 @@
 -- One attempt of a hart with the hypervisor extension, in VS or VU mode: an interrupt, a fetch, an instruction.
 -- RISC-V Privileged manual, "Supervisor Cause (scause) Register" for the order of exceptions, "Supervisor Instructions",
 -- and H extension: "Trap Cause Codes", "Virtual-Instruction Exceptions"; Unprivileged manual, "Zicsr".
-use Rattle.std.specs.Prelude.{◌≡◌, ℕ, Bool, not, ◌&&◌, if◌then◌else◌, Option, Some, None, Result, Ok, Err}
+use Rattle.std.specs.Prelude.{◌≡◌, ℕ, Bool, if◌then◌else◌, Option, Some, None, Result, Ok, Err}
 use Rattle.sv_types.specs.Regions.{Region, host_word, write_host}
 use Rattle.sv_types.specs.Instructions.{instruction_of}
 use Rattle.sv_types.specs.Effects.{effect_of, set_register}
 use Rattle.sv_types.specs.Requests.{csr_value}
-use Rattle.sv_types.specs.Traps.{is_kernel, mode_at_return}
+use Rattle.sv_types.specs.Traps.{mode_at_return}
 use Rattle.sv_types.specs.HypervisorRegisters.{csr_access, read_virtual, write_virtual, registers_at_return, pending}
 use Rattle.sv_types.specs.Hardware.{Core, Step, Attempted, with_region, plain_exception, raise, after_interrupt}
 use Rattle.sv_types.specs.HardwareMemory.{translated, reached, load_htinst, store_htinst, atomic_htinst, retire, retire_with, after_load, after_load_reserved, after_store, after_store_conditional, after_amo}
@@ -79,8 +79,10 @@ return_from_trap core = record {
   outcome = Outcome.Retired None;
 }
 
-unfoldable pub after_sret : Core → ℕ → Step
-after_sret core w = if is_kernel core.hregs.mode && not core.hregs.vtsr then return_from_trap core else raise core (virtual_instruction w)
+-- with VTSR supervisor mode has no SRET either
+unfoldable pub after_sret : Core → ℕ → Mode → Step
+after_sret core w Kernel = if core.hregs.vtsr then raise core (virtual_instruction w) else return_from_trap core
+after_sret core w User = raise core (virtual_instruction w)
 
 abbrev pub call_cause : Mode → Cause
 call_cause Kernel = Cause.GuestCall
@@ -109,7 +111,7 @@ after_effect r core lines w (Effect.Csr rd number op operand writes) =
     with_region r (after_csr core lines rd op operand writes (csr_reached core w number writes))
 after_effect r core lines w Effect.Ecall = with_region r (raise core (plain_exception (call_cause core.hregs.mode) 0))
 after_effect r core lines w Effect.Ebreak = with_region r (raise core (plain_exception Cause.Breakpoint core.pc))
-after_effect r core lines w Effect.Sret = with_region r (after_sret core w)
+after_effect r core lines w Effect.Sret = with_region r (after_sret core w core.hregs.mode)
 after_effect r core lines w Effect.Wfi = with_region r (after_supervisor_only core w core.hregs.mode)
 after_effect r core lines w Effect.SfenceVma = with_region r (after_supervisor_only core w core.hregs.mode)
 after_effect r core lines w Effect.Fence = with_region r (retire core None)
