@@ -8,6 +8,7 @@ ghost use Rattle.sv_types.specs.Regions.{Region, IsRegion, IsHostPlace, most_ram
 mod words;
 
 use crate::words::{put_word, word_at};
+use raw_bytes::RawBytes;
 use std::alloc::{AllocError, Global};
 use std::marker::Model;
 
@@ -20,7 +21,7 @@ pub const MOST_RAM_PAGES: usize = 65536;
 /// A region of host memory. Contracts see its table part and its guest RAM, each as a list of bytes.
 #[derive(Drop)]
 pub struct HostMem {
-    bytes: Vec<u8>,
+    bytes: RawBytes,
     table_bytes: usize,
     ram_pages: usize,
 }
@@ -36,9 +37,9 @@ impl Model for HostMem {
     ghost use Rattle.sv_types.specs.Bytes.{page_size};
     ghost use Rattle.sv_types.specs.Regions.{region_of, most_ram_pages};
 
-    ghost view = { λ m. region_of m.table_bytes m.bytes.items };
+    ghost view = { λ m. region_of m.table_bytes m.bytes };
 
-    ghost invariant = { λ m. (length m.bytes.items ≡ m.table_bytes + page_size * m.ram_pages) × ((m.table_bytes % page_size ≡ 0) × ((m.ram_pages ≤ most_ram_pages) × (length m.bytes.items < 2 ^ 63))) };
+    ghost invariant = { λ m. (length m.bytes ≡ m.table_bytes + page_size * m.ram_pages) × ((m.table_bytes % page_size ≡ 0) × ((m.ram_pages ≤ most_ram_pages) × (length m.bytes < 2 ^ 63))) };
 }
 
 impl HostMem {
@@ -51,7 +52,7 @@ impl HostMem {
         let Some(size) = table_bytes.checked_add(PAGE_SIZE * ram_pages) else {
             return Err(AllocError);
         };
-        let bytes = vec![in alloc; 0; size]?;
+        let bytes = RawBytes::zeroed(alloc, size)?;
         Ok(HostMem {
             bytes,
             table_bytes,
@@ -101,7 +102,7 @@ impl HostMem {
         ensures size { length result.now ≡ page_size }
     {
         let start = self.table_bytes + PAGE_SIZE * n as usize;
-        &self.bytes[start..start + PAGE_SIZE]
+        &self.bytes.as_slice()[start..start + PAGE_SIZE]
     }
 
     /// Copies `bytes` to the host places from `at` on.
@@ -110,7 +111,7 @@ impl HostMem {
         ensures bytes { host_bytes self.new ≡ overwrite (host_bytes self.old) at bytes.now }
         ensures tables { length self.new.tables ≡ length self.old.tables }
     {
-        self.bytes[at..at + bytes.len()].copy_from_slice(bytes);
+        self.bytes.as_mut_slice()[at..at + bytes.len()].copy_from_slice(bytes);
     }
 }
 

@@ -1,14 +1,23 @@
 // A region of one page of tables and two pages of RAM.
 
+ghost use Rattle.std.specs.Prelude.{◌≡◌};
+
 use super::*;
 
 const TABLE_BYTES: usize = 4096;
+
+// Only what may cross to another thread is passed on.
+fn crosses<T: Send>(value: T) -> T
+    ensures { result ≡ value }
+{
+    value
+}
 
 #[test]
 fn words_are_little_endian_and_ram_lies_behind_the_tables(
     rt: HostRuntime,
 ) -> Result<(), AllocError> {
-    let mut mem = HostMem::new(rt.alloc(), TABLE_BYTES, 2)?;
+    let mut mem = crosses(HostMem::new(rt.alloc(), TABLE_BYTES, 2)?);
     mem.write(TABLE_BYTES + 8, 8, 0x8877_6655_4433_2211);
     assert_eq!(rt; mem.table_bytes(), TABLE_BYTES);
     assert_eq!(rt; mem.ram_pages(), 2);

@@ -5,5 +5,5 @@ use Rattle.host_mem.proofs.HostMem.new.Goals as goal
 
 pub returns : goal.returns
 returns c =
-    let zeros : c.in_ok-bytes.bytes.items ≡ replicate {A = ℕ} c.in-Some.size 0 = search rules in
+    let zeros : c.in_ok-bytes.bytes ≡ replicate {A = ℕ} c.in-Some.size 0 = search rules in
     ap (region_of c.args.table_bytes) zeros ∙ zeros_seen c.args.table_bytes (4096 * c.args.ram_pages) c.in-Some.size (search rules)

@@ -1,0 +1,4 @@
+pub mod ByteLaws
+pub mod Fields
+pub mod Filling
+pub mod Values
