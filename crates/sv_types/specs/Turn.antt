@@ -2,7 +2,6 @@
 -- RISC-V Unprivileged manual, "RV32I Base Integer Instruction Set"; RISC-V SBI, "Legacy Extensions", for the two calls.
 use Rattle.std.specs.Prelude.{ℕ, Bool, true, false, ◌+◌, ◌%◌, [], ◌∷◌, ◌++◌, List, ◌==◌, if◌then◌else◌, Option, Some, None}
 use Rattle.sv_types.specs.declared.instruction.Instr.{Instr}
-use Rattle.sv_types.specs.declared.instruction.Instr.TheVariants as Instr
 use Rattle.sv_types.specs.declared.instruction.OpImmOp.TheVariants.{Addi}
 use Rattle.sv_types.specs.declared.instruction.StoreOp.TheVariants.{Sb}
 use Rattle.sv_types.specs.declared.effect.Effect.{Effect}

@@ -7,8 +7,8 @@ mod csr;
 mod effect;
 mod event;
 mod instruction;
-mod name;
 mod laws;
+mod name;
 mod outcome;
 mod pte_bits;
 mod status;
@@ -20,11 +20,11 @@ pub use cause::Cause;
 pub use csr::{Csr, CsrFault};
 pub use effect::Effect;
 pub use event::{Counts, Event, Note, Rule, Verdict};
-pub use name::{MOST_NAME_BYTES, Name};
 pub use instruction::{
     AmoOp, BranchOp, CsrOp, HyperOp, Instr, LoadOp, Op32Op, OpImm32Op, OpImmOp, OpOp, StoreOp,
 };
 pub use laws::law_rows;
+pub use name::{MOST_NAME_BYTES, Name};
 pub use outcome::{Exception, Outcome, Wrote};
 pub use pte_bits::PteBits;
 pub use status::Status;
