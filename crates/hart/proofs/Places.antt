@@ -1,8 +1,7 @@
 -- Where both stages lead, a word of a width that divides the virtual address may be read and written.
-use Rattle.std.proofs.Common.{◌≡◌, ◌∙◌, ℕ, ◌+◌, ◌*◌, ◌%◌, ◌^◌, ◌<◌, ◌≤◌, ◌⊎◌, inl, inr, length, refl, sym, ap, arith}
-use Rattle.std.specs.Prelude.{Option, Some, None, Result, Ok, Err}
+use Rattle.std.proofs.Common.{◌≡◌, ◌∙◌, ℕ, ◌+◌, ◌%◌, ◌^◌, ◌<◌, ◌≤◌, inl, inr, length, refl, arith}
+use Rattle.std.specs.Prelude.{Option, Some, None, Ok}
 use Rattle.sv_types.specs.declared.translation.Place.{Place}
-use Rattle.sv_types.specs.declared.translation.Fault.{Fault}
 use Rattle.sv_types.specs.declared.wires.Access.{Access}
 use Rattle.sv_types.specs.declared.wires.Mode.{Mode}
 use Rattle.sv_types.specs.Regions.{Region, IsRegion, IsWidth, IsHostPlace}

@@ -1,5 +1,5 @@
 -- An attempt of the hardware writes no bytes but those that its outcome names.
-use Rattle.std.proofs.Common.{◌≡◌, ℕ, refl, Bool, true, false}
+use Rattle.std.proofs.Common.{ℕ, refl, Bool, true, false}
 use Rattle.std.specs.Prelude.{Option, Some, None, Result, Ok, Err, if◌then◌else◌}
 use Rattle.sv_types.specs.Bits.{bit}
 use Rattle.sv_types.specs.Causes.{cause_number}
@@ -10,12 +10,11 @@ use Rattle.sv_types.specs.Effects.{effect_of, amo_value}
 use Rattle.sv_types.specs.Requests.{covers}
 use Rattle.sv_types.specs.HypervisorRegisters.{virtual_number}
 use Rattle.sv_types.specs.Hardware.{Core, Step, Attempted, with_region, guest_trap, leave, exit_of, raise, interrupt_exit, after_interrupt, plain_exception}
-use Rattle.sv_types.specs.HardwareMemory.{reached, load_htinst, store_htinst, atomic_htinst, retire, retire_with, with_reservation, after_load, after_load_reserved, after_store, after_store_conditional, after_amo}
-use Rattle.sv_types.specs.HardwareAttempt.{illegal, virtual_instruction, csr_reached, after_csr, after_supervisor_only, return_from_trap, after_sret, after_set, call_cause, after_effect, after_instruction, after_word, after_fetch, OnlyWrites}
+use Rattle.sv_types.specs.HardwareMemory.{reached, load_htinst, store_htinst, atomic_htinst, after_load, after_load_reserved, after_store, after_store_conditional, after_amo}
+use Rattle.sv_types.specs.HardwareAttempt.{illegal, virtual_instruction, csr_reached, after_csr, after_supervisor_only, return_from_trap, after_sret, call_cause, after_effect, after_instruction, after_word, after_fetch, OnlyWrites}
 use Rattle.sv_types.specs.declared.cause.Cause.{Cause}
 use Rattle.sv_types.specs.declared.csr.Csr.{Csr}
 use Rattle.sv_types.specs.declared.effect.Effect.{Effect}
-use Rattle.sv_types.specs.declared.effect.Effect.TheVariants as Effect
 use Rattle.sv_types.specs.declared.instruction.AmoOp.{AmoOp}
 use Rattle.sv_types.specs.declared.instruction.CsrOp.{CsrOp}
 use Rattle.sv_types.specs.declared.instruction.Instr.{Instr}

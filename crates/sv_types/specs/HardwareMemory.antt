@@ -1,7 +1,7 @@
 -- Accesses of a hart to memory through both stages of translation.
 -- RISC-V Privileged manual, H extension: "Two-Stage Address Translation", "Guest-Page Faults", "Transformed Instruction or
 -- Pseudoinstruction for mtinst or htinst"; Unprivileged manual, "Load and Store Instructions" and the extension "A".
-use Rattle.std.specs.Prelude.{ℕ, ◌/◌, ◌%◌, Bool, true, false, ◌==◌, if◌then◌else◌, bit_and, Option, Some, None, Result, Ok, Err}
+use Rattle.std.specs.Prelude.{ℕ, ◌/◌, ◌%◌, Bool, true, ◌==◌, if◌then◌else◌, bit_and, Option, Some, None, Result, Ok, Err}
 use Rattle.sv_types.specs.Bits.{bit}
 use Rattle.sv_types.specs.Regions.{Region, host_word, write_host}
 use Rattle.sv_types.specs.Translation.{Settings}
