@@ -1,10 +1,9 @@
 -- Numbers in a row, headers one behind the other, and parts of lists.
-use Rattle.std.proofs.Common.{◌≡◌, ℕ, zero, suc, ◌+◌, ◌-◌, ◌*◌, ◌<◌, ◌≤◌, ◌⊎◌, inl, inr, min, Bool, true, false, List, [], ◌∷◌, ◌++◌, length, take, drop, map, filter, flat_map, refl, ap, sym, ◌∙◌, subst, arith, add-one, length-drop}
+use Rattle.std.proofs.Common.{◌≡◌, ℕ, zero, suc, ◌+◌, ◌-◌, ◌*◌, inl, inr, min, true, false, List, [], ◌∷◌, ◌++◌, length, take, drop, map, filter, flat_map, refl, ap, sym, ◌∙◌, arith, length-drop}
 use Rattle.std.proofs.lemmas.List.{take_min, map-append, append-nil}
 use Rattle.std.proofs.lemmas.List.Elements.{filter-append}
 use Rattle.std.proofs.lemmas.Grind.{flat_map-append}
 use Rattle.std.proofs.Math.ListN.{drop_of_length-le}
-use Rattle.std.specs.Prelude.{if◌then◌else◌}
 use Rattle.sv_types.specs.Bytes.{part}
 use Rattle.sv_types.specs.Kernel.{header_at, is_loaded, loaded_among, table_place}
 use Rattle.sv_types.specs.Reference.{numbers_from}
@@ -45,8 +44,8 @@ one_more_loaded file i table h hs place is loaded so_far =
     let here : h ≡ header_at file (table_place file + 56 * i) = is ∙ ap (λ (t : ℕ). header_at file (t + 56 * i)) place in
     let kept : filter is_loaded (h ∷ []) ≡ h ∷ [] = rw loaded refl in
     sym (one_more file i ∙ sym (ap (λ (k : ProgramHeader). loaded_among file i ++ filter is_loaded (k ∷ [])) here)
-        ∙ ap (λ (ks : List ProgramHeader). loaded_among file i ++ ks) kept
-        ∙ sym (ap (λ (ks : List ProgramHeader). ks ++ h ∷ []) so_far))
+    ∙ ap (λ (ks : List ProgramHeader). loaded_among file i ++ ks) kept
+    ∙ sym (ap (λ (ks : List ProgramHeader). ks ++ h ∷ []) so_far))
 
 pub one_more_passed : (file : List ℕ) (i table : ℕ) (h : ProgramHeader) (hs : List ProgramHeader) → table ≡ table_place file
     → h ≡ header_at file (table + 56 * i) → is_loaded h ≡ false → hs ≡ loaded_among file i → hs ≡ loaded_among file (i + 1)
@@ -54,9 +53,9 @@ one_more_passed file i table h hs place is loaded so_far =
     let here : h ≡ header_at file (table_place file + 56 * i) = is ∙ ap (λ (t : ℕ). header_at file (t + 56 * i)) place in
     let kept : filter is_loaded (h ∷ []) ≡ [] = rw loaded refl in
     sym (one_more file i ∙ sym (ap (λ (k : ProgramHeader). loaded_among file i ++ filter is_loaded (k ∷ [])) here)
-        ∙ ap (λ (ks : List ProgramHeader). loaded_among file i ++ ks) kept
-        ∙ append-nil (loaded_among file i)
-        ∙ sym so_far)
+    ∙ ap (λ (ks : List ProgramHeader). loaded_among file i ++ ks) kept
+    ∙ append-nil (loaded_among file i)
+    ∙ sym so_far)
 
 -- ---- parts
 
@@ -69,12 +68,12 @@ pub part_within : (list : List ℕ) (start n : ℕ)
     → take (min (start + n) (length list) - min start (length list)) (drop (min start (length list)) list) ≡ part list start n
 part_within list start n = elim (lt_or_le start (length list)) [
   | inl below ↦
-    let from : min start (length list) ≡ start = omega arith in
-    let size : min (start + n) (length list) - start ≡ min n (length (drop start list)) = simp length-drop (omega arith) in
-    rw (from, size) (take_min n (drop start list))
+      let from : min start (length list) ≡ start = omega arith in
+      let size : min (start + n) (length list) - start ≡ min n (length (drop start list)) = simp length-drop (omega arith) in
+      rw (from, size) (take_min n (drop start list))
   | inr above ↦
-    let none : drop start list ≡ [] = drop_of_length-le list above in
-    let from : min start (length list) ≡ length list = omega arith in
-    let all : drop (length list) list ≡ [] = drop_of_length-le list (omega arith) in
-    rw (from, all, none) (take_none (min (start + n) (length list) - length list) ∙ sym (take_none n))
+      let none : drop start list ≡ [] = drop_of_length-le list above in
+      let from : min start (length list) ≡ length list = omega arith in
+      let all : drop (length list) list ≡ [] = drop_of_length-le list (omega arith) in
+      rw (from, all, none) (take_none (min (start + n) (length list) - length list) ∙ sym (take_none n))
 ]

@@ -1,5 +1,5 @@
 -- What callers see of an image's segments.
-use Rattle.std.specs.Prelude.{ℕ, List, map}
+use Rattle.std.specs.Prelude.{List, map}
 use Rattle.sv_types.specs.Kernel.{LoadedSegment}
 use Rattle.elf64_load.specs.declared.image.Segment.{Segment}
 use Rattle.elf64_load.specs.declared.image.KernelImage.{KernelImage}

@@ -16,12 +16,14 @@ const MAGIC: u32 = 0x464C_457F;
 
 /// Files of 64 bits, little-endian.
 const CLASS_64: u8 = 2;
+
 const LITTLE_ENDIAN: u8 = 1;
 
 const VERSION: u8 = 1;
 
 /// RISC-V, and an executable file.
 const RISC_V: u16 = 243;
+
 const EXECUTABLE_FILE: u16 = 2;
 
 /// The flags of a file that ask for compressed instructions, floats or fewer registers.
@@ -29,6 +31,7 @@ const UNKNOWN_FLAGS: u32 = 16;
 
 /// Where guest RAM begins, and the bytes of a page.
 const RAM_BASE: u64 = 0x8000_0000;
+
 const PAGE_BYTES: u64 = 4096;
 
 // The end of a range, as a whole number.

@@ -8,7 +8,9 @@ use std::alloc::{AllocError, Global};
 
 /// Where guest RAM begins, the bytes of a page, and the most pages.
 const RAM_BASE: u64 = 0x8000_0000;
+
 const PAGE_BYTES: u64 = 4096;
+
 const MOST_RAM_PAGES: u64 = 65536;
 
 /// A segment that is loaded: its bytes, and zeros behind them up to the size in memory.

@@ -27,7 +27,11 @@ pub enum ElfRefusal {
 }
 
 // The headers of the segments of a good file.
-fn judged_headers(alloc: Global, file: &[u8], ram_pages: u32) -> Result<Vec<ProgramHeader>, ElfRefusal>
+fn judged_headers(
+    alloc: Global,
+    file: &[u8],
+    ram_pages: u32,
+) -> Result<Vec<ProgramHeader>, ElfRefusal>
     ensures headers { IfOk result (λ headers. headers.items ≡ loaded_headers file.now) }
     ensures inside { IfOk result (λ headers. first_refusal (flat_map (segment_checks (length file.now) ram_pages) headers.items) ≡ None) }
     ensures header { OnOk result (64 ≤ length file.now) }
@@ -64,7 +68,12 @@ fn copied_segment(alloc: Global, file: &[u8], header: &ProgramHeader) -> Result<
     })
 }
 
-fn copied_segments(alloc: Global, file: &[u8], ram_pages: u32, headers: &[ProgramHeader]) -> Result<Vec<Segment>, AllocError>
+fn copied_segments(
+    alloc: Global,
+    file: &[u8],
+    ram_pages: u32,
+    headers: &[ProgramHeader],
+) -> Result<Vec<Segment>, AllocError>
     requires { first_refusal (flat_map (segment_checks (length file.now) ram_pages) headers.now) ≡ None }
     ensures { IfOk result (λ segments. map segment_of segments.items ≡ map (loaded_segment file.now) headers.now) }
 {

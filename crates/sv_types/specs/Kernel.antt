@@ -1,9 +1,9 @@
 -- Kernel images: which are refused and why, and what a good one puts into memory.
 -- ELF-64 Object File Format, "ELF Header" and "Program Header Table"; RISC-V ELF psABI, "File Header".
-use Rattle.std.specs.Prelude.{ℕ, ◌+◌, ◌-◌, ◌*◌, ◌/◌, ◌%◌, Bool, true, false, not, ◌&&◌, ◌||◌, List, [], ◌∷◌, ◌++◌, length, replicate, map, filter, flat_map, fold, find, ◌==◌, if◌then◌else◌, nat_le, nat_lt, Option, Some, None}
+use Rattle.std.specs.Prelude.{ℕ, ◌+◌, ◌-◌, ◌*◌, ◌%◌, Bool, false, not, ◌&&◌, ◌||◌, List, [], ◌∷◌, ◌++◌, length, replicate, map, filter, flat_map, fold, find, ◌==◌, if◌then◌else◌, nat_le, nat_lt, Option, Some, None}
 use Rattle.std.specs.List.{list_any}
 use Rattle.sv_types.specs.Bits.{bit}
-use Rattle.sv_types.specs.Bytes.{word, part, padded, overwrite, ram_base, ram_place, page_size, page_of, page_bytes}
+use Rattle.sv_types.specs.Bytes.{word, part, padded, overwrite, ram_base, ram_place, page_size, page_of}
 use Rattle.sv_types.specs.Reference.{numbers_from}
 use Rattle.sv_types.specs.Regions.{most_ram_pages}
 use Rattle.sv_types.specs.declared.kernel.ProgramHeader.{ProgramHeader}

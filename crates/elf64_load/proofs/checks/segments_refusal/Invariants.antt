@@ -1,4 +1,4 @@
-use Rattle.std.proofs.Common.{◌≡◌, ◌≤◌, flat_map, length, drop}
+use Rattle.std.proofs.Common.{◌≡◌, flat_map, drop}
 use Rattle.sv_types.specs.Kernel.{first_refusal, segment_checks}
 use Rattle.elf64_load.proofs.checks.segments_refusal.Given as goal
 

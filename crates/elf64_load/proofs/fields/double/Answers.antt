@@ -1,4 +1,4 @@
-use Rattle.std.proofs.Common.{◌≡◌, ◌∙◌}
+use Rattle.std.proofs.Common.{◌∙◌}
 use Rattle.elf64_load.proofs.Words.{word_read}
 use Rattle.elf64_load.proofs.fields.double.Goals as goal
 

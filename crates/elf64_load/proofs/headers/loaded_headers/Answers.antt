@@ -1,4 +1,4 @@
-use Rattle.std.proofs.Common.{◌≡◌, ◌∙◌, sym, ap}
+use Rattle.std.proofs.Common.{◌∙◌, sym}
 use Rattle.sv_types.specs.Kernel.{loaded_among}
 use Rattle.elf64_load.proofs.Pages.{one_more_loaded, one_more_passed}
 use Rattle.elf64_load.proofs.headers.loaded_headers.Goals as goal
@@ -12,16 +12,16 @@ pub headers-preserved : goal.headers-preserved
 headers-preserved c =
     elim c.if-is_loaded.branch [
       | then-is_loaded+in_ok-push w ↦
-        let test = sym c.is_loaded.ensures ∙ w.if-is_loaded.true in
-        let more = one_more_loaded c.args.file.now c.headers.i c.double-table.result c.header_at-header.result c.headers.headers.items
-        c.double-table.ensures c.header_at-header.ensures test c.headers.invariant in
-        let is = w.headers-is in
-        let items = w.in_ok-push.ensures.items in
-        cc
+          let test = sym c.is_loaded.ensures ∙ w.if-is_loaded.true in
+          let more = one_more_loaded c.args.file.now c.headers.i c.double-table.result c.header_at-header.result c.headers.headers.items
+          c.double-table.ensures c.header_at-header.ensures test c.headers.invariant in
+          let is = w.headers-is in
+          let items = w.in_ok-push.ensures.items in
+          cc
       | else-is_loaded w ↦
-        let test = sym c.is_loaded.ensures ∙ w.if-is_loaded.false in
-        let more = one_more_passed c.args.file.now c.headers.i c.double-table.result c.header_at-header.result c.headers.headers.items
-        c.double-table.ensures c.header_at-header.ensures test c.headers.invariant in
-        let is = w.headers-is in
-        cc
+          let test = sym c.is_loaded.ensures ∙ w.if-is_loaded.false in
+          let more = one_more_passed c.args.file.now c.headers.i c.double-table.result c.header_at-header.result c.headers.headers.items
+          c.double-table.ensures c.header_at-header.ensures test c.headers.invariant in
+          let is = w.headers-is in
+          cc
     ]

@@ -1,4 +1,4 @@
-use Rattle.std.proofs.Common.{◌≡◌, ◌-◌, ◌*◌, ◌/◌}
+use Rattle.std.proofs.Common.{◌-◌, ◌*◌, ◌/◌}
 use Rattle.elf64_load.proofs.Pages.{part_within}
 use Rattle.elf64_load.proofs.image.filled_part.Goals as goal
 

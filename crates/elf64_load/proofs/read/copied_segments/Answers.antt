@@ -1,4 +1,3 @@
-use Rattle.std.proofs.Common.{◌≡◌}
 use Rattle.sv_types.specs.Kernel.{segment_checks}
 use Rattle.elf64_load.proofs.FirstRefusals.{each_passed, inside_file}
 use Rattle.elf64_load.proofs.read.copied_segments.Goals as goal

@@ -1,4 +1,4 @@
-use Rattle.std.proofs.Common.{◌≡◌, ◌∙◌, List, sym, ap}
+use Rattle.std.proofs.Common.{◌∙◌, List, sym, ap}
 use Rattle.sv_types.specs.Kernel.{first_refusal, image_checks}
 use Rattle.sv_types.specs.declared.kernel.ProgramHeader.{ProgramHeader}
 use Rattle.elf64_load.proofs.FirstRefusals.{header_refused, segment_refused, image_judged}
