@@ -24,3 +24,4 @@ pub mod GuestView
 pub mod Console
 pub mod Clock
 pub mod Schedule
+pub mod Policies

@@ -8,7 +8,9 @@ mod effect;
 mod event;
 mod instruction;
 mod laws;
+mod module;
 mod name;
+mod policy;
 mod pte_bits;
 mod status;
 mod translation;
@@ -24,7 +26,9 @@ pub use instruction::{
     AmoOp, BranchOp, CsrOp, HyperOp, Instr, LoadOp, Op32Op, OpImm32Op, OpImmOp, OpOp, StoreOp,
 };
 pub use laws::law_rows;
+pub use module::{Bases, Site, Span};
 pub use name::{MOST_NAME_BYTES, Name};
+pub use policy::{Export, ModulePolicy, Policy};
 pub use pte_bits::PteBits;
 pub use status::Status;
 pub use translation::{Fault, GuestFault, Place};
