@@ -1,6 +1,6 @@
 -- What a policy permits, as plain data, and the limits of its values. The limits are this project's own; a relocation's
 -- kinds are those of the RISC-V ELF psABI, "Relocations".
-use Rattle.std.specs.Prelude.{ℕ, ◌+◌, ◌*◌, ◌%◌, Bool, true, ◌&&◌, ◌||◌, not, ◌==◌, nat_le, nat_lt, List, [], ◌∷◌, ◌++◌, length, map, sum, if◌then◌else◌, Option, Some, None}
+use Rattle.std.specs.Prelude.{ℕ, ◌+◌, ◌-◌, slice_get, ◌*◌, ◌%◌, Bool, true, ◌&&◌, ◌||◌, not, ◌==◌, nat_le, nat_lt, List, [], ◌∷◌, ◌++◌, length, map, sum, if◌then◌else◌, Option, Some, None}
 use Rattle.std.specs.List.{list_any}
 use Rattle.std.specs.Str.{bytes_eq}
 use Rattle.sv_types.specs.declared.module.Span.{Span}
@@ -88,6 +88,12 @@ is_exported name exports = list_any (λ e. bytes_eq e.name name) exports
 abbrev pub export_within : List Export → Export → Bool
 export_within before export = not (is_exported export.name before)
 
+abbrev pub entries_within : List ℕ → Bool
+entries_within = each_within (λ before entry. entry_within entry) []
+
+abbrev pub exports_within : List Export → Bool
+exports_within = each_within export_within []
+
 -- a page at least, and every page in RAM
 abbrev pub span_within : ℕ → Span → Bool
 span_within ram_pages span = nat_le 1 span.count && nat_le (span.first + span.count) ram_pages
@@ -133,11 +139,14 @@ site_within pages exports site =
     place_within pages site.offset && kind_within site.kind && is_aligned site.kind site.offset &&
     base_within exports site.base && anchor_within pages site.kind site.offset site.anchor
 
--- the byte behind the last of the sites
+-- the byte behind a site's field
+abbrev pub site_end : Option Site → ℕ
+site_end None = 0
+site_end (Some site) = site.offset + site_size site.kind
+
+-- the byte behind the field of the last of the sites
 abbrev pub sites_end : List Site → ℕ
-sites_end [] = 0
-sites_end (site ∷ []) = site.offset + site_size site.kind
-sites_end (_ ∷ site ∷ sites) = sites_end (site ∷ sites)
+sites_end sites = site_end (slice_get sites (length sites - 1))
 
 -- it begins behind the sites before it
 abbrev pub is_behind : List Site → Site → Bool
@@ -145,6 +154,9 @@ is_behind before site = nat_le (sites_end before) site.offset
 
 abbrev pub next_site_within : ℕ → ℕ → List Site → Site → Bool
 next_site_within pages exports before site = site_within pages exports site && is_behind before site
+
+abbrev pub sites_within : ℕ → ℕ → List Site → Bool
+sites_within pages exports = each_within (next_site_within pages exports) []
 
 -- ---- modules
 
@@ -158,7 +170,7 @@ sites_of modules = sum (map (λ m. length m.sites) modules)
 abbrev pub module_within : ℕ → List ModuleRule → ModuleRule → Bool
 module_within exports before m =
     module_pages_within m.pages && sites_count_within (sites_of before) (length m.sites) &&
-    each_within (next_site_within m.pages exports) [] m.sites && not (is_module m.name before)
+    sites_within m.pages exports m.sites && not (is_module m.name before)
 
 -- ---- the whole
 
@@ -168,7 +180,7 @@ format_within format = format == 1
 abbrev pub rules_within : Rules → Bool
 rules_within r =
     format_within r.format && harts_within r.harts && ram_pages_within r.ram_pages &&
-    (entries_count_within (length r.entries) && each_within (λ before entry. entry_within entry) [] r.entries) &&
-    (exports_count_within (length r.exports) && each_within export_within [] r.exports) &&
+    (entries_count_within (length r.entries) && entries_within r.entries) &&
+    (exports_count_within (length r.exports) && exports_within r.exports) &&
     init_within r.ram_pages r.init &&
     (modules_count_within (length r.modules) && each_within (module_within (length r.exports)) [] r.modules)
