@@ -3,12 +3,13 @@
 
 mod entries;
 mod kernel;
+mod limits;
 mod modules;
 mod refusal;
 mod sites;
 mod text;
 mod values;
-mod within;
 
-pub use text::read;
+pub use limits::within;
 pub use refusal::PolicyRefusal;
+pub use text::read;

@@ -172,15 +172,23 @@ module_within exports before m =
     module_pages_within m.pages && sites_count_within (sites_of before) (length m.sites) &&
     sites_within m.pages exports m.sites && not (is_module m.name before)
 
+abbrev pub modules_within : ℕ → List ModuleRule → Bool
+modules_within exports = each_within (module_within exports) []
+
 -- ---- the whole
 
 abbrev pub format_within : ℕ → Bool
 format_within format = format == 1
 
+abbrev pub numbers_within : Rules → Bool
+numbers_within r = format_within r.format && harts_within r.harts && ram_pages_within r.ram_pages
+
+abbrev pub lists_within : Rules → Bool
+lists_within r =
+    entries_count_within (length r.entries) && entries_within r.entries && exports_count_within (length r.exports) &&
+    exports_within r.exports
+
 abbrev pub rules_within : Rules → Bool
 rules_within r =
-    format_within r.format && harts_within r.harts && ram_pages_within r.ram_pages &&
-    (entries_count_within (length r.entries) && entries_within r.entries) &&
-    (exports_count_within (length r.exports) && exports_within r.exports) &&
-    init_within r.ram_pages r.init &&
-    (modules_count_within (length r.modules) && each_within (module_within (length r.exports)) [] r.modules)
+    numbers_within r && lists_within r && init_within r.ram_pages r.init && modules_count_within (length r.modules) &&
+    modules_within (length r.exports) r.modules

@@ -1,6 +1,6 @@
 // The limits of a policy's values.
 
-ghost use Rattle.std.specs.Prelude.{◌≡◌, ◌+◌, ◌≤◌, [], IsTrue, map, take, drop, length};
+ghost use Rattle.std.specs.Prelude.{◌≡◌, ◌+◌, ◌≤◌, IsTrue, map, length};
 ghost use Rattle.sv_types.specs.Policies as limits;
 
 use crate::entries::is_exported;
@@ -81,4 +81,66 @@ fn sites_count_within(before: usize, count: usize) -> bool
     ensures few { IsTrue result → before + count ≤ 131072 }
 {
     count <= 65_536 && before + count <= 131_072
+}
+
+fn module_within(exports: usize, before: &[ModulePolicy], sites_before: usize, m: &ModulePolicy) -> bool
+    requires few_exports { exports ≤ 4096 }
+    requires sites_of { sites_before ≡ limits.sites_of (map limits.module_rule before.now) }
+    requires few_sites { sites_before ≤ 131072 }
+    ensures value {
+        result ≡ limits.module_within exports (map limits.module_rule before.now) (limits.module_rule m.now)
+    }
+    ensures few { IsTrue result → sites_before + length m.now.sites.items ≤ 131072 }
+{
+    1 <= m.pages
+        && m.pages <= 1024
+        && sites_count_within(sites_before, m.sites.len())
+        && sites_within(m.pages, exports, m.sites.as_slice())
+        && !is_module(&m.name, before)
+}
+
+fn modules_within(exports: usize, modules: &[ModulePolicy]) -> bool
+    requires { exports ≤ 4096 }
+    ensures { result ≡ limits.modules_within exports (map limits.module_rule modules.now) }
+{
+    let mut sites = 0;
+    for (i, m) in modules.iter().enumerate() {
+        if !module_within(exports, &modules[..i], sites, m) {
+            return false;
+        }
+        sites += m.sites.len();
+    }
+    true
+}
+
+fn numbers_within(policy: &Policy) -> bool
+    ensures { result ≡ limits.numbers_within (limits.rules_of policy.now) }
+{
+    policy.format == 1
+        && 1 <= policy.harts
+        && policy.harts <= 4
+        && 16 <= policy.ram_pages
+        && policy.ram_pages <= 65_536
+}
+
+fn lists_within(policy: &Policy) -> bool
+    ensures value { result ≡ limits.lists_within (limits.rules_of policy.now) }
+    ensures few_exports { IsTrue result → length policy.now.exports.items ≤ 4096 }
+{
+    1 <= policy.entries.len()
+        && policy.entries.len() <= 64
+        && entries_within(policy.entries.as_slice())
+        && policy.exports.len() <= 4096
+        && exports_within(policy.exports.as_slice())
+}
+
+/// Each value of the policy is within its limit. True exactly where the text of these values is accepted.
+pub fn within(policy: &Policy) -> bool
+    ensures { result ≡ limits.rules_within (limits.rules_of policy.now) }
+{
+    numbers_within(policy)
+        && lists_within(policy)
+        && init_within(policy.ram_pages, policy.init)
+        && policy.modules.len() <= 64
+        && modules_within(policy.exports.len(), policy.modules.as_slice())
 }
