@@ -1,5 +1,5 @@
 -- Sixteen hexadecimal digits write a number of 64 bits.
-use Rattle.std.proofs.Common.{◌≡◌, ℕ, zero, suc, ◌+◌, ◌*◌, ◌^◌, ◌<◌, ◌≤◌, refl, arith, add-one}
+use Rattle.std.proofs.Common.{ℕ, ◌+◌, ◌*◌, ◌^◌, ◌<◌, ◌≤◌, arith}
 use Rattle.std.proofs.Math.Nat.{pow-le-pow_right}
 
 pub one_more_digit : (value digit i : ℕ) → value < 16 ^ i → digit < 16 → i < 16 → 16 * value + digit < 2 ^ 64

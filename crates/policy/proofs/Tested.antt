@@ -1,5 +1,5 @@
 -- Lists whose items are tested one after another.
-use Rattle.std.proofs.Common.{◌≡◌, ℕ, ◌+◌, ◌<◌, Bool, true, false, ◌&&◌, List, [], ◌∷◌, ◌++◌, length, take, drop, map, get_or, refl, sym, ◌∙◌, ap}
+use Rattle.std.proofs.Common.{◌≡◌, ℕ, ◌+◌, ◌<◌, Bool, true, false, ◌&&◌, List, length, take, drop, get_or, sym, ◌∙◌, ap}
 use Rattle.std.proofs.lemmas.List.{drop_more, take_more}
 use Rattle.sv_types.specs.Policies.{each_within}
 

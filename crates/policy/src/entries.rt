@@ -55,7 +55,11 @@ pub fn is_exported(name: &Name, exports: &[Export]) -> bool
 }
 
 #[tactic(auto, unfolding(crate::specs::Text::export_of_two))]
-fn export_of_two(before: &[Export], name_value: &Value, addr_value: &Value) -> Result<Export, PolicyRefusal>
+fn export_of_two(
+    before: &[Export],
+    name_value: &Value,
+    addr_value: &Value,
+) -> Result<Export, PolicyRefusal>
     ensures { result ≡ spec.export_of_two before.now (view name_value.now) (view addr_value.now) }
 {
     let name = name(name_value)?;

@@ -7,6 +7,8 @@ mod limits;
 mod modules;
 mod refusal;
 mod sites;
+#[cfg(test)]
+mod tests;
 mod text;
 mod values;
 

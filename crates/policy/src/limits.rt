@@ -83,13 +83,16 @@ fn sites_count_within(before: usize, count: usize) -> bool
     count <= 65_536 && before + count <= 131_072
 }
 
-fn module_within(exports: usize, before: &[ModulePolicy], sites_before: usize, m: &ModulePolicy) -> bool
+fn module_within(
+    exports: usize,
+    before: &[ModulePolicy],
+    sites_before: usize,
+    m: &ModulePolicy,
+) -> bool
     requires few_exports { exports ≤ 4096 }
     requires sites_of { sites_before ≡ limits.sites_of (map limits.module_rule before.now) }
     requires few_sites { sites_before ≤ 131072 }
-    ensures value {
-        result ≡ limits.module_within exports (map limits.module_rule before.now) (limits.module_rule m.now)
-    }
+    ensures value { result ≡ limits.module_within exports (map limits.module_rule before.now) (limits.module_rule m.now) }
     ensures few { IsTrue result → sites_before + length m.now.sites.items ≤ 131072 }
 {
     1 <= m.pages

@@ -61,7 +61,10 @@ pub fn key_measure(table: &Table) -> Result<[u8; 32], PolicyRefusal>
     measure(value)
 }
 
-fn unrepeated(before: &[ModulePolicy], candidate: ModulePolicy) -> Result<ModulePolicy, PolicyRefusal>
+fn unrepeated(
+    before: &[ModulePolicy],
+    candidate: ModulePolicy,
+) -> Result<ModulePolicy, PolicyRefusal>
     ensures { judged_map limits.module_rule result ≡ spec.unrepeated_module (map limits.module_rule before.now) (limits.module_rule candidate) }
 {
     if is_module(&candidate.name, before) {
@@ -71,18 +74,20 @@ fn unrepeated(before: &[ModulePolicy], candidate: ModulePolicy) -> Result<Module
 }
 
 #[tactic(auto, unfolding(crate::specs::Text::module_of_members))]
-fn module_of_members(alloc: Global, exports: usize, before: &[ModulePolicy], sites_before: usize, table: &Table) -> Result<ModulePolicy, PolicyRefusal>
+fn module_of_members(
+    alloc: Global,
+    exports: usize,
+    before: &[ModulePolicy],
+    sites_before: usize,
+    table: &Table,
+) -> Result<ModulePolicy, PolicyRefusal>
     requires few_exports { exports ≤ 4096 }
     requires sites_of { sites_before ≡ limits.sites_of (map limits.module_rule before.now) }
     requires few_sites { sites_before ≤ 131072 }
-    ensures ok {
-        IfOk result (λ m.
-            spec.module_of_members exports (map limits.module_rule before.now) (table_view table.now)
-                ≡ Ok (limits.module_rule m))
-    }
-    ensures refused {
-        IfErr result (Refuses (spec.module_of_members exports (map limits.module_rule before.now) (table_view table.now)))
-    }
+    ensures ok { IfOk result (λ m.
+        spec.module_of_members exports (map limits.module_rule before.now) (table_view table.now)
+        ≡ Ok (limits.module_rule m)) }
+    ensures refused { IfErr result (Refuses (spec.module_of_members exports (map limits.module_rule before.now) (table_view table.now))) }
     ensures few { IfOk result (λ m. sites_before + length m.sites.items ≤ 131072) }
 {
     let name = key_name(table)?;
@@ -90,20 +95,30 @@ fn module_of_members(alloc: Global, exports: usize, before: &[ModulePolicy], sit
     let measure = key_measure(table)?;
     let list = required(table, "sites")?;
     let sites = sites(alloc, Bounds { pages, exports }, sites_before, list)?;
-    unrepeated(before, ModulePolicy { name, pages, measure, sites })
+    unrepeated(
+        before,
+        ModulePolicy {
+            name,
+            pages,
+            measure,
+            sites,
+        },
+    )
 }
 
-fn module(alloc: Global, exports: usize, before: &[ModulePolicy], sites_before: usize, value: &Value) -> Result<ModulePolicy, PolicyRefusal>
+fn module(
+    alloc: Global,
+    exports: usize,
+    before: &[ModulePolicy],
+    sites_before: usize,
+    value: &Value,
+) -> Result<ModulePolicy, PolicyRefusal>
     requires few_exports { exports ≤ 4096 }
     requires sites_of { sites_before ≡ limits.sites_of (map limits.module_rule before.now) }
     requires few_sites { sites_before ≤ 131072 }
-    ensures ok {
-        IfOk result (λ m.
-            spec.module_of exports (map limits.module_rule before.now) (view value.now) ≡ Ok (limits.module_rule m))
-    }
-    ensures refused {
-        IfErr result (Refuses (spec.module_of exports (map limits.module_rule before.now) (view value.now)))
-    }
+    ensures ok { IfOk result (λ m.
+        spec.module_of exports (map limits.module_rule before.now) (view value.now) ≡ Ok (limits.module_rule m)) }
+    ensures refused { IfErr result (Refuses (spec.module_of exports (map limits.module_rule before.now) (view value.now))) }
     ensures few { IfOk result (λ m. sites_before + length m.sites.items ≤ 131072) }
 {
     let table = members(value)?;
@@ -111,12 +126,14 @@ fn module(alloc: Global, exports: usize, before: &[ModulePolicy], sites_before: 
     module_of_members(alloc, exports, before, sites_before, table)
 }
 
-fn each_module(alloc: Global, exports: usize, items: &[Value]) -> Result<Vec<ModulePolicy>, PolicyRefusal>
+fn each_module(
+    alloc: Global,
+    exports: usize,
+    items: &[Value],
+) -> Result<Vec<ModulePolicy>, PolicyRefusal>
     requires { exports ≤ 4096 }
-    ensures ok {
-        IfOk result (λ modules.
-            spec.each_module exports [] (items_view items.now) ≡ Ok (map limits.module_rule modules.items))
-    }
+    ensures ok { IfOk result (λ modules.
+        spec.each_module exports [] (items_view items.now) ≡ Ok (map limits.module_rule modules.items)) }
     ensures refused { IfErr result (Refuses (spec.each_module exports [] (items_view items.now))) }
 {
     let mut modules = Vec::new(alloc);
@@ -130,11 +147,13 @@ fn each_module(alloc: Global, exports: usize, items: &[Value]) -> Result<Vec<Mod
 }
 
 #[tactic(auto, using(crate::proofs::Lists::items_length_view))]
-fn some_modules(alloc: Global, exports: usize, value: &Value) -> Result<Vec<ModulePolicy>, PolicyRefusal>
+fn some_modules(
+    alloc: Global,
+    exports: usize,
+    value: &Value,
+) -> Result<Vec<ModulePolicy>, PolicyRefusal>
     requires { exports ≤ 4096 }
-    ensures ok {
-        IfOk result (λ modules. spec.some_modules_of exports (view value.now) ≡ Ok (map limits.module_rule modules.items))
-    }
+    ensures ok { IfOk result (λ modules. spec.some_modules_of exports (view value.now) ≡ Ok (map limits.module_rule modules.items)) }
     ensures refused { IfErr result (Refuses (spec.some_modules_of exports (view value.now))) }
 {
     let items = items(value)?;
@@ -145,12 +164,14 @@ fn some_modules(alloc: Global, exports: usize, value: &Value) -> Result<Vec<Modu
 }
 
 /// The modules. None are listed where the key is missing.
-pub fn modules(alloc: Global, exports: usize, value: Option<&Value>) -> Result<Vec<ModulePolicy>, PolicyRefusal>
+pub fn modules(
+    alloc: Global,
+    exports: usize,
+    value: Option<&Value>,
+) -> Result<Vec<ModulePolicy>, PolicyRefusal>
     requires { exports ≤ 4096 }
-    ensures ok {
-        IfOk result (λ modules.
-            spec.modules_of exports (option_map (λ v. view v.now) value.entry) ≡ Ok (map limits.module_rule modules.items))
-    }
+    ensures ok { IfOk result (λ modules.
+        spec.modules_of exports (option_map (λ v. view v.now) value.entry) ≡ Ok (map limits.module_rule modules.items)) }
     ensures refused { IfErr result (Refuses (spec.modules_of exports (option_map (λ v. view v.now) value.entry))) }
 {
     match value {

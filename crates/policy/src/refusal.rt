@@ -35,11 +35,19 @@ impl<T: Drop> From<AllocFailed<T>> for PolicyRefusal {
 }
 
 pub const NOT_TOML: PolicyRefusal = PolicyRefusal::Number(1);
+
 pub const MISSING_KEY: PolicyRefusal = PolicyRefusal::Number(2);
+
 pub const UNKNOWN_KEY: PolicyRefusal = PolicyRefusal::Number(3);
+
 pub const WRONG_KIND: PolicyRefusal = PolicyRefusal::Number(4);
+
 pub const BAD_HEXADECIMAL: PolicyRefusal = PolicyRefusal::Number(5);
+
 pub const BEYOND_LIMIT: PolicyRefusal = PolicyRefusal::Number(6);
+
 pub const REPEATED_NAME: PolicyRefusal = PolicyRefusal::Number(7);
+
 pub const OTHER_FORMAT: PolicyRefusal = PolicyRefusal::Number(8);
+
 pub const NOT_ASCENDING: PolicyRefusal = PolicyRefusal::Number(9);

@@ -156,11 +156,9 @@ fn site_of_five(
     addend_value: &Value,
     anchor_value: &Value,
 ) -> Result<Site, PolicyRefusal>
-    ensures {
-        result
-            ≡ spec.site_of_five bounds.pages bounds.exports before.now (view offset_value.now) (view kind_value.now)
-                (view base_value.now) (view addend_value.now) (view anchor_value.now)
-    }
+    ensures { result
+        ≡ spec.site_of_five bounds.pages bounds.exports before.now (view offset_value.now) (view kind_value.now)
+        (view base_value.now) (view addend_value.now) (view anchor_value.now) }
 {
     let offset = offset(bounds.pages, offset_value)?;
     let kind = kind(kind_value)?;
@@ -168,7 +166,13 @@ fn site_of_five(
     let base = base(bounds.exports, base_value)?;
     let addend = integer(addend_value)?;
     let anchor = anchor(bounds.pages, kind, offset, anchor_value)?;
-    let site = Site { offset, kind, base, addend, anchor };
+    let site = Site {
+        offset,
+        kind,
+        base,
+        addend,
+        anchor,
+    };
     in_order(before, site)
 }
 
@@ -176,7 +180,9 @@ fn site_of_items(bounds: Bounds, before: &[Site], items: &[Value]) -> Result<Sit
     ensures { result ≡ spec.site_of_items bounds.pages bounds.exports before.now (items_view items.now) }
 {
     match items {
-        [offset, kind, base, addend, anchor] => site_of_five(bounds, before, offset, kind, base, addend, anchor),
+        [offset, kind, base, addend, anchor] => site_of_five(
+            bounds, before, offset, kind, base, addend, anchor,
+        ),
         _ => Err(WRONG_KIND),
     }
 }
@@ -203,7 +209,12 @@ fn each_site(alloc: Global, bounds: Bounds, items: &[Value]) -> Result<Vec<Site>
 
 /// The sites of a module. `before` is the number of sites of the modules before it.
 #[tactic(auto, using(crate::proofs::Lists::items_length_view))]
-pub fn sites(alloc: Global, bounds: Bounds, before: usize, value: &Value) -> Result<Vec<Site>, PolicyRefusal>
+pub fn sites(
+    alloc: Global,
+    bounds: Bounds,
+    before: usize,
+    value: &Value,
+) -> Result<Vec<Site>, PolicyRefusal>
     requires { before ≤ 131072 }
     ensures ok { IfOk result (λ sites. spec.sites_in bounds.pages bounds.exports before (view value.now) ≡ Ok sites.items) }
     ensures few { IfOk result (λ sites. before + length sites.items ≤ 131072) }

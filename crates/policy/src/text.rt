@@ -61,7 +61,15 @@ fn key_entries(alloc: Global, table: &Table) -> Result<Vec<u64>, PolicyRefusal>
 fn known_keys(table: &Table) -> Result<&Table, PolicyRefusal>
     ensures { judged_map (λ m. table_view m.now) result ≡ spec.known_keys (table_view table.now) }
 {
-    let keys = ["format", "harts", "ram_pages", "entries", "exports", "kernel", "module"];
+    let keys = [
+        "format",
+        "harts",
+        "ram_pages",
+        "entries",
+        "exports",
+        "kernel",
+        "module",
+    ];
     with_known(keys.as_slice(), table)
 }
 
