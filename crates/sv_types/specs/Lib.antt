@@ -29,3 +29,4 @@ pub mod Hardware
 pub mod HardwareMemory
 pub mod HardwareAttempt
 pub mod Kernel
+pub mod Policies

@@ -1,0 +1,6 @@
+pub mod Tables
+pub mod Digits
+pub mod Lists
+pub mod Lengths
+pub mod Texts
+pub mod Tested

@@ -1,0 +1,19 @@
+-- Bytes that are a text, and bytes that are none.
+use Rattle.std.proofs.Common.{◌≡◌, ℕ, List, Err, ok_or, inl, inr}
+use Rattle.std.specs.Prelude.{IsUtf8}
+use Rattle.std.specs.Str.{is_utf8}
+use Rattle.std.proofs.lemmas.Bool.{cases_Bool}
+use Rattle.std.proofs.lemmas.Str.{is_utf8-from_IsUtf8, IsUtf8-from_is_utf8}
+use Rattle.toml.specs.Parse.{parse_document}
+use Rattle.policy.specs.Refusals.{not_toml}
+use Rattle.policy.specs.Text.{table_of_text}
+
+pub table_of_valid : (bytes : List ℕ) → IsUtf8 bytes → table_of_text bytes ≡ ok_or (parse_document bytes) not_toml
+table_of_valid bytes is = rw (is_utf8-from_IsUtf8 bytes is)
+
+pub table_of_invalid : (bytes : List ℕ) → ¬ (IsUtf8 bytes) → table_of_text bytes ≡ Err not_toml
+table_of_invalid bytes isnt =
+    elim (cases_Bool (is_utf8 bytes)) [
+      | inl is ↦ absurd (isnt (IsUtf8-from_is_utf8 bytes is))
+      | inr other ↦ rw other
+    ]

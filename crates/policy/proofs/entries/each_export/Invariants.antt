@@ -1,0 +1,10 @@
+use Rattle.std.proofs.Common.{◌≡◌, [], drop, length}
+use Rattle.toml.specs.View.{items_view}
+use Rattle.policy.specs.Text.{each_export}
+use Rattle.policy.proofs.entries.each_export.Given as goal
+
+abbrev pub invariant-loop-item : goal.invariant-loop-item
+invariant-loop-item l = record {
+  rest : each_export l.exports.items (items_view (drop l.item-index l.items)) ≡ each_export [] (items_view l.items);
+  count : length l.exports.items ≡ l.item-index;
+}

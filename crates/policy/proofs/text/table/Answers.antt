@@ -1,0 +1,14 @@
+use Rattle.std.proofs.Common.{◌≡◌, ◌∙◌, ap, ok_or, Some}
+use Rattle.toml.specs.Parse.{parse_document}
+use Rattle.toml.specs.View.{table_view}
+use Rattle.policy.specs.Refusals.{not_toml}
+use Rattle.policy.proofs.Texts.{table_of_valid, table_of_invalid}
+use Rattle.policy.proofs.text.table.Goals as goal
+
+pub returns-in-Err-clause-refused : goal.returns-in-Err-clause-refused
+returns-in-Err-clause-refused c = λ _. table_of_invalid c.args.bytes.now c.in-Err.ensures.cases.0
+
+pub returns-in-Ok-table_from_str-clause-ok : goal.returns-in-Ok-table_from_str-clause-ok
+returns-in-Ok-table_from_str-clause-ok c =
+    let read : parse_document c.args.bytes.now ≡ Some (table_view c.in-Ok-table_from_str.table) = rw (← c.in-Ok.ensures.cases.0) c.in-Ok-table_from_str.ensures.ok in
+    table_of_valid c.args.bytes.now c.in-Ok.ensures.cases.1 ∙ ap (λ o. ok_or o not_toml) read

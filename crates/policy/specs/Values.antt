@@ -1,0 +1,87 @@
+-- Values of a policy's table, each by its kind.
+-- TOML 1.0; hexadecimal digits are those of ISO/IEC 646 (ASCII); the limits are this project's own.
+use Rattle.std.specs.Prelude.{ℕ, suc, ◌+◌, ◌*◌, ℤ, pos, negsuc, Bool, true, false, ◌&&◌, ◌||◌, not, nat_le, List, [], ◌∷◌, ◌++◌, length, take, drop, codes, if◌then◌else◌, ok_or, Ok, Err}
+use Rattle.std.specs.List.{list_any, list_all}
+use Rattle.std.specs.Str.{bytes_eq}
+use Rattle.std.specs.Char.{is_ascii_hexdigit, digit_value}
+use Rattle.toml.specs.Data.{Data, Items, no_items, item, Members, no_members, member, get_member, as_integer, as_str, as_array, as_table}
+use Rattle.sv_types.specs.Numbers.{digest_of}
+use Rattle.policy.specs.Refusals.{Judged, ◌>>=◌, missing_key, unknown_key, wrong_kind, bad_hexadecimal, beyond_limit}
+
+abbrev pub required : List ℕ → Members → Judged Data
+required key members = ok_or (get_member key members) missing_key
+
+abbrev pub integer_of : Data → Judged ℤ
+integer_of d = ok_or (as_integer d) wrong_kind
+
+abbrev pub text_of : Data → Judged (List ℕ)
+text_of d = ok_or (as_str d) wrong_kind
+
+abbrev pub items_in : Data → Judged Items
+items_in d = ok_or (as_array d) wrong_kind
+
+abbrev pub members_in : Data → Judged Members
+members_in d = ok_or (as_table d) wrong_kind
+
+-- the value, if it passes its limit
+abbrev pub limited : {A : Type 0} → Bool → A → Judged A
+limited true a = Ok a
+limited false a = Err beyond_limit
+
+abbrev pub whole : ℤ → Judged ℕ
+whole (pos n) = Ok n
+whole (negsuc n) = Err beyond_limit
+
+abbrev pub natural_of : Data → Judged ℕ
+natural_of d = integer_of d >>= whole
+
+abbrev pub number_of : (ℕ → Bool) → Data → Judged ℕ
+number_of fits d = natural_of d >>= λ n. limited (fits n) n
+
+-- 1 to 64 bytes
+abbrev pub name_within : List ℕ → Bool
+name_within name = nat_le 1 (length name) && nat_le (length name) 64
+
+abbrev pub name_of : Data → Judged (List ℕ)
+name_of d = text_of d >>= λ text. limited (name_within text) text
+
+-- the number that hexadecimal digits write, onto the digits before them
+abbrev pub hexadecimal_value : ℕ → List ℕ → ℕ
+hexadecimal_value before [] = before
+hexadecimal_value before (digit ∷ digits) = hexadecimal_value (16 * before + digit_value digit) digits
+
+-- 1 to 16 hexadecimal digits of either case
+abbrev pub is_hexadecimal : List ℕ → Bool
+is_hexadecimal digits = nat_le 1 (length digits) && nat_le (length digits) 16 && list_all is_ascii_hexdigit digits
+
+abbrev pub hexadecimal_number : List ℕ → Judged ℕ
+hexadecimal_number digits = if is_hexadecimal digits then Ok (hexadecimal_value 0 digits) else Err bad_hexadecimal
+
+-- hexadecimal digits behind `0x`
+abbrev pub address_number : List ℕ → Judged ℕ
+address_number text = if bytes_eq (take 2 text) (codes "0x") then hexadecimal_number (drop 2 text) else Err bad_hexadecimal
+
+abbrev pub address_of : Data → Judged ℕ
+address_of d = text_of d >>= address_number
+
+-- a digest's bytes
+abbrev pub measure_of : Data → Judged (List ℕ)
+measure_of d = text_of d >>= λ text. ok_or (digest_of text) bad_hexadecimal
+
+-- some key is none of these
+abbrev pub has_unknown : List (List ℕ) → Members → Bool
+has_unknown keys no_members = false
+has_unknown keys (member key d members) = not (list_any (bytes_eq key) keys) || has_unknown keys members
+
+-- the members, if each key is one of these
+abbrev pub with_known : List (List ℕ) → Members → Judged Members
+with_known keys members = if has_unknown keys members then Err unknown_key else Ok members
+
+abbrev pub items_length : Items → ℕ
+items_length no_items = 0
+items_length (item d items) = suc (items_length items)
+
+-- each item is judged beside those before it
+abbrev pub each_item : {A : Type 0} → (List A → Data → Judged A) → List A → Items → Judged (List A)
+each_item judged before no_items = Ok before
+each_item judged before (item d items) = judged before d >>= λ a. each_item judged (before ++ a ∷ []) items

@@ -1,0 +1,125 @@
+// Permitted entries and exports.
+
+ghost use Rattle.std.specs.Prelude.{◌≡◌, ◌≤◌, length, [], IfOk, IfErr, option_map};
+ghost use Rattle.sv_types.specs.Policies.{is_exported};
+ghost use Rattle.toml.specs.View.{view, items_view};
+ghost use Rattle.policy.specs.Refusals.{Refuses};
+ghost use Rattle.policy.specs.Text as spec;
+
+use crate::refusal::{BEYOND_LIMIT, PolicyRefusal, REPEATED_NAME, WRONG_KIND};
+use crate::values::{address, items, name};
+use std::alloc::Global;
+use sv_types::{Export, Name};
+use toml::Value;
+
+fn entry(value: &Value) -> Result<u64, PolicyRefusal>
+    ensures { result ≡ spec.entry_of (view value.now) }
+{
+    let address = address(value)?;
+    if address % 4 != 0 {
+        return Err(BEYOND_LIMIT);
+    }
+    Ok(address)
+}
+
+fn each_entry(alloc: Global, items: &[Value]) -> Result<Vec<u64>, PolicyRefusal>
+    ensures ok { IfOk result (λ entries. spec.each_entry [] (items_view items.now) ≡ Ok entries.items) }
+    ensures refused { IfErr result (Refuses (spec.each_entry [] (items_view items.now))) }
+{
+    let mut entries = Vec::new(alloc);
+    for item in items {
+        let entry = entry(item)?;
+        entries.push(entry)?;
+    }
+    Ok(entries)
+}
+
+#[tactic(auto, using(crate::proofs::Lists::items_length_view))]
+pub fn entries(alloc: Global, value: &Value) -> Result<Vec<u64>, PolicyRefusal>
+    ensures ok { IfOk result (λ entries. spec.entries_of (view value.now) ≡ Ok entries.items) }
+    ensures refused { IfErr result (Refuses (spec.entries_of (view value.now))) }
+{
+    let items = items(value)?;
+    if items.len() < 1 || items.len() > 64 {
+        return Err(BEYOND_LIMIT);
+    }
+    each_entry(alloc, items)
+}
+
+pub fn is_exported(name: &Name, exports: &[Export]) -> bool
+    ensures { result ≡ is_exported name.now exports.now }
+{
+    exports
+        .iter()
+        .any(|export| export.name.text() == name.text())
+}
+
+#[tactic(auto, unfolding(crate::specs::Text::export_of_two))]
+fn export_of_two(
+    before: &[Export],
+    name_value: &Value,
+    addr_value: &Value,
+) -> Result<Export, PolicyRefusal>
+    ensures { result ≡ spec.export_of_two before.now (view name_value.now) (view addr_value.now) }
+{
+    let name = name(name_value)?;
+    let addr = address(addr_value)?;
+    if is_exported(&name, before) {
+        return Err(REPEATED_NAME);
+    }
+    Ok(Export { name, addr })
+}
+
+fn export_of_items(before: &[Export], items: &[Value]) -> Result<Export, PolicyRefusal>
+    ensures { result ≡ spec.export_of_items before.now (items_view items.now) }
+{
+    match items {
+        [name, addr] => export_of_two(before, name, addr),
+        _ => Err(WRONG_KIND),
+    }
+}
+
+fn export(before: &[Export], value: &Value) -> Result<Export, PolicyRefusal>
+    ensures { result ≡ spec.export_of before.now (view value.now) }
+{
+    let items = items(value)?;
+    export_of_items(before, items)
+}
+
+fn each_export(alloc: Global, items: &[Value]) -> Result<Vec<Export>, PolicyRefusal>
+    ensures ok { IfOk result (λ exports. spec.each_export [] (items_view items.now) ≡ Ok exports.items) }
+    ensures count { IfOk result (λ exports. length exports.items ≡ length items.now) }
+    ensures refused { IfErr result (Refuses (spec.each_export [] (items_view items.now))) }
+{
+    let mut exports = Vec::new(alloc);
+    for item in items {
+        let export = export(exports.as_slice(), item)?;
+        exports.push(export)?;
+    }
+    Ok(exports)
+}
+
+#[tactic(auto, using(crate::proofs::Lists::items_length_view))]
+fn some_exports(alloc: Global, value: &Value) -> Result<Vec<Export>, PolicyRefusal>
+    ensures ok { IfOk result (λ exports. spec.some_exports_of (view value.now) ≡ Ok exports.items) }
+    ensures few { IfOk result (λ exports. length exports.items ≤ 4096) }
+    ensures refused { IfErr result (Refuses (spec.some_exports_of (view value.now))) }
+{
+    let items = items(value)?;
+    if items.len() > 4096 {
+        return Err(BEYOND_LIMIT);
+    }
+    each_export(alloc, items)
+}
+
+/// The exports. None are listed where the key is missing.
+pub fn exports(alloc: Global, value: Option<&Value>) -> Result<Vec<Export>, PolicyRefusal>
+    ensures ok { IfOk result (λ exports. spec.exports_of (option_map (λ v. view v.now) value.entry) ≡ Ok exports.items) }
+    ensures few { IfOk result (λ exports. length exports.items ≤ 4096) }
+    ensures refused { IfErr result (Refuses (spec.exports_of (option_map (λ v. view v.now) value.entry))) }
+{
+    match value {
+        None => Ok(Vec::new(alloc)),
+        Some(value) => some_exports(alloc, value),
+    }
+}

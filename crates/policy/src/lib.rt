@@ -1,0 +1,17 @@
+//! The policy: its limits, and its text.
+#![tactic(auto)]
+
+mod entries;
+mod kernel;
+mod limits;
+mod modules;
+mod refusal;
+mod sites;
+#[cfg(test)]
+mod tests;
+mod text;
+mod values;
+
+pub use limits::within;
+pub use refusal::PolicyRefusal;
+pub use text::read;

@@ -1,0 +1,149 @@
+// The limits of a policy's values.
+
+ghost use Rattle.std.specs.Prelude.{◌≡◌, ◌+◌, ◌≤◌, IsTrue, map, length};
+ghost use Rattle.sv_types.specs.Policies as limits;
+
+use crate::entries::is_exported;
+use crate::modules::is_module;
+use crate::sites::{is_aligned, is_anchor, is_behind, is_kind, is_place};
+use sv_types::{Export, ModulePolicy, Policy, Site, Span};
+
+fn entries_within(entries: &[u64]) -> bool
+    ensures { result ≡ limits.entries_within entries.now }
+{
+    for entry in entries {
+        if *entry % 4 != 0 {
+            return false;
+        }
+    }
+    true
+}
+
+fn exports_within(exports: &[Export]) -> bool
+    ensures { result ≡ limits.exports_within exports.now }
+{
+    for (i, export) in exports.iter().enumerate() {
+        if is_exported(&export.name, &exports[..i]) {
+            return false;
+        }
+    }
+    true
+}
+
+fn span_within(ram_pages: u32, span: Span) -> bool
+    ensures { result ≡ limits.span_within ram_pages span }
+{
+    1 <= span.count && u64::from(span.first) + u64::from(span.count) <= u64::from(ram_pages)
+}
+
+fn init_within(ram_pages: u32, init: Option<Span>) -> bool
+    ensures { result ≡ limits.init_within ram_pages init }
+{
+    match init {
+        None => true,
+        Some(span) => span_within(ram_pages, span),
+    }
+}
+
+fn base_within(exports: usize, base: u16) -> bool
+    requires { exports ≤ 4096 }
+    ensures { result ≡ limits.base_within exports base }
+{
+    usize::from(base) < 3 + exports
+}
+
+fn site_within(pages: u32, exports: usize, site: Site) -> bool
+    requires { exports ≤ 4096 }
+    ensures { result ≡ limits.site_within pages exports site }
+{
+    is_place(pages, u64::from(site.offset))
+        && is_kind(u64::from(site.kind))
+        && is_aligned(site.kind, site.offset)
+        && base_within(exports, site.base)
+        && is_anchor(pages, site.kind, site.offset, u64::from(site.anchor))
+}
+
+fn sites_within(pages: u32, exports: usize, sites: &[Site]) -> bool
+    requires { exports ≤ 4096 }
+    ensures { result ≡ limits.sites_within pages exports sites.now }
+{
+    for (i, site) in sites.iter().enumerate() {
+        if !site_within(pages, exports, *site) || !is_behind(&sites[..i], site) {
+            return false;
+        }
+    }
+    true
+}
+
+fn sites_count_within(before: usize, count: usize) -> bool
+    requires { before ≤ 131072 }
+    ensures value { result ≡ limits.sites_count_within before count }
+    ensures few { IsTrue result → before + count ≤ 131072 }
+{
+    count <= 65_536 && before + count <= 131_072
+}
+
+fn module_within(
+    exports: usize,
+    before: &[ModulePolicy],
+    sites_before: usize,
+    m: &ModulePolicy,
+) -> bool
+    requires few_exports { exports ≤ 4096 }
+    requires sites_of { sites_before ≡ limits.sites_of (map limits.module_rule before.now) }
+    requires few_sites { sites_before ≤ 131072 }
+    ensures value { result ≡ limits.module_within exports (map limits.module_rule before.now) (limits.module_rule m.now) }
+    ensures few { IsTrue result → sites_before + length m.now.sites.items ≤ 131072 }
+{
+    1 <= m.pages
+        && m.pages <= 1024
+        && sites_count_within(sites_before, m.sites.len())
+        && sites_within(m.pages, exports, m.sites.as_slice())
+        && !is_module(&m.name, before)
+}
+
+fn modules_within(exports: usize, modules: &[ModulePolicy]) -> bool
+    requires { exports ≤ 4096 }
+    ensures { result ≡ limits.modules_within exports (map limits.module_rule modules.now) }
+{
+    let mut sites = 0;
+    for (i, m) in modules.iter().enumerate() {
+        if !module_within(exports, &modules[..i], sites, m) {
+            return false;
+        }
+        sites += m.sites.len();
+    }
+    true
+}
+
+fn numbers_within(policy: &Policy) -> bool
+    ensures { result ≡ limits.numbers_within (limits.rules_of policy.now) }
+{
+    policy.format == 1
+        && 1 <= policy.harts
+        && policy.harts <= 4
+        && 16 <= policy.ram_pages
+        && policy.ram_pages <= 65_536
+}
+
+fn lists_within(policy: &Policy) -> bool
+    ensures value { result ≡ limits.lists_within (limits.rules_of policy.now) }
+    ensures few_exports { IsTrue result → length policy.now.exports.items ≤ 4096 }
+{
+    1 <= policy.entries.len()
+        && policy.entries.len() <= 64
+        && entries_within(policy.entries.as_slice())
+        && policy.exports.len() <= 4096
+        && exports_within(policy.exports.as_slice())
+}
+
+/// Each value of the policy is within its limit. True exactly where the text of these values is accepted.
+pub fn within(policy: &Policy) -> bool
+    ensures { result ≡ limits.rules_within (limits.rules_of policy.now) }
+{
+    numbers_within(policy)
+        && lists_within(policy)
+        && init_within(policy.ram_pages, policy.init)
+        && policy.modules.len() <= 64
+        && modules_within(policy.exports.len(), policy.modules.as_slice())
+}

@@ -1,0 +1,181 @@
+// The modules that may be loaded.
+
+ghost use Rattle.std.specs.Prelude.{◌≡◌, ◌+◌, ◌≤◌, [], IfOk, IfErr, option_map, map, length};
+ghost use Rattle.std.specs.List.{list_any};
+ghost use Rattle.std.specs.Str.{bytes_eq};
+ghost use Rattle.sv_types.specs.Policies as limits;
+ghost use Rattle.toml.specs.View.{view, table_view, items_view};
+ghost use Rattle.policy.specs.Refusals.{Refuses, judged_map};
+ghost use Rattle.policy.specs.Text as spec;
+
+use crate::refusal::{BEYOND_LIMIT, PolicyRefusal, REPEATED_NAME};
+use crate::sites::{Bounds, sites};
+use crate::values::{items, measure, members, name, natural, required, with_known};
+use std::alloc::Global;
+use sv_types::{ModulePolicy, Name};
+use toml::{Table, Value};
+
+fn module_pages(value: &Value) -> Result<u32, PolicyRefusal>
+    ensures value { result ≡ spec.module_pages_of (view value.now) }
+    ensures within { IfOk result (λ pages. pages ≤ 1024) }
+{
+    let pages = natural(value)?;
+    if pages < 1 || pages > 1024 {
+        return Err(BEYOND_LIMIT);
+    }
+    Ok(pages as u32)
+}
+
+fn has_name(name: &Name, modules: &[ModulePolicy]) -> bool
+    ensures { result ≡ list_any (λ m. bytes_eq m.name name.now) modules.now }
+{
+    modules.iter().any(|m| m.name.text() == name.text())
+}
+
+#[tactic(auto, using(crate::proofs::Tables::is_module_of_rules))]
+pub fn is_module(name: &Name, modules: &[ModulePolicy]) -> bool
+    ensures { result ≡ limits.is_module name.now (map limits.module_rule modules.now) }
+{
+    has_name(name, modules)
+}
+
+fn key_name(table: &Table) -> Result<Name, PolicyRefusal>
+    ensures { result ≡ spec.key_name (table_view table.now) }
+{
+    let value = required(table, "name")?;
+    name(value)
+}
+
+fn key_pages(table: &Table) -> Result<u32, PolicyRefusal>
+    ensures value { result ≡ spec.key_pages (table_view table.now) }
+    ensures within { IfOk result (λ pages. pages ≤ 1024) }
+{
+    let value = required(table, "pages")?;
+    module_pages(value)
+}
+
+pub fn key_measure(table: &Table) -> Result<[u8; 32], PolicyRefusal>
+    ensures { result ≡ spec.key_measure (table_view table.now) }
+{
+    let value = required(table, "measure")?;
+    measure(value)
+}
+
+fn unrepeated(
+    before: &[ModulePolicy],
+    candidate: ModulePolicy,
+) -> Result<ModulePolicy, PolicyRefusal>
+    ensures { judged_map limits.module_rule result ≡ spec.unrepeated_module (map limits.module_rule before.now) (limits.module_rule candidate) }
+{
+    if is_module(&candidate.name, before) {
+        return Err(REPEATED_NAME);
+    }
+    Ok(candidate)
+}
+
+#[tactic(auto, unfolding(crate::specs::Text::module_of_members))]
+fn module_of_members(
+    alloc: Global,
+    exports: usize,
+    before: &[ModulePolicy],
+    sites_before: usize,
+    table: &Table,
+) -> Result<ModulePolicy, PolicyRefusal>
+    requires few_exports { exports ≤ 4096 }
+    requires sites_of { sites_before ≡ limits.sites_of (map limits.module_rule before.now) }
+    requires few_sites { sites_before ≤ 131072 }
+    ensures ok { IfOk result (λ m.
+        spec.module_of_members exports (map limits.module_rule before.now) (table_view table.now)
+        ≡ Ok (limits.module_rule m)) }
+    ensures refused { IfErr result (Refuses (spec.module_of_members exports (map limits.module_rule before.now) (table_view table.now))) }
+    ensures few { IfOk result (λ m. sites_before + length m.sites.items ≤ 131072) }
+{
+    let name = key_name(table)?;
+    let pages = key_pages(table)?;
+    let measure = key_measure(table)?;
+    let list = required(table, "sites")?;
+    let sites = sites(alloc, Bounds { pages, exports }, sites_before, list)?;
+    unrepeated(
+        before,
+        ModulePolicy {
+            name,
+            pages,
+            measure,
+            sites,
+        },
+    )
+}
+
+fn module(
+    alloc: Global,
+    exports: usize,
+    before: &[ModulePolicy],
+    sites_before: usize,
+    value: &Value,
+) -> Result<ModulePolicy, PolicyRefusal>
+    requires few_exports { exports ≤ 4096 }
+    requires sites_of { sites_before ≡ limits.sites_of (map limits.module_rule before.now) }
+    requires few_sites { sites_before ≤ 131072 }
+    ensures ok { IfOk result (λ m.
+        spec.module_of exports (map limits.module_rule before.now) (view value.now) ≡ Ok (limits.module_rule m)) }
+    ensures refused { IfErr result (Refuses (spec.module_of exports (map limits.module_rule before.now) (view value.now))) }
+    ensures few { IfOk result (λ m. sites_before + length m.sites.items ≤ 131072) }
+{
+    let table = members(value)?;
+    let table = with_known(["name", "pages", "measure", "sites"].as_slice(), table)?;
+    module_of_members(alloc, exports, before, sites_before, table)
+}
+
+fn each_module(
+    alloc: Global,
+    exports: usize,
+    items: &[Value],
+) -> Result<Vec<ModulePolicy>, PolicyRefusal>
+    requires { exports ≤ 4096 }
+    ensures ok { IfOk result (λ modules.
+        spec.each_module exports [] (items_view items.now) ≡ Ok (map limits.module_rule modules.items)) }
+    ensures refused { IfErr result (Refuses (spec.each_module exports [] (items_view items.now))) }
+{
+    let mut modules = Vec::new(alloc);
+    let mut sites = 0;
+    for item in items {
+        let module = module(alloc, exports, modules.as_slice(), sites, item)?;
+        sites += module.sites.len();
+        modules.push(module)?;
+    }
+    Ok(modules)
+}
+
+#[tactic(auto, using(crate::proofs::Lists::items_length_view))]
+fn some_modules(
+    alloc: Global,
+    exports: usize,
+    value: &Value,
+) -> Result<Vec<ModulePolicy>, PolicyRefusal>
+    requires { exports ≤ 4096 }
+    ensures ok { IfOk result (λ modules. spec.some_modules_of exports (view value.now) ≡ Ok (map limits.module_rule modules.items)) }
+    ensures refused { IfErr result (Refuses (spec.some_modules_of exports (view value.now))) }
+{
+    let items = items(value)?;
+    if items.len() > 64 {
+        return Err(BEYOND_LIMIT);
+    }
+    each_module(alloc, exports, items)
+}
+
+/// The modules. None are listed where the key is missing.
+pub fn modules(
+    alloc: Global,
+    exports: usize,
+    value: Option<&Value>,
+) -> Result<Vec<ModulePolicy>, PolicyRefusal>
+    requires { exports ≤ 4096 }
+    ensures ok { IfOk result (λ modules.
+        spec.modules_of exports (option_map (λ v. view v.now) value.entry) ≡ Ok (map limits.module_rule modules.items)) }
+    ensures refused { IfErr result (Refuses (spec.modules_of exports (option_map (λ v. view v.now) value.entry))) }
+{
+    match value {
+        None => Ok(Vec::new(alloc)),
+        Some(value) => some_modules(alloc, exports, value),
+    }
+}

@@ -1,0 +1,228 @@
+// The relocated fields of a module.
+
+ghost use Rattle.std.specs.Prelude.{◌≡◌, ◌≤◌, [], ◌+◌, Some, length, IfOk, IfErr};
+ghost use Rattle.sv_types.specs.Policies as limits;
+ghost use Rattle.toml.specs.View.{view, items_view};
+ghost use Rattle.policy.specs.Refusals.{Refuses};
+ghost use Rattle.policy.specs.Text as spec;
+
+use crate::refusal::{BEYOND_LIMIT, NOT_ASCENDING, PolicyRefusal, WRONG_KIND};
+use crate::values::{integer, items, natural};
+use std::alloc::Global;
+use sv_types::Site;
+use toml::Value;
+
+/// The kind of a field of eight bytes. All others have four.
+const EIGHT_BYTES: u8 = 2;
+
+/// What the sites of a module are judged by: its pages, and the number of exports.
+#[derive(Clone, Copy, Drop)]
+pub struct Bounds {
+    pub pages: u32,
+    pub exports: usize,
+    ghost few_pages: { pages ≤ 1024 },
+    ghost few_exports: { exports ≤ 4096 },
+}
+
+pub fn site_size(kind: u8) -> u64
+    ensures size { result ≡ limits.site_size kind }
+    ensures most { result ≤ 8 }
+{
+    if kind == EIGHT_BYTES { 8 } else { 4 }
+}
+
+/// An instruction of the module begins there.
+pub fn is_place(pages: u32, place: u64) -> bool
+    ensures { result ≡ limits.place_within pages place }
+{
+    place % 4 == 0 && place < 4096 * u64::from(pages)
+}
+
+pub fn is_kind(kind: u64) -> bool
+    ensures { result ≡ limits.kind_within kind }
+{
+    kind == 2 || kind == 16 || kind == 17 || (23 <= kind && kind <= 28)
+}
+
+/// The field holds the low part of an address, whose high part stands at the anchor.
+fn is_low_part(kind: u8) -> bool
+    ensures { result ≡ limits.is_low_part kind }
+{
+    kind == 24 || kind == 25
+}
+
+pub fn is_aligned(kind: u8, offset: u32) -> bool
+    ensures { result ≡ limits.is_aligned kind offset }
+{
+    u64::from(offset) % site_size(kind) == 0
+}
+
+pub fn is_anchor(pages: u32, kind: u8, offset: u32, anchor: u64) -> bool
+    ensures { result ≡ limits.anchor_within pages kind offset anchor }
+{
+    is_place(pages, anchor) && (is_low_part(kind) || anchor == u64::from(offset))
+}
+
+fn site_end(site: Site) -> u64
+    ensures { result ≡ limits.site_end (Some site) }
+{
+    u64::from(site.offset) + site_size(site.kind)
+}
+
+fn end(sites: &[Site]) -> u64
+    ensures { result ≡ limits.sites_end sites.now }
+{
+    match sites.last() {
+        Some(site) => site_end(*site),
+        None => 0,
+    }
+}
+
+pub fn is_behind(before: &[Site], site: &Site) -> bool
+    ensures { result ≡ limits.is_behind before.now site.now }
+{
+    end(before) <= u64::from(site.offset)
+}
+
+fn offset(pages: u32, value: &Value) -> Result<u32, PolicyRefusal>
+    requires { pages ≤ 1024 }
+    ensures { result ≡ spec.offset_of pages (view value.now) }
+{
+    let offset = natural(value)?;
+    if !is_place(pages, offset) {
+        return Err(BEYOND_LIMIT);
+    }
+    Ok(offset as u32)
+}
+
+fn kind(value: &Value) -> Result<u8, PolicyRefusal>
+    ensures { result ≡ spec.kind_of (view value.now) }
+{
+    let kind = natural(value)?;
+    if !is_kind(kind) {
+        return Err(BEYOND_LIMIT);
+    }
+    Ok(kind as u8)
+}
+
+fn fitting(kind: u8, offset: u32) -> Result<u8, PolicyRefusal>
+    ensures { result ≡ spec.fitting kind offset }
+{
+    if !is_aligned(kind, offset) {
+        return Err(BEYOND_LIMIT);
+    }
+    Ok(kind)
+}
+
+fn base(exports: usize, value: &Value) -> Result<u16, PolicyRefusal>
+    requires { exports ≤ 4096 }
+    ensures { result ≡ spec.base_of exports (view value.now) }
+{
+    let base = natural(value)?;
+    if base >= 3 + exports as u64 {
+        return Err(BEYOND_LIMIT);
+    }
+    Ok(base as u16)
+}
+
+fn anchor(pages: u32, kind: u8, offset: u32, value: &Value) -> Result<u32, PolicyRefusal>
+    requires { pages ≤ 1024 }
+    ensures { result ≡ spec.anchor_of pages kind offset (view value.now) }
+{
+    let anchor = natural(value)?;
+    if !is_anchor(pages, kind, offset, anchor) {
+        return Err(BEYOND_LIMIT);
+    }
+    Ok(anchor as u32)
+}
+
+fn in_order(before: &[Site], site: Site) -> Result<Site, PolicyRefusal>
+    ensures { result ≡ spec.in_order before.now site }
+{
+    if is_behind(before, &site) {
+        Ok(site)
+    } else {
+        Err(NOT_ASCENDING)
+    }
+}
+
+#[tactic(auto, unfolding(crate::specs::Text::site_of_five))]
+fn site_of_five(
+    bounds: Bounds,
+    before: &[Site],
+    offset_value: &Value,
+    kind_value: &Value,
+    base_value: &Value,
+    addend_value: &Value,
+    anchor_value: &Value,
+) -> Result<Site, PolicyRefusal>
+    ensures { result
+        ≡ spec.site_of_five bounds.pages bounds.exports before.now (view offset_value.now) (view kind_value.now)
+        (view base_value.now) (view addend_value.now) (view anchor_value.now) }
+{
+    let offset = offset(bounds.pages, offset_value)?;
+    let kind = kind(kind_value)?;
+    let kind = fitting(kind, offset)?;
+    let base = base(bounds.exports, base_value)?;
+    let addend = integer(addend_value)?;
+    let anchor = anchor(bounds.pages, kind, offset, anchor_value)?;
+    let site = Site {
+        offset,
+        kind,
+        base,
+        addend,
+        anchor,
+    };
+    in_order(before, site)
+}
+
+fn site_of_items(bounds: Bounds, before: &[Site], items: &[Value]) -> Result<Site, PolicyRefusal>
+    ensures { result ≡ spec.site_of_items bounds.pages bounds.exports before.now (items_view items.now) }
+{
+    match items {
+        [offset, kind, base, addend, anchor] => site_of_five(
+            bounds, before, offset, kind, base, addend, anchor,
+        ),
+        _ => Err(WRONG_KIND),
+    }
+}
+
+fn site(bounds: Bounds, before: &[Site], value: &Value) -> Result<Site, PolicyRefusal>
+    ensures { result ≡ spec.site_of bounds.pages bounds.exports before.now (view value.now) }
+{
+    let items = items(value)?;
+    site_of_items(bounds, before, items)
+}
+
+fn each_site(alloc: Global, bounds: Bounds, items: &[Value]) -> Result<Vec<Site>, PolicyRefusal>
+    ensures ok { IfOk result (λ sites. spec.each_site bounds.pages bounds.exports [] (items_view items.now) ≡ Ok sites.items) }
+    ensures count { IfOk result (λ sites. length sites.items ≡ length items.now) }
+    ensures refused { IfErr result (Refuses (spec.each_site bounds.pages bounds.exports [] (items_view items.now))) }
+{
+    let mut sites = Vec::new(alloc);
+    for item in items {
+        let site = site(bounds, sites.as_slice(), item)?;
+        sites.push(site)?;
+    }
+    Ok(sites)
+}
+
+/// The sites of a module. `before` is the number of sites of the modules before it.
+#[tactic(auto, using(crate::proofs::Lists::items_length_view))]
+pub fn sites(
+    alloc: Global,
+    bounds: Bounds,
+    before: usize,
+    value: &Value,
+) -> Result<Vec<Site>, PolicyRefusal>
+    requires { before ≤ 131072 }
+    ensures ok { IfOk result (λ sites. spec.sites_in bounds.pages bounds.exports before (view value.now) ≡ Ok sites.items) }
+    ensures few { IfOk result (λ sites. before + length sites.items ≤ 131072) }
+    ensures refused { IfErr result (Refuses (spec.sites_in bounds.pages bounds.exports before (view value.now))) }
+{
+    let items = items(value)?;
+    if items.len() > 65_536 || before + items.len() > 131_072 {
+        return Err(BEYOND_LIMIT);
+    }
+    each_site(alloc, bounds, items)
+}

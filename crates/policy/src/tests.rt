@@ -1,0 +1,128 @@
+// Policies of which one text is changed, and the number that refuses them; 0 accepts.
+use super::*;
+use std::alloc::Global;
+use std::test::Fail;
+
+const GOOD: &str =
+    "format = 1\nharts = 1\nram_pages = 16\nentries = [\"0x80000000\", \"0xFFFFFFc080000100\"]\nexports = [[\"printk\", \"0x80000100\"], [\"kfree\", \"0x80000200\"]]\n\n[kernel]\nmeasure = \"00112233445566778899aabbccddeeff00112233445566778899AABBCCDDEEFF\"\ninit = [\"0x80001000\", 1]\n\n[[module]]\nname = \"m\"\npages = 2\nmeasure = \"ffeeddccbbaa99887766554433221100ffeeddccbbaa99887766554433221100\"\nsites = [[0, 23, 3, 0, 0], [4, 24, 3, 0, 0], [8, 2, 4, -5, 8]]\n";
+
+fn number_of(alloc: Global, bytes: &[u8]) -> Option<u8> {
+    match read(alloc, bytes) {
+        Ok(_) => Some(0),
+        Err(PolicyRefusal::Number(number)) => Some(number),
+        Err(PolicyRefusal::Memory) => None,
+    }
+}
+
+#[test]
+fn changed_texts(rt: HostRuntime) -> Result<(), Fail> {
+    let table = [
+        ("format", "format", 0),
+        ("name = \"m\"", "name = \"m", 1),
+        ("harts = 1", "harts = 1\nharts = 1", 1),
+        ("harts = 1", "harts = 18446744073709551616", 1),
+        ("format = 1\n", "", 2),
+        ("format = 1", "format = \"1\"", 4),
+        ("format = 1", "format = 3", 8),
+        ("format = 1", "format = 2\nextra = 1", 8),
+        ("format = 1", "format = 1\nextra = 1", 3),
+        ("harts = 1", "harts = 5\nextra = 1", 3),
+        ("harts = 1\n", "", 2),
+        ("harts = 1", "harts = \"1\"", 4),
+        ("harts = 1", "harts = 1.0", 4),
+        ("harts = 1", "harts = 0", 6),
+        ("harts = 1", "harts = 5", 6),
+        ("harts = 1", "harts = -1", 6),
+        ("harts = 1", "harts = 4", 0),
+        ("ram_pages = 16", "ram_pages = 15", 6),
+        ("ram_pages = 16", "ram_pages = 65536", 0),
+        ("ram_pages = 16", "ram_pages = 65537", 6),
+        ("\"0x80000000\"", "2147483648", 4),
+        ("\"0x80000000\"", "\"80000000\"", 5),
+        ("\"0x80000000\"", "\"0x\"", 5),
+        ("\"0x80000000\"", "\"0x8000000g\"", 5),
+        ("\"0x80000000\"", "\"0x00000000080000000\"", 5),
+        ("\"0x80000000\"", "\"0x80000002\"", 6),
+        ("\"0x80000000\", \"0xFFFFFFc080000100\"", "", 6),
+        (
+            "exports = [[\"printk\", \"0x80000100\"], [\"kfree\", \"0x80000200\"]]\n",
+            "",
+            6,
+        ),
+        ("[\"kfree\", \"0x80000200\"]", "[\"kfree\"]", 4),
+        ("\"kfree\"", "7", 4),
+        ("\"kfree\"", "\"\"", 6),
+        (
+            "\"kfree\"",
+            "\"kkkkkkkkkkkkkkkkkkkkkkkkkkkkkkkkkkkkkkkkkkkkkkkkkkkkkkkkkkkkkkkk\"",
+            0,
+        ),
+        (
+            "\"kfree\"",
+            "\"kkkkkkkkkkkkkkkkkkkkkkkkkkkkkkkkkkkkkkkkkkkkkkkkkkkkkkkkkkkkkkkkk\"",
+            6,
+        ),
+        ("\"kfree\"", "\"printk\"", 7),
+        ("\"kfree\", \"0x80000200\"", "\"printk\", \"200\"", 5),
+        ("\"00112233", "\"0112233", 5),
+        ("\"00112233", "\"g0112233", 5),
+        ("measure = \"00112233", "measures = \"00112233", 3),
+        ("init = ", "inits = ", 3),
+        ("init = [\"0x80001000\", 1]\n", "", 0),
+        ("[\"0x80001000\", 1]", "[\"0x80001000\"]", 4),
+        ("[\"0x80001000\", 1]", "[\"0x80001000\", \"1\"]", 4),
+        ("[\"0x80001000\", 1]", "[\"0x80001004\", \"1\"]", 6),
+        ("[\"0x80001000\", 1]", "[\"0x70001000\", \"1\"]", 4),
+        ("[\"0x80001000\", 1]", "[\"0x70001000\", 1]", 6),
+        ("[\"0x80001000\", 1]", "[\"0x80001000\", 0]", 6),
+        ("[\"0x80001000\", 1]", "[\"0x80001000\", 15]", 0),
+        ("[\"0x80001000\", 1]", "[\"0x80001000\", 16]", 6),
+        ("pages = 2", "pages = 0", 6),
+        ("pages = 2", "pages = 1025", 6),
+        ("name = \"m\"\n", "", 2),
+        ("name = \"m\"", "names = \"m\"", 3),
+        ("[0, 23, 3, 0, 0]", "[0, 23, 3, 0]", 4),
+        ("[0, 23, 3, 0, 0]", "[0, 18, 3, 0, 0]", 6),
+        ("[0, 23, 3, 0, 0]", "[0, 23, 5, 0, 0]", 6),
+        ("[0, 23, 3, 0, 0]", "[0, 23, 3, \"0\", 0]", 4),
+        ("[0, 23, 3, 0, 0]", "[0, 23, 3, 0, 4]", 6),
+        ("[4, 24, 3, 0, 0]", "[2, 24, 3, 0, 0]", 6),
+        ("[4, 24, 3, 0, 0]", "[0, 24, 3, 0, 0]", 9),
+        ("[4, 24, 3, 0, 0]", "[8, 24, 3, 0, 0]", 9),
+        ("[8, 2, 4, -5, 8]", "[12, 2, 4, -5, 12]", 6),
+        (
+            "[8, 2, 4, -5, 8]",
+            "[8184, 2, 4, -9223372036854775808, 8184]",
+            0,
+        ),
+        ("[8, 2, 4, -5, 8]", "[8192, 2, 4, -5, 8192]", 6),
+        (
+            "-5, 8]]\n",
+            "-5, 8]]\n[[module]]\nname = \"m\"\npages = 1\nmeasure = \"ffeeddccbbaa99887766554433221100ffeeddccbbaa99887766554433221100\"\nsites = []\n",
+            7,
+        ),
+    ];
+    for (from, to, number) in table {
+        let text = GOOD.replace(rt.alloc(), from, to)?;
+        assert_eq!(rt;
+            number_of(rt.alloc(), text.as_bytes()),
+            Some(number),
+            "of {to:?}"
+        );
+    }
+    Ok(())
+}
+
+#[test]
+fn values(rt: HostRuntime) -> Result<(), Fail> {
+    let policy = read(rt.alloc(), GOOD.as_bytes())?;
+    assert!(rt; within(&policy));
+    assert!(rt; policy.entries.as_slice() == [0x8000_0000, 0xffff_ffc0_8000_0100].as_slice());
+    assert_eq!(rt; policy.kernel[31], 0xff);
+    assert_eq!(rt; policy.exports.len(), 2);
+    assert_eq!(rt; policy.modules.len(), 1);
+    assert_eq!(rt; number_of(rt.alloc(), b""), Some(2));
+    assert_eq!(rt; number_of(rt.alloc(), b"format = 3"), Some(8));
+    assert_eq!(rt; number_of(rt.alloc(), b"\xff"), Some(1));
+    Ok(())
+}

@@ -1,0 +1,139 @@
+// The reading of a policy's text.
+
+ghost use Rattle.std.specs.Prelude.{◌≡◌, IfOk, IfErr};
+ghost use Rattle.sv_types.specs.Policies.{rules_of};
+ghost use Rattle.toml.specs.View.{table_view};
+ghost use Rattle.policy.specs.Refusals.{Refuses, judged_map};
+ghost use Rattle.policy.specs.Text as spec;
+
+use crate::entries::{entries, exports};
+use crate::kernel::{init, kernel};
+use crate::modules::{key_measure, modules};
+use crate::refusal::{BEYOND_LIMIT, NOT_TOML, OTHER_FORMAT, PolicyRefusal};
+use crate::values::{integer, natural, optional, required, with_known};
+use std::alloc::Global;
+use std::str;
+use sv_types::{Policy, Span};
+use toml::Table;
+
+fn format(table: &Table) -> Result<u8, PolicyRefusal>
+    ensures { result ≡ spec.format_of (table_view table.now) }
+{
+    let value = required(table, "format")?;
+    let number = integer(value)?;
+    if number == 1 {
+        Ok(1)
+    } else {
+        Err(OTHER_FORMAT)
+    }
+}
+
+fn harts(table: &Table) -> Result<u8, PolicyRefusal>
+    ensures { result ≡ spec.key_harts (table_view table.now) }
+{
+    let value = required(table, "harts")?;
+    let harts = natural(value)?;
+    if harts < 1 || harts > 4 {
+        return Err(BEYOND_LIMIT);
+    }
+    Ok(harts as u8)
+}
+
+fn ram_pages(table: &Table) -> Result<u32, PolicyRefusal>
+    ensures { result ≡ spec.key_ram_pages (table_view table.now) }
+{
+    let value = required(table, "ram_pages")?;
+    let pages = natural(value)?;
+    if pages < 16 || pages > 65_536 {
+        return Err(BEYOND_LIMIT);
+    }
+    Ok(pages as u32)
+}
+
+fn key_entries(alloc: Global, table: &Table) -> Result<Vec<u64>, PolicyRefusal>
+    ensures ok { IfOk result (λ entries. spec.key_entries (table_view table.now) ≡ Ok entries.items) }
+    ensures refused { IfErr result (Refuses (spec.key_entries (table_view table.now))) }
+{
+    let value = required(table, "entries")?;
+    entries(alloc, value)
+}
+
+fn known_keys(table: &Table) -> Result<&Table, PolicyRefusal>
+    ensures { judged_map (λ m. table_view m.now) result ≡ spec.known_keys (table_view table.now) }
+{
+    let keys = [
+        "format",
+        "harts",
+        "ram_pages",
+        "entries",
+        "exports",
+        "kernel",
+        "module",
+    ];
+    with_known(keys.as_slice(), table)
+}
+
+// The kernel's digest and its init pages.
+fn kernel_rule(ram_pages: u32, table: &Table) -> Result<([u8; 32], Option<Span>), PolicyRefusal>
+    ensures { result ≡ spec.kernel_rule ram_pages (table_view table.now) }
+{
+    let kernel = kernel(table)?;
+    let measure = key_measure(kernel)?;
+    let init = init(ram_pages, optional(kernel, "init"))?;
+    Ok((measure, init))
+}
+
+#[tactic(auto, unfolding(crate::specs::Text::rules_of_members))]
+fn read_table(alloc: Global, table: &Table) -> Result<Policy, PolicyRefusal>
+    ensures ok { IfOk result (λ policy. spec.rules_of_members (table_view table.now) ≡ Ok (rules_of policy)) }
+    ensures refused { IfErr result (Refuses (spec.rules_of_members (table_view table.now))) }
+{
+    let format = format(table)?;
+    let table = known_keys(table)?;
+    let harts = harts(table)?;
+    let ram_pages = ram_pages(table)?;
+    let entries = key_entries(alloc, table)?;
+    let exports = exports(alloc, optional(table, "exports"))?;
+    let (kernel, init) = kernel_rule(ram_pages, table)?;
+    let modules = modules(alloc, exports.len(), optional(table, "module"))?;
+    Ok(Policy {
+        format,
+        harts,
+        ram_pages,
+        entries,
+        exports,
+        kernel,
+        init,
+        modules,
+    })
+}
+
+fn table(alloc: Global, bytes: &[u8]) -> Result<Table, PolicyRefusal>
+    ensures ok { IfOk result (λ table. spec.table_of_text bytes.now ≡ Ok (table_view table)) }
+    ensures refused { IfErr result (Refuses (spec.table_of_text bytes.now)) }
+{
+    let text = match str::from_utf8(bytes) {
+        Ok(text) => text,
+        Err(_) => return Err(NOT_TOML),
+    };
+    match toml::table_from_str(alloc, text) {
+        Ok(table) => Ok(table),
+        Err(e) => {
+            if e.is_memory() {
+                Err(PolicyRefusal::Memory)
+            } else {
+                Err(NOT_TOML)
+            }
+        }
+    }
+}
+
+/// Reads a policy's text. `Ok` exactly for the texts within the format, and else the first refusal in its order, but
+/// for want of memory.
+pub fn read(alloc: Global, bytes: &[u8]) -> Result<Policy, PolicyRefusal>
+    ensures ok { IfOk result (λ policy. spec.rules_of_text bytes.now ≡ Ok (rules_of policy)) }
+    ensures refused { IfErr result (Refuses (spec.rules_of_text bytes.now)) }
+{
+    let table = table(alloc, bytes)?;
+    read_table(alloc, &table)
+}

@@ -1,0 +1,210 @@
+// Values of a policy's table.
+
+ghost use Rattle.std.specs.Prelude.{◌≡◌, ◌≤◌, ◌<◌, ◌^◌, ℕ, List, length, option_map, map, true};
+ghost use Rattle.std.specs.List.{list_all, list_any};
+ghost use Rattle.std.specs.Str.{bytes_eq};
+ghost use Rattle.std.specs.Char.{is_ascii_hexdigit, digit_value};
+ghost use Rattle.toml.specs.Data.{get_member};
+ghost use Rattle.toml.specs.View.{view, table_view, items_view};
+ghost use Rattle.sv_types.specs.Numbers.{digest_of};
+ghost use Rattle.policy.specs.Refusals.{judged_map};
+ghost use Rattle.policy.specs.Values as spec;
+
+use crate::refusal::{
+    BAD_HEXADECIMAL, BEYOND_LIMIT, MISSING_KEY, PolicyRefusal, UNKNOWN_KEY, WRONG_KIND,
+};
+use sv_types::Name;
+use toml::{Table, Value};
+
+/// The value at a key, if the table has it.
+pub fn optional<'a>(table: &'a Table, key: &str) -> Option<&'a Value>
+    ensures { option_map (λ v. view v.now) result ≡ get_member key.now (table_view table.now) }
+{
+    table.get(key)
+}
+
+pub fn required<'a>(table: &'a Table, key: &str) -> Result<&'a Value, PolicyRefusal>
+    ensures { judged_map (λ v. view v.now) result ≡ spec.required key.now (table_view table.now) }
+{
+    match optional(table, key) {
+        Some(value) => Ok(value),
+        None => Err(MISSING_KEY),
+    }
+}
+
+pub fn integer(value: &Value) -> Result<i64, PolicyRefusal>
+    ensures { result ≡ spec.integer_of (view value.now) }
+{
+    match value.as_integer() {
+        Some(number) => Ok(number),
+        None => Err(WRONG_KIND),
+    }
+}
+
+fn text(value: &Value) -> Result<&str, PolicyRefusal>
+    ensures { judged_map (λ t. t.now) result ≡ spec.text_of (view value.now) }
+{
+    match value.as_str() {
+        Some(text) => Ok(text),
+        None => Err(WRONG_KIND),
+    }
+}
+
+pub fn items(value: &Value) -> Result<&[Value], PolicyRefusal>
+    ensures { judged_map (λ items. items_view items.now) result ≡ spec.items_in (view value.now) }
+{
+    match value.as_array() {
+        Some(items) => Ok(items.as_slice()),
+        None => Err(WRONG_KIND),
+    }
+}
+
+pub fn members(value: &Value) -> Result<&Table, PolicyRefusal>
+    ensures { judged_map (λ m. table_view m.now) result ≡ spec.members_in (view value.now) }
+{
+    match value.as_table() {
+        Some(table) => Ok(table),
+        None => Err(WRONG_KIND),
+    }
+}
+
+/// A number that is not negative.
+pub fn natural(value: &Value) -> Result<u64, PolicyRefusal>
+    ensures { result ≡ spec.natural_of (view value.now) }
+{
+    let number = integer(value)?;
+    if number < 0 {
+        return Err(BEYOND_LIMIT);
+    }
+    Ok(number as u64)
+}
+
+pub fn name(value: &Value) -> Result<Name, PolicyRefusal>
+    ensures { result ≡ spec.name_of (view value.now) }
+{
+    let text = text(value)?;
+    match Name::new(text) {
+        Some(name) => Ok(name),
+        None => Err(BEYOND_LIMIT),
+    }
+}
+
+fn has_hexadecimal_alone(text: &[u8]) -> bool
+    ensures { result ≡ list_all is_ascii_hexdigit text.now }
+{
+    text.iter().all(|c| c.is_ascii_hexdigit())
+}
+
+fn is_hexadecimal(text: &[u8]) -> bool
+    ensures { result ≡ spec.is_hexadecimal text.now }
+{
+    1 <= text.len() && text.len() <= 16 && has_hexadecimal_alone(text)
+}
+
+fn digit_value(digit: u8) -> u64
+    requires { is_ascii_hexdigit digit ≡ true }
+    ensures value { result ≡ digit_value digit }
+    ensures below { result < 16 }
+{
+    match digit {
+        b'0'..=b'9' => (digit - b'0') as u64,
+        b'a'..=b'f' => (digit - b'a') as u64 + 10,
+        _ => (digit - b'A') as u64 + 10,
+    }
+}
+
+fn hexadecimal_value(digits: &[u8]) -> u64
+    requires short { length digits.now ≤ 16 }
+    requires digits { list_all is_ascii_hexdigit digits.now ≡ true }
+    ensures { result ≡ spec.hexadecimal_value 0 digits.now }
+{
+    let mut value: u64 = 0;
+    for digit in digits {
+        value = 16 * value + digit_value(*digit);
+    }
+    value
+}
+
+fn hexadecimal_number(digits: &[u8]) -> Result<u64, PolicyRefusal>
+    ensures { result ≡ spec.hexadecimal_number digits.now }
+{
+    if is_hexadecimal(digits) {
+        Ok(hexadecimal_value(digits))
+    } else {
+        Err(BAD_HEXADECIMAL)
+    }
+}
+
+fn address_number(text: &[u8]) -> Result<u64, PolicyRefusal>
+    ensures { result ≡ spec.address_number text.now }
+{
+    if text.starts_with(b"0x".as_slice()) {
+        hexadecimal_number(&text[2..])
+    } else {
+        Err(BAD_HEXADECIMAL)
+    }
+}
+
+pub fn address(value: &Value) -> Result<u64, PolicyRefusal>
+    ensures { result ≡ spec.address_of (view value.now) }
+{
+    let text = text(value)?;
+    address_number(text.as_bytes())
+}
+
+// The 32 bytes of 64 digits.
+#[tactic(auto, unfolding(sv_types::specs::Numbers::digest_of))]
+fn digest(text: &str) -> Option<[u8; 32]>
+    ensures { result ≡ digest_of text.now }
+{
+    let mut bytes = [0u8; 32];
+    match hex::decode_to_slice(text.as_bytes(), &mut bytes) {
+        Ok(()) => Some(bytes),
+        Err(_) => None,
+    }
+}
+
+/// The 32 bytes of a digest.
+pub fn measure(value: &Value) -> Result<[u8; 32], PolicyRefusal>
+    ensures { result ≡ spec.measure_of (view value.now) }
+{
+    let text = text(value)?;
+    match digest(text) {
+        Some(digest) => Ok(digest),
+        None => Err(BAD_HEXADECIMAL),
+    }
+}
+
+fn is_among(keys: &[&str], key: &str) -> bool
+    ensures { result ≡ list_any (bytes_eq key.now) (map (λ k. k.now) keys.now) }
+{
+    for known in keys {
+        if key == *known {
+            return true;
+        }
+    }
+    false
+}
+
+#[tactic(auto, using(crate::proofs::Tables::has_unknown_of_keys))]
+fn has_unknown(keys: &[&str], table: &Table) -> bool
+    ensures { result ≡ spec.has_unknown (map (λ k. k.now) keys.now) (table_view table.now) }
+{
+    for key in table.keys() {
+        if !is_among(keys, key.as_str()) {
+            return true;
+        }
+    }
+    false
+}
+
+/// The members, if each key is one of these.
+pub fn with_known<'a>(keys: &[&str], table: &'a Table) -> Result<&'a Table, PolicyRefusal>
+    ensures { judged_map (λ m. table_view m.now) result ≡ spec.with_known (map (λ k. k.now) keys.now) (table_view table.now) }
+{
+    if has_unknown(keys, table) {
+        Err(UNKNOWN_KEY)
+    } else {
+        Ok(table)
+    }
+}

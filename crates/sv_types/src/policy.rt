@@ -1,0 +1,33 @@
+// What a policy holds.
+
+use crate::module::{Site, Span};
+use crate::name::Name;
+
+/// A kernel function that a module may call.
+#[derive(Clone, Copy, Drop)]
+pub struct Export {
+    pub name: Name,
+    pub addr: u64,
+}
+
+/// A module that may be loaded. Its measure is that of its text with every site cleared.
+#[derive(Drop)]
+pub struct ModulePolicy {
+    pub name: Name,
+    pub pages: u32,
+    pub measure: [u8; 32],
+    pub sites: Vec<Site>,
+}
+
+/// What the machine is allowed to run. A module's id is its place in the list.
+#[derive(Drop)]
+pub struct Policy {
+    pub format: u8,
+    pub harts: u8,
+    pub ram_pages: u32,
+    pub entries: Vec<u64>,
+    pub exports: Vec<Export>,
+    pub kernel: [u8; 32],
+    pub init: Option<Span>,
+    pub modules: Vec<ModulePolicy>,
+}
