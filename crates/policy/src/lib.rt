@@ -5,6 +5,7 @@ mod entries;
 mod kernel;
 mod limits;
 mod modules;
+mod printing;
 mod refusal;
 mod sites;
 #[cfg(test)]
