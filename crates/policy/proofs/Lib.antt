@@ -5,3 +5,4 @@ pub mod Lengths
 pub mod Texts
 pub mod Tested
 pub mod Puts
+pub mod Depths

@@ -14,5 +14,6 @@ mod text;
 mod values;
 
 pub use limits::within;
+pub use printing::write;
 pub use refusal::PolicyRefusal;
 pub use text::read;

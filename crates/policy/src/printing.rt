@@ -1,12 +1,13 @@
 // The printing of a policy's text.
 
-ghost use Rattle.std.specs.Prelude.{◌≡◌, ◌≤◌, ◌+◌, ◌*◌, ◌<◌, IfOk, OnOk, Some, true, map, string_bytes, ◌++◌};
+ghost use Rattle.std.specs.Prelude.{◌≡◌, ◌<◌, IfOk, OnOk, Some, true, map, string_bytes, ◌++◌};
 ghost use Rattle.std.specs.Char.{digit_char};
 ghost use Rattle.sv_types.specs.Output.{hexadecimal};
 ghost use Rattle.toml.specs.Data.{string, no_members};
 ghost use Rattle.toml.specs.Parse.{parse_document};
 ghost use Rattle.toml.specs.View.{view, table_view};
 ghost use Rattle.sv_types.specs.Policies as limits;
+ghost use Rattle.policy.specs.Text.{table_of_text};
 ghost use Rattle.policy.specs.Printed as spec;
 
 use std::alloc::{AllocError, Global};
@@ -132,10 +133,20 @@ fn module_table(alloc: Global, m: &ModulePolicy) -> Result<Value, AllocError>
     ensures { IfOk result (λ v. view v ≡ spec.module_data (limits.module_rule m.now)) }
 {
     let mut table = Table::new(alloc);
-    put(alloc, &mut table, "name", Value::string(alloc, m.name.text())?)?;
+    put(
+        alloc,
+        &mut table,
+        "name",
+        Value::string(alloc, m.name.text())?,
+    )?;
     put(alloc, &mut table, "pages", number(m.pages))?;
     put(alloc, &mut table, "measure", measure(alloc, &m.measure)?)?;
-    put(alloc, &mut table, "sites", sites(alloc, m.sites.as_slice())?)?;
+    put(
+        alloc,
+        &mut table,
+        "sites",
+        sites(alloc, m.sites.as_slice())?,
+    )?;
     Ok(Value::Table(table))
 }
 
@@ -176,7 +187,12 @@ fn kernel(alloc: Global, policy: &Policy) -> Result<Value, AllocError>
     ensures { IfOk result (λ v. view v ≡ spec.kernel_data policy.now.kernel policy.now.init) }
 {
     let mut table = Table::new(alloc);
-    put(alloc, &mut table, "measure", measure(alloc, &policy.kernel)?)?;
+    put(
+        alloc,
+        &mut table,
+        "measure",
+        measure(alloc, &policy.kernel)?,
+    )?;
     put_init(alloc, &mut table, policy.init)?;
     Ok(Value::Table(table))
 }
@@ -186,12 +202,53 @@ fn policy_table(alloc: Global, policy: &Policy) -> Result<Table, AllocError>
     ensures { IfOk result (λ t. table_view t ≡ spec.rules_members (limits.rules_of policy.now)) }
 {
     let mut table = Table::new(alloc);
-    put(alloc, &mut table, "format", number(u32::from(policy.format)))?;
+    put(
+        alloc,
+        &mut table,
+        "format",
+        number(u32::from(policy.format)),
+    )?;
     put(alloc, &mut table, "harts", number(u32::from(policy.harts)))?;
     put(alloc, &mut table, "ram_pages", number(policy.ram_pages))?;
-    put(alloc, &mut table, "entries", entries(alloc, policy.entries.as_slice())?)?;
-    put(alloc, &mut table, "exports", exports(alloc, policy.exports.as_slice())?)?;
+    put(
+        alloc,
+        &mut table,
+        "entries",
+        entries(alloc, policy.entries.as_slice())?,
+    )?;
+    put(
+        alloc,
+        &mut table,
+        "exports",
+        exports(alloc, policy.exports.as_slice())?,
+    )?;
     put(alloc, &mut table, "kernel", kernel(alloc, policy)?)?;
-    put(alloc, &mut table, "module", modules(alloc, policy.modules.as_slice())?)?;
+    put(
+        alloc,
+        &mut table,
+        "module",
+        modules(alloc, policy.modules.as_slice())?,
+    )?;
     Ok(table)
+}
+
+// The text that is read back as the policy's table.
+fn text(alloc: Global, policy: &Policy) -> Result<String, AllocError>
+    ensures { IfOk result (λ text.
+        parse_document (string_bytes text) ≡ Some (spec.rules_members (limits.rules_of policy.now))) }
+{
+    let table = policy_table(alloc, policy)?;
+    match toml::table_to_string(alloc, &table) {
+        Ok(text) => Ok(text),
+        Err(_) => Err(AllocError),
+    }
+}
+
+/// Prints a policy as a text, whose table has the policy's values under their keys. Fails for want of memory alone.
+pub fn write(alloc: Global, policy: &Policy) -> Result<Vec<u8>, AllocError>
+    requires { limits.rules_within (limits.rules_of policy.now) ≡ true }
+    ensures { IfOk result (λ bytes. table_of_text bytes.items ≡ Ok (spec.rules_members (limits.rules_of policy.now))) }
+{
+    let text = text(alloc, policy)?;
+    Ok(text.into_bytes())
 }
