@@ -4,3 +4,5 @@ pub mod Lists
 pub mod Lengths
 pub mod Texts
 pub mod Tested
+pub mod Puts
+pub mod Depths

@@ -1,9 +1,10 @@
 -- Bytes that are a text, and bytes that are none.
-use Rattle.std.proofs.Common.{◌≡◌, ℕ, List, Err, ok_or, inl, inr}
+use Rattle.std.proofs.Common.{◌≡◌, ℕ, List, Err, ok_or, inl, inr, ◌∙◌, ap, Some, Ok}
 use Rattle.std.specs.Prelude.{IsUtf8}
 use Rattle.std.specs.Str.{is_utf8}
 use Rattle.std.proofs.lemmas.Bool.{cases_Bool}
 use Rattle.std.proofs.lemmas.Str.{is_utf8-from_IsUtf8, IsUtf8-from_is_utf8}
+use Rattle.toml.specs.Data.{Members}
 use Rattle.toml.specs.Parse.{parse_document}
 use Rattle.policy.specs.Refusals.{not_toml}
 use Rattle.policy.specs.Text.{table_of_text}
@@ -17,3 +18,6 @@ table_of_invalid bytes isnt =
       | inl is ↦ absurd (isnt (IsUtf8-from_is_utf8 bytes is))
       | inr other ↦ rw other
     ]
+
+pub table_of_text_valid : (bytes : List ℕ) (ms : Members) → IsUtf8 bytes → parse_document bytes ≡ Some ms → table_of_text bytes ≡ Ok ms
+table_of_text_valid bytes ms is read = table_of_valid bytes is ∙ ap (λ o. ok_or o not_toml) read

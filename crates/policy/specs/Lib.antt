@@ -1,3 +1,4 @@
 pub mod Refusals
 pub mod Values
 pub mod Text
+pub mod Printed

@@ -5,6 +5,7 @@ mod entries;
 mod kernel;
 mod limits;
 mod modules;
+mod printing;
 mod refusal;
 mod sites;
 #[cfg(test)]
@@ -13,5 +14,6 @@ mod text;
 mod values;
 
 pub use limits::within;
+pub use printing::write;
 pub use refusal::PolicyRefusal;
 pub use text::read;

@@ -126,3 +126,21 @@ fn values(rt: HostRuntime) -> Result<(), Fail> {
     assert_eq!(rt; number_of(rt.alloc(), b"\xff"), Some(1));
     Ok(())
 }
+
+#[test]
+fn written_and_read_back(rt: HostRuntime) -> Result<(), Fail> {
+    let policy = read(rt.alloc(), GOOD.as_bytes())?;
+    if within(&policy) {
+        let text = write(rt.alloc(), &policy)?;
+        let back = read(rt.alloc(), text.as_slice())?;
+        assert!(rt; back.entries == policy.entries);
+        assert!(rt; back.init == policy.init);
+        assert!(rt; back.kernel == policy.kernel);
+        let export = back.exports.last().ok_or("export")?;
+        assert_eq!(rt; export.name.text(), "kfree");
+        let before = policy.modules.first().ok_or("module")?;
+        let after = back.modules.first().ok_or("module")?;
+        assert!(rt; after.sites == before.sites);
+    }
+    Ok(())
+}

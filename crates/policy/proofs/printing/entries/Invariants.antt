@@ -1,0 +1,7 @@
+use Rattle.std.proofs.Common.{◌≡◌, map, take}
+use Rattle.toml.specs.View.{view}
+use Rattle.policy.specs.Printed.{address_data}
+use Rattle.policy.proofs.printing.entries.Given as goal
+
+abbrev pub invariant-loop-entry : goal.invariant-loop-entry
+invariant-loop-entry l = map view l.values.items ≡ map address_data (take l.entry-index l.entries)

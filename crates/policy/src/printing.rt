@@ -1,0 +1,254 @@
+// The printing of a policy's text.
+
+ghost use Rattle.std.specs.Prelude.{◌≡◌, ◌<◌, IfOk, OnOk, Some, true, map, string_bytes, ◌++◌};
+ghost use Rattle.std.specs.Char.{digit_char};
+ghost use Rattle.sv_types.specs.Output.{hexadecimal};
+ghost use Rattle.toml.specs.Data.{string, no_members};
+ghost use Rattle.toml.specs.Parse.{parse_document};
+ghost use Rattle.toml.specs.View.{view, table_view};
+ghost use Rattle.sv_types.specs.Policies as limits;
+ghost use Rattle.policy.specs.Text.{table_of_text};
+ghost use Rattle.policy.specs.Printed as spec;
+
+use std::alloc::{AllocError, Global};
+use sv_types::{Export, ModulePolicy, Policy, Site, Span};
+use toml::{Table, Value};
+
+/// Where RAM begins.
+const RAM_BASE: u64 = 0x8000_0000;
+
+const PAGE_BYTES: u64 = 4096;
+
+#[tactic(auto, using(crate::proofs::Puts::members_view_insert))]
+fn put(alloc: Global, table: &mut Table, key: &str, value: Value) -> Result<(), AllocError>
+    ensures { OnOk result (table_view table.new ≡ spec.with_member key.now (view value) (table_view table.old)) }
+{
+    let key = String::from_str(alloc, key)?;
+    table.insert(key, value)?;
+    Ok(())
+}
+
+fn number(number: u32) -> Value
+    ensures { view result ≡ spec.number_data number }
+{
+    Value::from(number)
+}
+
+fn hexadecimal_digit(digit: u8) -> char
+    requires { digit < 16 }
+    ensures { result ≡ digit_char digit }
+{
+    if digit < 10 {
+        (b'0' + digit) as char
+    } else {
+        (b'a' + (digit - 10)) as char
+    }
+}
+
+#[tactic(auto, unfolding(sv_types::specs::Output::hexadecimal))]
+fn push_hexadecimal(text: &mut String, digits: u8, value: u64) -> Result<(), AllocError>
+    ensures { OnOk result (string_bytes text.new ≡ string_bytes text.old ++ hexadecimal digits value) }
+{
+    if digits == 0 {
+        return Ok(());
+    }
+    push_hexadecimal(text, digits - 1, value / 16)?;
+    text.push(hexadecimal_digit((value % 16) as u8))
+}
+
+#[tactic(auto, unfolding(crate::specs::Printed::address_data, sv_types::specs::Output::address_text))]
+fn address(alloc: Global, address: u64) -> Result<Value, AllocError>
+    ensures { IfOk result (λ v. view v ≡ spec.address_data address) }
+{
+    let mut text = String::from_str(alloc, "0x")?;
+    push_hexadecimal(&mut text, 16, address)?;
+    Ok(Value::from(text))
+}
+
+fn measure(alloc: Global, digest: &[u8; 32]) -> Result<Value, AllocError>
+    ensures { IfOk result (λ v. view v ≡ spec.measure_data digest.now) }
+{
+    let text = hex::encode(alloc, digest.as_slice())?;
+    Ok(Value::from(text))
+}
+
+fn entries(alloc: Global, entries: &[u64]) -> Result<Value, AllocError>
+    ensures { IfOk result (λ v. view v ≡ spec.entries_data entries.now) }
+{
+    let mut values = Vec::new(alloc);
+    for entry in entries {
+        let value = address(alloc, *entry)?;
+        values.push(value)?;
+    }
+    Ok(Value::Array(values))
+}
+
+#[tactic(auto, unfolding(crate::specs::Printed::export_data))]
+fn export(alloc: Global, export: &Export) -> Result<Value, AllocError>
+    ensures { IfOk result (λ v. view v ≡ spec.export_data export.now) }
+{
+    let name = Value::string(alloc, export.name.text())?;
+    let addr = address(alloc, export.addr)?;
+    let values = vec![in alloc; name, addr]?;
+    Ok(Value::Array(values))
+}
+
+fn exports(alloc: Global, exports: &[Export]) -> Result<Value, AllocError>
+    ensures { IfOk result (λ v. view v ≡ spec.exports_data exports.now) }
+{
+    let mut values = Vec::new(alloc);
+    for item in exports {
+        let value = export(alloc, item)?;
+        values.push(value)?;
+    }
+    Ok(Value::Array(values))
+}
+
+#[tactic(auto, unfolding(crate::specs::Printed::site_data))]
+fn site(alloc: Global, site: &Site) -> Result<Value, AllocError>
+    ensures { IfOk result (λ v. view v ≡ spec.site_data site.now) }
+{
+    let offset = number(site.offset);
+    let kind = number(u32::from(site.kind));
+    let base = number(u32::from(site.base));
+    let addend = Value::from(site.addend);
+    let anchor = number(site.anchor);
+    let values = vec![in alloc; offset, kind, base, addend, anchor]?;
+    Ok(Value::Array(values))
+}
+
+fn sites(alloc: Global, sites: &[Site]) -> Result<Value, AllocError>
+    ensures { IfOk result (λ v. view v ≡ spec.sites_data sites.now) }
+{
+    let mut values = Vec::new(alloc);
+    for item in sites {
+        let value = site(alloc, item)?;
+        values.push(value)?;
+    }
+    Ok(Value::Array(values))
+}
+
+#[tactic(auto, unfolding(crate::specs::Printed::module_data))]
+fn module_table(alloc: Global, m: &ModulePolicy) -> Result<Value, AllocError>
+    ensures { IfOk result (λ v. view v ≡ spec.module_data (limits.module_rule m.now)) }
+{
+    let mut table = Table::new(alloc);
+    put(
+        alloc,
+        &mut table,
+        "name",
+        Value::string(alloc, m.name.text())?,
+    )?;
+    put(alloc, &mut table, "pages", number(m.pages))?;
+    put(alloc, &mut table, "measure", measure(alloc, &m.measure)?)?;
+    put(
+        alloc,
+        &mut table,
+        "sites",
+        sites(alloc, m.sites.as_slice())?,
+    )?;
+    Ok(Value::Table(table))
+}
+
+fn modules(alloc: Global, modules: &[ModulePolicy]) -> Result<Value, AllocError>
+    ensures { IfOk result (λ v. view v ≡ spec.modules_data (map limits.module_rule modules.now)) }
+{
+    let mut values = Vec::new(alloc);
+    for item in modules {
+        let value = module_table(alloc, item)?;
+        values.push(value)?;
+    }
+    Ok(Value::Array(values))
+}
+
+#[tactic(auto, unfolding(crate::specs::Printed::span_data))]
+fn span(alloc: Global, span: Span) -> Result<Value, AllocError>
+    ensures { IfOk result (λ v. view v ≡ spec.span_data span) }
+{
+    let first = address(alloc, RAM_BASE + PAGE_BYTES * u64::from(span.first))?;
+    let values = vec![in alloc; first, number(span.count)]?;
+    Ok(Value::Array(values))
+}
+
+fn put_init(alloc: Global, table: &mut Table, init: Option<Span>) -> Result<(), AllocError>
+    ensures { OnOk result (table_view table.new ≡ spec.with_init init (table_view table.old)) }
+{
+    match init {
+        None => Ok(()),
+        Some(init) => {
+            let value = span(alloc, init)?;
+            put(alloc, table, "init", value)
+        }
+    }
+}
+
+#[tactic(auto, unfolding(crate::specs::Printed::kernel_data))]
+fn kernel(alloc: Global, policy: &Policy) -> Result<Value, AllocError>
+    ensures { IfOk result (λ v. view v ≡ spec.kernel_data policy.now.kernel policy.now.init) }
+{
+    let mut table = Table::new(alloc);
+    put(
+        alloc,
+        &mut table,
+        "measure",
+        measure(alloc, &policy.kernel)?,
+    )?;
+    put_init(alloc, &mut table, policy.init)?;
+    Ok(Value::Table(table))
+}
+
+#[tactic(auto, unfolding(crate::specs::Printed::rules_members))]
+fn policy_table(alloc: Global, policy: &Policy) -> Result<Table, AllocError>
+    ensures { IfOk result (λ t. table_view t ≡ spec.rules_members (limits.rules_of policy.now)) }
+{
+    let mut table = Table::new(alloc);
+    put(
+        alloc,
+        &mut table,
+        "format",
+        number(u32::from(policy.format)),
+    )?;
+    put(alloc, &mut table, "harts", number(u32::from(policy.harts)))?;
+    put(alloc, &mut table, "ram_pages", number(policy.ram_pages))?;
+    put(
+        alloc,
+        &mut table,
+        "entries",
+        entries(alloc, policy.entries.as_slice())?,
+    )?;
+    put(
+        alloc,
+        &mut table,
+        "exports",
+        exports(alloc, policy.exports.as_slice())?,
+    )?;
+    put(alloc, &mut table, "kernel", kernel(alloc, policy)?)?;
+    put(
+        alloc,
+        &mut table,
+        "module",
+        modules(alloc, policy.modules.as_slice())?,
+    )?;
+    Ok(table)
+}
+
+// The text that is read back as the policy's table.
+fn text(alloc: Global, policy: &Policy) -> Result<String, AllocError>
+    ensures { IfOk result (λ text.
+        parse_document (string_bytes text) ≡ Some (spec.rules_members (limits.rules_of policy.now))) }
+{
+    let table = policy_table(alloc, policy)?;
+    match toml::table_to_string(alloc, &table) {
+        Ok(text) => Ok(text),
+        Err(_) => Err(AllocError),
+    }
+}
+
+/// Prints a policy as a text, whose table has the policy's values under their keys. Fails for want of memory alone.
+pub fn write(alloc: Global, policy: &Policy) -> Result<Vec<u8>, AllocError>
+    requires { limits.rules_within (limits.rules_of policy.now) ≡ true }
+    ensures { IfOk result (λ bytes. table_of_text bytes.items ≡ Ok (spec.rules_members (limits.rules_of policy.now))) }
+{
+    let text = text(alloc, policy)?;
+    Ok(text.into_bytes())
+}
