@@ -3,3 +3,5 @@
 
 #[cfg(test)]
 mod flat;
+#[cfg(test)]
+mod real;
