@@ -1,11 +1,10 @@
 // Guest RAM and its approved pages.
-ghost use Rattle.std.specs.Prelude.{◌≡◌, ◌==◌, ◌≤◌, ◌%◌, ◌*◌, ◌/◌, length, IfOk, IsTrue, option_map, false, Option};
-ghost use Rattle.std.specs.List.{list_any};
+ghost use Rattle.std.specs.Prelude.{◌≡◌, ◌≤◌, ◌%◌, ◌*◌, ◌/◌, length, IfOk, IsTrue, option_map, false, Option};
 ghost use Rattle.sv_types.specs.Bytes.{padded, in_ram, page_of, page_size, ram_place, write_word};
 ghost use Rattle.sv_types.specs.Reference.{is_approved, approved_pages, numbers_from};
 ghost use Rattle.sv_types.specs.Turn.{approved_bytes_at, word_in_page};
 ghost use Rattle.sv_types.specs.Boot.{flat_ram_pages};
-ghost use Rattle.machine.specs.Memory.{Memory};
+ghost use Rattle.machine.specs.Memory.{Memory, is_marked, marked_from};
 
 use host_mem::HostMem;
 use std::alloc::{AllocError, Global};
@@ -21,7 +20,8 @@ const FLAT_PAGES: usize = 16;
 #[derive(Drop)]
 pub struct GuestMemory {
     mem: HostMem,
-    approved: Vec<u32>,
+    /// For each page of RAM whether it is approved.
+    approved: Vec<bool>,
 }
 
 impl Model for GuestMemory {
@@ -59,8 +59,7 @@ impl GuestMemory {
     pub fn is_approved(&self, gpa: u64) -> bool
         ensures { result ≡ is_approved self.now.approved (page_of gpa) }
     {
-        let page = (gpa.saturating_sub(RAM_BASE)) / PAGE_BYTES;
-        is_listed(&self.approved, page)
+        is_marked(&self.approved, gpa.saturating_sub(RAM_BASE) / PAGE_BYTES)
     }
 
     /// The word at an address, where its page is approved.
@@ -68,8 +67,9 @@ impl GuestMemory {
         requires { gpa % 4 ≡ 0 }
         ensures { result ≡ option_map (word_in_page gpa) (approved_bytes_at self.now.ram self.now.approved gpa) }
     {
-        if self.is_in_ram(gpa) && self.is_approved(gpa) {
-            let at = self.mem.table_bytes() + (gpa - RAM_BASE) as usize;
+        let place = gpa.checked_sub(RAM_BASE)?;
+        if is_marked(&self.approved, place / PAGE_BYTES) {
+            let at = self.mem.table_bytes() + place as usize;
             Some(self.mem.read(at, 4) as u32)
         } else {
             None
@@ -87,10 +87,11 @@ impl GuestMemory {
     }
 }
 
-fn is_listed(pages: &[u32], page: u64) -> bool
-    ensures { result ≡ list_any (λ p. p == page) pages.now }
+// Whether a page is marked. One behind the marks isn't.
+fn is_marked(marks: &[bool], page: u64) -> bool
+    ensures { result ≡ is_marked marks.now page }
 {
-    pages.iter().any(|p| *p as u64 == page)
+    marks.get(page as usize).copied().unwrap_or(false)
 }
 
 fn flat_region(alloc: Global, pages: &[u8]) -> Result<HostMem, AllocError>
@@ -103,13 +104,14 @@ fn flat_region(alloc: Global, pages: &[u8]) -> Result<HostMem, AllocError>
     Ok(mem)
 }
 
-fn first_pages(alloc: Global, count: usize) -> Result<Vec<u32>, AllocError>
-    requires { count ≤ 65536 }
-    ensures { IfOk result (λ v. v.items ≡ numbers_from 0 count) }
+// Marks for the pages of RAM, the first ones set.
+#[tactic(auto, using(crate::proofs::PageLemmas::first_marked))]
+fn first_pages(alloc: Global, count: usize) -> Result<Vec<bool>, AllocError>
+    requires { count ≤ 16 }
+    ensures pages { IfOk result (λ marks. marked_from 0 marks.items ≡ numbers_from 0 count) }
+    ensures all { IfOk result (λ marks. length marks.items ≡ flat_ram_pages) }
 {
-    let mut pages = Vec::new(alloc);
-    for page in 0..count {
-        pages.push(page as u32)?;
-    }
-    Ok(pages)
+    let mut marks = vec![in alloc; true; count]?;
+    marks.resize(FLAT_PAGES, false)?;
+    Ok(marks)
 }
