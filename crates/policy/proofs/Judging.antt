@@ -11,6 +11,11 @@ pub bind_ok : {A B : Type 0} (r : Judged A) (f : A → Judged B) (b : B) → (r 
 bind_ok (Ok a) f b h = (a, refl, h)
 bind_ok (Err e) f b h = cc h
 
+-- the same, for a proof that names what each of many steps gave
+pub after : {A B P : Type 0} (r : Judged A) (f : A → Judged B) (b : B) → (r >>= f) ≡ Ok b → ((a : A) → r ≡ Ok a → f a ≡ Ok b → P) → P
+after (Ok a) f b h next = next a refl h
+after (Err e) f b h next = cc h
+
 pub ok_same : {A : Type 0} (a b : A) → ◌≡◌ {A = Judged A} (Ok a) (Ok b) → a ≡ b
 ok_same a b h = cc h
 

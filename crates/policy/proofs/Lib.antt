@@ -11,4 +11,5 @@ pub mod Judging
 pub mod WrittenValues
 pub mod WrittenLists
 pub mod WrittenRules
+pub mod ReadLists
 pub mod ReadWithin

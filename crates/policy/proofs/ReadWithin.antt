@@ -1,48 +1,19 @@
--- What is read from a table is within the limits.
-use Rattle.std.proofs.Common.{◌≡◌, ℕ, suc, ◌+◌, ◌*◌, ◌%◌, ◌≤◌, nat_le, ◌==◌, ℤ, pos, negsuc, Bool, true, false, not, ◌&&◌, List, [], ◌∷◌, ◌++◌, length, codes, Option, Some, None, Ok, Err, refl, sym, ◌∙◌, ap, subst, arith}
+-- What is read from a table is within the limits of policies.
+use Rattle.std.proofs.Common.{◌≡◌, ℕ, nat_le, ◌==◌, ℤ, pos, negsuc, Bool, true, false, not, ◌&&◌, List, [], length, codes, Option, Some, None, Ok, refl, sym, ◌∙◌, ap, subst}
 use Rattle.std.proofs.lemmas.Bool.{and_parts}
-use Rattle.std.proofs.lemmas.List.{append_assoc, append-nil}
 use Rattle.toml.specs.Data.{Data, Items, no_items, item, Members, get_member}
 use Rattle.sv_types.specs.Bytes.{ram_base}
-use Rattle.sv_types.specs.Policies.{Rules, ModuleRule, each_within, format_within, harts_within, ram_pages_within, entry_within, entries_count_within, entries_within, exports_count_within, export_within, exports_within, is_exported, span_within, init_within, place_within, kind_within, is_aligned, base_within, anchor_within, is_behind, next_site_within, sites_within, sites_count_within, sites_of, module_within, modules_within, modules_count_within, is_module, module_pages_within, rules_within}
+use Rattle.sv_types.specs.Policies.{Rules, ModuleRule, format_within, harts_within, ram_pages_within, entry_within, entries_count_within, entries_within, exports_count_within, export_within, exports_within, is_exported, span_within, init_within, place_within, kind_within, is_aligned, base_within, anchor_within, is_behind, next_site_within, sites_within, sites_count_within, sites_of, module_within, modules_within, modules_count_within, is_module, module_pages_within, rules_within}
 use Rattle.sv_types.specs.declared.module.Span.{Span}
 use Rattle.sv_types.specs.declared.module.Site.{Site}
 use Rattle.sv_types.specs.declared.policy.Export.{Export}
-use Rattle.policy.specs.Refusals.{Judged, ◌>>=◌, not_ascending, other_format}
-use Rattle.policy.specs.Values.{required, integer_of, members_in, with_known, limited, number_of, natural_of, each_item, items_in, items_length, address_of, name_of}
-use Rattle.policy.specs.Text.{kernel_of, key_name, key_pages, key_measure, key_harts, key_ram_pages, key_entries, known_keys, module_keys, module_pages_of, module_rule_of, format_number, format_of, entry_of, entries_of, export_of_two, export_of, export_of_items, exports_of, some_exports_of, unrepeated, page_span, span_at, page_address_of, page_count_of, init_of_two, init_of_items, init_of, kernel_rule, fitting, offset_of, kind_of, base_of, anchor_of, in_order, site_of_five, site_of_items, site_of, each_site, sites_in, module_of_members, module_of, some_modules_of, modules_of, rules_of_members, rules_of_text, table_of_text}
-use Rattle.policy.proofs.Judging.{bind_ok, ok_same, limited_ok, both_true, if_ok}
+use Rattle.policy.specs.Refusals.{◌>>=◌, not_ascending, other_format}
+use Rattle.policy.specs.Values.{required, integer_of, members_in, with_known, limited, number_of, natural_of, items_in, address_of, name_of}
+use Rattle.policy.specs.Text.{kernel_of, key_name, key_pages, key_measure, key_harts, key_ram_pages, key_entries, known_keys, module_keys, module_pages_of, module_rule_of, format_number, format_of, entry_of, entries_of, export_of_two, export_of, export_of_items, exports_of, unrepeated, page_span, page_address_of, page_count_of, init_of_two, init_of_items, init_of, kernel_rule, fitting, offset_of, kind_of, base_of, anchor_of, site_of_five, site_of_items, site_of, sites_in, module_of_members, module_of, modules_of, rules_of_members}
+use Rattle.policy.proofs.ReadLists.{limited_read}
+use Rattle.policy.proofs.Judging.{bind_ok, after, ok_same, limited_ok, both_true, if_ok}
 
--- ---- lists
-
-module _ {A : Type 0} (judged : List A → Data → Judged A) (fits : List A → A → Bool)
-    (one : (before : List A) (d : Data) (a : A) → judged before d ≡ Ok a → fits before a ≡ true) where
-  each_within_behind : (before : List A) (items : Items) (xs : List A) → each_item judged before items ≡ Ok xs →
-      (ys : List A) × (before ++ ys ≡ xs) × (length ys ≡ items_length items) × (each_within fits before ys ≡ true)
-  each_within_behind before no_items xs read = ([], append-nil before ∙ ok_same before xs read, refl, refl)
-  each_within_behind before (item d items) xs read =
-      let first = bind_ok (judged before d) (λ a. each_item judged (before ++ a ∷ []) items) xs read in
-      let rest = each_within_behind (before ++ first.0 ∷ []) items xs first.2 in (
-        first.0 ∷ rest.0,
-        sym (append_assoc before (first.0 ∷ []) rest.0) ∙ rest.1,
-        ap suc rest.2,
-        both_true (one before d first.0 first.1) rest.3,
-      )
-
-  each_within_read : (items : Items) (xs : List A) → each_item judged [] items ≡ Ok xs → (length xs ≡ items_length items) × (each_within fits [] xs ≡ true)
-  each_within_read items xs read =
-      let all = each_within_behind [] items xs read in
-      (sym (ap length all.1) ∙ all.2, sym (ap (each_within fits []) all.1) ∙ all.3)
-
--- a list whose length is limited, and each of whose items is judged
-  limited_read : (count : ℕ → Bool) (d : Data) (xs : List A) → (items_in d >>= λ items. limited (count (items_length items)) items >>= each_item judged []) ≡ Ok xs →
-      (count (length xs) ≡ true) × (each_within fits [] xs ≡ true)
-  limited_read count d xs read =
-      let items = bind_ok (items_in d) _ xs read in
-      let few = bind_ok (limited (count (items_length items.0)) items.0) (each_item judged []) xs items.2 in
-      let fit = limited_ok (count (items_length items.0)) items.0 few.0 few.1 in
-      let all = each_within_read few.0 xs few.2 in
-      (ap count (all.0 ∙ ap items_length (sym fit.1)) ∙ fit.0, all.1)
+-- ---- numbers
 
 number_within : (fits : ℕ → Bool) (d : Data) (n : ℕ) → number_of fits d ≡ Ok n → fits n ≡ true
 number_within fits d n read =
@@ -137,23 +108,23 @@ five_read : (pages exports : ℕ) (before : List Site) (offset kind base addend 
     site_of_five pages exports before offset kind base addend anchor ≡ Ok s → next_site_within pages exports before s ≡ true
 unfolding site_of_five
 five_read pages exports before offset kind base addend anchor s read =
-    let at = bind_ok (offset_of pages offset) _ s read in
-    let of_kind = bind_ok (kind_of kind) _ s at.2 in
-    let fit = bind_ok (fitting of_kind.0 at.0) _ s of_kind.2 in
-    let from = bind_ok (base_of exports base) _ s fit.2 in
-    let plus = bind_ok (integer_of addend) _ s from.2 in
-    let to = bind_ok (anchor_of pages fit.0 at.0 anchor) _ s plus.2 in
-    let site : Site = record { offset = at.0; kind = fit.0; base = from.0; addend = plus.0; anchor = to.0 } in
-    let aligned = limited_ok (is_aligned of_kind.0 at.0) of_kind.0 fit.0 fit.1 in
-    let behind = if_ok (is_behind before site) site s not_ascending to.2 in
+    after (offset_of pages offset) _ s read λ at at_is read.
+    after (kind_of kind) _ s read λ any any_is read.
+    after (fitting any at) _ s read λ fit fit_is read.
+    after (base_of exports base) _ s read λ from from_is read.
+    after (integer_of addend) _ s read λ plus plus_is read.
+    after (anchor_of pages fit at anchor) _ s read λ to to_is read.
+    let aligned = limited_ok (is_aligned any at) any fit fit_is in
+    let site : Site = record { offset = at; kind = fit; base = from; addend = plus; anchor = to } in
+    let behind = if_ok (is_behind before site) site s not_ascending read in
     subst (λ (x : Site). next_site_within pages exports before x ≡ true) behind.1
     (next_site_true pages exports before site
-      (number_within (place_within pages) offset at.0 at.1)
-      (subst (λ (k : ℕ). kind_within k ≡ true) aligned.1 (number_within kind_within kind of_kind.0 of_kind.1))
-      (subst (λ (k : ℕ). is_aligned k at.0 ≡ true) aligned.1 aligned.0)
-      (number_within (base_within exports) base from.0 from.1)
-      (number_within (anchor_within pages fit.0 at.0) anchor to.0 to.1)
-      behind.0)
+    (number_within (place_within pages) offset at at_is)
+    (subst (λ (k : ℕ). kind_within k ≡ true) aligned.1 (number_within kind_within kind any any_is))
+    (subst (λ (k : ℕ). is_aligned k at ≡ true) aligned.1 aligned.0)
+    (number_within (base_within exports) base from from_is)
+    (number_within (anchor_within pages fit at) anchor to to_is)
+    behind.0)
 
 site_items_read : (pages exports : ℕ) (before : List Site) (items : Items) (s : Site) → site_of_items pages exports before items ≡ Ok s → next_site_within pages exports before s ≡ true
 site_items_read pages exports before no_items s read = cc read
@@ -177,17 +148,16 @@ sites_read pages exports before d sites read =
 members_read : (exports : ℕ) (before : List ModuleRule) (ms : Members) (m : ModuleRule) → module_of_members exports before ms ≡ Ok m → module_within exports before m ≡ true
 unfolding module_of_members
 members_read exports before ms m read =
-    let name = bind_ok (key_name ms) _ m read in
-    let pages = bind_ok (key_pages ms) _ m name.2 in
-    let measure = bind_ok (key_measure ms) _ m pages.2 in
-    let sites = bind_ok (required (codes "sites") ms >>= sites_in pages.0 exports (sites_of before)) _ m measure.2 in
-    let sites_data = bind_ok (required (codes "sites") ms) _ sites.0 sites.1 in
-    let pages_data = bind_ok (required (codes "pages") ms) module_pages_of pages.0 pages.1 in
-    let within = sites_read pages.0 exports (sites_of before) sites_data.0 sites.0 sites_data.2 in
-    let rule : ModuleRule = module_rule_of name.0 pages.0 measure.0 sites.0 in
-    let apart = unrepeated_ok (is_module name.0 before) rule m sites.2 in
+    after (key_name ms) _ m read λ name name_is read.
+    after (key_pages ms) _ m read λ pages pages_is read.
+    after (key_measure ms) _ m read λ measure measure_is read.
+    after (required (codes "sites") ms >>= sites_in pages exports (sites_of before)) _ m read λ sites sites_is read.
+    let sites_data = bind_ok (required (codes "sites") ms) _ sites sites_is in
+    let pages_data = bind_ok (required (codes "pages") ms) module_pages_of pages pages_is in
+    let within = sites_read pages exports (sites_of before) sites_data.0 sites sites_data.2 in
+    let apart = unrepeated_ok (is_module name before) (module_rule_of name pages measure sites) m read in
     subst (λ (x : ModuleRule). module_within exports before x ≡ true) apart.1
-    (both_true (both_true (both_true (number_within module_pages_within pages_data.0 pages.0 pages_data.2) within.0) within.1) apart.0)
+    (both_true (both_true (both_true (number_within module_pages_within pages_data.0 pages pages_data.2) within.0) within.1) apart.0)
 
 module_read : (exports : ℕ) (before : List ModuleRule) (d : Data) (m : ModuleRule) → module_of exports before d ≡ Ok m → module_within exports before m ≡ true
 module_read exports before d m read =
@@ -217,23 +187,32 @@ rules_true r format harts ram_pages entries exports init modules =
 pub rules_read : (ms : Members) (r : Rules) → rules_of_members ms ≡ Ok r → rules_within r ≡ true
 unfolding rules_of_members
 rules_read ms r read =
-    let format = bind_ok (format_of ms) _ r read in
-    let known = bind_ok (known_keys ms) _ r format.2 in
-    let harts = bind_ok (key_harts known.0) _ r known.2 in
-    let ram_pages = bind_ok (key_ram_pages known.0) _ r harts.2 in
-    let entries = bind_ok (key_entries known.0) _ r ram_pages.2 in
-    let exports = bind_ok (exports_of (get_member (codes "exports") known.0)) _ r entries.2 in
-    let kernel = bind_ok (kernel_rule ram_pages.0 known.0) _ r exports.2 in
-    let modules = bind_ok (modules_of (length exports.0) (get_member (codes "module") known.0)) _ r kernel.2 in
-    let harts_data = bind_ok (required (codes "harts") known.0) (number_of harts_within) harts.0 harts.1 in
-    let pages_data = bind_ok (required (codes "ram_pages") known.0) (number_of ram_pages_within) ram_pages.0 ram_pages.1 in
-    let entries_data = bind_ok (required (codes "entries") known.0) entries_of entries.0 entries.1 in
-    let rules : Rules = record { format = format.0; harts = harts.0; ram_pages = ram_pages.0; entries = entries.0; exports = exports.0; kernel = kernel.0.0; init = kernel.0.1; modules = modules.0 } in
-    subst (λ (x : Rules). rules_within x ≡ true) (ok_same rules r modules.2)
-    (rules_true rules (format_read ms format.0 format.1)
-      (number_within harts_within harts_data.0 harts.0 harts_data.2)
-      (number_within ram_pages_within pages_data.0 ram_pages.0 pages_data.2)
-      (entries_read entries_data.0 entries.0 entries_data.2)
-      (exports_read (get_member (codes "exports") known.0) exports.0 exports.1)
-      (kernel_read ram_pages.0 known.0 kernel.0 kernel.1)
-      (modules_read (length exports.0) (get_member (codes "module") known.0) modules.0 modules.1))
+    after (format_of ms) _ r read λ format format_is read.
+    after (known_keys ms) _ r read λ known known_is read.
+    after (key_harts known) _ r read λ harts harts_is read.
+    after (key_ram_pages known) _ r read λ ram_pages ram_pages_is read.
+    after (key_entries known) _ r read λ entries entries_is read.
+    after (exports_of (get_member (codes "exports") known)) _ r read λ exports exports_is read.
+    after (kernel_rule ram_pages known) _ r read λ kernel kernel_is read.
+    after (modules_of (length exports) (get_member (codes "module") known)) _ r read λ modules modules_is read.
+    let harts_data = bind_ok (required (codes "harts") known) (number_of harts_within) harts harts_is in
+    let pages_data = bind_ok (required (codes "ram_pages") known) (number_of ram_pages_within) ram_pages ram_pages_is in
+    let entries_data = bind_ok (required (codes "entries") known) entries_of entries entries_is in
+    let rules : Rules = record {
+      format = format;
+      harts = harts;
+      ram_pages = ram_pages;
+      entries = entries;
+      exports = exports;
+      kernel = kernel.0;
+      init = kernel.1;
+      modules = modules;
+    } in
+    subst (λ (x : Rules). rules_within x ≡ true) (ok_same rules r read)
+    (rules_true rules (format_read ms format format_is)
+    (number_within harts_within harts_data.0 harts harts_data.2)
+    (number_within ram_pages_within pages_data.0 ram_pages pages_data.2)
+    (entries_read entries_data.0 entries entries_data.2)
+    (exports_read (get_member (codes "exports") known) exports exports_is)
+    (kernel_read ram_pages known kernel kernel_is)
+    (modules_read (length exports) (get_member (codes "module") known) modules modules_is))

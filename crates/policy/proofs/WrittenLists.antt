@@ -1,5 +1,5 @@
 -- Printed lists read back: each item is judged as it was when it was printed.
-use Rattle.std.proofs.Common.{◌≡◌, ℕ, suc, Bool, true, false, not, ◌&&◌, List, [], ◌∷◌, ◌++◌, length, map, Ok, refl, sym, ◌∙◌, ap}
+use Rattle.std.proofs.Common.{◌≡◌, suc, Bool, true, List, [], ◌∷◌, ◌++◌, length, map, Ok, refl, sym, ◌∙◌, ap}
 use Rattle.std.proofs.lemmas.Bool.{and_parts}
 use Rattle.std.proofs.lemmas.List.{append_assoc, append-nil}
 use Rattle.std.proofs.lemmas.List.Elements.{All-head, All-tail}
@@ -7,7 +7,7 @@ use Rattle.std.specs.List.{All}
 use Rattle.toml.specs.Data.{Data}
 use Rattle.toml.specs.View.{items_of}
 use Rattle.sv_types.specs.Policies.{each_within}
-use Rattle.policy.specs.Refusals.{Judged, ◌>>=◌}
+use Rattle.policy.specs.Refusals.{Judged}
 use Rattle.policy.specs.Values.{each_item, items_length}
 use Rattle.policy.proofs.Judging.{then_ok}
 

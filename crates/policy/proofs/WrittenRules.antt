@@ -1,18 +1,16 @@
 -- A policy within its limits reads back from its printed table.
-use Rattle.std.proofs.Common.{◌≡◌, ℕ, ◌+◌, ◌*◌, ◌/◌, ◌%◌, ◌^◌, ◌<◌, ◌≤◌, ◌-◌, nat_le, codes, pos, Bool, true, false, not, ◌&&◌, List, [], ◌∷◌, ◌++◌, length, map, Option, Some, None, Ok, refl, sym, ◌∙◌, ap, arith}
+use Rattle.std.proofs.Common.{◌≡◌, ℕ, ◌+◌, ◌*◌, ◌/◌, ◌%◌, ◌<◌, ◌≤◌, ◌-◌, nat_le, codes, pos, Bool, true, false, not, List, [], length, Option, Some, None, Ok, refl, sym, ap, arith}
 use Rattle.std.proofs.lemmas.Bool.{and_parts, leb-true, le-leb, eqb-true}
 use Rattle.std.proofs.lemmas.Bool.Decides.{nat_tests}
 use Rattle.std.specs.List.{All}
-use Rattle.toml.specs.Data.{Data, Members, string, table, get_member}
-use Rattle.toml.specs.View.{items_of}
+use Rattle.toml.specs.Data.{Members, get_member}
 use Rattle.sv_types.specs.Bytes.{ram_base}
 use Rattle.sv_types.specs.Policies.{Rules, ModuleRule, each_within, entry_within, entries_count_within, exports_count_within, export_within, is_exported, span_within, init_within, next_site_within, site_within, place_within, kind_within, is_aligned, base_within, anchor_within, is_behind, sites_within, sites_count_within, sites_of, module_within, modules_within, modules_count_within, is_module, module_pages_within, format_within, harts_within, ram_pages_within, entries_within, exports_within, numbers_within, lists_within, rules_within}
 use Rattle.sv_types.specs.declared.module.Span.{Span}
 use Rattle.sv_types.specs.declared.module.Site.{Site}
 use Rattle.sv_types.specs.declared.policy.Export.{Export}
-use Rattle.policy.specs.Refusals.{Judged, ◌>>=◌}
-use Rattle.policy.specs.Values.{limited, each_item}
-use Rattle.policy.specs.Text.{format_number, entry_of, entries_of, export_of_two, export_of, some_exports_of, unrepeated, span_at, init_of_two, init_of, kernel_rule, site_of_five, site_of, sites_in, module_of_members, module_of, some_modules_of, rules_of_members, rules_of_text, table_of_text}
+use Rattle.policy.specs.Values.{limited}
+use Rattle.policy.specs.Text.{format_number, entry_of, entries_of, export_of_two, export_of, some_exports_of, span_at, init_of_two, init_of, kernel_rule, site_of_five, site_of, sites_in, module_of_members, module_of, some_modules_of, rules_of_members, rules_of_text, table_of_text}
 use Rattle.policy.specs.Printed.{address_data, entries_data, export_data, exports_data, span_data, site_data, sites_data, module_data, modules_data, kernel_data, rules_members}
 use Rattle.policy.specs.Ranges.{IsAddress, IsDigest, IsExport, IsModule, IsPolicy}
 use Rattle.policy.proofs.Judging.{then_ok, limited_true}
@@ -131,7 +129,9 @@ rules_back r is within =
     let entries = and_parts (entries_count_within (length r.entries)) (entries_within r.entries) exports_count.0 in
     let few : r.ram_pages ≤ 65536 = leb-true r.ram_pages 65536 (and_parts (nat_le 16 r.ram_pages) (nat_le r.ram_pages 65536) numbers.1).1 in
     rw (
-      format_back r.format harts.0, harts.1, numbers.1,
+      format_back r.format harts.0,
+      harts.1,
+      numbers.1,
       entries_back r.entries is.entries entries.0 entries.1,
       exports_back r.exports is.exports exports_count.1 exports.1,
       init_back r.ram_pages r.kernel r.init _ refl is.kernel init.1 few,

@@ -1,5 +1,5 @@
 -- Printed values read back.
-use Rattle.std.proofs.Common.{◌≡◌, ℕ, zero, suc, ◌+◌, ◌*◌, ◌/◌, ◌%◌, ◌^◌, ◌<◌, ◌≤◌, Bool, true, ◌&&◌, List, [], ◌∷◌, ◌++◌, length, Ok, refl, sym, ◌∙◌, ap, arith, pow-suc}
+use Rattle.std.proofs.Common.{◌≡◌, ℕ, zero, suc, ◌+◌, ◌*◌, ◌/◌, ◌%◌, ◌^◌, ◌<◌, true, List, [], ◌∷◌, ◌++◌, length, Ok, refl, ◌∙◌, ap, arith, pow-suc}
 use Rattle.std.proofs.lemmas.Bool.Decides.{nat_tests}
 use Rattle.std.proofs.lemmas.List.{length-append}
 use Rattle.std.proofs.lemmas.List.Folds.{list_all-append}
@@ -7,7 +7,6 @@ use Rattle.std.proofs.lemmas.Str.{digit_value-digit_char}
 use Rattle.std.specs.List.{list_all}
 use Rattle.std.specs.Char.{digit_char, digit_value, is_ascii_hexdigit}
 use Rattle.hex.proofs.HexLemmas.{decode_sized-encode_lower}
-use Rattle.hex.specs.Hex.{encode_lower}
 use Rattle.sv_types.specs.Numbers.{digest_of}
 use Rattle.sv_types.specs.Output.{hexadecimal, address_text}
 use Rattle.policy.specs.Values.{hexadecimal_value, hexadecimal_number, address_of, measure_of}

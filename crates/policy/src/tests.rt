@@ -1,6 +1,7 @@
 // Policies of which one text is changed, and the number that refuses them; 0 accepts.
 ghost use Rattle.std.specs.Prelude.{◌≡◌, IfOk, IfErr, true};
 ghost use Rattle.sv_types.specs.Policies.{rules_of, rules_within};
+ghost use Rattle.policy.specs.declared.refusal.PolicyRefusal.TheVariants.{Memory};
 
 use super::*;
 use std::alloc::{AllocError, Global};

@@ -1,9 +1,5 @@
-use Rattle.std.proofs.Common.{◌≡◌, ℕ, List, subst, sym, map, take, ◌+◌, ap, get_or, ◌∙◌}
+use Rattle.std.proofs.Common.{subst}
 use Rattle.std.proofs.lemmas.List.Elements.{All-more}
-use Rattle.toml.specs.Data.{Data, array}
-use Rattle.toml.specs.View.{view, items_of}
-use Rattle.toml.specs.declared.value.Value.{Value}
-use Rattle.sv_types.specs.declared.policy.Export.{Export}
 use Rattle.policy.specs.Printed.{export_data}
 use Rattle.policy.specs.Ranges.{IsExport}
 use Rattle.policy.proofs.Prints.{printed_more, printed_all}

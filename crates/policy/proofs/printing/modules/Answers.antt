@@ -1,10 +1,10 @@
-use Rattle.std.proofs.Common.{◌≡◌, ℕ, List, subst, sym, map, take, ◌+◌, ap, get_or, ◌∙◌}
+use Rattle.std.proofs.Common.{List, subst, sym, ap, ◌∙◌}
 use Rattle.std.proofs.lemmas.List.{take_all}
 use Rattle.std.proofs.lemmas.Simd.{map-map}
 use Rattle.std.proofs.lemmas.List.Elements.{All-more, All-map}
 use Rattle.std.specs.List.{All}
 use Rattle.toml.specs.Data.{Data, array}
-use Rattle.toml.specs.View.{view, items_of}
+use Rattle.toml.specs.View.{items_of}
 use Rattle.sv_types.specs.Policies.{module_rule}
 use Rattle.sv_types.specs.declared.policy.ModulePolicy.{ModulePolicy}
 use Rattle.policy.specs.Printed.{module_data}
