@@ -255,7 +255,8 @@ fn text(alloc: Global, policy: &Policy) -> Result<String, AllocError>
     }
 }
 
-/// Prints a policy as a text, whose table has the policy's values under their keys. Fails for want of memory alone.
+/// Prints a policy as a text, whose table has the policy's values under their keys, and which is read as that policy.
+/// Fails for want of memory alone.
 pub fn write(alloc: Global, policy: &Policy) -> Result<Vec<u8>, AllocError>
     requires { limits.rules_within (limits.rules_of policy.now) ≡ true }
     ensures table { IfOk result (λ bytes. table_of_text bytes.items ≡ Ok (spec.rules_members (limits.rules_of policy.now))) }

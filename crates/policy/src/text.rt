@@ -129,7 +129,7 @@ fn table(alloc: Global, bytes: &[u8]) -> Result<Table, PolicyRefusal>
 }
 
 /// Reads a policy's text. `Ok` exactly for the texts within the format, and else the first refusal in its order, but
-/// for want of memory.
+/// for want of memory. A policy that is read is within the limits.
 pub fn read(alloc: Global, bytes: &[u8]) -> Result<Policy, PolicyRefusal>
     ensures ok { IfOk result (λ policy. spec.rules_of_text bytes.now ≡ Ok (rules_of policy)) }
     ensures within { IfOk result (λ policy. rules_within (rules_of policy) ≡ true) }
