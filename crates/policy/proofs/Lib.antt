@@ -6,3 +6,10 @@ pub mod Texts
 pub mod Tested
 pub mod Puts
 pub mod Depths
+pub mod Prints
+pub mod Judging
+pub mod WrittenValues
+pub mod WrittenLists
+pub mod WrittenRules
+pub mod ReadLists
+pub mod ReadWithin

@@ -2,3 +2,4 @@ pub mod Refusals
 pub mod Values
 pub mod Text
 pub mod Printed
+pub mod Ranges

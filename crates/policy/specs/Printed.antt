@@ -1,6 +1,6 @@
 -- The table of a policy, as it is printed.
 -- TOML 1.0; the keys are this project's own.
-use Rattle.std.specs.Prelude.{ℕ, ℤ, pos, List, [], ◌∷◌, map, codes, Option, Some, None, ◌+◌, ◌*◌}
+use Rattle.std.specs.Prelude.{ℕ, pos, List, [], ◌∷◌, map, codes, Option, Some, None, ◌+◌, ◌*◌}
 use Rattle.std.specs.Ordering.{nat_cmp, match_ordering}
 use Rattle.std.specs.Cmp.Lexicographic.{slice_cmp}
 use Rattle.hex.specs.Hex.{encode_lower}

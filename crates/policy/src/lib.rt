@@ -3,6 +3,7 @@
 
 mod entries;
 mod kernel;
+mod laws;
 mod limits;
 mod modules;
 mod printing;
@@ -13,6 +14,7 @@ mod tests;
 mod text;
 mod values;
 
+pub use laws::law_round_trip;
 pub use limits::within;
 pub use printing::write;
 pub use refusal::PolicyRefusal;

@@ -7,7 +7,9 @@ ghost use Rattle.toml.specs.Data.{string, no_members};
 ghost use Rattle.toml.specs.Parse.{parse_document};
 ghost use Rattle.toml.specs.View.{view, table_view};
 ghost use Rattle.sv_types.specs.Policies as limits;
-ghost use Rattle.policy.specs.Text.{table_of_text};
+ghost use Rattle.std.specs.List.{All};
+ghost use Rattle.policy.specs.Ranges.{IsAddress, IsDigest, IsExport, IsModule, IsPolicy};
+ghost use Rattle.policy.specs.Text.{table_of_text, rules_of_text};
 ghost use Rattle.policy.specs.Printed as spec;
 
 use std::alloc::{AllocError, Global};
@@ -66,14 +68,16 @@ fn address(alloc: Global, address: u64) -> Result<Value, AllocError>
 }
 
 fn measure(alloc: Global, digest: &[u8; 32]) -> Result<Value, AllocError>
-    ensures { IfOk result (λ v. view v ≡ spec.measure_data digest.now) }
+    ensures printed { IfOk result (λ v. view v ≡ spec.measure_data digest.now) }
+    ensures typed { OnOk result (IsDigest digest.now) }
 {
     let text = hex::encode(alloc, digest.as_slice())?;
     Ok(Value::from(text))
 }
 
 fn entries(alloc: Global, entries: &[u64]) -> Result<Value, AllocError>
-    ensures { IfOk result (λ v. view v ≡ spec.entries_data entries.now) }
+    ensures printed { IfOk result (λ v. view v ≡ spec.entries_data entries.now) }
+    ensures typed { OnOk result (All IsAddress entries.now) }
 {
     let mut values = Vec::new(alloc);
     for entry in entries {
@@ -85,7 +89,8 @@ fn entries(alloc: Global, entries: &[u64]) -> Result<Value, AllocError>
 
 #[tactic(auto, unfolding(crate::specs::Printed::export_data))]
 fn export(alloc: Global, export: &Export) -> Result<Value, AllocError>
-    ensures { IfOk result (λ v. view v ≡ spec.export_data export.now) }
+    ensures printed { IfOk result (λ v. view v ≡ spec.export_data export.now) }
+    ensures typed { OnOk result (IsExport export.now) }
 {
     let name = Value::string(alloc, export.name.text())?;
     let addr = address(alloc, export.addr)?;
@@ -94,7 +99,8 @@ fn export(alloc: Global, export: &Export) -> Result<Value, AllocError>
 }
 
 fn exports(alloc: Global, exports: &[Export]) -> Result<Value, AllocError>
-    ensures { IfOk result (λ v. view v ≡ spec.exports_data exports.now) }
+    ensures printed { IfOk result (λ v. view v ≡ spec.exports_data exports.now) }
+    ensures typed { OnOk result (All IsExport exports.now) }
 {
     let mut values = Vec::new(alloc);
     for item in exports {
@@ -130,7 +136,8 @@ fn sites(alloc: Global, sites: &[Site]) -> Result<Value, AllocError>
 
 #[tactic(auto, unfolding(crate::specs::Printed::module_data))]
 fn module_table(alloc: Global, m: &ModulePolicy) -> Result<Value, AllocError>
-    ensures { IfOk result (λ v. view v ≡ spec.module_data (limits.module_rule m.now)) }
+    ensures printed { IfOk result (λ v. view v ≡ spec.module_data (limits.module_rule m.now)) }
+    ensures typed { OnOk result (IsModule (limits.module_rule m.now)) }
 {
     let mut table = Table::new(alloc);
     put(
@@ -151,7 +158,8 @@ fn module_table(alloc: Global, m: &ModulePolicy) -> Result<Value, AllocError>
 }
 
 fn modules(alloc: Global, modules: &[ModulePolicy]) -> Result<Value, AllocError>
-    ensures { IfOk result (λ v. view v ≡ spec.modules_data (map limits.module_rule modules.now)) }
+    ensures printed { IfOk result (λ v. view v ≡ spec.modules_data (map limits.module_rule modules.now)) }
+    ensures typed { OnOk result (All IsModule (map limits.module_rule modules.now)) }
 {
     let mut values = Vec::new(alloc);
     for item in modules {
@@ -184,7 +192,8 @@ fn put_init(alloc: Global, table: &mut Table, init: Option<Span>) -> Result<(), 
 
 #[tactic(auto, unfolding(crate::specs::Printed::kernel_data))]
 fn kernel(alloc: Global, policy: &Policy) -> Result<Value, AllocError>
-    ensures { IfOk result (λ v. view v ≡ spec.kernel_data policy.now.kernel policy.now.init) }
+    ensures printed { IfOk result (λ v. view v ≡ spec.kernel_data policy.now.kernel policy.now.init) }
+    ensures typed { OnOk result (IsDigest policy.now.kernel) }
 {
     let mut table = Table::new(alloc);
     put(
@@ -199,7 +208,8 @@ fn kernel(alloc: Global, policy: &Policy) -> Result<Value, AllocError>
 
 #[tactic(auto, unfolding(crate::specs::Printed::rules_members))]
 fn policy_table(alloc: Global, policy: &Policy) -> Result<Table, AllocError>
-    ensures { IfOk result (λ t. table_view t ≡ spec.rules_members (limits.rules_of policy.now)) }
+    ensures printed { IfOk result (λ t. table_view t ≡ spec.rules_members (limits.rules_of policy.now)) }
+    ensures typed { OnOk result (IsPolicy (limits.rules_of policy.now)) }
 {
     let mut table = Table::new(alloc);
     put(
@@ -234,8 +244,9 @@ fn policy_table(alloc: Global, policy: &Policy) -> Result<Table, AllocError>
 
 // The text that is read back as the policy's table.
 fn text(alloc: Global, policy: &Policy) -> Result<String, AllocError>
-    ensures { IfOk result (λ text.
+    ensures printed { IfOk result (λ text.
         parse_document (string_bytes text) ≡ Some (spec.rules_members (limits.rules_of policy.now))) }
+    ensures typed { OnOk result (IsPolicy (limits.rules_of policy.now)) }
 {
     let table = policy_table(alloc, policy)?;
     match toml::table_to_string(alloc, &table) {
@@ -244,10 +255,12 @@ fn text(alloc: Global, policy: &Policy) -> Result<String, AllocError>
     }
 }
 
-/// Prints a policy as a text, whose table has the policy's values under their keys. Fails for want of memory alone.
+/// Prints a policy as a text, whose table has the policy's values under their keys, and which is read as that policy.
+/// Fails for want of memory alone.
 pub fn write(alloc: Global, policy: &Policy) -> Result<Vec<u8>, AllocError>
     requires { limits.rules_within (limits.rules_of policy.now) ≡ true }
-    ensures { IfOk result (λ bytes. table_of_text bytes.items ≡ Ok (spec.rules_members (limits.rules_of policy.now))) }
+    ensures table { IfOk result (λ bytes. table_of_text bytes.items ≡ Ok (spec.rules_members (limits.rules_of policy.now))) }
+    ensures reads_back { IfOk result (λ bytes. rules_of_text bytes.items ≡ Ok (limits.rules_of policy.now)) }
 {
     let text = text(alloc, policy)?;
     Ok(text.into_bytes())

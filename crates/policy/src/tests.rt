@@ -1,7 +1,12 @@
 // Policies of which one text is changed, and the number that refuses them; 0 accepts.
+ghost use Rattle.std.specs.Prelude.{◌≡◌, IfOk, IfErr, true};
+ghost use Rattle.sv_types.specs.Policies.{rules_of, rules_within};
+ghost use Rattle.policy.specs.declared.refusal.PolicyRefusal.TheVariants.{Memory};
+
 use super::*;
-use std::alloc::Global;
+use std::alloc::{AllocError, Global};
 use std::test::Fail;
+use sv_types::{ModulePolicy, Name, Policy, Site};
 
 const GOOD: &str =
     "format = 1\nharts = 1\nram_pages = 16\nentries = [\"0x80000000\", \"0xFFFFFFc080000100\"]\nexports = [[\"printk\", \"0x80000100\"], [\"kfree\", \"0x80000200\"]]\n\n[kernel]\nmeasure = \"00112233445566778899aabbccddeeff00112233445566778899AABBCCDDEEFF\"\ninit = [\"0x80001000\", 1]\n\n[[module]]\nname = \"m\"\npages = 2\nmeasure = \"ffeeddccbbaa99887766554433221100ffeeddccbbaa99887766554433221100\"\nsites = [[0, 23, 3, 0, 0], [4, 24, 3, 0, 0], [8, 2, 4, -5, 8]]\n";
@@ -127,20 +132,75 @@ fn values(rt: HostRuntime) -> Result<(), Fail> {
     Ok(())
 }
 
+// A policy within the limits is read back as it was written, but for want of memory.
+fn read_back(alloc: Global, policy: &Policy) -> Result<Policy, PolicyRefusal>
+    requires { rules_within (rules_of policy.now) ≡ true }
+    ensures same { IfOk result (λ back. rules_of back ≡ rules_of policy.now) }
+    ensures memory { IfErr result (λ e. e ≡ Memory) }
+{
+    let text = write(alloc, policy)?;
+    read(alloc, text.as_slice())
+}
+
+// The most sites that a module of 1,024 pages has, where there are 64 such modules.
+fn most_sites(alloc: Global) -> Result<Vec<Site>, AllocError> {
+    let mut sites = Vec::new(alloc);
+    for i in 0..2048u32 {
+        let offset = 4_186_112 + 4 * i;
+        sites.push(Site {
+            offset,
+            kind: 23,
+            base: 2,
+            addend: i64::MIN,
+            anchor: offset,
+        })?;
+    }
+    Ok(sites)
+}
+
+// 64 modules, with 131,072 sites among them.
+fn most_modules(alloc: Global) -> Result<Vec<ModulePolicy>, Fail> {
+    let mut modules = Vec::new(alloc);
+    for i in 0..64u8 {
+        let name = format!(in alloc; "m{i}")?;
+        modules.push(ModulePolicy {
+            name: Name::new(name.as_str()).ok_or("name")?,
+            pages: 1024,
+            measure: [i; 32],
+            sites: most_sites(alloc)?,
+        })?;
+    }
+    Ok(modules)
+}
+
+fn same_modules(modules: &[ModulePolicy], others: &[ModulePolicy]) -> bool {
+    modules.len() == others.len()
+        && modules.iter().zip(others).all(|(a, b)| {
+            a.name.text() == b.name.text() && a.measure == b.measure && a.sites == b.sites
+        })
+}
+
 #[test]
 fn written_and_read_back(rt: HostRuntime) -> Result<(), Fail> {
     let policy = read(rt.alloc(), GOOD.as_bytes())?;
+    let back = read_back(rt.alloc(), &policy)?;
+    assert!(rt; back.entries == policy.entries);
+    assert!(rt; back.init == policy.init);
+    assert!(rt; back.kernel == policy.kernel);
+    let export = back.exports.last().ok_or("export")?;
+    assert_eq!(rt; export.name.text(), "kfree");
+    assert!(rt; same_modules(back.modules.as_slice(), policy.modules.as_slice()));
+    Ok(())
+}
+
+#[test]
+fn largest_read_back(rt: HostRuntime) -> Result<(), Fail> {
+    let mut policy = read(rt.alloc(), GOOD.as_bytes())?;
+    policy.modules = most_modules(rt.alloc())?;
+    assert!(rt; within(&policy));
     if within(&policy) {
-        let text = write(rt.alloc(), &policy)?;
-        let back = read(rt.alloc(), text.as_slice())?;
-        assert!(rt; back.entries == policy.entries);
-        assert!(rt; back.init == policy.init);
-        assert!(rt; back.kernel == policy.kernel);
-        let export = back.exports.last().ok_or("export")?;
-        assert_eq!(rt; export.name.text(), "kfree");
-        let before = policy.modules.first().ok_or("module")?;
-        let after = back.modules.first().ok_or("module")?;
-        assert!(rt; after.sites == before.sites);
+        let back = read_back(rt.alloc(), &policy)?;
+        assert!(rt; same_modules(back.modules.as_slice(), policy.modules.as_slice()));
     }
     Ok(())
 }

@@ -1,7 +1,7 @@
 // The reading of a policy's text.
 
-ghost use Rattle.std.specs.Prelude.{◌≡◌, IfOk, IfErr};
-ghost use Rattle.sv_types.specs.Policies.{rules_of};
+ghost use Rattle.std.specs.Prelude.{◌≡◌, IfOk, IfErr, true};
+ghost use Rattle.sv_types.specs.Policies.{rules_of, rules_within};
 ghost use Rattle.toml.specs.View.{table_view};
 ghost use Rattle.policy.specs.Refusals.{Refuses, judged_map};
 ghost use Rattle.policy.specs.Text as spec;
@@ -129,9 +129,10 @@ fn table(alloc: Global, bytes: &[u8]) -> Result<Table, PolicyRefusal>
 }
 
 /// Reads a policy's text. `Ok` exactly for the texts within the format, and else the first refusal in its order, but
-/// for want of memory.
+/// for want of memory. A policy that is read is within the limits.
 pub fn read(alloc: Global, bytes: &[u8]) -> Result<Policy, PolicyRefusal>
     ensures ok { IfOk result (λ policy. spec.rules_of_text bytes.now ≡ Ok (rules_of policy)) }
+    ensures within { IfOk result (λ policy. rules_within (rules_of policy) ≡ true) }
     ensures refused { IfErr result (Refuses (spec.rules_of_text bytes.now)) }
 {
     let table = table(alloc, bytes)?;

@@ -61,7 +61,9 @@ impl Name {
     }
 
     pub fn text(&self) -> &str
-        ensures { result.now ≡ self.now }
+        ensures text { result.now ≡ self.now }
+        ensures some { 0 < length result.now }
+        ensures most { length result.now ≤ 64 }
     {
         unsafe { str::from_utf8_unchecked(&self.bytes[..self.length]) }
     }

@@ -1,0 +1,34 @@
+-- Steps that may refuse, and limits.
+use Rattle.std.proofs.Common.{◌≡◌, Bool, true, false, ◌&&◌, Ok, Err, if◌then◌else◌, refl}
+use Rattle.policy.specs.declared.refusal.PolicyRefusal.{PolicyRefusal}
+use Rattle.policy.specs.Refusals.{Judged, ◌>>=◌}
+use Rattle.policy.specs.Values.{limited}
+
+pub then_ok : {A B : Type 0} (r : Judged A) (f : A → Judged B) (a : A) (b : Judged B) → r ≡ Ok a → f a ≡ b → (r >>= f) ≡ b
+then_ok r f a b first second = rw first second
+
+pub bind_ok : {A B : Type 0} (r : Judged A) (f : A → Judged B) (b : B) → (r >>= f) ≡ Ok b → (a : A) × (r ≡ Ok a) × (f a ≡ Ok b)
+bind_ok (Ok a) f b h = (a, refl, h)
+bind_ok (Err e) f b h = cc h
+
+-- the same, for a proof that names what each of many steps gave
+pub after : {A B P : Type 0} (r : Judged A) (f : A → Judged B) (b : B) → (r >>= f) ≡ Ok b → ((a : A) → r ≡ Ok a → f a ≡ Ok b → P) → P
+after (Ok a) f b h next = next a refl h
+after (Err e) f b h next = cc h
+
+pub ok_same : {A : Type 0} (a b : A) → ◌≡◌ {A = Judged A} (Ok a) (Ok b) → a ≡ b
+ok_same a b h = cc h
+
+pub limited_true : {A : Type 0} (fits : Bool) (a : A) → fits ≡ true → limited fits a ≡ Ok a
+limited_true fits a h = rw h
+
+pub limited_ok : {A : Type 0} (fits : Bool) (a b : A) → limited fits a ≡ Ok b → (fits ≡ true) × (a ≡ b)
+limited_ok true a b h = (refl, ok_same a b h)
+limited_ok false a b h = cc h
+
+pub both_true : {a b : Bool} → a ≡ true → b ≡ true → (a && b) ≡ true
+both_true x y = rw (x, y) refl
+
+pub if_ok : {A : Type 0} (b : Bool) (a c : A) (e : PolicyRefusal) → ◌≡◌ {A = Judged A} (if b then Ok a else Err e) (Ok c) → (b ≡ true) × (a ≡ c)
+if_ok true a c e h = (refl, ok_same a c h)
+if_ok false a c e h = cc h

@@ -1,0 +1,218 @@
+-- What is read from a table is within the limits of policies.
+use Rattle.std.proofs.Common.{◌≡◌, ℕ, nat_le, ◌==◌, ℤ, pos, negsuc, Bool, true, false, not, ◌&&◌, List, [], length, codes, Option, Some, None, Ok, refl, sym, ◌∙◌, ap, subst}
+use Rattle.std.proofs.lemmas.Bool.{and_parts}
+use Rattle.toml.specs.Data.{Data, Items, no_items, item, Members, get_member}
+use Rattle.sv_types.specs.Bytes.{ram_base}
+use Rattle.sv_types.specs.Policies.{Rules, ModuleRule, format_within, harts_within, ram_pages_within, entry_within, entries_count_within, entries_within, exports_count_within, export_within, exports_within, is_exported, span_within, init_within, place_within, kind_within, is_aligned, base_within, anchor_within, is_behind, next_site_within, sites_within, sites_count_within, sites_of, module_within, modules_within, modules_count_within, is_module, module_pages_within, rules_within}
+use Rattle.sv_types.specs.declared.module.Span.{Span}
+use Rattle.sv_types.specs.declared.module.Site.{Site}
+use Rattle.sv_types.specs.declared.policy.Export.{Export}
+use Rattle.policy.specs.Refusals.{◌>>=◌, not_ascending, other_format}
+use Rattle.policy.specs.Values.{required, integer_of, members_in, with_known, limited, number_of, natural_of, items_in, address_of, name_of}
+use Rattle.policy.specs.Text.{kernel_of, key_name, key_pages, key_measure, key_harts, key_ram_pages, key_entries, known_keys, module_keys, module_pages_of, module_rule_of, format_number, format_of, entry_of, entries_of, export_of_two, export_of, export_of_items, exports_of, unrepeated, page_span, page_address_of, page_count_of, init_of_two, init_of_items, init_of, kernel_rule, fitting, offset_of, kind_of, base_of, anchor_of, site_of_five, site_of_items, site_of, sites_in, module_of_members, module_of, modules_of, rules_of_members}
+use Rattle.policy.proofs.ReadLists.{limited_read}
+use Rattle.policy.proofs.Judging.{bind_ok, after, ok_same, limited_ok, both_true, if_ok}
+
+-- ---- numbers
+
+number_within : (fits : ℕ → Bool) (d : Data) (n : ℕ) → number_of fits d ≡ Ok n → fits n ≡ true
+number_within fits d n read =
+    let number = bind_ok (natural_of d) (λ n. limited (fits n) n) n read in
+    let fit = limited_ok (fits number.0) number.0 n number.2 in
+    sym (ap fits fit.1) ∙ fit.0
+
+unrepeated_ok : {A : Type 0} (b : Bool) (a c : A) → unrepeated b a ≡ Ok c → (not b ≡ true) × (a ≡ c)
+unrepeated_ok true a c h = cc h
+unrepeated_ok false a c h = (refl, ok_same a c h)
+
+number_read : (z : ℤ) (n : ℕ) → format_number z ≡ Ok n → format_within n ≡ true
+number_read (pos m) n h =
+    let one = if_ok (m == 1) 1 n other_format h in
+    subst (λ (x : ℕ). format_within x ≡ true) one.1 refl
+number_read (negsuc m) n h = cc h
+
+-- ---- entries and exports
+
+entry_read : (before : List ℕ) (d : Data) (a : ℕ) → entry_of d ≡ Ok a → entry_within a ≡ true
+entry_read before d a read =
+    let address = bind_ok (address_of d) (λ address. limited (entry_within address) address) a read in
+    let fit = limited_ok (entry_within address.0) address.0 a address.2 in
+    sym (ap entry_within fit.1) ∙ fit.0
+
+entries_read : (d : Data) (entries : List ℕ) → entries_of d ≡ Ok entries → (entries_count_within (length entries) ≡ true) × (entries_within entries ≡ true)
+entries_read d entries read = limited_read (λ before. entry_of) (λ before entry. entry_within entry) entry_read entries_count_within d entries read
+
+two_read : (before : List Export) (name addr : Data) (e : Export) → export_of_two before name addr ≡ Ok e → export_within before e ≡ true
+unfolding export_of_two
+two_read before name addr e read =
+    let name_read = bind_ok (name_of name) _ e read in
+    let addr_read = bind_ok (address_of addr) _ e name_read.2 in
+    let apart = unrepeated_ok (is_exported name_read.0 before) _ e addr_read.2 in
+    subst (λ (x : Export). export_within before x ≡ true) apart.1 apart.0
+
+export_items_read : (before : List Export) (items : Items) (e : Export) → export_of_items before items ≡ Ok e → export_within before e ≡ true
+export_items_read before no_items e read = cc read
+export_items_read before (item name no_items) e read = cc read
+export_items_read before (item name (item addr no_items)) e read = two_read before name addr e read
+export_items_read before (item name (item addr (item d items))) e read = cc read
+
+export_read : (before : List Export) (d : Data) (e : Export) → export_of before d ≡ Ok e → export_within before e ≡ true
+export_read before d e read =
+    let items = bind_ok (items_in d) (export_of_items before) e read in
+    export_items_read before items.0 e items.2
+
+exports_read : (d : Option Data) (exports : List Export) → exports_of d ≡ Ok exports → (exports_count_within (length exports) ≡ true) × (exports_within exports ≡ true)
+exports_read None exports read = subst (λ (es : List Export). (exports_count_within (length es) ≡ true) × (exports_within es ≡ true)) (ok_same [] exports read) (refl, refl)
+exports_read (Some d) exports read = limited_read export_of export_within export_read exports_count_within d exports read
+
+-- ---- the kernel
+
+span_read : (ram_pages : ℕ) (address count : Data) (span : Span) → init_of_two ram_pages address count ≡ Ok span → span_within ram_pages span ≡ true
+unfolding init_of_two
+span_read ram_pages address count span read =
+    let at = bind_ok (page_address_of address) _ span read in
+    let pages = bind_ok (page_count_of count) _ span at.2 in
+    let fit = limited_ok (nat_le ram_base at.0 && span_within ram_pages (page_span at.0 pages.0)) (page_span at.0 pages.0) span pages.2 in
+    subst (λ (s : Span). span_within ram_pages s ≡ true) fit.1 (and_parts (nat_le ram_base at.0) (span_within ram_pages (page_span at.0 pages.0)) fit.0).1
+
+span_items_read : (ram_pages : ℕ) (items : Items) (span : Span) → init_of_items ram_pages items ≡ Ok span → span_within ram_pages span ≡ true
+span_items_read ram_pages no_items span read = cc read
+span_items_read ram_pages (item address no_items) span read = cc read
+span_items_read ram_pages (item address (item count no_items)) span read = span_read ram_pages address count span read
+span_items_read ram_pages (item address (item count (item d items))) span read = cc read
+
+init_read : (ram_pages : ℕ) (d : Option Data) (init : Option Span) → init_of ram_pages d ≡ Ok init → init_within ram_pages init ≡ true
+unfolding init_of
+init_read ram_pages None init read = subst (λ (o : Option Span). init_within ram_pages o ≡ true) (ok_same None init read) refl
+init_read ram_pages (Some d) init read =
+    let span = bind_ok (items_in d >>= init_of_items ram_pages) _ init read in
+    let items = bind_ok (items_in d) (init_of_items ram_pages) span.0 span.1 in
+    subst (λ (o : Option Span). init_within ram_pages o ≡ true) (ok_same (Some span.0) init span.2) (span_items_read ram_pages items.0 span.0 items.2)
+
+kernel_read : (ram_pages : ℕ) (ms : Members) (kernel : List ℕ × Option Span) → kernel_rule ram_pages ms ≡ Ok kernel → init_within ram_pages kernel.1 ≡ true
+kernel_read ram_pages ms kernel read =
+    let table = bind_ok (kernel_of ms) _ kernel read in
+    let measure = bind_ok (key_measure table.0) _ kernel table.2 in
+    let init = bind_ok (init_of ram_pages (get_member (codes "init") table.0)) _ kernel measure.2 in
+    subst (λ (k : List ℕ × Option Span). init_within ram_pages k.1 ≡ true) (ok_same (measure.0, init.0) kernel init.2) (init_read ram_pages (get_member (codes "init") table.0) init.0 init.1)
+
+-- ---- modules
+
+next_site_true : (pages exports : ℕ) (before : List Site) (s : Site) → place_within pages s.offset ≡ true → kind_within s.kind ≡ true →
+    is_aligned s.kind s.offset ≡ true → base_within exports s.base ≡ true → anchor_within pages s.kind s.offset s.anchor ≡ true →
+    is_behind before s ≡ true → next_site_within pages exports before s ≡ true
+next_site_true pages exports before s placed known aligned based anchored behind =
+    both_true (both_true (both_true (both_true (both_true placed known) aligned) based) anchored) behind
+
+five_read : (pages exports : ℕ) (before : List Site) (offset kind base addend anchor : Data) (s : Site) →
+    site_of_five pages exports before offset kind base addend anchor ≡ Ok s → next_site_within pages exports before s ≡ true
+unfolding site_of_five
+five_read pages exports before offset kind base addend anchor s read =
+    after (offset_of pages offset) _ s read λ at at_is read.
+    after (kind_of kind) _ s read λ any any_is read.
+    after (fitting any at) _ s read λ fit fit_is read.
+    after (base_of exports base) _ s read λ from from_is read.
+    after (integer_of addend) _ s read λ plus plus_is read.
+    after (anchor_of pages fit at anchor) _ s read λ to to_is read.
+    let aligned = limited_ok (is_aligned any at) any fit fit_is in
+    let site : Site = record { offset = at; kind = fit; base = from; addend = plus; anchor = to } in
+    let behind = if_ok (is_behind before site) site s not_ascending read in
+    subst (λ (x : Site). next_site_within pages exports before x ≡ true) behind.1
+    (next_site_true pages exports before site
+    (number_within (place_within pages) offset at at_is)
+    (subst (λ (k : ℕ). kind_within k ≡ true) aligned.1 (number_within kind_within kind any any_is))
+    (subst (λ (k : ℕ). is_aligned k at ≡ true) aligned.1 aligned.0)
+    (number_within (base_within exports) base from from_is)
+    (number_within (anchor_within pages fit at) anchor to to_is)
+    behind.0)
+
+site_items_read : (pages exports : ℕ) (before : List Site) (items : Items) (s : Site) → site_of_items pages exports before items ≡ Ok s → next_site_within pages exports before s ≡ true
+site_items_read pages exports before no_items s read = cc read
+site_items_read pages exports before (item a no_items) s read = cc read
+site_items_read pages exports before (item a (item b no_items)) s read = cc read
+site_items_read pages exports before (item a (item b (item c no_items))) s read = cc read
+site_items_read pages exports before (item a (item b (item c (item d no_items)))) s read = cc read
+site_items_read pages exports before (item a (item b (item c (item d (item e no_items))))) s read = five_read pages exports before a b c d e s read
+site_items_read pages exports before (item a (item b (item c (item d (item e (item f items)))))) s read = cc read
+
+site_read : (pages exports : ℕ) (before : List Site) (d : Data) (s : Site) → site_of pages exports before d ≡ Ok s → next_site_within pages exports before s ≡ true
+site_read pages exports before d s read =
+    let items = bind_ok (items_in d) (site_of_items pages exports before) s read in
+    site_items_read pages exports before items.0 s items.2
+
+sites_read : (pages exports before : ℕ) (d : Data) (sites : List Site) → sites_in pages exports before d ≡ Ok sites →
+    (sites_count_within before (length sites) ≡ true) × (sites_within pages exports sites ≡ true)
+sites_read pages exports before d sites read =
+    limited_read (site_of pages exports) (next_site_within pages exports) (site_read pages exports) (sites_count_within before) d sites read
+
+members_read : (exports : ℕ) (before : List ModuleRule) (ms : Members) (m : ModuleRule) → module_of_members exports before ms ≡ Ok m → module_within exports before m ≡ true
+unfolding module_of_members
+members_read exports before ms m read =
+    after (key_name ms) _ m read λ name name_is read.
+    after (key_pages ms) _ m read λ pages pages_is read.
+    after (key_measure ms) _ m read λ measure measure_is read.
+    after (required (codes "sites") ms >>= sites_in pages exports (sites_of before)) _ m read λ sites sites_is read.
+    let sites_data = bind_ok (required (codes "sites") ms) _ sites sites_is in
+    let pages_data = bind_ok (required (codes "pages") ms) module_pages_of pages pages_is in
+    let within = sites_read pages exports (sites_of before) sites_data.0 sites sites_data.2 in
+    let apart = unrepeated_ok (is_module name before) (module_rule_of name pages measure sites) m read in
+    subst (λ (x : ModuleRule). module_within exports before x ≡ true) apart.1
+    (both_true (both_true (both_true (number_within module_pages_within pages_data.0 pages pages_data.2) within.0) within.1) apart.0)
+
+module_read : (exports : ℕ) (before : List ModuleRule) (d : Data) (m : ModuleRule) → module_of exports before d ≡ Ok m → module_within exports before m ≡ true
+module_read exports before d m read =
+    let known = bind_ok (members_in d >>= with_known module_keys) (module_of_members exports before) m read in
+    members_read exports before known.0 m known.2
+
+modules_read : (exports : ℕ) (d : Option Data) (modules : List ModuleRule) → modules_of exports d ≡ Ok modules →
+    (modules_count_within (length modules) ≡ true) × (modules_within exports modules ≡ true)
+modules_read exports None modules read = subst (λ (ms : List ModuleRule). (modules_count_within (length ms) ≡ true) × (modules_within exports ms ≡ true)) (ok_same [] modules read) (refl, refl)
+modules_read exports (Some d) modules read = limited_read (module_of exports) (module_within exports) (module_read exports) modules_count_within d modules read
+
+-- ---- the whole
+
+format_read : (ms : Members) (n : ℕ) → format_of ms ≡ Ok n → format_within n ≡ true
+format_read ms n read =
+    let z = bind_ok (required (codes "format") ms >>= integer_of) format_number n read in
+    number_read z.0 n z.2
+
+rules_true : (r : Rules) → format_within r.format ≡ true → harts_within r.harts ≡ true → ram_pages_within r.ram_pages ≡ true →
+    (entries_count_within (length r.entries) ≡ true) × (entries_within r.entries ≡ true) →
+    (exports_count_within (length r.exports) ≡ true) × (exports_within r.exports ≡ true) → init_within r.ram_pages r.init ≡ true →
+    (modules_count_within (length r.modules) ≡ true) × (modules_within (length r.exports) r.modules ≡ true) → rules_within r ≡ true
+rules_true r format harts ram_pages entries exports init modules =
+    both_true (both_true (both_true (both_true (both_true (both_true format harts) ram_pages)
+    (both_true (both_true (both_true entries.0 entries.1) exports.0) exports.1)) init) modules.0) modules.1
+
+pub rules_read : (ms : Members) (r : Rules) → rules_of_members ms ≡ Ok r → rules_within r ≡ true
+unfolding rules_of_members
+rules_read ms r read =
+    after (format_of ms) _ r read λ format format_is read.
+    after (known_keys ms) _ r read λ known known_is read.
+    after (key_harts known) _ r read λ harts harts_is read.
+    after (key_ram_pages known) _ r read λ ram_pages ram_pages_is read.
+    after (key_entries known) _ r read λ entries entries_is read.
+    after (exports_of (get_member (codes "exports") known)) _ r read λ exports exports_is read.
+    after (kernel_rule ram_pages known) _ r read λ kernel kernel_is read.
+    after (modules_of (length exports) (get_member (codes "module") known)) _ r read λ modules modules_is read.
+    let harts_data = bind_ok (required (codes "harts") known) (number_of harts_within) harts harts_is in
+    let pages_data = bind_ok (required (codes "ram_pages") known) (number_of ram_pages_within) ram_pages ram_pages_is in
+    let entries_data = bind_ok (required (codes "entries") known) entries_of entries entries_is in
+    let rules : Rules = record {
+      format = format;
+      harts = harts;
+      ram_pages = ram_pages;
+      entries = entries;
+      exports = exports;
+      kernel = kernel.0;
+      init = kernel.1;
+      modules = modules;
+    } in
+    subst (λ (x : Rules). rules_within x ≡ true) (ok_same rules r read)
+    (rules_true rules (format_read ms format format_is)
+    (number_within harts_within harts_data.0 harts harts_data.2)
+    (number_within ram_pages_within pages_data.0 ram_pages pages_data.2)
+    (entries_read entries_data.0 entries entries_data.2)
+    (exports_read (get_member (codes "exports") known) exports exports_is)
+    (kernel_read ram_pages known kernel kernel_is)
+    (modules_read (length exports) (get_member (codes "module") known) modules modules_is))
