@@ -204,3 +204,29 @@ fn largest_read_back(rt: HostRuntime) -> Result<(), Fail> {
     }
     Ok(())
 }
+
+// The text of a module with so many sites.
+fn module_text(alloc: Global, name: &str, sites: u32) -> Result<String, AllocError> {
+    let mut text = format!(in alloc;
+        "[[module]]\nname = \"{name}\"\npages = 1024\nmeasure = \"ffeeddccbbaa99887766554433221100ffeeddccbbaa99887766554433221100\"\nsites = ["
+    )?;
+    for i in 0..sites {
+        let offset = 4 * u64::from(i);
+        let site = format!(in alloc; "[{offset}, 23, 0, 0, {offset}],")?;
+        text.push_str(site.as_str())?;
+    }
+    text.push_str("]\n")?;
+    Ok(text)
+}
+
+// Three modules, whose sites are as many as may be, and one more.
+#[test]
+fn one_site_too_many(rt: HostRuntime) -> Result<(), Fail> {
+    for (sites, number) in [(65_533, 0), (65_534, 6)] {
+        let mut text = String::from_str(rt.alloc(), GOOD)?;
+        text.push_str(module_text(rt.alloc(), "a", 65_536)?.as_str())?;
+        text.push_str(module_text(rt.alloc(), "b", sites)?.as_str())?;
+        assert_eq!(rt; number_of(rt.alloc(), text.as_bytes()), Some(number));
+    }
+    Ok(())
+}
