@@ -1,3 +1,5 @@
 pub mod Words
 pub mod FirstRefusals
 pub mod Pages
+pub mod Pairs
+pub mod Sweeps

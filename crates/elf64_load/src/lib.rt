@@ -6,6 +6,7 @@ mod fields;
 mod headers;
 mod image;
 mod read;
+mod shared_text;
 #[cfg(test)]
 mod tests;
 

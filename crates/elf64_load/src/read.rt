@@ -47,7 +47,10 @@ fn judged_headers(
     if let Some(number) = segments_refusal(file.len(), ram_pages, &headers) {
         return Err(ElfRefusal::Number(number));
     }
-    if let Some(number) = image_refusal(&headers) {
+    let Ok(fault) = image_refusal(alloc, &headers) else {
+        return Err(ElfRefusal::Memory);
+    };
+    if let Some(number) = fault {
         return Err(ElfRefusal::Number(number));
     }
     Ok(headers)
