@@ -3,3 +3,4 @@ pub mod FirstRefusals
 pub mod Pages
 pub mod Pairs
 pub mod Sweeps
+pub mod Owners
