@@ -10,7 +10,7 @@ abbrev pub segment_of : Segment → LoadedSegment
 segment_of s = record {
   va = s.va;
   gpa = s.gpa;
-  bytes = s.bytes.items;
+  bytes = s.bytes.now;
   memory = s.memory;
   executable = s.executable;
 }

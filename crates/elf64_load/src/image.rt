@@ -13,15 +13,15 @@ const PAGE_BYTES: u64 = 4096;
 
 const MOST_RAM_PAGES: usize = 65536;
 
-/// A segment that is loaded: its bytes, and zeros behind them up to the size in memory.
-#[derive(Debug, PartialEq, Eq, Drop)]
-pub struct Segment {
+/// A segment that is loaded: its bytes, which stay in the file, and zeros behind them up to the size in memory.
+#[derive(Clone, Copy, Debug, PartialEq, Eq, Drop)]
+pub struct Segment<'a> {
     /// The virtual address.
     pub va: u64,
     /// The guest-physical address, in RAM.
     pub gpa: u64,
     /// The bytes in the file.
-    pub bytes: Vec<u8>,
+    pub bytes: &'a [u8],
     /// The size in memory, in bytes.
     pub memory: u64,
     /// Whether its pages are text.
@@ -30,12 +30,12 @@ pub struct Segment {
 
 /// A kernel: where its hart begins, and its segments in the order of their headers.
 #[derive(Debug, PartialEq, Eq, Drop)]
-pub struct KernelImage {
+pub struct KernelImage<'a> {
     pub entry: u64,
-    pub segments: Vec<Segment>,
+    pub segments: Vec<Segment<'a>>,
 }
 
-impl KernelImage {
+impl KernelImage<'_> {
     /// The pages of the executable segments, in ascending order, one behind the other. Behind a segment's bytes its pages
     /// hold zeros. Fails where memory is wanting.
     pub fn text(&self, alloc: Global) -> Result<Vec<u8>, AllocError>
@@ -103,14 +103,14 @@ fn text_owners(alloc: Global, segments: &[Segment]) -> Result<Vec<usize>, AllocE
 }
 
 // The bytes of a page of a segment's that lie in the file.
-fn filled_part(page: usize, segment: &Segment) -> &[u8]
+fn filled_part<'a>(page: usize, segment: &Segment<'a>) -> &'a [u8]
     requires { page ≤ 65536 }
     ensures part { result.now ≡ filled_part page (segment_of segment.now) }
     ensures short { length result.now ≤ 4096 }
 {
     let place = segment.gpa.saturating_sub(RAM_BASE);
     let start = (PAGE_BYTES * (page as u64).saturating_sub(place / PAGE_BYTES)) as usize;
-    let bytes = segment.bytes.as_slice();
+    let bytes = segment.bytes;
     let from = start.min(bytes.len());
     let to = (start + PAGE_BYTES as usize).min(bytes.len());
     &bytes[from..to]
