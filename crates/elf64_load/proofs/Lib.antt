@@ -4,3 +4,5 @@ pub mod Pages
 pub mod Pairs
 pub mod Sweeps
 pub mod Owners
+pub mod LoadedBytes
+pub mod LoadedText

@@ -1,13 +1,13 @@
 -- The table of the pages' segments.
-use Rattle.std.proofs.Common.{◌≡◌, ℕ, ◌+◌, ◌-◌, ◌<◌, ◌≤◌, inl, inr, Bool, true, false, List, ◌++◌, length, take, drop, get_or, map, Some, None, refl, ap, sym, ◌∙◌, arith, replicate, rules, length-take}
-use Rattle.std.specs.Prelude.{nat_le, nat_lt, ◌&&◌, if◌then◌else◌, find, option_map}
-use Rattle.std.specs.List.{slice_get, position_or_len}
+use Rattle.std.proofs.Common.{◌≡◌, ℕ, ◌-◌, ◌≤◌, inl, inr, true, false, List, length, get_or, map, ap, sym, ◌∙◌, arith, replicate, rules}
+use Rattle.std.specs.Prelude.{nat_le, nat_lt, ◌&&◌, if◌then◌else◌, option_map}
+use Rattle.std.specs.List.{slice_get}
 use borrow.Rule.Slice.PartMut.{put_mid}
 use Rattle.std.proofs.lemmas.Bool.Decides.{nat_tests}
-use Rattle.std.proofs.lemmas.List.{get_or-replicate, places}
+use Rattle.std.proofs.lemmas.List.{places}
 use Rattle.std.proofs.lemmas.List.Folds.{find_at}
 use Rattle.std.proofs.lemmas.Option.{slice_get-map}
-use Rattle.sv_types.specs.Kernel.{LoadedSegment, is_text_of, text_page, text_page_in}
+use Rattle.sv_types.specs.Kernel.{is_text_of, text_page, text_page_in}
 use Rattle.sv_types.proofs.ByteLemmas.{lt_or_le}
 use Rattle.elf64_load.specs.Images.{segment_of, text_owner}
 use Rattle.elf64_load.specs.declared.image.Segment.{Segment}
