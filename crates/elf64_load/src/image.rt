@@ -4,13 +4,10 @@ ghost use Rattle.std.specs.Prelude.{◌≡◌, ℕ, ◌≤◌, ◌<◌, ◌&&◌
 ghost use Rattle.sv_types.specs.Kernel.{is_text_of, filled_part, text_page, text_page_in, text_of};
 ghost use Rattle.elf64_load.specs.Images.{segment_of, segments_of, text_owner};
 
+use crate::checks::{PAGE_BYTES, RAM_BASE};
 use std::alloc::{AllocError, Global};
 
-/// Where guest RAM begins, the bytes of a page, and the most pages.
-const RAM_BASE: u64 = 0x8000_0000;
-
-const PAGE_BYTES: u64 = 4096;
-
+/// The most pages of guest RAM.
 const MOST_RAM_PAGES: usize = 65536;
 
 /// A segment that is loaded: its bytes, which stay in the file, and zeros behind them up to the size in memory.
@@ -50,7 +47,7 @@ impl KernelImage<'_> {
     }
 }
 
-/// Pages, from the first on, and before the end.
+/// Pages from the first on, before the end.
 #[derive(Clone, Copy, Drop)]
 struct PageRange {
     first: usize,
@@ -67,14 +64,14 @@ fn text_range(segment: &Segment) -> PageRange
         return PageRange { first: 0, end: 0 };
     }
     let place = segment.gpa.saturating_sub(RAM_BASE);
-    let last_place = place as u128 + segment.memory as u128 + (PAGE_BYTES - 1) as u128;
+    let end = (place as u128 + segment.memory as u128).div_ceil(PAGE_BYTES as u128);
     PageRange {
         first: (place / PAGE_BYTES).min(MOST_RAM_PAGES as u64) as usize,
-        end: (last_place / PAGE_BYTES as u128).min(MOST_RAM_PAGES as u128) as usize,
+        end: end.min(MOST_RAM_PAGES as u128) as usize,
     }
 }
 
-// Puts a segment's number at the pages of its text.
+// Writes a segment's number at the pages of its text.
 fn claim_pages(owners: &mut [usize], segment: &Segment, number: usize)
     requires { length owners.old ≡ 65536 }
     ensures { (page : ℕ) → page < 65536 → slice_index owners.new page ≡ (if is_text_of page (segment_of segment.now) then number else slice_index owners.old page) }

@@ -26,13 +26,13 @@ fn last_page(header: &ProgramHeader) -> u64
     (last / PAGE_BYTES as u128) as u64
 }
 
-// The same, where no segment begins on a page before that of one in front of it.
+// Whether two segments, one of them executable, touch one page, where none begins on a page before one in front of it.
 fn sorted_text_is_shared(headers: &[ProgramHeader]) -> bool
     requires order { IsNonDecreasingBy first_page headers.now }
     requires memory { All HasMemory headers.now }
     ensures { result ≡ text_is_shared headers.now }
 {
-    // the page behind all segments so far, and behind those of text
+    // the page behind all segments so far, and the one behind those of text
     let mut end = 0;
     let mut text_end = 0;
     'headers: for header in headers {
