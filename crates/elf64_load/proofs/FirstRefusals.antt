@@ -1,9 +1,10 @@
 -- Checks, one behind the other.
 use Rattle.std.proofs.Common.{◌≡◌, ℕ, suc, ◌+◌, ◌<◌, ◌≤◌, Bool, true, false, List, [], ◌∷◌, ◌++◌, length, get_or, drop, flat_map, Some, None, refl, ap, sym, ◌∙◌, subst, arith, add-one, zero}
 use Rattle.std.proofs.Math.Seq.{drop-cons}
-use Rattle.std.specs.Prelude.{nat_lt}
-use Rattle.std.proofs.lemmas.Bool.Decides.{nat_tests}
-use Rattle.sv_types.specs.Kernel.{first_refusal, header_checks, segment_checks, image_checks, loaded_headers, kernel_refusal}
+use Rattle.std.specs.Prelude.{nat_lt, not, ◌==◌, ◌&&◌, ◌%◌}
+use Rattle.std.proofs.lemmas.Bool.{ltb-false, not-false, eqb-true}
+use Rattle.sv_types.specs.Bytes.{page_size}
+use Rattle.sv_types.specs.Kernel.{first_refusal, header_checks, segment_checks, image_checks, loaded_headers, kernel_refusal, memory_in_ram, is_executable, is_writable, text_is_shared}
 use Rattle.sv_types.specs.declared.kernel.ProgramHeader.{ProgramHeader}
 
 -- checks that find no fault leave it to those behind them
@@ -57,14 +58,6 @@ first_test_passed [] none = refl
 first_test_passed ((n, true) ∷ checks) none = cc
 first_test_passed ((n, false) ∷ checks) none = refl
 
--- a segment without a fault has its bytes in the file
-pub inside_file : (file_size ram_pages : ℕ) (h : ProgramHeader) → first_refusal (segment_checks file_size ram_pages h) ≡ None
-    → h.offset + h.file_size ≤ file_size
-unfolding segment_checks
-inside_file file_size ram_pages h none =
-    let e : nat_lt file_size (h.offset + h.file_size) ≡ false = first_test_passed (segment_checks file_size ram_pages h) none in
-    grind (arith, nat_tests)
-
 -- ---- the whole file
 
 pub header_refused : (file : List ℕ) (ram_pages n : ℕ) → first_refusal (header_checks file) ≡ Some n → kernel_refusal file ram_pages ≡ Some n
@@ -86,3 +79,47 @@ image_judged file ram_pages hs same none passes =
     passed (header_checks file) _ none
     ∙ subst (λ (ks : List ProgramHeader). first_refusal (flat_map (segment_checks (length file) ram_pages) ks ++ image_checks ks) ≡ first_refusal (image_checks hs)) same
     (passed (flat_map (segment_checks (length file) ram_pages) hs) (image_checks hs) passes)
+
+-- ---- a file that isn't refused
+
+pub accepted_headers : (file : List ℕ) (ram_pages : ℕ) → kernel_refusal file ram_pages ≡ None
+    → first_refusal (flat_map (segment_checks (length file) ram_pages) (loaded_headers file)) ≡ None
+unfolding kernel_refusal
+accepted_headers file ram_pages none =
+    first_passed (flat_map (segment_checks (length file) ram_pages) (loaded_headers file)) (image_checks (loaded_headers file))
+    (rest_passed (header_checks file) _ none)
+
+pub accepted_image : (file : List ℕ) (ram_pages : ℕ) → kernel_refusal file ram_pages ≡ None → text_is_shared (loaded_headers file) ≡ false
+unfolding kernel_refusal image_checks
+accepted_image file ram_pages none =
+    first_test_passed (image_checks (loaded_headers file))
+    (rest_passed (flat_map (segment_checks (length file) ram_pages) (loaded_headers file)) (image_checks (loaded_headers file))
+    (rest_passed (header_checks file) _ none))
+
+-- what the checks of a segment find
+pub record Passed (file_size ram_pages : ℕ) (h : ProgramHeader) : Type 0 where
+  pub in_file : h.offset + h.file_size ≤ file_size
+  pub in_ram : memory_in_ram ram_pages h ≡ true
+  pub short : h.file_size ≤ h.memory_size
+  pub whole : is_executable h ≡ true → h.gpa % page_size ≡ 0
+
+tests_passed : (a b c d e : Bool) → first_refusal ((9, a) ∷ (10, b) ∷ (11, c) ∷ (12, d) ∷ (13, e) ∷ []) ≡ None
+    → (a ≡ false) × (b ≡ false) × (c ≡ false) × (d ≡ false) × (e ≡ false)
+tests_passed true b c d e none = cc
+tests_passed false true c d e none = cc
+tests_passed false false true d e none = cc
+tests_passed false false false true e none = cc
+tests_passed false false false false true none = cc
+tests_passed false false false false false none = (refl, refl, refl, refl, refl)
+
+pub segment_passed : (file_size ram_pages : ℕ) (h : ProgramHeader) → first_refusal (segment_checks file_size ram_pages h) ≡ None → Passed file_size ram_pages h
+unfolding segment_checks
+segment_passed file_size ram_pages h none =
+    let tests = tests_passed (nat_lt file_size (h.offset + h.file_size)) (not (memory_in_ram ram_pages h)) (nat_lt h.memory_size h.file_size)
+    (is_executable h && is_writable h) (is_executable h && not (h.gpa % page_size == 0)) none in
+    record {
+      in_file = ltb-false file_size (h.offset + h.file_size) tests.0;
+      in_ram = not-false (memory_in_ram ram_pages h) tests.1;
+      short = ltb-false h.memory_size h.file_size tests.2;
+      whole = λ executable. let whole = rw executable at tests.4 in eqb-true (h.gpa % page_size) 0 (not-false (h.gpa % page_size == 0) whole);
+    }

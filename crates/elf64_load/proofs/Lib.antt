@@ -1,3 +1,8 @@
 pub mod Words
 pub mod FirstRefusals
 pub mod Pages
+pub mod Pairs
+pub mod Sweeps
+pub mod Owners
+pub mod LoadedBytes
+pub mod LoadedText

@@ -1,7 +1,10 @@
 -- Numbers in a row, headers one behind the other, and parts of lists.
 use Rattle.std.proofs.Common.{◌≡◌, ℕ, zero, suc, ◌+◌, ◌-◌, ◌*◌, inl, inr, min, true, false, List, [], ◌∷◌, ◌++◌, length, take, drop, map, filter, flat_map, refl, ap, sym, ◌∙◌, arith, length-drop}
 use Rattle.std.proofs.lemmas.List.{take_min, map-append, append-nil}
-use Rattle.std.proofs.lemmas.List.Elements.{filter-append}
+use Rattle.std.proofs.lemmas.List.Elements.{All-weaker, filter-append, filter_passes}
+use Rattle.std.proofs.lemmas.Bool.{and_parts, ltb-true}
+use Rattle.std.specs.Prelude.{nat_lt, ◌==◌, All}
+use Rattle.elf64_load.specs.Headers.{HasMemory}
 use Rattle.std.proofs.lemmas.Grind.{flat_map-append}
 use Rattle.std.proofs.Math.ListN.{drop_of_length-le}
 use Rattle.sv_types.specs.Bytes.{part}
@@ -56,6 +59,17 @@ one_more_passed file i table h hs place is loaded so_far =
     ∙ ap (λ (ks : List ProgramHeader). loaded_among file i ++ ks) kept
     ∙ append-nil (loaded_among file i)
     ∙ sym so_far)
+
+has_memory : (h : ProgramHeader) → is_loaded h ≡ true → HasMemory h
+has_memory h loaded = ltb-true 0 h.memory_size (and_parts (h.kind == 1) (nat_lt 0 h.memory_size) loaded).1
+
+-- loaded segments have memory
+pub memory_of_loaded : (file : List ℕ) (n : ℕ) → All HasMemory (loaded_among file n)
+unfolding loaded_among
+memory_of_loaded file n =
+    let at : ℕ → ProgramHeader = λ (k : ℕ). header_at file (table_place file + 56 * k) in
+    let loaded = map at (numbers_from 0 n) in
+    All-weaker (λ h. is_loaded h ≡ true) HasMemory has_memory (filter is_loaded loaded) (filter_passes is_loaded loaded)
 
 -- ---- parts
 

@@ -1,11 +1,14 @@
 // The checks of an image, of which the first that finds a fault refuses it.
 
-ghost use Rattle.std.specs.Prelude.{◌≡◌, ◌+◌, ◌*◌, ◌≤◌, ◌<◌, length, flat_map, IfNone};
+ghost use Rattle.std.specs.Prelude.{◌≡◌, ◌+◌, ◌*◌, ◌≤◌, ◌<◌, length, flat_map, All, IfNone, IfOk};
 ghost use Rattle.std.specs.List.{list_any};
-ghost use Rattle.sv_types.specs.Kernel.{first_refusal, header_checks, segment_checks, image_checks, is_executable, is_writable, memory_in_ram, may_clash, text_is_shared, table_place, table_count, table_in_file, first_page, last_page};
+ghost use Rattle.elf64_load.specs.Headers.{HasMemory};
+ghost use Rattle.sv_types.specs.Kernel.{first_refusal, header_checks, segment_checks, image_checks, is_executable, is_writable, memory_in_ram, table_place, table_count, table_in_file};
 
 use crate::fields::{byte, double, half, word};
 use crate::headers::PROGRAM_HEADER_BYTES;
+use crate::shared_text::text_is_shared;
+use std::alloc::{AllocError, Global};
 use sv_types::{ProgramHeader, has_bit};
 
 /// The bytes of the file's header.
@@ -30,12 +33,12 @@ const EXECUTABLE_FILE: u16 = 2;
 const UNKNOWN_FLAGS: u32 = 16;
 
 /// Where guest RAM begins, and the bytes of a page.
-const RAM_BASE: u64 = 0x8000_0000;
+pub(crate) const RAM_BASE: u64 = 0x8000_0000;
 
-const PAGE_BYTES: u64 = 4096;
+pub(crate) const PAGE_BYTES: u64 = 4096;
 
-// The end of a range, as a whole number.
-fn end_of(start: u64, size: u64) -> u128
+/// The end of a range, as a whole number.
+pub(crate) fn end_of(start: u64, size: u64) -> u128
     ensures { result ≡ start + size }
 {
     start as u128 + size as u128
@@ -143,62 +146,26 @@ pub(crate) fn segments_refusal(
     None
 }
 
-fn first_page(header: &ProgramHeader) -> u64
-    ensures { result ≡ first_page header.now }
-{
-    header.gpa.saturating_sub(RAM_BASE) / PAGE_BYTES
-}
-
-fn last_page(header: &ProgramHeader) -> u64
-    ensures { result ≡ last_page header.now }
-{
-    let last = end_of(header.gpa, header.memory_size)
-        .saturating_sub(1)
-        .saturating_sub(RAM_BASE as u128);
-    (last / PAGE_BYTES as u128) as u64
-}
-
-// Whether two segments, one of them executable, touch one page.
-fn may_clash(header: &ProgramHeader, other: &ProgramHeader) -> bool
-    ensures { result ≡ may_clash header.now other.now }
-{
-    (is_executable(header) || is_executable(other))
-        && (first_page(header) <= last_page(other) && first_page(other) <= last_page(header))
-}
-
-fn clashes_with_some(header: &ProgramHeader, others: &[ProgramHeader]) -> bool
-    ensures { result ≡ list_any (may_clash header.now) others.now }
-{
-    others.iter().any(|other| may_clash(header, other))
-}
-
-fn text_is_shared(headers: &[ProgramHeader]) -> bool
-    ensures { result ≡ text_is_shared headers.now }
-{
-    'headers: for (i, header) in headers.iter().enumerate() {
-        if clashes_with_some(header, &headers[i + 1..]) {
-            return true;
-        }
-    }
-    false
-}
-
 fn some_are_executable(headers: &[ProgramHeader]) -> bool
     ensures { result ≡ list_any is_executable headers.now }
 {
     headers.iter().any(|header| is_executable(header))
 }
 
-/// The first fault of all segments together.
+/// The first fault of all segments together. Fails where memory is wanting.
 #[tactic(auto, unfolding(sv_types::specs::Kernel::image_checks))]
-pub(crate) fn image_refusal(headers: &[ProgramHeader]) -> Option<u8>
-    ensures { result ≡ first_refusal (image_checks headers.now) }
+pub(crate) fn image_refusal(
+    alloc: Global,
+    headers: &[ProgramHeader],
+) -> Result<Option<u8>, AllocError>
+    requires { All HasMemory headers.now }
+    ensures { IfOk result (λ number. number ≡ first_refusal (image_checks headers.now)) }
 {
-    if text_is_shared(headers) {
-        return Some(14);
+    if text_is_shared(alloc, headers)? {
+        return Ok(Some(14));
     }
     if !some_are_executable(headers) {
-        return Some(15);
+        return Ok(Some(15));
     }
-    None
+    Ok(None)
 }

@@ -1,6 +1,7 @@
 // The program headers of the segments that are loaded.
 
-ghost use Rattle.std.specs.Prelude.{◌≡◌, ◌+◌, ◌*◌, ◌<◌, ◌≤◌, length, IfOk};
+ghost use Rattle.std.specs.Prelude.{◌≡◌, ◌+◌, ◌*◌, ◌<◌, ◌≤◌, length, All, IfOk};
+ghost use Rattle.elf64_load.specs.Headers.{HasMemory};
 ghost use Rattle.sv_types.specs.Kernel.{is_loaded, loaded_among, table_place, table_count};
 
 use crate::fields::{double, half, header_at};
@@ -23,7 +24,8 @@ fn is_loaded(header: &ProgramHeader) -> bool
 pub(crate) fn loaded_headers(alloc: Global, file: &[u8]) -> Result<Vec<ProgramHeader>, AllocError>
     requires header { 64 ≤ length file.now }
     requires table { 0 < table_count file.now → table_place file.now + 56 * table_count file.now ≤ length file.now }
-    ensures { IfOk result (λ headers. headers.items ≡ loaded_among file.now (table_count file.now)) }
+    ensures loaded { IfOk result (λ headers. headers.items ≡ loaded_among file.now (table_count file.now)) }
+    ensures memory { IfOk result (λ headers. All HasMemory headers.items) }
 {
     let count = half(file, 56);
     let table = double(file, 32);

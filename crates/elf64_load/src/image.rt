@@ -1,27 +1,24 @@
 // The image of a kernel.
 
-ghost use Rattle.std.specs.Prelude.{◌≡◌, ◌≤◌, ◌++◌, map, find, option_map, length, replicate, IfOk, OnOk};
-ghost use Rattle.sv_types.specs.Kernel.{is_text_of, filled_part, text_page, text_of};
-ghost use Rattle.elf64_load.specs.Images.{segment_of, segments_of};
+ghost use Rattle.std.specs.Prelude.{◌≡◌, ℕ, ◌≤◌, ◌<◌, ◌&&◌, ◌++◌, nat_le, nat_lt, map, Some, length, replicate, slice_index, if◌then◌else◌, IfOk, OnOk};
+ghost use Rattle.sv_types.specs.Kernel.{is_text_of, filled_part, text_page, text_page_in, text_of};
+ghost use Rattle.elf64_load.specs.Images.{segment_of, segments_of, text_owner};
 
+use crate::checks::{PAGE_BYTES, RAM_BASE};
 use std::alloc::{AllocError, Global};
 
-/// Where guest RAM begins, the bytes of a page, and the most pages.
-const RAM_BASE: u64 = 0x8000_0000;
+/// The most pages of guest RAM.
+const MOST_RAM_PAGES: usize = 65536;
 
-const PAGE_BYTES: u64 = 4096;
-
-const MOST_RAM_PAGES: u64 = 65536;
-
-/// A segment that is loaded: its bytes, and zeros behind them up to the size in memory.
-#[derive(Debug, PartialEq, Eq, Drop)]
-pub struct Segment {
+/// A segment that is loaded: its bytes, which stay in the file, and zeros behind them up to the size in memory.
+#[derive(Clone, Copy, Debug, PartialEq, Eq, Drop)]
+pub struct Segment<'a> {
     /// The virtual address.
     pub va: u64,
     /// The guest-physical address, in RAM.
     pub gpa: u64,
     /// The bytes in the file.
-    pub bytes: Vec<u8>,
+    pub bytes: &'a [u8],
     /// The size in memory, in bytes.
     pub memory: u64,
     /// Whether its pages are text.
@@ -30,73 +27,117 @@ pub struct Segment {
 
 /// A kernel: where its hart begins, and its segments in the order of their headers.
 #[derive(Debug, PartialEq, Eq, Drop)]
-pub struct KernelImage {
+pub struct KernelImage<'a> {
     pub entry: u64,
-    pub segments: Vec<Segment>,
+    pub segments: Vec<Segment<'a>>,
 }
 
-impl KernelImage {
+impl KernelImage<'_> {
     /// The pages of the executable segments, in ascending order, one behind the other. Behind a segment's bytes its pages
     /// hold zeros. Fails where memory is wanting.
     pub fn text(&self, alloc: Global) -> Result<Vec<u8>, AllocError>
         ensures { IfOk result (λ text. text.items ≡ text_of (segments_of self.now)) }
     {
+        let owners = text_owners(alloc, &self.segments)?;
         let mut text = Vec::new(alloc);
-        'pages: for page in 0..MOST_RAM_PAGES {
-            push_text_page(&mut text, page, &self.segments)?;
+        'pages: for (page, owner) in owners.iter().enumerate() {
+            push_text_page(&mut text, page, &self.segments, *owner)?;
         }
         Ok(text)
     }
 }
 
-fn is_text_of(page: u64, segment: &Segment) -> bool
-    requires { page ≤ 65536 }
-    ensures { result ≡ is_text_of page (segment_of segment.now) }
-{
-    let place = segment.gpa.saturating_sub(RAM_BASE);
-    segment.executable
-        && (place / PAGE_BYTES <= page
-            && ((PAGE_BYTES * page) as u128) < place as u128 + segment.memory as u128)
+/// Pages from the first on, before the end.
+#[derive(Clone, Copy, Drop)]
+struct PageRange {
+    first: usize,
+    end: usize,
 }
 
-// The executable segment in which a page lies.
-fn text_segment(page: u64, segments: &[Segment]) -> Option<&Segment>
-    requires { page ≤ 65536 }
-    ensures { option_map (λ s. segment_of s.now) result ≡ find (is_text_of page) (map segment_of segments.now) }
+// The pages of a segment's text.
+fn text_range(segment: &Segment) -> PageRange
+    ensures ordered { result.first ≤ result.end }
+    ensures within { result.end ≤ 65536 }
+    ensures text { (page : ℕ) → page < 65536 → is_text_of page (segment_of segment.now) ≡ (nat_le result.first page && nat_lt page result.end) }
 {
-    'segments: for segment in segments {
-        if is_text_of(page, segment) {
-            return Some(segment);
-        }
+    if !segment.executable {
+        return PageRange { first: 0, end: 0 };
     }
-    None
+    let place = segment.gpa.saturating_sub(RAM_BASE);
+    let end = (place as u128 + segment.memory as u128).div_ceil(PAGE_BYTES as u128);
+    PageRange {
+        first: (place / PAGE_BYTES).min(MOST_RAM_PAGES as u64) as usize,
+        end: end.min(MOST_RAM_PAGES as u128) as usize,
+    }
+}
+
+// Writes a segment's number at the pages of its text.
+fn claim_pages(owners: &mut [usize], segment: &Segment, number: usize)
+    requires { length owners.old ≡ 65536 }
+    ensures { (page : ℕ) → page < 65536 → slice_index owners.new page ≡ (if is_text_of page (segment_of segment.now) then number else slice_index owners.old page) }
+{
+    let range = text_range(segment);
+    owners[range.first..range.end].fill(number);
+}
+
+fn pages_of_none(alloc: Global, pages: usize, number: usize) -> Result<Vec<usize>, AllocError>
+    ensures pages { IfOk result (λ owners. length owners.items ≡ pages) }
+    ensures owners { IfOk result (λ owners. (page : ℕ) → page < pages → slice_index owners.items page ≡ number) }
+{
+    vec![in alloc; number; pages]
+}
+
+// For each page the number of the first executable segment in which it lies, or of all segments where there is none.
+fn text_owners(alloc: Global, segments: &[Segment]) -> Result<Vec<usize>, AllocError>
+    ensures pages { IfOk result (λ owners. length owners.items ≡ 65536) }
+    ensures owners { IfOk result (λ owners. (page : ℕ) → page < 65536 → slice_index owners.items page ≡ text_owner page (map segment_of segments.now)) }
+{
+    let mut owners = pages_of_none(alloc, MOST_RAM_PAGES, segments.len())?;
+    'segments: for i in (0..segments.len()).rev() {
+        claim_pages(&mut owners, &segments[i], i);
+    }
+    Ok(owners)
 }
 
 // The bytes of a page of a segment's that lie in the file.
-fn filled_part(page: u64, segment: &Segment) -> &[u8]
+fn filled_part<'a>(page: usize, segment: &Segment<'a>) -> &'a [u8]
     requires { page ≤ 65536 }
     ensures part { result.now ≡ filled_part page (segment_of segment.now) }
     ensures short { length result.now ≤ 4096 }
 {
     let place = segment.gpa.saturating_sub(RAM_BASE);
-    let start = (PAGE_BYTES * page.saturating_sub(place / PAGE_BYTES)) as usize;
-    let bytes = segment.bytes.as_slice();
+    let start = (PAGE_BYTES * (page as u64).saturating_sub(place / PAGE_BYTES)) as usize;
+    let bytes = segment.bytes;
     let from = start.min(bytes.len());
     let to = (start + PAGE_BYTES as usize).min(bytes.len());
     &bytes[from..to]
 }
 
-// Adds a page, if it is text.
-fn push_text_page(text: &mut Vec<u8>, page: u64, segments: &[Segment]) -> Result<(), AllocError>
-    requires { page ≤ 65536 }
+// Adds a page, if it is text: `owner` is the number of its segment.
+fn push_text_page(
+    text: &mut Vec<u8>,
+    page: usize,
+    segments: &[Segment],
+    owner: usize,
+) -> Result<(), AllocError>
+    requires page { page ≤ 65536 }
+    requires owner { owner ≡ text_owner page (map segment_of segments.now) }
     ensures { OnOk result (text.new.items ≡ text.old.items ++ text_page (map segment_of segments.now) page) }
 {
-    if let Some(segment) = text_segment(page, segments) {
-        let filled = filled_part(page, segment);
-        text.extend_from_slice(filled)?;
-        push_zeros(text, PAGE_BYTES as usize - filled.len())?;
+    if let Some(segment) = segments.get(owner) {
+        push_filled_page(text, page, segment)?;
     }
     Ok(())
+}
+
+// Adds a page of a segment's.
+fn push_filled_page(text: &mut Vec<u8>, page: usize, segment: &Segment) -> Result<(), AllocError>
+    requires { page ≤ 65536 }
+    ensures { OnOk result (text.new.items ≡ text.old.items ++ text_page_in page (Some (segment_of segment.now))) }
+{
+    let filled = filled_part(page, segment);
+    text.extend_from_slice(filled)?;
+    push_zeros(text, PAGE_BYTES as usize - filled.len())
 }
 
 fn push_zeros(text: &mut Vec<u8>, count: usize) -> Result<(), AllocError>

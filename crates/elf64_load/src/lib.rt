@@ -5,9 +5,12 @@ mod checks;
 mod fields;
 mod headers;
 mod image;
+mod laws;
 mod read;
+mod shared_text;
 #[cfg(test)]
 mod tests;
 
 pub use image::{KernelImage, Segment};
+pub use laws::law_text_in_ram;
 pub use read::{ElfRefusal, read_kernel};

@@ -47,53 +47,59 @@ fn judged_headers(
     if let Some(number) = segments_refusal(file.len(), ram_pages, &headers) {
         return Err(ElfRefusal::Number(number));
     }
-    if let Some(number) = image_refusal(&headers) {
+    let Ok(fault) = image_refusal(alloc, &headers) else {
+        return Err(ElfRefusal::Memory);
+    };
+    if let Some(number) = fault {
         return Err(ElfRefusal::Number(number));
     }
     Ok(headers)
 }
 
-fn copied_segment(alloc: Global, file: &[u8], header: &ProgramHeader) -> Result<Segment, AllocError>
+fn loaded_segment<'a>(file: &'a [u8], header: &ProgramHeader) -> Segment<'a>
     requires { header.now.offset + header.now.file_size ≤ length file.now }
-    ensures { IfOk result (λ segment. segment_of segment ≡ loaded_segment file.now header.now) }
+    ensures { segment_of result ≡ loaded_segment file.now header.now }
 {
     let start = header.offset as usize;
-    let bytes = &file[start..start + header.file_size as usize];
-    Ok(Segment {
+    Segment {
         va: header.va,
         gpa: header.gpa,
-        bytes: Vec::from_slice(alloc, bytes)?,
+        bytes: &file[start..start + header.file_size as usize],
         memory: header.memory_size,
         executable: is_executable(header),
-    })
+    }
 }
 
-fn copied_segments(
+fn loaded_segments<'a>(
     alloc: Global,
-    file: &[u8],
+    file: &'a [u8],
     ram_pages: u32,
     headers: &[ProgramHeader],
-) -> Result<Vec<Segment>, AllocError>
+) -> Result<Vec<Segment<'a>>, AllocError>
     requires { first_refusal (flat_map (segment_checks (length file.now) ram_pages) headers.now) ≡ None }
     ensures { IfOk result (λ segments. map segment_of segments.items ≡ map (loaded_segment file.now) headers.now) }
 {
     let mut segments = Vec::new(alloc);
     'headers: for header in headers {
-        segments.push(copied_segment(alloc, file, header)?)?;
+        segments.push(loaded_segment(file, header))?;
     }
     Ok(segments)
 }
 
 /// Reads a kernel's file for a machine of `ram_pages` pages of RAM. A file with faults is refused for the first of them,
-/// and any file for want of memory.
-pub fn read_kernel(alloc: Global, bytes: &[u8], ram_pages: u32) -> Result<KernelImage, ElfRefusal>
+/// and any file for want of memory. The image's bytes stay in the file.
+pub fn read_kernel(
+    alloc: Global,
+    bytes: &[u8],
+    ram_pages: u32,
+) -> Result<KernelImage<'_>, ElfRefusal>
     ensures accepted { OnOk result (kernel_refusal bytes.now ram_pages ≡ None) }
     ensures entry { IfOk result (λ image. image.entry ≡ header_entry bytes.now) }
     ensures segments { IfOk result (λ image. segments_of image ≡ kernel_segments bytes.now) }
     ensures refused { IfErr result (IsRefusalOf bytes.now ram_pages) }
 {
     let headers = judged_headers(alloc, bytes, ram_pages)?;
-    let Ok(segments) = copied_segments(alloc, bytes, ram_pages, &headers) else {
+    let Ok(segments) = loaded_segments(alloc, bytes, ram_pages, &headers) else {
         return Err(ElfRefusal::Memory);
     };
     Ok(KernelImage {

@@ -310,14 +310,14 @@ fn a_linkers_file(rt: HostRuntime) -> Result<(), Fail> {
         Segment {
             va: 0x8000_0000,
             gpa: 0x8000_0000,
-            bytes: Vec::from_slice(rt.alloc(), &code)?,
+            bytes: &file[0x1000..0x1010],
             memory: 16,
             executable: true,
         },
         Segment {
             va: 0x8000_1000,
             gpa: 0x8000_1000,
-            bytes: Vec::from_slice(rt.alloc(), &word)?,
+            bytes: &file[0x2000..0x2008],
             memory: 48,
             executable: false,
         },

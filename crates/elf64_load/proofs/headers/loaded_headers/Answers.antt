@@ -1,6 +1,8 @@
 use Rattle.std.proofs.Common.{◌∙◌, sym}
 use Rattle.sv_types.specs.Kernel.{loaded_among}
-use Rattle.elf64_load.proofs.Pages.{one_more_loaded, one_more_passed}
+use Rattle.std.proofs.lemmas.List.Elements.{All-same}
+use Rattle.elf64_load.specs.Headers.{HasMemory}
+use Rattle.elf64_load.proofs.Pages.{one_more_loaded, one_more_passed, memory_of_loaded}
 use Rattle.elf64_load.proofs.headers.loaded_headers.Goals as goal
 use Rattle.elf64_load.proofs.headers.loaded_headers.Goals.{then-is_loaded+in_ok-push, else-is_loaded}
 
@@ -25,3 +27,6 @@ headers-preserved c =
           let is = w.headers-is in
           cc
     ]
+
+pub returns-clause-memory : goal.returns-clause-memory
+returns-clause-memory c = All-same HasMemory c.headers.headers.items (loaded_among c.args.file.now c.headers.i) c.headers.invariant (memory_of_loaded c.args.file.now c.headers.i)

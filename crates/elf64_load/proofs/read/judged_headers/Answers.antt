@@ -11,24 +11,24 @@ returns-in-Some-clause-refused c =
 pub returns-in-Some-segments_refusal-clause-refused : goal.returns-in-Some-segments_refusal-clause-refused
 returns-in-Some-segments_refusal-clause-refused c =
     segment_refused c.args.file.now c.args.ram_pages c.in-Some-segments_refusal.number c.deref.result.now
-    (c.deref.ensures.value ∙ c.in-Ok.ensures)
+    (c.deref.ensures.value ∙ c.in-Ok.ensures.loaded)
     (sym c.header_refusal.ensures.first ∙ c.in_default.is)
     (sym c.segments_refusal.ensures ∙ c.in-Some-segments_refusal.is)
 
-pub returns-in-Some-image_refusal-clause-refused : goal.returns-in-Some-image_refusal-clause-refused
-returns-in-Some-image_refusal-clause-refused c =
-    image_judged c.args.file.now c.args.ram_pages c.deref.result.now (c.deref.ensures.value ∙ c.in-Ok.ensures)
+pub returns-in-Some-fault-clause-refused : goal.returns-in-Some-fault-clause-refused
+returns-in-Some-fault-clause-refused c =
+    image_judged c.args.file.now c.args.ram_pages c.deref.result.now (c.deref.ensures.value ∙ c.in-Ok.ensures.loaded)
     (sym c.header_refusal.ensures.first ∙ c.in_default.is)
     (sym c.segments_refusal.ensures ∙ c.in_default-segments_refusal.is)
     ∙ ap (λ (hs : List ProgramHeader). first_refusal (image_checks hs)) (c.deref.ensures.value ∙ sym c.deref-2.ensures.value)
-    ∙ sym c.image_refusal.ensures
-    ∙ c.in-Some-image_refusal.is
+    ∙ sym c.in-Ok-image_refusal.ensures
+    ∙ c.in-Some-fault.is
 
 pub returns-clause-accepted : goal.returns-clause-accepted
 returns-clause-accepted c =
-    image_judged c.args.file.now c.args.ram_pages c.deref.result.now (c.deref.ensures.value ∙ c.in-Ok.ensures)
+    image_judged c.args.file.now c.args.ram_pages c.deref.result.now (c.deref.ensures.value ∙ c.in-Ok.ensures.loaded)
     (sym c.header_refusal.ensures.first ∙ c.in_default.is)
     (sym c.segments_refusal.ensures ∙ c.in_default-segments_refusal.is)
     ∙ ap (λ (hs : List ProgramHeader). first_refusal (image_checks hs)) (c.deref.ensures.value ∙ sym c.deref-2.ensures.value)
-    ∙ sym c.image_refusal.ensures
-    ∙ c.in_default-image_refusal.is
+    ∙ sym c.in-Ok-image_refusal.ensures
+    ∙ c.in_default-fault.is

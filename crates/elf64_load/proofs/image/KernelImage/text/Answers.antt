@@ -11,7 +11,7 @@ pages-preserved c =
     let page = c.pages.page in
     let text_here = text_page (segments_of c.args.self.now) page in
     c.in_ok-push_text_page.ensures
-    ∙ ap (λ (ss : List Segment). c.pages.text.items ++ text_page (map segment_of ss) page) c.deref.ensures.value
+    ∙ ap (λ (ss : List Segment). c.pages.text.items ++ text_page (map segment_of ss) page) c.deref-in-pages.ensures.value
     ∙ ap (λ (text : List ℕ). text ++ text_here) c.pages.invariant
     ∙ sym (flat_map-more (text_page (segments_of c.args.self.now)) page)
 
@@ -19,5 +19,7 @@ pub returns : goal.returns
 unfolding text_of
 returns c =
     let end = c.pages.auto.page-end in
+    let pages = c.in_ok-owners.ensures.pages in
+    let same = c.deref-owner-items.ensures.len in
     let all : c.pages.page ≡ 65536 = omega arith in
     c.pages.invariant ∙ ap (λ (n : ℕ). flat_map (text_page (segments_of c.args.self.now)) (numbers_from 0 n)) all

@@ -1,0 +1,9 @@
+use Rattle.std.proofs.Common.{◌≡◌, ◌+◌, ◌<◌, ℕ, length, map, drop, get_or}
+use Rattle.elf64_load.specs.Images.{segment_of, text_owner}
+use Rattle.elf64_load.proofs.image.text_owners.Given as goal
+
+-- the segments from i on have their pages
+abbrev pub invariant-segments : goal.invariant-segments
+invariant-segments l =
+    (length l.owners.items ≡ 65536)
+    × ((page : ℕ) → page < 65536 → get_or l.owners.items page 0 ≡ l.i + text_owner page (map segment_of (drop l.i l.segments)))

@@ -1,9 +1,0 @@
-use Rattle.sv_types.specs.Kernel.{segment_checks}
-use Rattle.elf64_load.proofs.FirstRefusals.{each_passed, inside_file}
-use Rattle.elf64_load.proofs.read.copied_segments.Goals as goal
-use Rattle.std.proofs.Common.{length}
-
-pub copied_segment-requires : goal.copied_segment-requires
-copied_segment-requires c =
-    inside_file (length c.args.file.now) c.args.ram_pages _
-    (each_passed (segment_checks (length c.args.file.now) c.args.ram_pages) c.args.headers.now c.headers.header-index _ c.headers-test.true c.requires)
