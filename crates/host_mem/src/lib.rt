@@ -65,7 +65,6 @@ impl HostMem {
         ensures value { result ≡ length self.now.tables }
         ensures region { IsRegion self.now }
     {
-        let _bytes = self.bytes.as_slice();
         self.table_bytes
     }
 
@@ -74,7 +73,6 @@ impl HostMem {
         ensures value { page_size * result ≡ length self.now.ram }
         ensures region { IsRegion self.now }
     {
-        let _bytes = self.bytes.as_slice();
         self.ram_pages
     }
 
