@@ -85,7 +85,8 @@ impl Console {
         }
     }
 
-    /// A load of `width` bytes at an offset. None where no register has that offset and width.
+    /// A load of `width` bytes at an offset. None where no register has that offset and width. A load of the data takes
+    /// the first byte of the queue, and gives 0 where there is none.
     #[tactic(auto, unfolding(sv_types::specs::Console::loaded_register))]
     pub fn load(&mut self, offset: u64, width: u8) -> Option<u64>
         ensures value { result ≡ loaded self.old offset width }

@@ -41,7 +41,7 @@ impl Trees {
         4096 * (10 + 2 * leaf_tables(ram_pages as u64)) as usize
     }
 
-    /// Trees in which all pages are free.
+    /// Trees in which all pages are free. The table part has the size that `table_bytes` gives for the pages of RAM.
     pub fn new(mem: &mut HostMem) -> Trees
         requires { length mem.old.tables ≡ table_size (length mem.old.ram / page_size) }
         ensures pages { page_size * result ≡ length mem.new.ram }
@@ -55,7 +55,7 @@ impl Trees {
         Trees { ram_pages }
     }
 
-    /// Protects a page of RAM in both trees.
+    /// Protects a page of RAM in both trees, where pages are counted from 0. All others keep their protection.
     pub fn set(&mut self, mem: &mut HostMem, page: u32, protection: Protection)
         requires page { page < self.old }
         requires size { length mem.old.tables ≡ table_size self.old }

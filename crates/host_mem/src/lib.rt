@@ -43,7 +43,8 @@ impl Model for HostMem {
 }
 
 impl HostMem {
-    /// A region of `table_bytes` bytes and `ram_pages` pages, all of them zeros. Fails where memory is wanting.
+    /// A region whose table part has `table_bytes` bytes, in whole pages, and whose guest RAM has `ram_pages` pages, all
+    /// of them zeros. Fails where memory is wanting.
     pub fn new(alloc: Global, table_bytes: usize, ram_pages: usize) -> Result<HostMem, AllocError>
         requires whole { table_bytes % page_size ≡ 0 }
         requires few { ram_pages ≤ most_ram_pages }
@@ -65,7 +66,6 @@ impl HostMem {
         ensures value { result ≡ length self.now.tables }
         ensures region { IsRegion self.now }
     {
-        let _bytes = self.bytes.as_slice();
         self.table_bytes
     }
 
@@ -74,11 +74,11 @@ impl HostMem {
         ensures value { page_size * result ≡ length self.now.ram }
         ensures region { IsRegion self.now }
     {
-        let _bytes = self.bytes.as_slice();
         self.ram_pages
     }
 
-    /// The word of `width` bytes at a host place, the lowest byte first. The width is 1, 2, 4 or 8.
+    /// The word of `width` bytes at a host place, the lowest byte first. The width is 1, 2, 4 or 8, and the place a
+    /// multiple of it.
     pub fn read(&self, at: usize, width: u8) -> u64
         requires { IsHostPlace self.now at width }
         ensures value { result ≡ host_word self.now at width }
@@ -87,7 +87,8 @@ impl HostMem {
         word_at(self.bytes.as_slice(), at, width)
     }
 
-    /// Writes the `width` lowest bytes of `value` at a host place, the lowest first. The width is 1, 2, 4 or 8.
+    /// Writes the `width` lowest bytes of `value` at a host place, the lowest first. The width is 1, 2, 4 or 8, and the
+    /// place a multiple of it.
     pub fn write(&mut self, at: usize, width: u8, value: u64)
         requires { IsHostPlace self.old at width }
         ensures { self.new ≡ write_host self.old at width value }
@@ -95,7 +96,7 @@ impl HostMem {
         put_word(self.bytes.as_mut_slice(), at, width, value);
     }
 
-    /// The bytes of page `n` of guest RAM.
+    /// The 4,096 bytes of page `n` of guest RAM, where pages are counted from 0.
     pub fn page(&self, n: u32) -> &[u8]
         requires { page_size * (n + 1) ≤ length self.now.ram }
         ensures bytes { result.now ≡ page_bytes self.now.ram n }
@@ -105,7 +106,7 @@ impl HostMem {
         &self.bytes.as_slice()[start..start + PAGE_SIZE]
     }
 
-    /// Copies `bytes` to the host places from `at` on.
+    /// Copies `bytes` to the host places from `at` on, which all lie in the region.
     pub fn copy_in(&mut self, at: usize, bytes: &[u8])
         requires { at + length bytes.now ≤ length (host_bytes self.old) }
         ensures bytes { host_bytes self.new ≡ overwrite (host_bytes self.old) at bytes.now }

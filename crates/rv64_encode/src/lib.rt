@@ -12,7 +12,7 @@ ghost use Rattle.sv_types.specs.Instructions.{instruction_of};
 pub use range::fits;
 pub use rv64_decode::Instr;
 
-/// The word of an instruction. Bits that it doesn't keep are 0.
+/// The word of an instruction whose fields are in range. Bits that it doesn't keep are 0.
 pub fn encode(instr: &Instr) -> u32
     requires { IsTrue (table.fits instr.now) }
     ensures word { result ≡ table.word_of instr.now }

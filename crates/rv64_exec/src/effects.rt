@@ -10,7 +10,7 @@ use crate::registers::Regs;
 use rv64_decode::{CsrOp, Instr, LoadOp, StoreOp};
 use sv_types::Effect;
 
-/// What an instruction does on these registers at this pc, or asks of the rest of the machine.
+/// What an instruction whose fields are in range does on these registers at this pc, or asks of the rest of the machine.
 #[tactic(auto, unfolding(sv_types::specs::Effects::effect_of, sv_types::specs::Encoding::fits))]
 pub fn effect(instr: &Instr, regs: &Regs, pc: u64) -> Effect
     requires { IsTrue (fits instr.now) }

@@ -12,8 +12,8 @@ use sv_types::{Access, GuestFault, PteBits};
 
 /// The host place of a guest-physical address under the second-stage root that `hgatp` names.
 ///
-/// A `GuestFault` with the address comes exactly where an entry of the walk or the leaf refuses the access. `hgatp` has
-/// mode 8 (Sv39x4).
+/// A `GuestFault` with the address comes exactly where the address has more than 41 bits, or an entry of the walk or the
+/// leaf refuses the access. `hgatp` has mode 8 (Sv39x4).
 pub fn walk_g(mem: &HostMem, hgatp: u64, gpa: u64, access: Access) -> Result<u64, GuestFault>
     requires { hgatp / 2 ^ 60 ≡ 8 }
     ensures { result ≡ ok_or (walk_guest mem.now hgatp gpa access) (record { gpa = gpa }) }
