@@ -3,7 +3,6 @@
 
 mod entries;
 mod kernel;
-mod laws;
 mod limits;
 mod modules;
 mod printing;
@@ -14,7 +13,6 @@ mod tests;
 mod text;
 mod values;
 
-pub use laws::law_round_trip;
 pub use limits::within;
 pub use printing::write;
 pub use refusal::PolicyRefusal;
