@@ -1,13 +1,13 @@
 // Permitted entries and exports.
 
 ghost use Rattle.std.specs.Prelude.{◌≡◌, ◌≤◌, length, [], IfOk, IfErr, option_map};
-ghost use Rattle.sv_types.specs.Policies.{is_exported};
 ghost use Rattle.toml.specs.View.{view, items_view};
 ghost use Rattle.policy.specs.Refusals.{Refuses};
 ghost use Rattle.policy.specs.Text as spec;
 
 use crate::refusal::{BEYOND_LIMIT, PolicyRefusal, REPEATED_NAME, WRONG_KIND};
 use crate::values::{address, items, name};
+use policy_limits::is_exported;
 use std::alloc::Global;
 use sv_types::{Export, Name};
 use toml::Value;
@@ -44,14 +44,6 @@ pub fn entries(alloc: Global, value: &Value) -> Result<Vec<u64>, PolicyRefusal>
         return Err(BEYOND_LIMIT);
     }
     each_entry(alloc, items)
-}
-
-pub fn is_exported(name: &Name, exports: &[Export]) -> bool
-    ensures { result ≡ is_exported name.now exports.now }
-{
-    exports
-        .iter()
-        .any(|export| export.name.text() == name.text())
 }
 
 #[tactic(auto, unfolding(crate::specs::Text::export_of_two))]

@@ -3,7 +3,6 @@
 
 mod entries;
 mod kernel;
-mod limits;
 mod modules;
 mod printing;
 mod refusal;
@@ -13,7 +12,7 @@ mod tests;
 mod text;
 mod values;
 
-pub use limits::within;
+pub use policy_limits::within;
 pub use printing::write;
 pub use refusal::PolicyRefusal;
 pub use text::read;

@@ -1,8 +1,6 @@
 // The modules that may be loaded.
 
 ghost use Rattle.std.specs.Prelude.{◌≡◌, ◌+◌, ◌≤◌, [], IfOk, IfErr, option_map, map, length};
-ghost use Rattle.std.specs.List.{list_any};
-ghost use Rattle.std.specs.Str.{bytes_eq};
 ghost use Rattle.sv_types.specs.Policies as limits;
 ghost use Rattle.toml.specs.View.{view, table_view, items_view};
 ghost use Rattle.policy.specs.Refusals.{Refuses, judged_map};
@@ -11,6 +9,7 @@ ghost use Rattle.policy.specs.Text as spec;
 use crate::refusal::{BEYOND_LIMIT, PolicyRefusal, REPEATED_NAME};
 use crate::sites::{Bounds, sites};
 use crate::values::{items, measure, members, name, natural, required, with_known};
+use policy_limits::is_module;
 use std::alloc::Global;
 use sv_types::{ModulePolicy, Name};
 use toml::{Table, Value};
@@ -24,19 +23,6 @@ fn module_pages(value: &Value) -> Result<u32, PolicyRefusal>
         return Err(BEYOND_LIMIT);
     }
     Ok(pages as u32)
-}
-
-fn has_name(name: &Name, modules: &[ModulePolicy]) -> bool
-    ensures { result ≡ list_any (λ m. bytes_eq m.name name.now) modules.now }
-{
-    modules.iter().any(|m| m.name.text() == name.text())
-}
-
-#[tactic(auto, using(crate::proofs::Tables::is_module_of_rules))]
-pub fn is_module(name: &Name, modules: &[ModulePolicy]) -> bool
-    ensures { result ≡ limits.is_module name.now (map limits.module_rule modules.now) }
-{
-    has_name(name, modules)
 }
 
 fn key_name(table: &Table) -> Result<Name, PolicyRefusal>

@@ -1,19 +1,16 @@
 // The relocated fields of a module.
 
-ghost use Rattle.std.specs.Prelude.{◌≡◌, ◌≤◌, [], ◌+◌, Some, length, IfOk, IfErr};
-ghost use Rattle.sv_types.specs.Policies as limits;
+ghost use Rattle.std.specs.Prelude.{◌≡◌, ◌≤◌, [], ◌+◌, length, IfOk, IfErr};
 ghost use Rattle.toml.specs.View.{view, items_view};
 ghost use Rattle.policy.specs.Refusals.{Refuses};
 ghost use Rattle.policy.specs.Text as spec;
 
 use crate::refusal::{BEYOND_LIMIT, NOT_ASCENDING, PolicyRefusal, WRONG_KIND};
 use crate::values::{integer, items, natural};
+use policy_limits::{is_aligned, is_anchor, is_behind, is_kind, is_place};
 use std::alloc::Global;
 use sv_types::Site;
 use toml::Value;
-
-/// The kind of a field of eight bytes. All others have four.
-const EIGHT_BYTES: u8 = 2;
 
 /// What the sites of a module are judged by: its pages, and the number of exports.
 #[derive(Clone, Copy, Drop)]
@@ -22,66 +19,6 @@ pub struct Bounds {
     pub exports: usize,
     ghost few_pages: { pages ≤ 1024 },
     ghost few_exports: { exports ≤ 4096 },
-}
-
-pub fn site_size(kind: u8) -> u64
-    ensures size { result ≡ limits.site_size kind }
-    ensures most { result ≤ 8 }
-{
-    if kind == EIGHT_BYTES { 8 } else { 4 }
-}
-
-/// An instruction of the module begins there.
-pub fn is_place(pages: u32, place: u64) -> bool
-    ensures { result ≡ limits.place_within pages place }
-{
-    place % 4 == 0 && place < 4096 * u64::from(pages)
-}
-
-pub fn is_kind(kind: u64) -> bool
-    ensures { result ≡ limits.kind_within kind }
-{
-    kind == 2 || kind == 16 || kind == 17 || (23 <= kind && kind <= 28)
-}
-
-/// The field holds the low part of an address, whose high part stands at the anchor.
-fn is_low_part(kind: u8) -> bool
-    ensures { result ≡ limits.is_low_part kind }
-{
-    kind == 24 || kind == 25
-}
-
-pub fn is_aligned(kind: u8, offset: u32) -> bool
-    ensures { result ≡ limits.is_aligned kind offset }
-{
-    u64::from(offset) % site_size(kind) == 0
-}
-
-pub fn is_anchor(pages: u32, kind: u8, offset: u32, anchor: u64) -> bool
-    ensures { result ≡ limits.anchor_within pages kind offset anchor }
-{
-    is_place(pages, anchor) && (is_low_part(kind) || anchor == u64::from(offset))
-}
-
-fn site_end(site: Site) -> u64
-    ensures { result ≡ limits.site_end (Some site) }
-{
-    u64::from(site.offset) + site_size(site.kind)
-}
-
-fn end(sites: &[Site]) -> u64
-    ensures { result ≡ limits.sites_end sites.now }
-{
-    match sites.last() {
-        Some(site) => site_end(*site),
-        None => 0,
-    }
-}
-
-pub fn is_behind(before: &[Site], site: &Site) -> bool
-    ensures { result ≡ limits.is_behind before.now site.now }
-{
-    end(before) <= u64::from(site.offset)
 }
 
 fn offset(pages: u32, value: &Value) -> Result<u32, PolicyRefusal>

@@ -1,6 +1,6 @@
 use Rattle.std.proofs.Common.{◌≡◌, ◌≤◌, take, drop, map}
 use Rattle.sv_types.specs.Policies.{each_within, module_within, modules_within, module_rule, sites_of}
-use Rattle.policy.proofs.limits.modules_within.Given as goal
+use Rattle.policy_limits.proofs.limits.modules_within.Given as goal
 
 abbrev pub invariant-loop-i : goal.invariant-loop-i
 invariant-loop-i l = record {

@@ -1,6 +1,6 @@
 use Rattle.std.proofs.Common.{◌≡◌, take, drop}
 use Rattle.sv_types.specs.Policies.{each_within, entry_within, entries_within}
-use Rattle.policy.proofs.limits.entries_within.Given as goal
+use Rattle.policy_limits.proofs.limits.entries_within.Given as goal
 
 abbrev pub invariant-loop-entry : goal.invariant-loop-entry
 invariant-loop-entry l =

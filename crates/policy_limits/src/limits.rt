@@ -3,9 +3,8 @@
 ghost use Rattle.std.specs.Prelude.{◌≡◌, ◌+◌, ◌≤◌, IsTrue, map, length};
 ghost use Rattle.sv_types.specs.Policies as limits;
 
-use crate::entries::is_exported;
-use crate::modules::is_module;
-use crate::sites::{is_aligned, is_anchor, is_behind, is_kind, is_place};
+use crate::names::{is_exported, is_module};
+use crate::places::{is_aligned, is_anchor, is_behind, is_kind, is_place};
 use sv_types::{Export, ModulePolicy, Policy, Site, Span};
 
 fn entries_within(entries: &[u64]) -> bool

@@ -1,0 +1,73 @@
+// The places of relocated fields in a module.
+
+ghost use Rattle.std.specs.Prelude.{◌≡◌, ◌≤◌, Some};
+ghost use Rattle.sv_types.specs.Policies as limits;
+
+use sv_types::Site;
+
+/// The kind of a field of eight bytes. All others have four.
+const EIGHT_BYTES: u8 = 2;
+
+fn site_size(kind: u8) -> u64
+    ensures size { result ≡ limits.site_size kind }
+    ensures most { result ≤ 8 }
+{
+    if kind == EIGHT_BYTES { 8 } else { 4 }
+}
+
+/// An instruction of a module of so many pages begins at this byte of it.
+pub fn is_place(pages: u32, place: u64) -> bool
+    ensures { result ≡ limits.place_within pages place }
+{
+    place % 4 == 0 && place < 4096 * u64::from(pages)
+}
+
+/// The kind is one of a module's relocations.
+pub fn is_kind(kind: u64) -> bool
+    ensures { result ≡ limits.kind_within kind }
+{
+    kind == 2 || kind == 16 || kind == 17 || (23 <= kind && kind <= 28)
+}
+
+// The field holds the low part of an address, whose high part stands at the anchor.
+fn is_low_part(kind: u8) -> bool
+    ensures { result ≡ limits.is_low_part kind }
+{
+    kind == 24 || kind == 25
+}
+
+/// A field of this kind may stand at this byte of a module.
+pub fn is_aligned(kind: u8, offset: u32) -> bool
+    ensures { result ≡ limits.is_aligned kind offset }
+{
+    u64::from(offset) % site_size(kind) == 0
+}
+
+/// The anchor of a field in a module of so many pages: the field's own offset, or for a low part any place.
+pub fn is_anchor(pages: u32, kind: u8, offset: u32, anchor: u64) -> bool
+    ensures { result ≡ limits.anchor_within pages kind offset anchor }
+{
+    is_place(pages, anchor) && (is_low_part(kind) || anchor == u64::from(offset))
+}
+
+fn site_end(site: Site) -> u64
+    ensures { result ≡ limits.site_end (Some site) }
+{
+    u64::from(site.offset) + site_size(site.kind)
+}
+
+fn end(sites: &[Site]) -> u64
+    ensures { result ≡ limits.sites_end sites.now }
+{
+    match sites.last() {
+        Some(site) => site_end(*site),
+        None => 0,
+    }
+}
+
+/// The site begins behind the fields of the sites before it.
+pub fn is_behind(before: &[Site], site: &Site) -> bool
+    ensures { result ≡ limits.is_behind before.now site.now }
+{
+    end(before) <= u64::from(site.offset)
+}
