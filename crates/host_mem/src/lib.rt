@@ -13,10 +13,7 @@ use std::alloc::{AllocError, Global};
 use std::marker::Model;
 
 /// The bytes of a page.
-pub const PAGE_SIZE: usize = 4096;
-
-/// The most pages of guest RAM.
-pub const MOST_RAM_PAGES: usize = 65536;
+const PAGE_SIZE: usize = 4096;
 
 /// A region of host memory. Contracts see its table part and its guest RAM, each as a list of bytes.
 #[derive(Drop)]
