@@ -12,3 +12,4 @@ pub mod WrittenLists
 pub mod WrittenRules
 pub mod ReadLists
 pub mod ReadWithin
+pub mod ExportsRead

@@ -3,3 +3,4 @@ pub mod Values
 pub mod Text
 pub mod Printed
 pub mod Ranges
+pub mod ExportNames

@@ -1,15 +1,17 @@
 // Permitted entries and exports.
 
-ghost use Rattle.std.specs.Prelude.{◌≡◌, ◌≤◌, length, [], IfOk, IfErr, option_map};
+ghost use Rattle.std.specs.Prelude.{◌≡◌, ◌≤◌, List, length, [], IfOk, IfErr, option_map};
 ghost use Rattle.toml.specs.View.{view, items_view};
 ghost use Rattle.policy.specs.Refusals.{Refuses};
+ghost use Rattle.policy.specs.ExportNames.{HasNames};
+ghost use Rattle.sv_types.specs.declared.policy.Export.{Export as ExportData};
 ghost use Rattle.policy.specs.Text as spec;
 
 use crate::refusal::{BEYOND_LIMIT, PolicyRefusal, REPEATED_NAME, WRONG_KIND};
 use crate::values::{address, items, name};
-use policy_limits::is_exported;
 use std::alloc::Global;
-use sv_types::{Export, Name};
+use std::collections::BTreeSet;
+use sv_types::Export;
 use toml::Value;
 
 fn entry(value: &Value) -> Result<u64, PolicyRefusal>
@@ -46,36 +48,37 @@ pub fn entries(alloc: Global, value: &Value) -> Result<Vec<u64>, PolicyRefusal>
     each_entry(alloc, items)
 }
 
+// An export whose name isn't among those of the exports before it.
 #[tactic(auto, unfolding(crate::specs::Text::export_of_two))]
 fn export_of_two(
-    before: &[Export],
+    names: &BTreeSet<String>,
     name_value: &Value,
     addr_value: &Value,
 ) -> Result<Export, PolicyRefusal>
-    ensures { result ≡ spec.export_of_two before.now (view name_value.now) (view addr_value.now) }
+    ensures { (before : List ExportData) → HasNames names.now before → result ≡ spec.export_of_two before (view name_value.now) (view addr_value.now) }
 {
     let name = name(name_value)?;
     let addr = address(addr_value)?;
-    if is_exported(&name, before) {
+    if names.contains(name.text()) {
         return Err(REPEATED_NAME);
     }
     Ok(Export { name, addr })
 }
 
-fn export_of_items(before: &[Export], items: &[Value]) -> Result<Export, PolicyRefusal>
-    ensures { result ≡ spec.export_of_items before.now (items_view items.now) }
+fn export_of_items(names: &BTreeSet<String>, items: &[Value]) -> Result<Export, PolicyRefusal>
+    ensures { (before : List ExportData) → HasNames names.now before → result ≡ spec.export_of_items before (items_view items.now) }
 {
     match items {
-        [name, addr] => export_of_two(before, name, addr),
+        [name, addr] => export_of_two(names, name, addr),
         _ => Err(WRONG_KIND),
     }
 }
 
-fn export(before: &[Export], value: &Value) -> Result<Export, PolicyRefusal>
-    ensures { result ≡ spec.export_of before.now (view value.now) }
+fn export(names: &BTreeSet<String>, value: &Value) -> Result<Export, PolicyRefusal>
+    ensures { (before : List ExportData) → HasNames names.now before → result ≡ spec.export_of before (view value.now) }
 {
     let items = items(value)?;
-    export_of_items(before, items)
+    export_of_items(names, items)
 }
 
 fn each_export(alloc: Global, items: &[Value]) -> Result<Vec<Export>, PolicyRefusal>
@@ -84,8 +87,10 @@ fn each_export(alloc: Global, items: &[Value]) -> Result<Vec<Export>, PolicyRefu
     ensures refused { IfErr result (Refuses (spec.each_export [] (items_view items.now))) }
 {
     let mut exports = Vec::new(alloc);
+    let mut names = BTreeSet::new(alloc);
     for item in items {
-        let export = export(exports.as_slice(), item)?;
+        let export = export(&names, item)?;
+        names.insert(String::from_str(alloc, export.name.text())?)?;
         exports.push(export)?;
     }
     Ok(exports)

@@ -6,5 +6,5 @@ mod names;
 mod places;
 
 pub use limits::within;
-pub use names::{is_exported, is_module};
+pub use names::is_module;
 pub use places::{is_aligned, is_anchor, is_behind, is_kind, is_place};

@@ -8,7 +8,7 @@ ghost use Rattle.sv_types.specs.Policies as limits;
 use sv_types::{Export, ModulePolicy, Name};
 
 /// One of the exports has the name.
-pub fn is_exported(name: &Name, exports: &[Export]) -> bool
+pub(crate) fn is_exported(name: &Name, exports: &[Export]) -> bool
     ensures { result ≡ limits.is_exported name.now exports.now }
 {
     exports
