@@ -122,14 +122,6 @@ pub record Swept (done : List ProgramHeader) (end text_end : ℕ) : Type 0 where
   pub text : (page : ℕ) → list_any (text_reaches page) done ≡ nat_lt page text_end
   pub order : text_end ≤ end
 
-pub swept_none : Swept [] 0 0
-swept_none = record {
-  apart = refl;
-  all = λ page. grind (arith, nat_tests);
-  text = λ page. grind (arith, nat_tests);
-  order = omega arith;
-}
-
 chosen : (e : Bool) (page end text_end : ℕ) → (if e then nat_lt page end else nat_lt page text_end) ≡ nat_lt page (if e then end else text_end)
 chosen true page end text_end = refl
 chosen false page end text_end = refl

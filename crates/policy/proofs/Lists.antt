@@ -1,10 +1,9 @@
 -- Lists whose items are judged one after another.
-use Rattle.std.proofs.Common.{◌≡◌, ℕ, suc, ◌+◌, ◌<◌, List, [], ◌∷◌, ◌++◌, length, drop, get_or, refl, sym, ◌∙◌, ap, Ok, Err}
+use Rattle.std.proofs.Common.{◌≡◌, ℕ, suc, ◌+◌, ◌<◌, List, [], ◌∷◌, ◌++◌, length, drop, get_or, refl, sym, ◌∙◌, ap, Ok}
 use Rattle.toml.proofs.Views.{items_view-drop}
 use Rattle.toml.specs.Data.{Data}
 use Rattle.toml.specs.View.{view, items_view}
 use Rattle.toml.specs.declared.value.Value.{Value}
-use Rattle.policy.specs.declared.refusal.PolicyRefusal.{PolicyRefusal}
 use Rattle.policy.specs.Refusals.{Judged, ◌>>=◌}
 use Rattle.policy.specs.Values.{each_item, items_length}
 
@@ -24,10 +23,3 @@ module _ {A : Type 0} (judged : List A → Data → Judged A) where
       each_item_at before vs i v within
       ∙ ap (λ (x : Value). judged before (view x) >>= λ a. each_item judged (before ++ a ∷ []) (items_view (drop (i + 1) vs))) (sym is)
       ∙ ap (λ (r : Judged A). r >>= λ a. each_item judged (before ++ a ∷ []) (items_view (drop (i + 1) vs))) good
-
-  pub each_item_refused : (before : List A) (vs : List Value) (i : ℕ) (v : Value) (e : PolicyRefusal) → i < length vs → v ≡ get_or vs i v → judged before (view v) ≡ Err e →
-      each_item judged before (items_view (drop i vs)) ≡ Err e
-  each_item_refused before vs i v e within is bad =
-      each_item_at before vs i v within
-      ∙ ap (λ (x : Value). judged before (view x) >>= λ a. each_item judged (before ++ a ∷ []) (items_view (drop (i + 1) vs))) (sym is)
-      ∙ ap (λ (r : Judged A). r >>= λ a. each_item judged (before ++ a ∷ []) (items_view (drop (i + 1) vs))) bad
