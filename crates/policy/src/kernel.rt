@@ -11,9 +11,10 @@ use sv_types::Span;
 use toml::{Table, Value};
 
 /// Where RAM begins.
-const RAM_BASE: u64 = 0x8000_0000;
+pub const RAM_BASE: u64 = 0x8000_0000;
 
-const PAGE_BYTES: u64 = 4096;
+/// The bytes of a page.
+pub const PAGE_BYTES: u64 = 4096;
 
 fn page_address(value: &Value) -> Result<u64, PolicyRefusal>
     ensures { result ≡ spec.page_address_of (view value.now) }

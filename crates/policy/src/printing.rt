@@ -12,14 +12,10 @@ ghost use Rattle.policy.specs.Ranges.{IsAddress, IsDigest, IsExport, IsModule, I
 ghost use Rattle.policy.specs.Text.{table_of_text, rules_of_text};
 ghost use Rattle.policy.specs.Printed as spec;
 
+use crate::kernel::{PAGE_BYTES, RAM_BASE};
 use std::alloc::{AllocError, Global};
 use sv_types::{Export, ModulePolicy, Policy, Site, Span};
 use toml::{Table, Value};
-
-/// Where RAM begins.
-const RAM_BASE: u64 = 0x8000_0000;
-
-const PAGE_BYTES: u64 = 4096;
 
 #[tactic(auto, using(crate::proofs::Puts::members_view_insert))]
 fn put(alloc: Global, table: &mut Table, key: &str, value: Value) -> Result<(), AllocError>
