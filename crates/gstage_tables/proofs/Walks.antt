@@ -8,13 +8,13 @@ use Rattle.sv_types.specs.Bytes.{page_of, ram_place}
 use Rattle.sv_types.specs.Regions.{host_word}
 use Rattle.sv_types.specs.Instructions.{bits}
 use Rattle.sv_types.specs.Translation.{walk, root_of, Destination, At, PageFault}
-use Rattle.sv_types.specs.SecondStage.{IsView, view_hgatp, view_answer, view_permits, page_in_ram, walk_guest, address_at, guest_destination, entry_in_tables, entry_in_region, host_entry, permits_guest, with_ram}
+use Rattle.sv_types.specs.SecondStage.{IsView, AreViews, view_hgatp, view_answer, view_permits, page_in_ram, walk_guest, address_at, guest_destination, entry_in_tables, entry_in_region, host_entry, permits_guest, with_ram}
 use Rattle.sv_types.specs.declared.wires.Access.{Access}
 use Rattle.sv_types.specs.declared.wires.Protection.{Protection}
 use Rattle.sv_types.specs.declared.wires.View.{View}
 use Rattle.sv_types.specs.declared.wires.View.TheVariants.{Kernel, User}
 use Rattle.sv_types.proofs.ByteLemmas.{lt_or_le}
-use Rattle.gstage_tables.specs.Layout.{leaf_tables, table_size, pointer, leaf, leaf_word, table_word, host_page, HoldsTrees, AreViews}
+use Rattle.gstage_tables.specs.Layout.{leaf_tables, table_size, pointer, leaf, leaf_word, table_word, host_page, HoldsTrees}
 use Rattle.gstage_tables.proofs.Bits.{pointer_gives, zero_gives, leaf_gives}
 use Rattle.gstage_tables.proofs.Places.{tree, root_word, middle_word, leaf_at, leaf_there, leaf_past}
 

@@ -4,7 +4,6 @@
 use Rattle.std.specs.Prelude.{◌≡◌, ℕ, ◌+◌, ◌-◌, ◌*◌, ◌/◌, ◌%◌, ◌≤◌, ◌==◌, if◌then◌else◌, nat_lt, List, length}
 use Rattle.sv_types.specs.Bytes.{word, page_size}
 use Rattle.sv_types.specs.Regions.{most_ram_pages}
-use Rattle.sv_types.specs.SecondStage.{IsView, view_hgatp}
 use Rattle.sv_types.specs.declared.wires.Protection.{Protection}
 use Rattle.sv_types.specs.declared.wires.Protection.TheVariants.{Free, Held, Approved}
 use Rattle.sv_types.specs.declared.wires.View.{View}
@@ -54,8 +53,3 @@ pub record HoldsTrees (tables : List ℕ) (ram_pages : ℕ) (protections : ℕ �
   pub size : length tables ≡ table_size ram_pages
   pub most : ram_pages ≤ most_ram_pages
   pub words : (k : ℕ) → 8 * k + 8 ≤ length tables → word tables (8 * k) 8 ≡ table_word ram_pages (leaf_tables ram_pages) protections k
-
--- both roots are the views
-pub record AreViews (tables : List ℕ) (ram_pages : ℕ) (protections : ℕ → Protection) : Type 0 where
-  pub kernel : IsView tables ram_pages protections Kernel (view_hgatp Kernel)
-  pub user : IsView tables ram_pages protections User (view_hgatp User)

@@ -4,9 +4,9 @@
 ghost use Rattle.std.specs.Prelude.{◌≡◌, ℕ, ◌+◌, ◌*◌, ◌/◌, ◌<◌, ◌≤◌, ◌%◌, ◌^◌, length};
 ghost use Rattle.sv_types.specs.Bytes.{page_size, write_word};
 ghost use Rattle.sv_types.specs.Regions.{most_ram_pages, IsRegion};
-ghost use Rattle.sv_types.specs.SecondStage.{view_hgatp, protect, all_free};
+ghost use Rattle.sv_types.specs.SecondStage.{AreViews, view_hgatp, protect, all_free};
 ghost use Rattle.sv_types.specs.declared.wires.Protection.{Protection as Kind};
-ghost use Rattle.gstage_tables.specs.Layout.{leaf_tables, table_size, leaf, host_page, HoldsTrees, AreViews};
+ghost use Rattle.gstage_tables.specs.Layout.{leaf_tables, table_size, leaf, host_page, HoldsTrees};
 
 mod words;
 

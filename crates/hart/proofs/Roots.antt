@@ -1,11 +1,10 @@
 -- Under the roots of both views every walk leads into the region.
 use Rattle.std.proofs.Common.{◌≡◌, ℕ, ◌*◌, ◌⊎◌, inl, inr, length}
 use Rattle.sv_types.specs.Regions.{Region}
-use Rattle.sv_types.specs.SecondStage.{WalksInside, view_hgatp}
+use Rattle.sv_types.specs.SecondStage.{AreViews, WalksInside, view_hgatp}
 use Rattle.sv_types.specs.declared.wires.Protection.{Protection}
 use Rattle.sv_types.specs.declared.wires.View.TheVariants.{Kernel, User}
 use Rattle.sv_types.proofs.Views.{view_walks_inside}
-use Rattle.gstage_tables.specs.Layout.{AreViews}
 
 pub roots_walk_inside : (r : Region) (ram_pages hgatp : ℕ) (protections : ℕ → Protection) → AreViews r.tables ram_pages protections
     → length r.ram ≡ 4096 * ram_pages → (hgatp ≡ view_hgatp Kernel) ⊎ (hgatp ≡ view_hgatp User) → WalksInside r hgatp

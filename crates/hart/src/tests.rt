@@ -1,11 +1,11 @@
 // Attempts on 16 pages of RAM behind two trees of tables, with page 0 approved.
 
 ghost use Rattle.std.specs.Prelude.{◌≡◌, ◌⊎◌, ◌%◌, ◌*◌, ◌/◌, ◌^◌, length, IfOk};
-ghost use Rattle.sv_types.specs.SecondStage.{protect, all_free, view_hgatp};
+ghost use Rattle.sv_types.specs.SecondStage.{AreViews, protect, all_free, view_hgatp};
 ghost use Rattle.sv_types.specs.declared.wires.Protection.TheVariants.{Approved};
 ghost use Rattle.sv_types.specs.declared.wires.View.TheVariants.{Kernel, User};
 ghost use Rattle.hart.specs.Conditions.{KeepsMode};
-ghost use Rattle.gstage_tables.specs.Layout.{table_size, AreViews};
+ghost use Rattle.gstage_tables.specs.Layout.{table_size};
 
 use super::*;
 use gstage_tables::Trees;

@@ -97,6 +97,7 @@ fn rule_name(rule: Rule) -> &'static str
     ensures { result.now ≡ rule_name rule }
 {
     match rule {
+        Rule::Entry { target: _ } => "entry",
         Rule::Outside { pc: _ } => "outside",
         Rule::Word { pc: _, word: _ } => "word",
         Rule::Write { pc: _, gpa: _ } => "write",
@@ -107,15 +108,23 @@ fn rule_name(rule: Rule) -> &'static str
 fn push_places(text: &mut String, rule: Rule) -> Result<(), AllocError>
     ensures { OnOk result (string_bytes text.new ≡ string_bytes text.old ++ rule_places rule) }
 {
-    text.push_str(" pc ")?;
     match rule {
-        Rule::Outside { pc } => push_address(text, pc),
+        Rule::Entry { target } => {
+            text.push_str(" target ")?;
+            push_address(text, target)
+        }
+        Rule::Outside { pc } => {
+            text.push_str(" pc ")?;
+            push_address(text, pc)
+        }
         Rule::Word { pc, word } => {
+            text.push_str(" pc ")?;
             push_address(text, pc)?;
             text.push_str(" word ")?;
             push_word(text, word)
         }
         Rule::Write { pc, gpa } => {
+            text.push_str(" pc ")?;
             push_address(text, pc)?;
             text.push_str(" gpa ")?;
             push_address(text, gpa)

@@ -1,6 +1,6 @@
 -- Under a view, a first-stage entry is read as it stands in RAM. So translation through both stages is the plain one
 -- followed by the second stage's answer for the page that it leads to.
-use Rattle.std.proofs.Common.{◌≡◌, ℕ, ◌+◌, ◌*◌, ◌/◌, ◌%◌, ◌^◌, ◌<◌, ◌≤◌, inl, inr, List, length, refl, sym, ◌∙◌, ap, arith, Bool, true, false, ◌&&◌}
+use Rattle.std.proofs.Common.{◌≡◌, ℕ, ◌+◌, ◌*◌, ◌/◌, ◌%◌, ◌^◌, ◌<◌, ◌≤◌, inl, inr, List, length, refl, sym, ◌∙◌, ap, arith, Bool, true, false, ◌&&◌, lit<}
 use Rattle.std.specs.Prelude.{Some, None, if◌then◌else◌, nat_le, nat_lt, ◌==◌}
 use Rattle.std.proofs.lemmas.Bool.Decides.{nat_tests}
 use Rattle.sv_types.specs.Bytes.{word, in_ram, ram_base, ram_place, page_of, page_size}
@@ -14,7 +14,7 @@ use Rattle.sv_types.specs.declared.wires.View.{View}
 use Rattle.sv_types.specs.declared.wires.Protection.{Protection}
 use Rattle.sv_types.proofs.ByteLemmas.{lt_or_le}
 use Rattle.sv_types.proofs.RegionLemmas.{word_in_ram}
-use Rattle.sv_types.proofs.Walks.{Agree, Fits, first_stage_agrees, first_stage_fits}
+use Rattle.sv_types.proofs.Walks.{Agree, first_stage_agrees}
 
 -- 8 aligned bytes from p on are in n pages exactly where p's page is one of them
 whole_entry : (p n : ℕ) → p % 8 ≡ 0 → nat_le (p + 8) (4096 * n) ≡ nat_lt (p / 4096) n
@@ -65,25 +65,56 @@ first_stage_is_plain tables ram ram_pages hgatp protections view is_view size s 
     first_stage_agrees (entry_in_ram ram) (entry_through (with_ram tables ram) hgatp) s mode va access
     (entries_agree tables ram ram_pages hgatp protections view is_view size)
 
+none_chosen : (b : Bool) (at : ℕ) → None ≡ (if b && true then Some at else None) → b ≡ false
+none_chosen true at e = absurd (cc)
+none_chosen false at e = refl
+
+beyond : (n gpa : ℕ) → page_in_ram n (2 ^ 41) ≡ false → 2 ^ 64 ≤ gpa → page_in_ram n gpa ≡ false
+beyond n gpa e far = grind (arith, nat_tests)
+
+far_walk : (r : Region) (hgatp gpa : ℕ) (access : Access) → 2 ^ 64 ≤ gpa → walk_guest r hgatp gpa access ≡ None
+unfolding walk_guest
+far_walk r hgatp gpa access far =
+    let test : (gpa / 2 ^ 41 == 0) ≡ false = grind (arith, nat_tests) in rw test refl
+
+walk_at_limit : (r : Region) (hgatp : ℕ) (access : Access) → walk_guest r hgatp (2 ^ 41) access ≡ None
+unfolding walk_guest
+walk_at_limit r hgatp access = refl
+
+-- every gpa at all is answered as the view says: since 2 ^ 41 faults, RAM ends below it
+pub view_answers : (tables ram : List ℕ) (ram_pages hgatp : ℕ) (protections : ℕ → Protection) (view : View)
+    → IsView tables ram_pages protections view hgatp → length ram ≡ page_size * ram_pages
+    → (gpa : ℕ) (access : Access)
+    → walk_guest (with_ram tables ram) hgatp gpa access ≡ view_answer (length tables) ram_pages view protections gpa access
+unfolding view_answer
+view_answers tables ram ram_pages hgatp protections view is_view size gpa access = elim (lt_or_le gpa (2 ^ 64)) [
+  | inl near ↦ is_view.answers ram gpa access size near
+  | inr far ↦
+      let limit : None ≡ (if page_in_ram ram_pages (2 ^ 41) && true then Some (length tables + ram_place (2 ^ 41)) else None) =
+      sym (walk_at_limit (with_ram tables ram) hgatp Load) ∙ is_view.answers ram (2 ^ 41) Load size (lit< tt) in
+      let none : page_in_ram ram_pages gpa ≡ false =
+      beyond ram_pages gpa (none_chosen (page_in_ram ram_pages (2 ^ 41)) (length tables + ram_place (2 ^ 41)) limit) far in
+      rw none (far_walk (with_ram tables ram) hgatp gpa access far)
+]
+
 then_view : (tables ram : List ℕ) (ram_pages hgatp : ℕ) (protections : ℕ → Protection) (view : View)
     → IsView tables ram_pages protections view hgatp → length ram ≡ page_size * ram_pages
-    → (va : ℕ) (access : Access) (d : Destination) → Fits va d
+    → (access : Access) (d : Destination)
     → after_first_stage (with_ram tables ram) hgatp access d ≡ under_view (length tables) ram_pages view protections access d
 unfolding after_first_stage
-then_view tables ram ram_pages hgatp protections view is_view size va access (At gpa) fits =
-    ap (place_through gpa) (is_view.answers ram gpa access size fits.1)
-then_view tables ram ram_pages hgatp protections view is_view size va access PageFault fits = refl
-then_view tables ram ram_pages hgatp protections view is_view size va access (Unreadable entry) fits = refl
+then_view tables ram ram_pages hgatp protections view is_view size access (At gpa) =
+    ap (place_through gpa) (view_answers tables ram ram_pages hgatp protections view is_view size gpa access)
+then_view tables ram ram_pages hgatp protections view is_view size access PageFault = refl
+then_view tables ram ram_pages hgatp protections view is_view size access (Unreadable entry) = refl
 
--- and translation through both stages the plain one, followed by the view's answer
+-- and translation through both stages the plain one, followed by the view's answer, for every virtual address at all
 pub two_stages_under_view : (tables ram : List ℕ) (ram_pages hgatp : ℕ) (protections : ℕ → Protection) (view : View)
     → IsView tables ram_pages protections view hgatp → length ram ≡ page_size * ram_pages
-    → (s : Settings) (mode : Mode) (va : ℕ) (access : Access) → va < 2 ^ 64
+    → (s : Settings) (mode : Mode) (va : ℕ) (access : Access)
     → two_stages (with_ram tables ram) hgatp s mode va access ≡ under_view (length tables) ram_pages view protections access (place ram s mode va access)
 unfolding two_stages
-two_stages_under_view tables ram ram_pages hgatp protections view is_view size s mode va access small =
-    then_view tables ram ram_pages hgatp protections view is_view size va access (first_stage (entry_through (with_ram tables ram) hgatp) s mode va access)
-    (first_stage_fits (entry_through (with_ram tables ram) hgatp) s mode va access small)
+two_stages_under_view tables ram ram_pages hgatp protections view is_view size s mode va access =
+    then_view tables ram ram_pages hgatp protections view is_view size access (first_stage (entry_through (with_ram tables ram) hgatp) s mode va access)
     ∙ ap (under_view (length tables) ram_pages view protections access)
     (sym (first_stage_is_plain tables ram ram_pages hgatp protections view is_view size s mode va access))
 
@@ -97,24 +128,15 @@ page_inside : (t n gpa : ℕ) (c : Bool) → (page_in_ram n gpa && c) ≡ true �
 page_inside t n gpa true h = let k : page_in_ram n gpa ≡ true = sym (and_true (page_in_ram n gpa)) ∙ h in grind (arith, nat_tests)
 page_inside t n gpa false h = let k = sym (and_false (page_in_ram n gpa)) ∙ h in absurd (cc)
 
-far_walk : (r : Region) (hgatp gpa x : ℕ) (access : Access) → 2 ^ 64 ≤ gpa → walk_guest r hgatp gpa access ≡ Some x → ⊥
-unfolding walk_guest
-far_walk r hgatp gpa x access far e =
-    let test : (gpa / 2 ^ 41 == 0) ≡ false = grind (arith, nat_tests) in
-    let none = rw test at e in cc
-
 -- under a view every walk leads into the region
 pub view_walks_inside : (tables ram : List ℕ) (ram_pages hgatp : ℕ) (protections : ℕ → Protection) (view : View)
     → IsView tables ram_pages protections view hgatp → length ram ≡ page_size * ram_pages → WalksInside (with_ram tables ram) hgatp
 unfolding view_answer
 view_walks_inside tables ram ram_pages hgatp protections view is_view size = record {
-  inside = λ gpa hpa access e. elim (lt_or_le gpa (2 ^ 64)) [
-    | inl near ↦
-        let answer : (if page_in_ram ram_pages gpa && view_permits view (protections (page_of gpa)) access then Some (length tables + ram_place gpa) else None) ≡ Some hpa =
-        sym (is_view.answers ram gpa access size near) ∙ e in
-        let below : hpa < length tables + 4096 * ram_pages =
-        chosen_inside (page_in_ram ram_pages gpa && view_permits view (protections (page_of gpa)) access) (length tables + ram_place gpa) (length tables + 4096 * ram_pages) hpa
-        (page_inside (length tables) ram_pages gpa (view_permits view (protections (page_of gpa)) access)) answer in omega arith
-    | inr far ↦ absurd (far_walk (with_ram tables ram) hgatp gpa hpa access far e)
-  ];
+  inside = λ gpa hpa access e.
+      let answer : (if page_in_ram ram_pages gpa && view_permits view (protections (page_of gpa)) access then Some (length tables + ram_place gpa) else None) ≡ Some hpa =
+      sym (view_answers tables ram ram_pages hgatp protections view is_view size gpa access) ∙ e in
+      let below : hpa < length tables + 4096 * ram_pages =
+      chosen_inside (page_in_ram ram_pages gpa && view_permits view (protections (page_of gpa)) access) (length tables + ram_place gpa) (length tables + 4096 * ram_pages) hpa
+      (page_inside (length tables) ram_pages gpa (view_permits view (protections (page_of gpa)) access)) answer in omega arith;
 }

@@ -7,7 +7,7 @@ use Rattle.sv_types.specs.declared.event.Counts.{Counts}
 use Rattle.sv_types.specs.declared.event.Verdict.{Verdict}
 use Rattle.sv_types.specs.declared.event.Verdict.TheVariants.{Running, Shutdown, Stopped}
 use Rattle.sv_types.specs.declared.event.Rule.{Rule}
-use Rattle.sv_types.specs.declared.event.Rule.TheVariants.{Outside, Word, Write}
+use Rattle.sv_types.specs.declared.event.Rule.TheVariants.{Entry, Outside, Word, Write}
 use Rattle.sv_types.specs.declared.status.Status.{Status}
 
 abbrev pub line_feed : List ℕ
@@ -52,11 +52,13 @@ denied_line c =
 -- ---- the verdict
 
 unfoldable pub rule_name : Rule → List ℕ
+rule_name (Entry target) = codes "entry"
 rule_name (Outside pc) = codes "outside"
 rule_name (Word pc word) = codes "word"
 rule_name (Write pc gpa) = codes "write"
 
 unfoldable pub rule_places : Rule → List ℕ
+rule_places (Entry target) = codes " target " ++ address_text target
 rule_places (Outside pc) = codes " pc " ++ address_text pc
 rule_places (Word pc word) = codes " pc " ++ address_text pc ++ codes " word " ++ word_text word
 rule_places (Write pc gpa) = codes " pc " ++ address_text pc ++ codes " gpa " ++ address_text gpa

@@ -134,6 +134,11 @@ abbrev pub view_hgatp : View → ℕ
 view_hgatp Kernel = 0x8000100000000000
 view_hgatp User = 0x8000200000000004
 
+-- the two roots are the two views
+pub record AreViews (tables : List ℕ) (ram_pages : ℕ) (protections : ℕ → Protection) : Type 0 where
+  pub kernel : IsView tables ram_pages protections Kernel (view_hgatp Kernel)
+  pub user : IsView tables ram_pages protections User (view_hgatp User)
+
 -- the protections with that of one page changed
 abbrev pub protect : (ℕ → Protection) → ℕ → Protection → ℕ → Protection
 protect protections page protection p = if p == page then protection else protections p

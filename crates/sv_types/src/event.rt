@@ -3,11 +3,13 @@
 /// The rule by which a machine stops.
 #[derive(Clone, Copy, Debug, PartialEq, Eq, Drop)]
 pub enum Rule {
+    /// A trap from user mode to an address that is no permitted entry.
+    Entry { target: u64 },
     /// The pc lies in no approved page.
     Outside { pc: u64 },
     /// The word at the pc can't be carried out.
     Word { pc: u64, word: u32 },
-    /// A store into an approved page, at a guest-physical address.
+    /// A store into a protected page, at a guest-physical address.
     Write { pc: u64, gpa: u64 },
 }
 
@@ -41,6 +43,26 @@ pub enum Note {
     /// The block device was kept from writing into a protected page.
     Denied {
         gpa: u64,
+    },
+    /// The answer to a call that loads a module.
+    Load {
+        hart: u8,
+        turn: u64,
+        id: u64,
+        code: i64,
+    },
+    /// The answer to a call that unloads a module.
+    Unload {
+        hart: u8,
+        turn: u64,
+        id: u64,
+        code: i64,
+    },
+    /// The answer to a call that frees the kernel's init text.
+    Retire {
+        hart: u8,
+        turn: u64,
+        code: i64,
     },
 }
 

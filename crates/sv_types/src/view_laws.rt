@@ -1,6 +1,6 @@
 // Laws of translation under a view. A law takes no argument and does nothing; its clause is the theorem.
 
-ghost use Rattle.std.specs.Prelude.{◌≡◌, ℕ, ◌*◌, ◌^◌, ◌<◌, List, length};
+ghost use Rattle.std.specs.Prelude.{◌≡◌, ℕ, ◌*◌, List, length};
 ghost use Rattle.sv_types.specs.Bytes.{page_size};
 ghost use Rattle.sv_types.specs.Translation.{Settings, place};
 ghost use Rattle.sv_types.specs.SecondStage.{IsView, WalksInside, with_ram, two_stages, under_view};
@@ -9,9 +9,10 @@ ghost use Rattle.sv_types.specs.declared.wires.Mode.{Mode as Privilege};
 ghost use Rattle.sv_types.specs.declared.wires.Protection.{Protection as Guard};
 ghost use Rattle.sv_types.specs.declared.wires.View.{View as Tree};
 
-/// Under a view, translation through both stages is the plain translation over RAM, followed by the view's answer.
+/// Under a view, translation through both stages is the plain translation over RAM, followed by the view's answer,
+/// for every virtual address, of 64 bits or not.
 pub fn law_two_stages()
-    ensures { (tables ram : List ℕ) (ram_pages hgatp : ℕ) (guards : ℕ → Guard) (view : Tree) → IsView tables ram_pages guards view hgatp → length ram ≡ page_size * ram_pages → (s : Settings) (mode : Privilege) (va : ℕ) (access : Kind) → va < 2 ^ 64 → two_stages (with_ram tables ram) hgatp s mode va access ≡ under_view (length tables) ram_pages view guards access (place ram s mode va access) }
+    ensures { (tables ram : List ℕ) (ram_pages hgatp : ℕ) (guards : ℕ → Guard) (view : Tree) → IsView tables ram_pages guards view hgatp → length ram ≡ page_size * ram_pages → (s : Settings) (mode : Privilege) (va : ℕ) (access : Kind) → two_stages (with_ram tables ram) hgatp s mode va access ≡ under_view (length tables) ram_pages view guards access (place ram s mode va access) }
 {}
 
 /// Under a view, every second-stage walk leads into the region.
