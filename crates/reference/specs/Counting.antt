@@ -1,0 +1,86 @@
+-- What the machine records: counts, notes, printed bytes and the verdict. This project's own.
+use Rattle.std.specs.Prelude.{ℕ, ◌+◌, ◌%◌, [], ◌∷◌, ◌++◌, take}
+use Rattle.sv_types.specs.declared.event.Counts.{Counts}
+use Rattle.sv_types.specs.declared.wires.Mode.{Mode}
+use Rattle.sv_types.specs.declared.wires.Mode.TheVariants.{Kernel, User}
+use Rattle.sv_types.specs.declared.event.Note.{Note}
+use Rattle.sv_types.specs.declared.event.Rule.{Rule}
+use Rattle.sv_types.specs.declared.event.Verdict.{Verdict}
+use Rattle.sv_types.specs.declared.event.Verdict.TheVariants.{Stopped}
+use Rattle.reference.specs.States.{State, Journal, with_journal}
+
+-- ---- counts, each raised by one
+
+abbrev pub count_turn : Counts → Counts
+count_turn c = record c { turns = c.turns + 1 }
+
+abbrev pub count_beat : Counts → Counts
+count_beat c = record c { beats = c.beats + 1 }
+
+abbrev pub count_key : Counts → Counts
+count_key c = record c { keys = c.keys + 1 }
+
+abbrev pub count_tick : Counts → Counts
+count_tick c = record c { ticks = c.ticks + 1 }
+
+abbrev pub count_retired : Counts → Counts
+count_retired c = record c { retired = c.retired + 1 }
+
+-- a trap; from user mode it enters the kernel
+abbrev pub count_trap : Mode → Counts → Counts
+count_trap Kernel c = record c { traps = c.traps + 1 }
+count_trap User c = record c { traps = c.traps + 1; enters = c.enters + 1 }
+
+-- a return from a trap; one to user mode leaves the kernel
+abbrev pub count_return : Mode → Counts → Counts
+count_return Kernel c = record c { retired = c.retired + 1 }
+count_return User c = record c { retired = c.retired + 1; leaves = c.leaves + 1 }
+
+abbrev pub count_demote : Counts → Counts
+count_demote c = record c { demotes = c.demotes + 1 }
+
+abbrev pub count_denied : Counts → Counts
+count_denied c = record c { denied = c.denied + 1 }
+
+abbrev pub count_dropped : Counts → Counts
+count_dropped c = record c { dropped = c.dropped + 1 }
+
+abbrev pub count_load : Counts → Counts
+count_load c = record c { loads = c.loads + 1 }
+
+abbrev pub count_unload : Counts → Counts
+count_unload c = record c { unloads = c.unloads + 1 }
+
+abbrev pub count_refused : Counts → Counts
+count_refused c = record c { refused = c.refused + 1 }
+
+-- ---- the journal
+
+abbrev pub counted : (Counts → Counts) → Journal → Journal
+counted count j = record j { counts = count j.counts }
+
+abbrev pub most_notes : ℕ
+most_notes = 4096
+
+-- one more note, which is kept if it is one of the first
+abbrev pub noted : Note → Journal → Journal
+noted note j = record j { notes = take most_notes (j.notes ++ note ∷ []); counts = record j.counts { notes = j.counts.notes + 1 } }
+
+-- the low byte of a value
+abbrev pub printed_low : ℕ → Journal → Journal
+printed_low value j = record j { printed = j.printed ++ (value % 256) ∷ [] }
+
+abbrev pub machine_ended : Verdict → Journal → Journal
+machine_ended verdict j = record j { verdict = verdict }
+
+-- ---- the state with its journal changed
+
+abbrev pub count : State → (Counts → Counts) → State
+count r raise = with_journal r (counted raise r.journal)
+
+abbrev pub note : State → Note → State
+note r line = with_journal r (noted line r.journal)
+
+-- a stop names the rule, the hart and the count of turns, and changes nothing else
+abbrev pub stopped_by : State → ℕ → Rule → State
+stopped_by r h rule = with_journal r (machine_ended (Stopped rule h r.journal.counts.turns) r.journal)

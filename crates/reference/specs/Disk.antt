@@ -1,0 +1,164 @@
+-- The block device: its registers and its beats, with one definition each for a load, a store, a beat and the line.
+-- This project's own. It knows no machine: a beat is told RAM and which pages may be written.
+use Rattle.std.specs.Prelude.{ℕ, ◌+◌, ◌*◌, ◌%◌, ◌^◌, Bool, not, ◌&&◌, ◌||◌, List, length, ◌==◌, if◌then◌else◌, nat_le, nat_lt, Option, Some, None, option_map}
+use Rattle.sv_types.specs.Bytes.{part, overwrite, in_ram, ram_place, page_of}
+use Rattle.sv_types.specs.declared.saved.BlockState.{BlockState}
+use Rattle.reference.specs.States.{Disk}
+
+-- ---- registers
+
+pub data BlockRegister : Type 0 where
+  Sector Address Count Command Status : BlockRegister
+
+unfoldable pub block_register : ℕ → ℕ → Option BlockRegister
+block_register offset width =
+    if offset == 0 && width == 8 then Some Sector
+    else if offset == 8 && width == 8 then Some Address
+    else if offset == 0x10 && width == 4 then Some Count
+    else if offset == 0x14 && width == 4 then Some Command
+    else if offset == 0x18 && width == 4 then Some Status
+    else None
+
+abbrev pub block_value : BlockState → BlockRegister → ℕ
+block_value b Sector = b.sector
+block_value b Address = b.gpa
+block_value b Count = b.count
+block_value b Command = 0
+block_value b Status = b.status
+
+-- what a load gives; none where no register has that offset and width
+unfoldable pub disk_load : Disk → ℕ → ℕ → Option ℕ
+disk_load d offset width = option_map (block_value d.block) (block_register offset width)
+
+-- ---- stores
+
+-- bytes of a sector, and of a beat
+abbrev pub sector_size : ℕ
+sector_size = 512
+
+abbrev pub beat_size : ℕ
+beat_size = 64
+
+-- the status: idle, a transfer under way, and how the last one ended
+abbrev pub idle : ℕ
+idle = 0
+
+abbrev pub busy : ℕ
+busy = 1
+
+abbrev pub done : ℕ
+done = 2
+
+abbrev pub denied : ℕ
+denied = 3
+
+abbrev pub out_of_range : ℕ
+out_of_range = 4
+
+-- the two commands
+abbrev pub disk_to_memory : ℕ
+disk_to_memory = 1
+
+abbrev pub memory_to_disk : ℕ
+memory_to_disk = 2
+
+-- a transfer is under way
+abbrev pub is_busy : BlockState → Bool
+is_busy b = b.status == busy
+
+-- there are sectors, all on the disk, and the address is a multiple of a beat's bytes
+abbrev pub can_begin : BlockState → ℕ → Bool
+can_begin b disk_size = nat_lt 0 b.count && nat_le (sector_size * (b.sector + b.count)) disk_size && b.gpa % beat_size == 0
+
+-- no transfer is under way any more
+abbrev pub block_ended : BlockState → ℕ → BlockState
+block_ended b status = record b { status = status; command = 0; done = 0 }
+
+-- a transfer begins, or is out of range; an unknown command is ignored
+abbrev pub after_command : BlockState → ℕ → ℕ → BlockState
+after_command b disk_size command =
+    if command == disk_to_memory || command == memory_to_disk
+    then (if can_begin b disk_size then record b { status = busy; command = command; done = 0 } else block_ended b out_of_range)
+    else b
+
+abbrev pub block_stored : BlockState → ℕ → BlockRegister → ℕ → BlockState
+block_stored b disk_size Sector value = record b { sector = value }
+block_stored b disk_size Address value = record b { gpa = value }
+block_stored b disk_size Count value = record b { count = value }
+block_stored b disk_size Command value = after_command b disk_size value
+block_stored b disk_size Status value = block_ended b idle
+
+-- all stores are ignored while a transfer is under way
+abbrev pub unless_busy : BlockState → BlockState → BlockState
+unless_busy b next = if is_busy b then b else next
+
+-- the device after a store of the low bytes of a value; none where no register has that offset and width
+unfoldable pub disk_store : Disk → (offset width value : ℕ) → Option Disk
+disk_store d offset width value =
+    option_map (λ k. record d { block = unless_busy d.block (block_stored d.block (length d.bytes) k (value % 256 ^ width)) }) (block_register offset width)
+
+-- ---- the line
+
+-- a transfer has ended
+unfoldable pub disk_line : Disk → Bool
+disk_line d = nat_le done d.block.status
+
+-- ---- beats
+
+-- what a beat moves
+pub data Move : Type 0 where
+  -- nothing, since no transfer is under way
+  Idle : Move
+  -- bytes of RAM to the disk
+  FromRam : (gpa : ℕ) → Move
+  -- bytes of the disk into RAM
+  IntoRam : (gpa : ℕ) → (bytes : List ℕ) → Move
+  -- nothing, since the page there is protected; the transfer ends
+  DeniedAt : (gpa : ℕ) → Move
+  -- nothing, since no RAM is there; the transfer ends
+  OutsideRam : Move
+
+-- the device after a beat, and what it moved
+pub record Beaten : Type 0 where
+  pub disk : Disk
+  pub move : Move
+
+-- where the next beat goes: in memory, and on the disk
+abbrev pub beat_gpa : BlockState → ℕ
+beat_gpa b = b.gpa + beat_size * b.done
+
+abbrev pub beat_place : BlockState → ℕ
+beat_place b = sector_size * b.sector + beat_size * b.done
+
+-- one beat is done; the last one ends the transfer
+abbrev pub block_after_beat : BlockState → BlockState
+block_after_beat b = if beat_size * (b.done + 1) == sector_size * b.count then block_ended b done else record b { done = b.done + 1 }
+
+abbrev pub transfer_ended : Disk → ℕ → Move → Beaten
+transfer_ended d status move = record { disk = record d { block = block_ended d.block status }; move = move }
+
+abbrev pub to_memory : Disk → (ℕ → Bool) → Beaten
+to_memory d may_write =
+    if may_write (page_of (beat_gpa d.block))
+    then record {
+      disk = record d { block = block_after_beat d.block };
+      move = IntoRam (beat_gpa d.block) (part d.bytes (beat_place d.block) beat_size);
+    }
+    else transfer_ended d denied (DeniedAt (beat_gpa d.block))
+
+abbrev pub to_disk : Disk → List ℕ → Beaten
+to_disk d ram = record {
+  disk = record {
+    block = block_after_beat d.block;
+    bytes = overwrite d.bytes (beat_place d.block) (part ram (ram_place (beat_gpa d.block)) beat_size);
+  };
+  move = FromRam (beat_gpa d.block);
+}
+
+-- a beat, where `may_write` tests pages of RAM. RAM may be read everywhere
+unfoldable pub disk_beat : Disk → List ℕ → (ℕ → Bool) → Beaten
+disk_beat d ram may_write =
+    if not (is_busy d.block) then record { disk = d; move = Idle }
+    else if not (in_ram ram (beat_gpa d.block) beat_size) then transfer_ended d out_of_range OutsideRam
+    else if d.block.command == disk_to_memory then to_memory d may_write
+    else to_disk d ram

@@ -1,0 +1,14 @@
+pub mod States
+pub mod Counting
+pub mod Protections
+pub mod Disk
+pub mod Devices
+pub mod Trapping
+pub mod Requests
+pub mod Relocations
+pub mod Calls
+pub mod ModuleCalls
+pub mod Loads
+pub mod Turn
+pub mod Run
+pub mod Start

@@ -1,0 +1,62 @@
+-- A module load under way: its page turns and its decision. This project's own; the relocated fields are those of the
+-- RISC-V ELF psABI, the measure is FIPS 180-4's SHA-256.
+use Rattle.std.specs.Prelude.{ℕ, zero, suc, ◌*◌, Bool, false, ◌&&◌, List, [], ◌++◌, if◌then◌else◌, Option, Some, None, slice_get}
+use Rattle.std.specs.Str.{bytes_eq}
+use Rattle.sv_types.specs.Bytes.{part, page_size, ram_place}
+use Rattle.sv_types.specs.Measure.{measure}
+use Rattle.sv_types.specs.Policies.{Rules, ModuleRule}
+use Rattle.sv_types.specs.Reference.{approved_pages}
+use Rattle.sv_types.specs.declared.module.Bases.{Bases}
+use Rattle.sv_types.specs.declared.saved.SavedModule.{SavedModule}
+use Rattle.reference.specs.States.{State, Hart, Loading, module_pages, with_module}
+use Rattle.reference.specs.Counting.{count, count_load}
+use Rattle.reference.specs.Calls.{success}
+use Rattle.reference.specs.ModuleCalls.{answer_load, refused_by_measure}
+use Rattle.reference.specs.Relocations.{masked, fields_right}
+
+-- the module's text, as RAM has it now
+abbrev pub module_text : List ℕ → SavedModule → ℕ → List ℕ
+module_text ram m pages = part ram (ram_place m.gpa) (page_size * pages)
+
+abbrev pub module_bases : SavedModule → Bases
+module_bases m = record { va = m.va; data_va = m.data_va }
+
+-- the masked text measures to the policy's digest
+unfoldable pub is_as_measured : ModuleRule → List ℕ → Bool
+is_as_measured rule text = bytes_eq (measure (masked text rule.sites)) rule.measure
+
+-- the text in RAM is as measured, and each field is right for the bases. A module that the policy doesn't have isn't good
+unfoldable pub is_good : Rules → List ℕ → SavedModule → Option ModuleRule → Bool
+is_good rules ram m None = false
+is_good rules ram m (Some rule) =
+    is_as_measured rule (module_text ram m rule.pages)
+    && fields_right rules.exports (module_bases m) rule.sites (module_text ram m rule.pages)
+
+-- no page is held and no load is under way any more
+abbrev pub load_ended : State → State
+load_ended r = record r { held = []; loading = None }
+
+-- the pages are approved with their bytes, and the module is loaded
+abbrev pub load_approved : State → ℕ → Hart → SavedModule → State
+load_approved r h hart m = answer_load
+    (record (count (load_ended r) count_load) {
+      approved = approved_pages r.ram (module_pages r.rules m) ++ r.approved;
+      loaded = with_module r.loaded m;
+    })
+    h hart m.id success
+
+-- the pages are free again
+abbrev pub load_refused : State → ℕ → Hart → SavedModule → State
+load_refused r h hart m = answer_load (load_ended r) h hart m.id refused_by_measure
+
+-- the decision, on the bytes of this moment
+unfoldable pub decide : State → ℕ → Hart → SavedModule → State
+decide r h hart m = if is_good r.rules r.ram m (slice_get r.rules.modules m.id) then load_approved r h hart m else load_refused r h hart m
+
+-- the next step: a page turn, or the decision where none is left
+unfoldable pub load_step_of : State → ℕ → Hart → Loading → ℕ → State
+load_step_of r h hart load zero = decide r h hart load.about
+load_step_of r h hart load (suc left) = record r { loading = Some (record load { left = left }) }
+
+abbrev pub load_step : State → ℕ → Hart → Loading → State
+load_step r h hart load = load_step_of r h hart load load.left

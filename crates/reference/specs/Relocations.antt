@@ -1,0 +1,109 @@
+-- The relocated fields of a module's text: clearing them, and which value each has to have.
+-- RISC-V ELF psABI, "Relocations".
+use Rattle.std.specs.Prelude.{ℕ, zero, suc, ◌+◌, ◌-◌, ◌*◌, ◌%◌, ◌^◌, Bool, true, ◌&&◌, ◌||◌, List, fold, ◌==◌, if◌then◌else◌, bit_and, slice_get, Option, Some, None, ℤ, pos, negsuc, int_le}
+use Rattle.std.specs.List.{list_all}
+use Rattle.std.specs.Int.{w64, cast_unsigned}
+use Rattle.sv_types.specs.Bits.{without}
+use Rattle.sv_types.specs.Bytes.{word, write_word}
+use Rattle.sv_types.specs.Effects.{plus, minus, signed}
+use Rattle.sv_types.specs.Instructions.{bits}
+use Rattle.sv_types.specs.declared.module.Site.{Site}
+use Rattle.sv_types.specs.declared.module.Bases.{Bases}
+use Rattle.sv_types.specs.declared.policy.Export.{Export}
+
+-- where in an instruction a value stands: 8 bytes of data, or the immediate of an instruction format
+pub data Field : Type 0 where
+  DoubleWord BField JField UField IField SField : Field
+
+abbrev pub field_of : ℕ → Field
+field_of kind =
+    if kind == 2 then DoubleWord
+    else if kind == 16 then BField
+    else if kind == 17 then JField
+    else if kind == 23 || kind == 26 then UField
+    else if kind == 24 || kind == 27 then IField
+    else SField
+
+-- the bits of an instruction that the field takes
+abbrev pub field_bits : Field → ℕ
+field_bits DoubleWord = 2 ^ 64 - 1
+field_bits BField = 0xFE000F80
+field_bits JField = 0xFFFFF000
+field_bits UField = 0xFFFFF000
+field_bits IField = 0xFFF00000
+field_bits SField = 0xFE000F80
+
+abbrev pub field_width : Field → ℕ
+field_width DoubleWord = 8
+field_width BField = 4
+field_width JField = 4
+field_width UField = 4
+field_width IField = 4
+field_width SField = 4
+
+-- a value as it stands in the field
+abbrev pub in_field : Field → ℕ → ℕ
+in_field DoubleWord v = v
+in_field BField v = 2 ^ 7 * bits v 11 12 + 2 ^ 8 * bits v 1 5 + 2 ^ 25 * bits v 5 11 + 2 ^ 31 * bits v 12 13
+in_field JField v = 2 ^ 12 * bits v 12 20 + 2 ^ 20 * bits v 11 12 + 2 ^ 21 * bits v 1 11 + 2 ^ 31 * bits v 20 21
+in_field UField v = 2 ^ 12 * bits (v + 0x800) 12 32
+in_field IField v = 2 ^ 20 * bits v 0 12
+in_field SField v = 2 ^ 7 * bits v 0 5 + 2 ^ 25 * bits v 5 12
+
+-- v, read as a signed number, is from low to high
+abbrev pub from_to : ℤ → ℤ → ℕ → Bool
+from_to low high v = int_le low (signed v) && int_le (signed v) high
+
+abbrev pub value_fits : Field → ℕ → Bool
+value_fits DoubleWord v = true
+value_fits BField v = from_to (negsuc 4095) (pos 4094) v && v % 2 == 0
+value_fits JField v = from_to (negsuc 1048575) (pos 1048574) v && v % 2 == 0
+value_fits UField v = from_to (negsuc 2147485695) (pos 2147481599) v
+value_fits IField v = from_to (negsuc 2147485695) (pos 2147481599) v
+value_fits SField v = from_to (negsuc 2147485695) (pos 2147481599) v
+
+-- ---- clearing
+
+abbrev pub field_word : List ℕ → Site → ℕ
+field_word text site = word text site.offset (field_width (field_of site.kind))
+
+unfoldable pub clear_field : List ℕ → Site → List ℕ
+clear_field text site =
+    write_word text site.offset (field_width (field_of site.kind)) (without (field_word text site) (field_bits (field_of site.kind)))
+
+-- a module's text with each field cleared
+unfoldable pub masked : List ℕ → List Site → List ℕ
+masked text sites = fold clear_field text sites
+
+-- ---- the value
+
+abbrev pub export_addr : Option Export → ℕ
+export_addr None = 0
+export_addr (Some e) = e.addr
+
+-- the address that a symbol's base stands for: text, data, none, or an export
+abbrev pub symbol_base : List Export → Bases → ℕ → ℕ
+symbol_base exports bases zero = bases.va
+symbol_base exports bases (suc zero) = bases.data_va
+symbol_base exports bases (suc (suc zero)) = 0
+symbol_base exports bases (suc (suc (suc i))) = export_addr (slice_get exports i)
+
+-- S + A for kinds 2, 26, 27 and 28, S + A - P for the others
+abbrev pub is_absolute_kind : (kind : ℕ) → Bool
+is_absolute_kind kind = kind == 2 || kind == 26 || kind == 27 || kind == 28
+
+unfoldable pub site_value : List Export → Bases → Site → ℕ
+site_value exports bases site =
+    if is_absolute_kind site.kind
+    then plus (symbol_base exports bases site.base) (cast_unsigned w64 site.addend)
+    else minus (plus (symbol_base exports bases site.base) (cast_unsigned w64 site.addend)) (plus bases.va site.anchor)
+
+-- the field has the value's bits, and the value fits
+unfoldable pub field_right : List Export → Bases → List ℕ → Site → Bool
+field_right exports bases text site =
+    bit_and (field_word text site) (field_bits (field_of site.kind)) == in_field (field_of site.kind) (site_value exports bases site)
+    && value_fits (field_of site.kind) (site_value exports bases site)
+
+-- each field is the one for these bases
+unfoldable pub fields_right : List Export → Bases → List Site → List ℕ → Bool
+fields_right exports bases sites text = list_all (field_right exports bases text) sites

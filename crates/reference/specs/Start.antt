@@ -1,0 +1,89 @@
+-- The state in which a machine starts. This project's own.
+use Rattle.std.specs.Prelude.{◌≡◌, ℕ, ◌-◌, ◌*◌, ◌/◌, ◌^◌, ◌<◌, ◌≤◌, ◌⊎◌, List, [], ◌∷◌, length, replicate, None, true, false, IsTrue}
+use Rattle.sv_types.specs.Boot.{no_counts, flat_ram_pages}
+use Rattle.sv_types.specs.Bytes.{padded, page_size, ram_base}
+use Rattle.sv_types.specs.Clock.{clock_at_boot}
+use Rattle.sv_types.specs.Kernel.{header_entry, kernel_refusal, kernel_segments, segments_ram, text_pages}
+use Rattle.sv_types.specs.Policies.{Rules, rules_within}
+use Rattle.sv_types.specs.Reference.{approved_pages, numbers_from}
+use Rattle.sv_types.specs.declared.event.Verdict.TheVariants.{Running}
+use Rattle.sv_types.specs.declared.saved.BlockState.{BlockState}
+use Rattle.reference.specs.States.{State, Hart, has_number}
+use Rattle.reference.specs.Calls.{hart_at, stopped_hart, registers_at_boot}
+
+abbrev pub block_at_boot : BlockState
+block_at_boot = record { sector = 0; gpa = 0; count = 0; command = 0; status = 0; done = 0 }
+
+-- hart 0 at its entry, and the others stopped
+abbrev pub harts_at_boot : ℕ → ℕ → List Hart
+harts_at_boot harts entry = hart_at entry registers_at_boot ∷ replicate (harts - 1) stopped_hart
+
+-- RAM with pages approved as they stand there
+unfoldable pub start : Rules → (ram text : List ℕ) → ℕ → List ℕ → State
+start rules ram text entry disk = record {
+  rules = rules;
+  harts = harts_at_boot rules.harts entry;
+  ram = ram;
+  approved = approved_pages ram text;
+  held = [];
+  loaded = [];
+  loading = None;
+  text = text;
+  retired = false;
+  devices = record { console = []; disk = record { block = block_at_boot; bytes = disk }; clock = clock_at_boot };
+  journal = record { printed = []; notes = []; counts = no_counts; verdict = Running };
+}
+
+-- ---- a machine of plain pages
+
+-- one hart, no modules, and two permitted entries; the digest is the one that is wanted
+abbrev pub flat_rules : List ℕ → Rules
+flat_rules digest = record {
+  format = 1;
+  harts = 1;
+  ram_pages = flat_ram_pages;
+  entries = 0x80000000 ∷ 0x80000100 ∷ [];
+  exports = [];
+  kernel = digest;
+  init = None;
+  modules = [];
+}
+
+-- pages at the start of RAM, all of them approved, where the hart begins; no disk
+unfoldable pub flat_start : (pages digest : List ℕ) → State
+flat_start pages digest =
+    start (flat_rules digest) (padded pages (page_size * flat_ram_pages)) (numbers_from 0 (length pages / page_size)) ram_base []
+
+-- ---- a machine of a kernel's image
+
+unfoldable pub boot_start : Rules → (file disk : List ℕ) → State
+boot_start rules file disk =
+    start rules (segments_ram (kernel_segments file) rules.ram_pages) (text_pages (kernel_segments file)) (header_entry file) disk
+
+-- ---- starts
+
+-- the permitted entries are words of 64 bits
+abbrev pub AreWords : List ℕ → Type 0
+AreWords entries = (entry : ℕ) → has_number entries entry ≡ true → entry < 2 ^ 64
+
+-- pages that aren't longer than RAM
+pub record StartsFlat (s : State) : Type 0 where
+  pub pages : List ℕ
+  pub digest : List ℕ
+  pub fits : length pages ≤ page_size * flat_ram_pages
+  pub same : s ≡ flat_start pages digest
+
+-- a policy within its limits and an image that isn't refused, which begins at a permitted entry
+pub record StartsImage (s : State) : Type 0 where
+  pub rules : Rules
+  pub file : List ℕ
+  pub disk : List ℕ
+  pub within : IsTrue (rules_within rules)
+  pub words : AreWords rules.entries
+  pub accepted : kernel_refusal file rules.ram_pages ≡ None
+  pub entry : has_number rules.entries (header_entry file) ≡ true
+  pub same : s ≡ boot_start rules file disk
+
+-- a state in which a machine starts. Whatever text it is measured against, what follows holds
+abbrev pub IsStart : State → Type 0
+IsStart s = StartsFlat s ⊎ StartsImage s

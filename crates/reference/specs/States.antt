@@ -1,0 +1,131 @@
+-- The state of the reference machine, as plain data: what a RISC-V hart has in S and U mode (Unprivileged manual,
+-- "Programmers' Model for Base Integer ISA"; Privileged manual, "Supervisor CSRs"), memory, modules, devices and records.
+use Rattle.std.specs.Prelude.{ℕ, Bool, true, false, ◌||◌, not, List, [], ◌∷◌, filter, ◌==◌, nat_lt, if◌then◌else◌, Option, Some, None, slice_get, slice_set, is_some}
+use Rattle.std.specs.List.{list_any}
+use Rattle.sv_types.specs.Bytes.{page_of}
+use Rattle.sv_types.specs.Reference.{ApprovedPage, numbers_from, approved_bytes}
+use Rattle.sv_types.specs.Clock.{Clock}
+use Rattle.sv_types.specs.Policies.{Rules, ModuleRule}
+use Rattle.sv_types.specs.Registers.{Supervisor}
+use Rattle.sv_types.specs.declared.event.Counts.{Counts}
+use Rattle.sv_types.specs.declared.wires.Mode.{Mode}
+use Rattle.sv_types.specs.declared.wires.Protection.{Protection}
+use Rattle.sv_types.specs.declared.wires.Protection.TheVariants.{Free, Held, Approved}
+use Rattle.sv_types.specs.declared.event.Note.{Note}
+use Rattle.sv_types.specs.declared.event.Verdict.{Verdict}
+use Rattle.sv_types.specs.declared.saved.SavedModule.{SavedModule}
+use Rattle.sv_types.specs.declared.saved.BlockState.{BlockState}
+
+pub record Hart : Type 0 where
+  pub started : Bool
+  pub mode : Mode
+  pub pc : ℕ
+  pub registers : List ℕ
+  pub supervisor : Supervisor
+  -- the place in RAM of the 8 aligned bytes that are reserved
+  pub reservation : Option ℕ
+
+-- a load under way, with the page turns that are left
+pub record Loading : Type 0 where
+  pub hart : ℕ
+  pub about : SavedModule
+  pub left : ℕ
+
+-- the block device: its registers with the transfer, and the disk's bytes
+pub record Disk : Type 0 where
+  pub block : BlockState
+  pub bytes : List ℕ
+
+-- what stands beside harts and memory
+pub record Devices : Type 0 where
+  -- input that waits
+  pub console : List ℕ
+  pub disk : Disk
+  pub clock : Clock
+
+-- what the machine records
+pub record Journal : Type 0 where
+  pub printed : List ℕ
+  -- the first 4,096
+  pub notes : List Note
+  pub counts : Counts
+  pub verdict : Verdict
+
+pub record State : Type 0 where
+  pub rules : Rules
+  pub harts : List Hart
+  pub ram : List ℕ
+  pub approved : List ApprovedPage
+  -- the pages of the load under way
+  pub held : List ℕ
+  -- ascending by id
+  pub loaded : List SavedModule
+  pub loading : Option Loading
+  -- the pages that were approved at boot
+  pub text : List ℕ
+  pub retired : Bool
+  pub devices : Devices
+  pub journal : Journal
+
+-- ---- pages
+
+abbrev pub has_number : List ℕ → ℕ → Bool
+has_number list n = list_any (λ m. m == n) list
+
+abbrev pub is_approved_in : List ApprovedPage → ℕ → Bool
+is_approved_in approved page = is_some (approved_bytes approved page)
+
+-- an approved page that is held too counts as approved
+unfoldable pub protection_by : Bool → Bool → Protection
+protection_by true held = Approved
+protection_by false true = Held
+protection_by false false = Free
+
+unfoldable pub protection_in : List ApprovedPage → List ℕ → ℕ → Protection
+protection_in approved held page = protection_by (is_approved_in approved page) (has_number held page)
+
+abbrev pub protection : State → ℕ → Protection
+protection r page = protection_in r.approved r.held page
+
+unfoldable pub is_protected : State → ℕ → Bool
+is_protected r page = is_approved_in r.approved page || has_number r.held page
+
+-- the approved pages without some
+unfoldable pub without_pages : List ApprovedPage → List ℕ → List ApprovedPage
+without_pages approved pages = filter (λ (entry : ApprovedPage). not (has_number pages entry.page)) approved
+
+-- ---- modules
+
+-- the number of pages of a module of the policy, 0 where it has no such one
+abbrev pub pages_in_rule : Option ModuleRule → ℕ
+pages_in_rule None = 0
+pages_in_rule (Some rule) = rule.pages
+
+abbrev pub module_pages : Rules → SavedModule → List ℕ
+module_pages rules m = numbers_from (page_of m.gpa) (pages_in_rule (slice_get rules.modules m.id))
+
+-- a list of modules that ascends by id, with one more
+unfoldable pub with_module : List SavedModule → SavedModule → List SavedModule
+with_module [] m = m ∷ []
+with_module (first ∷ rest) m = if nat_lt m.id first.id then m ∷ (first ∷ rest) else first ∷ with_module rest m
+
+unfoldable pub find_module : List SavedModule → ℕ → Option SavedModule
+find_module [] id = None
+find_module (m ∷ ms) id = if m.id == id then Some m else find_module ms id
+
+abbrev pub without_module : List SavedModule → ℕ → List SavedModule
+without_module modules id = filter (λ (m : SavedModule). not (m.id == id)) modules
+
+-- ---- a part of the state changed
+
+abbrev pub with_hart : State → ℕ → Hart → State
+with_hart r h hart = record r { harts = slice_set r.harts h hart }
+
+abbrev pub with_journal : State → Journal → State
+with_journal r journal = record r { journal = journal }
+
+abbrev pub with_devices : State → Devices → State
+with_devices r devices = record r { devices = devices }
+
+abbrev pub without_reservation : Hart → Hart
+without_reservation hart = record hart { reservation = None }

@@ -1,0 +1,76 @@
+-- Traps of the reference machine, and their return. RISC-V Privileged manual, "Supervisor Trap Vector Base Address
+-- Register" and "Trap-Return Instructions"; that user mode enters the kernel at permitted addresses alone is this project's
+-- own.
+use Rattle.std.specs.Prelude.{ℕ, Bool, true, false, if◌then◌else◌, None}
+use Rattle.sv_types.specs.Causes.{cause_number}
+use Rattle.sv_types.specs.Policies.{Rules}
+use Rattle.sv_types.specs.Traps.{interrupt_number, trap_target, supervisor_at_trap, supervisor_at_return, mode_at_return}
+use Rattle.sv_types.specs.declared.cause.Cause.{Cause}
+use Rattle.sv_types.specs.declared.wires.Interrupt.{Interrupt}
+use Rattle.sv_types.specs.declared.wires.Mode.{Mode}
+use Rattle.sv_types.specs.declared.wires.Mode.TheVariants.{Kernel, User}
+use Rattle.sv_types.specs.declared.event.Rule.TheVariants.{Entry}
+use Rattle.reference.specs.States.{State, Hart, has_number, with_hart}
+use Rattle.reference.specs.Counting.{count, count_trap, count_return, stopped_by}
+
+-- why a hart traps: an interrupt, or an exception with the value that stval takes
+pub data Reason : Type 0 where
+  Interrupted : (interrupt : Interrupt) → Reason
+  Raised : (cause : Cause) → (tval : ℕ) → Reason
+
+abbrev pub is_interrupt : Reason → Bool
+is_interrupt (Interrupted interrupt) = true
+is_interrupt (Raised cause tval) = false
+
+-- the cause as scause has it, without its bit 63
+abbrev pub cause_of : Reason → ℕ
+cause_of (Interrupted interrupt) = interrupt_number interrupt
+cause_of (Raised cause tval) = cause_number cause
+
+abbrev pub tval_of : Reason → ℕ
+tval_of (Interrupted interrupt) = 0
+tval_of (Raised cause tval) = tval
+
+-- the hart in its trap handler, which it came to from a mode
+unfoldable pub hart_at_trap : Hart → Mode → (interrupt : Bool) → (cause tval : ℕ) → Hart
+hart_at_trap hart from interrupt cause tval = record hart {
+  mode = Kernel;
+  pc = trap_target hart.supervisor.stvec interrupt cause;
+  supervisor = supervisor_at_trap hart.supervisor from hart.pc interrupt cause tval;
+  reservation = None;
+}
+
+-- from kernel mode any target will do, from user mode a permitted one alone
+abbrev pub may_enter : Rules → Mode → ℕ → Bool
+may_enter rules Kernel target = true
+may_enter rules User target = has_number rules.entries target
+
+abbrev pub trap_entered : State → ℕ → Hart → Mode → (interrupt : Bool) → (cause tval : ℕ) → State
+trap_entered r h hart from interrupt cause tval =
+    count (with_hart r h (hart_at_trap hart from interrupt cause tval)) (count_trap from)
+
+-- a trap by its numbers
+unfoldable pub trap_from : State → ℕ → Hart → Mode → (interrupt : Bool) → (cause tval : ℕ) → State
+trap_from r h hart from interrupt cause tval =
+    if may_enter r.rules from (trap_target hart.supervisor.stvec interrupt cause)
+    then trap_entered r h hart from interrupt cause tval
+    else stopped_by r h (Entry (trap_target hart.supervisor.stvec interrupt cause))
+
+abbrev pub trap : State → ℕ → Hart → Reason → State
+trap r h hart reason = trap_from r h hart hart.mode (is_interrupt reason) (cause_of reason) (tval_of reason)
+
+abbrev pub exception : State → ℕ → Hart → Cause → ℕ → State
+exception r h hart cause tval = trap r h hart (Raised cause tval)
+
+-- ---- the return
+
+unfoldable pub hart_at_return : Hart → Hart
+hart_at_return hart = record hart {
+  mode = mode_at_return hart.supervisor.sstatus;
+  pc = hart.supervisor.sepc;
+  supervisor = supervisor_at_return hart.supervisor;
+  reservation = None;
+}
+
+unfoldable pub returned_from_trap : State → ℕ → Hart → State
+returned_from_trap r h hart = count (with_hart r h (hart_at_return hart)) (count_return (mode_at_return hart.supervisor.sstatus))
