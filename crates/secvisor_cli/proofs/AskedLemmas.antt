@@ -5,7 +5,7 @@ use Rattle.std.specs.Fmt.{digits}
 use Rattle.sv_types.specs.Output.{line_feed, run_status}
 use Rattle.sv_types.specs.declared.event.Verdict.{Verdict}
 use Rattle.sv_types.specs.declared.event.Verdict.TheVariants.{Running, Shutdown, Stopped}
-use Rattle.sv_types.specs.Words.{judged, flat_file, Judged, Flat}
+use Rattle.secvisor_cli.specs.CommandLine.{judged, flat_file, Judged, Flat}
 use Rattle.std.proofs.lemmas.Slice.Eq.{bytes_eq-Decides}
 use Rattle.std.proofs.lemmas.Bool.Decides.{nat_tests}
 use Rattle.sv_types.specs.declared.event.Event.{Event}
@@ -15,7 +15,7 @@ use Rattle.sv_types.specs.Reference.{State}
 use Rattle.sv_types.specs.Run.{CountsAtMost}
 use Rattle.sv_types.specs.Measure.{measure}
 use Rattle.sv_types.specs.Boot.{flat_start, boot_state, no_counts}
-use Rattle.sv_types.specs.Start.{Asked, Refuse, RunFrom, Found, Faulty, Missing, Held, bytes_due, measure_judged, flat_file_judged, is_whole_pages, measure_line, refused_line, read_fault_line, asked_of, turns}
+use Rattle.secvisor_cli.specs.Start.{Asked, Refuse, RunFrom, Found, Faulty, Missing, Held, bytes_due, measure_judged, flat_file_judged, is_whole_pages, measure_line, refused_line, read_fault_line, asked_of, turns}
 use Rattle.outside.specs.Outside.{FilesState, SinkState}
 use Rattle.outside.proofs.SinkLemmas.{prefix_none}
 use Rattle.secvisor_cli.specs.declared.trouble.Trouble.{Trouble}

@@ -5,15 +5,19 @@ use Rattle.sv_types.specs.declared.event.Event.TheVariants.{Turn}
 use Rattle.sv_types.specs.declared.event.Counts.{Counts}
 use Rattle.sv_types.specs.Reference.{State}
 use Rattle.sv_types.specs.Run.{run, step, with_printed, CountsAtMost}
-use Rattle.sv_types.specs.Start.{turns}
+use Rattle.secvisor_cli.specs.Start.{turns}
 use Rattle.sv_types.proofs.Growth.{step-grows}
-use Rattle.sv_types.proofs.RunLemmas.{step-with_printed, run-turns-suc}
+use Rattle.sv_types.proofs.RunLemmas.{step-with_printed}
 use Rattle.outside.specs.Outside.{SinkState, after_taking, BreaksOff}
 use Rattle.outside.proofs.SinkLemmas.{after_taking-append, after_taking-nil, breaks_behind}
 use Rattle.secvisor_cli.specs.Console.{Flushed, HasRun, RunBroke}
 
 with_printed-append : (a b : List ℕ) (r : State) → with_printed (a ++ b) r ≡ with_printed a (with_printed b r)
 with_printed-append a b r = ap (λ (p : List ℕ). record r { printed = p }) (append_assoc a b r.printed)
+
+run-turns-suc : (r : State) (n : ℕ) → run r (turns (suc n)) ≡ step (run r (turns n)) (Turn 0)
+run-turns-suc r zero = refl
+run-turns-suc r (suc n) = run-turns-suc (step r (Turn 0)) n
 
 turns-add : (n m : ℕ) → turns n ++ turns m ≡ turns (n + m)
 turns-add zero m = let same : m ≡ 0 + m = omega arith in ap turns same

@@ -11,8 +11,8 @@ use Rattle.sv_types.specs.Measure.{measure}
 use Rattle.sv_types.specs.Output.{run_status}
 use Rattle.sv_types.specs.Reference.{State}
 use Rattle.sv_types.specs.Run.{run}
-use Rattle.sv_types.specs.Start.{Asked, Refuse, RunFrom, Found, Faulty, Missing, Held, asked_of, status_due, flat_file_judged, measure_judged, measure_line, refused_line, flat_part, is_whole_pages, turns}
-use Rattle.sv_types.specs.Words.{Judged, NoCommand, OutOfRange, Flat}
+use Rattle.secvisor_cli.specs.Start.{Asked, Refuse, RunFrom, Found, Faulty, Missing, Held, asked_of, status_due, flat_file_judged, measure_judged, measure_line, refused_line, flat_part, is_whole_pages, turns}
+use Rattle.secvisor_cli.specs.CommandLine.{Judged, NoCommand, OutOfRange, Flat}
 use Rattle.outside.specs.Outside.{FilesState, SinkState}
 use Rattle.secvisor_cli.specs.declared.trouble.Trouble.TheVariants.{Write, Memory}
 use Rattle.secvisor_cli.specs.Answers.{Answers, Accounts, Meets, Headline, BenchAfter, FoundAs, is_answer}

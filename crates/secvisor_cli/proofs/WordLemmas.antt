@@ -4,7 +4,7 @@ use Rattle.std.proofs.lemmas.List.{get_or-map}
 use Rattle.std.specs.List.{list_any}
 use Rattle.std.proofs.lemmas.Bool.Decides.{nat_tests}
 use Rattle.sv_types.specs.Numbers.{number_within, digest_of}
-use Rattle.sv_types.specs.Words.{word_at, has_dash, is_flat, judged, flat_words, flat_judged, flat_file, most_events, OutOfRange, NoCommand}
+use Rattle.secvisor_cli.specs.CommandLine.{word_at, has_dash, is_flat, judged, flat_words, flat_judged, flat_file, most_events, OutOfRange, NoCommand}
 
 pub list_any_map : {A B : Type 0} (p : B → Bool) (f : A → B) (xs : List A) → list_any p (map f xs) ≡ list_any (λ x. p (f x)) xs
 list_any_map p f [] = refl

@@ -6,8 +6,8 @@ use Rattle.sv_types.specs.Reference.{State}
 use Rattle.sv_types.specs.Run.{run, with_printed}
 use Rattle.sv_types.specs.Output.{line_feed}
 use Rattle.secvisor_cli.specs.declared.words.UsageFault.{UsageFault}
-use Rattle.sv_types.specs.Start.{usage_line, Asked, Refuse, RunFrom, Found, Faulty, Missing, Held, asked_of, bytes_due, status_due}
-use Rattle.sv_types.specs.Words.{Judged, NoCommand, OutOfRange, Flat}
+use Rattle.secvisor_cli.specs.Start.{usage_line, Asked, Refuse, RunFrom, Found, Faulty, Missing, Held, asked_of, bytes_due, status_due}
+use Rattle.secvisor_cli.specs.CommandLine.{Judged, NoCommand, OutOfRange, Flat}
 use Rattle.outside.specs.Outside.{FilesState, SinkState, after_taking, TookPrefix, BreaksOff}
 use Rattle.secvisor_cli.specs.declared.trouble.Trouble.{Trouble}
 use Rattle.secvisor_cli.specs.declared.trouble.Trouble.TheVariants.{Write, Memory}

@@ -1,6 +1,6 @@
 -- What reading the words answers.
 use Rattle.std.specs.Prelude.{◌≡◌, ℕ, List, Result, Ok, Err, codes}
-use Rattle.sv_types.specs.Words.{judged, flat_file, NoCommand, OutOfRange, Flat}
+use Rattle.secvisor_cli.specs.CommandLine.{judged, flat_file, NoCommand, OutOfRange, Flat}
 use Rattle.secvisor_cli.specs.declared.words.FlatWords.{FlatWords}
 use Rattle.secvisor_cli.specs.declared.words.UsageFault.{UsageFault}
 

@@ -2,8 +2,8 @@
 ghost use Rattle.std.specs.Prelude.{◌≡◌, ◌<◌, ◌≤◌, ◌-◌, ◌^◌, ◌%◌, ◌⊎◌, ℕ, List, Option, [], length, map, string_bytes, IsTrue, false};
 ghost use Rattle.sv_types.specs.Output.{output, run_status};
 ghost use Rattle.sv_types.specs.Run.{CountsAtMost, run};
-ghost use Rattle.sv_types.specs.Start.{turns, RunFrom, Held, measure_judged, flat_file_judged, asked_of, is_whole_pages, measure_line};
-ghost use Rattle.sv_types.specs.Words.{judged, flat_file};
+ghost use Rattle.secvisor_cli.specs.Start.{turns, RunFrom, Held, measure_judged, flat_file_judged, asked_of, is_whole_pages, measure_line};
+ghost use Rattle.secvisor_cli.specs.CommandLine.{judged, flat_file};
 ghost use Rattle.secvisor_cli.specs.Answers.{Writes, Answers, usage_text, Accounts, Reaches, Headline, is_answer, is_command};
 
 use crate::report::{measure_line, report};
@@ -92,7 +92,7 @@ fn answer_words<F: Files, O: Sink>(
     }
 }
 
-#[tactic(auto, unfolding(sv_types::specs::Start::usage_line))]
+#[tactic(auto, unfolding(crate::specs::Start::usage_line))]
 fn refuse_usage<O: Sink>(fault: UsageFault, out: &mut O) -> Result<Status, Trouble>
     requires is_open { IsTrue (O.state out.old).is_open }
     requires count { (O.state out.old).faults < 2 ^ 64 - 1 }

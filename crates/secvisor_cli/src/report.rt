@@ -2,7 +2,7 @@
 ghost use Rattle.std.specs.Prelude.{◌≡◌, ◌<◌, ◌++◌, OnOk, IfOk, string_bytes};
 ghost use Rattle.std.specs.Char.{digit_char};
 ghost use Rattle.sv_types.specs.Output.{hexadecimal, hexadecimal_bytes, address_text, word_text, notes_line, events_line, retired_line, denied_line, rule_name, rule_places, stop_head, verdict_line, report_lines, line_feed};
-ghost use Rattle.sv_types.specs.Start.{measure_line};
+ghost use Rattle.secvisor_cli.specs.Start.{measure_line};
 
 use machine::{Counts, Rule, Verdict};
 use std::alloc::{AllocError, Global};
@@ -188,7 +188,7 @@ fn push_digest(text: &mut String, digest: &[u8]) -> Result<(), AllocError>
 }
 
 /// The line of a boot that is refused by the measure.
-#[tactic(auto, unfolding(sv_types::specs::Start::measure_line))]
+#[tactic(auto, unfolding(crate::specs::Start::measure_line))]
 pub fn measure_line(alloc: Global, found: &[u8], wanted: &[u8]) -> Result<String, AllocError>
     ensures { IfOk result (λ t. string_bytes t ≡ measure_line found.now wanted.now) }
 {

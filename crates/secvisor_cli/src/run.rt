@@ -1,7 +1,7 @@
 // A machine's run, with its console.
 ghost use Rattle.std.specs.Prelude.{◌≡◌, ◌<◌, ◌≤◌, ◌-◌, ◌^◌, [], length, IsTrue, OnOk, OnErr};
 ghost use Rattle.sv_types.specs.Run.{CountsAtMost};
-ghost use Rattle.sv_types.specs.Start.{turns};
+ghost use Rattle.secvisor_cli.specs.Start.{turns};
 ghost use Rattle.outside.specs.Outside.{BreaksOff};
 ghost use Rattle.secvisor_cli.specs.Console.{Flushed, HasRun, RunBroke};
 

@@ -2,7 +2,7 @@
 ghost use Rattle.std.specs.Prelude.{◌≡◌, ◌≤◌, ◌^◌, map, length, IfOk, OnOk, IsTrue, string_bytes};
 ghost use Rattle.std.specs.List.{list_any};
 ghost use Rattle.sv_types.specs.Numbers.{digest_of};
-ghost use Rattle.sv_types.specs.Words.{has_dash, is_flat};
+ghost use Rattle.secvisor_cli.specs.CommandLine.{has_dash, is_flat};
 ghost use Rattle.secvisor_cli.specs.Words.{AreJudged};
 
 use text_numbers::number_within;
@@ -28,7 +28,7 @@ pub enum UsageFault {
 }
 
 /// Judges the words, from left to right.
-#[tactic(auto, using(crate::proofs::WordLemmas::list_any_map), unfolding(sv_types::specs::Words::judged, sv_types::specs::Words::flat_words))]
+#[tactic(auto, using(crate::proofs::WordLemmas::list_any_map), unfolding(crate::specs::CommandLine::judged, crate::specs::CommandLine::flat_words))]
 pub fn judge(words: &[String]) -> Result<FlatWords, UsageFault>
     ensures judged { AreJudged (map string_bytes words.now) result }
     ensures events { IfOk result (λ flat. flat.events ≤ 2 ^ 32) }

@@ -1,5 +1,5 @@
 -- Whole runs: bytes that were printed before change nothing, and a run goes on where it stands.
-use Rattle.std.proofs.Common.{◌≡◌, ℕ, zero, suc, ◌+◌, ◌==◌, true, false, List, [], ◌∷◌, ◌++◌, refl, ◌∙◌, ap, append_assoc, arith, if◌then◌else◌, Option, Some, None}
+use Rattle.std.proofs.Common.{◌≡◌, ◌≢◌, ℕ, ◌==◌, true, false, List, [], ◌∷◌, ◌++◌, refl, ◌∙◌, ap, append_assoc, arith, if◌then◌else◌, Option, Some, None}
 use Rattle.sv_types.specs.declared.effect.Effect.{Effect}
 use Rattle.sv_types.specs.declared.instruction.Instr.{Instr}
 use Rattle.sv_types.specs.declared.event.Event.{Event}
@@ -11,7 +11,6 @@ use Rattle.sv_types.specs.Instructions.{instruction_of}
 use Rattle.sv_types.specs.Reference.{State}
 use Rattle.sv_types.specs.Turn.{is_carried_out, stopped_by_word, after_call, after_store, after_effect, after_instruction, after_word, after_fetch, turn, word_in_page, approved_bytes_at}
 use Rattle.sv_types.specs.Run.{with_counts, count_turn, happen, happen_under, step, run, with_printed}
-use Rattle.sv_types.specs.Start.{turns}
 
 -- ---- bytes before those that were printed
 
@@ -86,13 +85,16 @@ pub run-append : (r : State) (es fs : List Event) → run r (es ++ fs) ≡ run (
 run-append r [] fs = refl
 run-append r (e ∷ es) fs = run-append (step r e) es fs
 
--- a run of turns goes on by one turn, and by more
-pub run-turns-suc : (r : State) (n : ℕ) → run r (turns (suc n)) ≡ step (run r (turns n)) (Turn 0)
-run-turns-suc r zero = refl
-run-turns-suc r (suc n) = run-turns-suc (step r (Turn 0)) n
+-- ---- the end
 
-pub run-turns-add : (r : State) (n m : ℕ) → run r (turns (n + m)) ≡ run (run r (turns n)) (turns m)
-run-turns-add r zero m = let same : 0 + m ≡ m = omega arith in ap (λ (k : ℕ). run r (turns k)) same
-run-turns-add r (suc n) m =
-    let next : suc n + m ≡ suc (n + m) = omega arith in
-    ap (λ (k : ℕ). run r (turns k)) next ∙ run-turns-add (step r (Turn 0)) n m
+under-ended : (v : Verdict) (r : State) (e : Event) → v ≢ Running → happen_under v r e ≡ r
+unfolding happen_under
+under-ended Running r e ended = absurd (ended refl)
+under-ended Shutdown r e ended = refl
+under-ended (Stopped rule hart turn) r e ended = refl
+
+-- a run of a state that has ended is that state
+pub run-ended : (r : State) (es : List Event) → r.verdict ≢ Running → run r es ≡ r
+unfolding step
+run-ended r [] ended = refl
+run-ended r (e ∷ es) ended = ap (λ (t : State). run t es) (under-ended r.verdict r e ended) ∙ run-ended r es ended

@@ -11,9 +11,7 @@ pub mod Measure
 pub mod Boot
 pub mod Names
 pub mod Numbers
-pub mod Words
 pub mod Output
-pub mod Start
 pub mod Translation
 pub mod SecondStage
 pub mod Bits

@@ -29,7 +29,7 @@ pub use instruction::{
     AmoOp, BranchOp, CsrOp, HyperOp, Instr, LoadOp, Op32Op, OpImm32Op, OpImmOp, OpOp, StoreOp,
 };
 pub use kernel::ProgramHeader;
-pub use laws::law_rows;
+pub use laws::{law_ended, law_rows};
 pub use module::{Bases, Site, Span};
 pub use name::{MOST_NAME_BYTES, Name};
 pub use outcome::{Exception, Outcome, Wrote};

@@ -1,5 +1,5 @@
 use Rattle.std.proofs.Common.{subst, sym, ◌∙◌}
-use Rattle.sv_types.specs.Start.{Asked}
+use Rattle.secvisor_cli.specs.Start.{Asked}
 use Rattle.secvisor_cli.specs.Answers.{Answers}
 use Rattle.secvisor_cli.proofs.AskedLemmas.{refuse_answers, file_whole, file_part}
 use Rattle.secvisor_cli.proofs.answer.answer_bytes.Goals as goal

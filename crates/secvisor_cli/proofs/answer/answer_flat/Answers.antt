@@ -1,6 +1,6 @@
 use Rattle.std.proofs.Common.{subst, List, ℕ}
 use Rattle.sv_types.specs.declared.status.Status.TheVariants.{Refused, ReadFault}
-use Rattle.sv_types.specs.Start.{Faulty, Missing, Held, flat_file_judged, turns}
+use Rattle.secvisor_cli.specs.Start.{Faulty, Missing, Held, flat_file_judged, turns}
 use Rattle.secvisor_cli.specs.Answers.{Answers}
 use Rattle.secvisor_cli.proofs.AskedLemmas.{wanting_accounts, refuse_answers, file_missing, file_faulty, file_long}
 use Rattle.secvisor_cli.proofs.answer.answer_flat.Goals as goal

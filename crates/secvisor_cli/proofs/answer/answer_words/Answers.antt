@@ -1,5 +1,5 @@
 use Rattle.std.proofs.Common.{◌≡◌, ◌∙◌, length, map, string_bytes, List, ℕ, arith}
-use Rattle.sv_types.specs.Words.{judged, flat_file}
+use Rattle.secvisor_cli.specs.CommandLine.{judged, flat_file}
 use Rattle.secvisor_cli.proofs.AskedLemmas.{accounts_same, flat_asked, flat_is_command, usage_accounts}
 use Rattle.secvisor_cli.proofs.WordLemmas.{word_is}
 use Rattle.secvisor_cli.proofs.answer.answer_words.Goals as goal

@@ -1,6 +1,6 @@
 use Rattle.std.proofs.Common.{subst}
 use Rattle.sv_types.specs.declared.status.Status.TheVariants.{Refused}
-use Rattle.sv_types.specs.Start.{Asked, measure_line, measure_judged, turns}
+use Rattle.secvisor_cli.specs.Start.{Asked, measure_line, measure_judged, turns}
 use Rattle.secvisor_cli.specs.Answers.{Answers}
 use Rattle.secvisor_cli.proofs.AskedLemmas.{wanting_answers, refuse_answers, measured_run, measured_other, flat_counts, flat_console}
 use Rattle.secvisor_cli.proofs.answer.boot_and_run.Goals as goal

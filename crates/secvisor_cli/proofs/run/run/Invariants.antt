@@ -1,6 +1,6 @@
 use Rattle.std.proofs.Common.{◌<◌, length}
 use Rattle.sv_types.specs.Run.{CountsAtMost}
-use Rattle.sv_types.specs.Start.{turns}
+use Rattle.secvisor_cli.specs.Start.{turns}
 use Rattle.secvisor_cli.specs.Console.{HasRun}
 use Rattle.secvisor_cli.proofs.run.run.Given as goal
 

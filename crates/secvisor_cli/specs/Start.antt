@@ -11,7 +11,7 @@ use Rattle.sv_types.specs.Measure.{measure}
 use Rattle.sv_types.specs.Output.{line_feed, hexadecimal_bytes, output, run_status}
 use Rattle.sv_types.specs.Reference.{State}
 use Rattle.sv_types.specs.Run.{run}
-use Rattle.sv_types.specs.Words.{Judged, NoCommand, OutOfRange, Flat}
+use Rattle.secvisor_cli.specs.CommandLine.{Judged, NoCommand, OutOfRange, Flat}
 
 pub data Asked : Type 0 where
   -- a status, and the line that is written
