@@ -11,11 +11,12 @@ ghost use Rattle.machine.specs.Boot.{RefusesFlat};
 use crate::boot::BootRefusal;
 use crate::carried_out::is_carried_out;
 use crate::guest_memory::{GuestMemory, RAM_BASE};
-use page_measure::measure;
+use page_measure::{Silent, measure};
 use rv64_decode::decode;
 use rv64_exec::{Regs, effect};
 use std::alloc::{AllocError, Global};
 use std::marker::Model;
+use std::thread::Threads;
 use sv_types::{Counts, Effect, Event, Instr, Note, Rule, Verdict};
 
 const PRINTED_ROOM: usize = 4096;
@@ -57,14 +58,19 @@ impl Machine {
     /// A machine of 16 pages of RAM with these pages at their start, all of them approved, where the hart begins. It has
     /// one hart, no modules and an empty disk. The pages are measured first: the SHA-256 of the pages' SHA-256 digests
     /// has to be the digest that is wanted.
-    pub fn flat(alloc: Global, pages: &[u8], wanted: [u8; 32]) -> Result<Machine, BootRefusal>
+    pub fn flat<R: Threads + Sync>(
+        rt: &R,
+        alloc: Global,
+        pages: &[u8],
+        wanted: [u8; 32],
+    ) -> Result<Machine, BootRefusal>
         requires whole { length pages.now % 4096 ≡ 0 }
         requires size { length pages.now ≤ 65536 }
         ensures start { IfOk result (λ m. m ≡ flat_start pages.now) }
         ensures measured { OnOk result (measure pages.now ≡ wanted) }
         ensures refused { IfErr result (RefusesFlat pages.now wanted) }
     {
-        judge_measure(pages, wanted)?;
+        judge_measure(rt, alloc, pages, wanted)?;
         Ok(assemble(alloc, pages)?)
     }
 
@@ -239,12 +245,17 @@ impl Machine {
     }
 }
 
-fn judge_measure(pages: &[u8], wanted: [u8; 32]) -> Result<(), BootRefusal>
+fn judge_measure<R: Threads + Sync>(
+    rt: &R,
+    alloc: Global,
+    pages: &[u8],
+    wanted: [u8; 32],
+) -> Result<(), BootRefusal>
     requires { length pages.now % 4096 ≡ 0 }
     ensures measured { OnOk result (measure pages.now ≡ wanted) }
     ensures refused { IfErr result (RefusesFlat pages.now wanted) }
 {
-    let found = measure(pages);
+    let found = measure(rt, alloc, pages, &Silent)?;
     if is_same(&found, &wanted) {
         Ok(())
     } else {

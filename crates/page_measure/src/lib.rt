@@ -1,14 +1,40 @@
-//! The measure of whole pages: the SHA-256 of the pages' SHA-256 digests, one behind the other.
+//! The measure of whole pages: the SHA-256 of the pages' SHA-256 digests, one behind the other. Chunks of 64 pages are
+//! digested side by side, each in a thread of its own where one can be made.
 #![tactic(auto)]
 
 ghost use Rattle.std.specs.Prelude.{◌≡◌, ◌*◌, ◌%◌, ◌<◌, length, IfOk, vec_len};
 ghost use Rattle.sv_types.specs.Bytes.{page_size};
+ghost use Rattle.sv_types.specs.Measure.{digests_of};
 ghost use Rattle.sv_types.specs.Measure as spec;
 
+mod meter;
+
+pub use meter::{Meter, Silent};
 use sha2::{Digest, Sha256};
+use std::alloc::{AllocError, Global};
+use std::thread;
+use std::thread::Threads;
 
 /// The bytes of a page.
 const PAGE_BYTES: usize = 4096;
+
+/// The bytes of a chunk: 64 pages.
+const CHUNK_BYTES: usize = 64 * PAGE_BYTES;
+
+/// The measure of pages, which lie one behind the other. The meter sees each chunk of 64 pages, of which the last may be
+/// shorter. Want of memory is the one refusal.
+pub fn measure<R: Threads + Sync, M: Meter + Sync>(
+    rt: &R,
+    alloc: Global,
+    pages: &[u8],
+    meter: &M,
+) -> Result<[u8; 32], AllocError>
+    requires whole_pages { length pages.now % page_size ≡ 0 }
+    ensures { IfOk result (λ digest. digest ≡ spec.measure pages.now) }
+{
+    let digests = digest_chunks(rt, alloc, pages, meter)?;
+    Ok(join_digests(&digests))
+}
 
 /// The digest of one page.
 pub fn page_digest(page: &[u8]) -> [u8; 32]
@@ -28,71 +54,60 @@ pub fn join_digests(digests: &[[u8; 32]]) -> [u8; 32]
     hasher.finalize()
 }
 
-/// The measure of pages, which lie one behind the other. It takes no memory.
-pub fn measure(pages: &[u8]) -> [u8; 32]
+// The digests of all pages, in their order.
+fn digest_chunks<R: Threads + Sync, M: Meter + Sync>(
+    rt: &R,
+    alloc: Global,
+    pages: &[u8],
+    meter: &M,
+) -> Result<Vec<[u8; 32]>, AllocError>
     requires whole_pages { length pages.now % page_size ≡ 0 }
-    ensures { result ≡ spec.measure pages.now }
+    ensures { IfOk result (λ digests. digests.items ≡ digests_of pages.now) }
 {
-    let mut hasher = Sha256::new();
-    'pages: for i in 0..pages.len() / PAGE_BYTES {
-        let page = &pages[PAGE_BYTES * i..PAGE_BYTES * (i + 1)];
-        hasher.update(page_digest(page));
+    let chunks = thread::map_chunks(
+        rt,
+        alloc,
+        pages,
+        CHUNK_BYTES,
+        &|start, chunk| digest_chunk(alloc, start / CHUNK_BYTES, chunk, meter),
+    )?;
+    let mut digests = Vec::with_capacity(alloc, pages.len() / PAGE_BYTES)?;
+    for chunk in &chunks {
+        let Ok(chunk) = chunk else {
+            return Err(AllocError);
+        };
+        digests.extend_from_slice(chunk)?;
     }
-    hasher.finalize()
+    Ok(digests)
+}
+
+// The digests of the pages of one chunk, between the meter's two calls.
+fn digest_chunk<M: Meter>(
+    alloc: Global,
+    number: usize,
+    pages: &[u8],
+    meter: &M,
+) -> Result<Vec<[u8; 32]>, AllocError>
+    requires whole_pages { length pages.now % page_size ≡ 0 }
+    ensures { IfOk result (λ digests. digests.items ≡ digests_of pages.now) }
+{
+    meter.begin(number);
+    let digests = digest_pages(alloc, pages)?;
+    meter.end(number, pages, &digests);
+    Ok(digests)
+}
+
+fn digest_pages(alloc: Global, pages: &[u8]) -> Result<Vec<[u8; 32]>, AllocError>
+    requires whole_pages { length pages.now % page_size ≡ 0 }
+    ensures { IfOk result (λ digests. digests.items ≡ digests_of pages.now) }
+{
+    let count = pages.len() / PAGE_BYTES;
+    let mut digests = Vec::with_capacity(alloc, count)?;
+    'pages: for i in 0..count {
+        digests.push(page_digest(&pages[PAGE_BYTES * i..PAGE_BYTES * (i + 1)]))?;
+    }
+    Ok(digests)
 }
 
 #[cfg(test)]
-mod tests {
-    use super::*;
-    use std::alloc::{AllocError, Global};
-    use std::test::Fail;
-
-    // Pages whose byte j is j mod 251.
-    fn numbered_pages(alloc: Global, count: usize) -> Result<Vec<u8>, AllocError>
-        requires { count < 256 }
-        ensures { IfOk result (λ pages. vec_len pages ≡ page_size * count) }
-    {
-        (0..PAGE_BYTES * count)
-            .map(|j| (j % 251) as u8)
-            .collect(alloc)
-    }
-
-    // Each measure is that of Python's hashlib.
-    #[test]
-    fn measures_of_numbered_pages(rt: HostRuntime) -> Result<(), Fail> {
-        let table = [
-            (
-                0usize,
-                "e3b0c44298fc1c149afbf4c8996fb92427ae41e4649b934ca495991b7852b855",
-            ),
-            (
-                1usize,
-                "848eb1ae67312dbe55f4751dfd0da669e0a532ee704ddbee62ce3e1025295888",
-            ),
-            (
-                64usize,
-                "7bb6a4575eb6225bb921cd108eefcd93e118b91508a565f83b001f0d4a5cf944",
-            ),
-            (
-                65usize,
-                "fccfcd7308b0ca0e2321a867c1ab348ed62dd94ad2c0c1e61f5f1d646ada2133",
-            ),
-            (
-                200usize,
-                "f3007098b3852a1e82ca79af4f33a796639b14661ee05c928fb898603ec4baf8",
-            ),
-        ];
-        for (count, digits) in table {
-            let mut wanted = [0; 32];
-            hex::decode_to_slice(digits, &mut wanted)?;
-            let pages = numbered_pages(rt.alloc(), count)?;
-            let mut digests = Vec::new(rt.alloc());
-            for page in pages.chunks_exact(PAGE_BYTES) {
-                digests.push(page_digest(page))?;
-            }
-            assert_eq!(rt; measure(&pages), wanted, "of {count} pages");
-            assert_eq!(rt; join_digests(&digests), wanted, "of {count} digests");
-        }
-        Ok(())
-    }
-}
+mod tests;

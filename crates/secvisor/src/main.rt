@@ -14,6 +14,6 @@ fn main(rt: HostRuntime) -> io::Result<ExitCode> {
     let mut files = RealFiles::new(rt.clone()?);
     let mut out = StdSink::new(rt.clone()?);
     let mut bench = Bench { machine: None };
-    let status = secvisor(rt.alloc(), &words, &mut files, &mut out, &mut bench);
+    let status = secvisor(&rt, rt.alloc(), &words, &mut files, &mut out, &mut bench);
     Ok(ExitCode::from(status.number()))
 }

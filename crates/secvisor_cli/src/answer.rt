@@ -13,6 +13,7 @@ use crate::words::{FlatWords, UsageFault, judge};
 use machine::{BootRefusal, Machine, Verdict};
 use outside::{FileRefusal, Files, Sink, write_all};
 use std::alloc::Global;
+use std::thread::Threads;
 use sv_types::Status;
 
 const MOST_FLAT_BYTES: usize = 65536;
@@ -26,7 +27,8 @@ pub struct Bench {
 }
 
 /// Does all that the program does: judges the words, reads the file that they name, runs it, and writes the report.
-pub fn secvisor<F: Files, O: Sink>(
+pub fn secvisor<R: Threads + Sync, F: Files, O: Sink>(
+    rt: &R,
     alloc: Global,
     words: &[String],
     files: &mut F,
@@ -59,7 +61,7 @@ pub fn secvisor<F: Files, O: Sink>(
     ensures held { (F.state files.new).held ≡ (F.state files.old).held }
     ensures saves { (F.state files.new).save_faults ≡ (F.state files.old).save_faults }
 {
-    match answer_words(alloc, words, files, out, bench) {
+    match answer_words(rt, alloc, words, files, out, bench) {
         Ok(status) => status,
         Err(Trouble::Write) => Status::WriteFault,
         Err(Trouble::Memory) => Status::Memory,
@@ -67,7 +69,8 @@ pub fn secvisor<F: Files, O: Sink>(
 }
 
 // The words, judged, and what they ask for.
-fn answer_words<F: Files, O: Sink>(
+fn answer_words<R: Threads + Sync, F: Files, O: Sink>(
+    rt: &R,
     alloc: Global,
     words: &[String],
     files: &mut F,
@@ -86,7 +89,7 @@ fn answer_words<F: Files, O: Sink>(
     match judge(words) {
         Ok(flat) => {
             let file = &words[1];
-            answer_flat(alloc, file.as_str(), flat, files, out, bench)
+            answer_flat(rt, alloc, file.as_str(), flat, files, out, bench)
         }
         Err(fault) => refuse_usage(fault, out),
     }
@@ -106,7 +109,8 @@ fn refuse_usage<O: Sink>(fault: UsageFault, out: &mut O) -> Result<Status, Troub
 }
 
 // The file that the words name.
-fn answer_flat<F: Files, O: Sink>(
+fn answer_flat<R: Threads + Sync, F: Files, O: Sink>(
+    rt: &R,
     alloc: Global,
     name: &str,
     flat: FlatWords,
@@ -123,7 +127,7 @@ fn answer_flat<F: Files, O: Sink>(
         (O.state out.old) (O.state out.new) bench.old.machine bench.new.machine result }
 {
     match files.read(alloc, name, MOST_FLAT_BYTES) {
-        Ok(bytes) => answer_bytes(alloc, &bytes, flat, out, bench),
+        Ok(bytes) => answer_bytes(rt, alloc, &bytes, flat, out, bench),
         Err(FileRefusal::Absent) => refuse(out, Status::ReadFault, b"read fault flat\n"),
         Err(FileRefusal::Failed) => refuse(out, Status::ReadFault, b"read fault flat\n"),
         Err(FileRefusal::TooLong) => refuse(out, Status::Refused, b"refused flat 0\n"),
@@ -132,7 +136,8 @@ fn answer_flat<F: Files, O: Sink>(
 }
 
 // The bytes of the file.
-fn answer_bytes<O: Sink>(
+fn answer_bytes<R: Threads + Sync, O: Sink>(
+    rt: &R,
     alloc: Global,
     bytes: &[u8],
     flat: FlatWords,
@@ -147,7 +152,7 @@ fn answer_bytes<O: Sink>(
         bench.old.machine bench.new.machine result }
 {
     if is_whole_pages(bytes) {
-        boot_and_run(alloc, bytes, flat, out, bench)
+        boot_and_run(rt, alloc, bytes, flat, out, bench)
     } else {
         refuse(out, Status::Refused, b"refused flat 1\n")
     }
@@ -161,7 +166,8 @@ fn is_whole_pages(bytes: &[u8]) -> bool
 }
 
 // Whole pages: measured, booted, run.
-fn boot_and_run<O: Sink>(
+fn boot_and_run<R: Threads + Sync, O: Sink>(
+    rt: &R,
     alloc: Global,
     pages: &[u8],
     flat: FlatWords,
@@ -176,7 +182,7 @@ fn boot_and_run<O: Sink>(
     ensures { Answers (measure_judged pages.now flat.wanted (turns flat.events)) (O.state out.old) (O.state out.new)
         bench.old.machine bench.new.machine result }
 {
-    match Machine::flat(alloc, pages, flat.wanted) {
+    match Machine::flat(rt, alloc, pages, flat.wanted) {
         Ok(machine) => run_on_bench(alloc, machine, flat.events, out, bench),
         Err(BootRefusal::Measure { found, wanted }) => refuse_measure(alloc, &found, &wanted, out),
         Err(BootRefusal::Entry { entry: _ }) => unreachable!(),

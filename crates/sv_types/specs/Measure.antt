@@ -14,10 +14,14 @@ abbrev pub page_digests : ℕ → List ℕ → List (List ℕ)
 page_digests zero bytes = []
 page_digests (suc n) bytes = page_digest (take page_size bytes) ∷ page_digests n (drop page_size bytes)
 
+-- the digests of all pages of these bytes
+abbrev pub digests_of : List ℕ → List (List ℕ)
+digests_of bytes = page_digests (length bytes / page_size) bytes
+
 -- the digest of digests, one behind the other
 abbrev pub joined_digests : List (List ℕ) → List ℕ
 joined_digests digests = sha256 (concat digests)
 
 -- the digest of the pages' digests
 unfoldable pub measure : List ℕ → List ℕ
-measure bytes = joined_digests (page_digests (length bytes / page_size) bytes)
+measure bytes = joined_digests (digests_of bytes)

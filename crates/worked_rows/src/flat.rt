@@ -1,11 +1,12 @@
 // Runs of `flat`.
-ghost use Rattle.std.specs.Prelude.{◌≡◌, ◌<◌, ◌≤◌, ◌%◌, IfOk, vec_len, length};
+ghost use Rattle.std.specs.Prelude.{◌≡◌, ◌<◌, ◌≤◌, IfOk, vec_len};
 
 use outside::{MemFiles, MemSink};
-use page_measure::measure;
+use page_measure::{join_digests, page_digest};
 use secvisor_cli::{Bench, Status, secvisor};
 use std::alloc::{AllocError, Global};
 use std::test::Fail;
+use std::thread::Threads;
 use sv_types::Name;
 
 const PRINTS_A_AND_SHUTS_DOWN: [u32; 5] = [
@@ -54,14 +55,13 @@ fn page(alloc: Global, words: &[u32]) -> Result<Vec<u8>, AllocError>
     Ok(bytes)
 }
 
-fn measure_text(alloc: Global, pages: &[u8]) -> Result<String, AllocError>
-    requires { length pages.now % 4096 ≡ 0 }
-{
-    hex::encode(alloc, measure(pages))
+fn measure_text(alloc: Global, page: &[u8]) -> Result<String, AllocError> {
+    hex::encode(alloc, join_digests(&[page_digest(page)]))
 }
 
 // The run of `flat image MEASURE EVENTS` on files of which one is the image.
-fn run(
+fn run<R: Threads + Sync>(
+    rt: &R,
     alloc: Global,
     image: Vec<u8>,
     words: &[&str],
@@ -78,7 +78,7 @@ fn run(
     let mut files = MemFiles::new(alloc, &held, 0, 0, &[outside.failing_read], &[])?;
     let mut out = MemSink::new(alloc, ROOM, outside.piece.max(1), &[outside.failing_write])?;
     let mut bench = Bench { machine: None };
-    let status = secvisor(alloc, &line, &mut files, &mut out, &mut bench);
+    let status = secvisor(rt, alloc, &line, &mut files, &mut out, &mut bench);
     Ok(Left {
         status,
         taken: out.taken().to_vec(alloc)?,
@@ -87,7 +87,8 @@ fn run(
 }
 
 // The run of a page of words, with the measure that it has.
-fn run_page(
+fn run_page<R: Threads + Sync>(
+    rt: &R,
     alloc: Global,
     words: &[u32],
     events: &str,
@@ -96,6 +97,7 @@ fn run_page(
     let image = page(alloc, words)?;
     let wanted = measure_text(alloc, &image)?;
     run(
+        rt,
         alloc,
         image,
         &["flat", "image", wanted.as_str(), events],
@@ -171,7 +173,7 @@ const ROWS: [Row; 7] = [
 fn runs_a_page_to_its_report(rt: HostRuntime) -> Result<(), Fail> {
     for (words, events, status, counts, verdict) in ROWS {
         for piece in [1, 7, ROOM] {
-            let left = run_page(rt.alloc(), words, events, Outside { piece, ..GOOD })?;
+            let left = run_page(&rt, rt.alloc(), words, events, Outside { piece, ..GOOD })?;
             let want = format!(in rt.alloc(); "{counts}{NO_DENIALS}{verdict}")?;
             assert_eq!(rt; left.status, status, "{verdict}");
             assert!(rt;
@@ -286,6 +288,7 @@ fn refuses_words_and_files(rt: HostRuntime) -> Result<(), Fail> {
         let mut image = page(alloc, &PRINTS_A_AND_SHUTS_DOWN)?;
         image.resize(size, 0)?;
         let left = run(
+            &rt,
             alloc,
             image,
             words,
@@ -310,7 +313,7 @@ fn refuses_another_measure(rt: HostRuntime) -> Result<(), Fail> {
     }
     // Python's hashlib.
     let found = "62885a10f183d3fd5b960cc9fc88caf6c02f65d7bb7a8a938de42edbea4c6b0a";
-    let left = run(alloc, image, &["flat", "image", MEASURE, "5"], GOOD)?;
+    let left = run(&rt, alloc, image, &["flat", "image", MEASURE, "5"], GOOD)?;
     let want = format!(in alloc; "refused measure found {found} wanted {MEASURE}\n")?;
     assert_eq!(rt; left.status, Status::Refused);
     assert!(rt; left.taken.as_slice() == want.as_str().as_bytes());
@@ -321,7 +324,7 @@ fn refuses_another_measure(rt: HostRuntime) -> Result<(), Fail> {
 #[test]
 fn breaks_off_at_a_write_that_fails(rt: HostRuntime) -> Result<(), Fail> {
     let alloc = rt.alloc();
-    let whole = run_page(alloc, &PRINTS_WITHOUT_END, "10001", GOOD)?;
+    let whole = run_page(&rt, alloc, &PRINTS_WITHOUT_END, "10001", GOOD)?;
     assert_eq!(rt; whole.status, Status::Ended);
     let console = console_of_5000(alloc)?;
     assert!(rt; whole.taken.starts_with(console.as_slice()));
@@ -332,7 +335,7 @@ fn breaks_off_at_a_write_that_fails(rt: HostRuntime) -> Result<(), Fail> {
             failing_write,
             piece,
         };
-        let left = run_page(alloc, &PRINTS_WITHOUT_END, "10001", outside)?;
+        let left = run_page(&rt, alloc, &PRINTS_WITHOUT_END, "10001", outside)?;
         assert_eq!(rt; left.status, Status::WriteFault, "{failing_write}");
         assert_eq!(rt; left.taken.len(), taken, "{failing_write}");
         assert!(rt; left.is_booted, "{failing_write}");
