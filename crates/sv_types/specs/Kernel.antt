@@ -29,18 +29,24 @@ table_count file = word file 56 2
 abbrev pub table_in_file : List ℕ → Bool
 table_in_file file = word file 54 2 == 56 && nat_le (table_place file + 56 * table_count file) (length file)
 
--- 0x7F, E, L, F; 64 bits, little-endian; version 1; RISC-V; an executable file; no compressed instructions, no floats
-unfoldable pub header_checks : List ℕ → List (ℕ × Bool)
-header_checks file =
+-- 0x7F, E, L, F; 64 bits, little-endian; version 1; RISC-V; a kind of file; no compressed instructions, no floats
+unfoldable pub file_checks : ℕ → List ℕ → List (ℕ × Bool)
+file_checks kind file =
     (1, nat_lt (length file) 64)
     ∷ (2, not (word file 0 4 == 0x464C457F))
     ∷ (3, not (word file 4 1 == 2 && word file 5 1 == 1))
     ∷ (4, not (word file 6 1 == 1 && word file 20 4 == 1))
     ∷ (5, not (word file 18 2 == 243))
-    ∷ (6, not (word file 16 2 == 2))
+    ∷ (6, not (word file 16 2 == kind))
     ∷ (7, not (word file 48 4 % 16 == 0))
-    ∷ (8, nat_lt 0 (table_count file) && not (table_in_file file))
     ∷ []
+
+abbrev pub table_checks : List ℕ → List (ℕ × Bool)
+table_checks file = (8, nat_lt 0 (table_count file) && not (table_in_file file)) ∷ []
+
+-- an executable file, with its table of program headers
+unfoldable pub header_checks : List ℕ → List (ℕ × Bool)
+header_checks file = file_checks 2 file ++ table_checks file
 
 -- ---- segments
 
