@@ -1,4 +1,3 @@
-pub mod Words
 pub mod FirstRefusals
 pub mod Pages
 pub mod Pairs

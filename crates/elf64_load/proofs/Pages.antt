@@ -7,22 +7,12 @@ use Rattle.std.specs.Prelude.{nat_lt, ◌==◌, All}
 use Rattle.elf64_load.specs.Headers.{HasMemory}
 use Rattle.std.proofs.lemmas.Grind.{flat_map-append}
 use Rattle.std.proofs.Math.ListN.{drop_of_length-le}
+use Rattle.elf64_sections.proofs.Numbers.{numbers-suc}
 use Rattle.sv_types.specs.Bytes.{part}
 use Rattle.sv_types.specs.Kernel.{header_at, is_loaded, loaded_among, table_place}
 use Rattle.sv_types.specs.Reference.{numbers_from}
 use Rattle.sv_types.specs.declared.kernel.ProgramHeader.{ProgramHeader}
 use Rattle.sv_types.proofs.ByteLemmas.{lt_or_le}
-
--- one more
-pub numbers_from-suc : (first n : ℕ) → numbers_from first (n + 1) ≡ numbers_from first n ++ (first + n) ∷ []
-numbers_from-suc first zero = let same : first ≡ first + 0 = omega arith in ap (λ (m : ℕ). m ∷ []) same
-numbers_from-suc first (suc n) =
-    let next : suc n + 1 ≡ suc (n + 1) = omega arith in
-    let place : first + 1 + n ≡ first + suc n = omega arith in
-    ap (numbers_from first) next ∙ ap (λ (ms : List ℕ). first ∷ ms) (numbers_from-suc (first + 1) n ∙ ap (λ (m : ℕ). numbers_from (first + 1) n ++ m ∷ []) place)
-
-pub numbers-suc : (n : ℕ) → numbers_from 0 (n + 1) ≡ numbers_from 0 n ++ n ∷ []
-numbers-suc n = let same : 0 + n ≡ n = omega arith in numbers_from-suc 0 n ∙ ap (λ (m : ℕ). numbers_from 0 n ++ m ∷ []) same
 
 pub flat_map-more : {X : Type 0} (f : ℕ → List X) (n : ℕ) → flat_map f (numbers_from 0 (n + 1)) ≡ flat_map f (numbers_from 0 n) ++ f n
 flat_map-more {X = X} f n =

@@ -3,34 +3,16 @@
 ghost use Rattle.std.specs.Prelude.{◌≡◌, ◌+◌, ◌*◌, ◌≤◌, ◌<◌, length, flat_map, All, IfNone, IfOk};
 ghost use Rattle.std.specs.List.{list_any};
 ghost use Rattle.elf64_load.specs.Headers.{HasMemory};
-ghost use Rattle.sv_types.specs.Kernel.{first_refusal, header_checks, segment_checks, image_checks, is_executable, is_writable, memory_in_ram, table_place, table_count, table_in_file};
+ghost use Rattle.sv_types.specs.Kernel.{first_refusal, header_checks, table_checks, segment_checks, image_checks, is_executable, is_writable, memory_in_ram, table_place, table_count, table_in_file};
 
-use crate::fields::{byte, double, half, word};
 use crate::headers::PROGRAM_HEADER_BYTES;
 use crate::shared_text::text_is_shared;
+use elf64_sections::{double, file_refusal, half};
 use std::alloc::{AllocError, Global};
 use sv_types::{ProgramHeader, has_bit};
 
-/// The bytes of the file's header.
-const HEADER_BYTES: usize = 64;
-
-/// The bytes 0x7F, E, L and F.
-const MAGIC: u32 = 0x464C_457F;
-
-/// Files of 64 bits, little-endian.
-const CLASS_64: u8 = 2;
-
-const LITTLE_ENDIAN: u8 = 1;
-
-const VERSION: u8 = 1;
-
-/// RISC-V, and an executable file.
-const RISC_V: u16 = 243;
-
-const EXECUTABLE_FILE: u16 = 2;
-
-/// The flags of a file that ask for compressed instructions, floats or fewer registers.
-const UNKNOWN_FLAGS: u32 = 16;
+/// The kind of an executable file.
+pub(crate) const EXECUTABLE_FILE: u16 = 2;
 
 /// Where guest RAM begins, and the bytes of a page.
 pub(crate) const RAM_BASE: u64 = 0x8000_0000;
@@ -53,38 +35,27 @@ fn table_in_file(file: &[u8]) -> bool
         && end_of(double(file, 32), size) <= file.len() as u128
 }
 
+fn table_refusal(file: &[u8]) -> Option<u8>
+    requires { 64 ≤ length file.now }
+    ensures first { result ≡ first_refusal (table_checks file.now) }
+    ensures table { IfNone result (0 < table_count file.now → table_place file.now + 56 * table_count file.now ≤ length file.now) }
+{
+    if half(file, 56) > 0 && !table_in_file(file) {
+        return Some(8);
+    }
+    None
+}
+
 /// The first fault of the header.
-#[tactic(auto, unfolding(sv_types::specs::Kernel::header_checks))]
 pub(crate) fn header_refusal(file: &[u8]) -> Option<u8>
     ensures first { result ≡ first_refusal (header_checks file.now) }
     ensures long { IfNone result (64 ≤ length file.now) }
     ensures table { IfNone result (0 < table_count file.now → table_place file.now + 56 * table_count file.now ≤ length file.now) }
 {
-    if file.len() < HEADER_BYTES {
-        return Some(1);
+    if let Some(number) = file_refusal(file, EXECUTABLE_FILE) {
+        return Some(number);
     }
-    if word(file, 0) != MAGIC {
-        return Some(2);
-    }
-    if byte(file, 4) != CLASS_64 || byte(file, 5) != LITTLE_ENDIAN {
-        return Some(3);
-    }
-    if byte(file, 6) != VERSION || word(file, 20) != VERSION as u32 {
-        return Some(4);
-    }
-    if half(file, 18) != RISC_V {
-        return Some(5);
-    }
-    if half(file, 16) != EXECUTABLE_FILE {
-        return Some(6);
-    }
-    if word(file, 48) % UNKNOWN_FLAGS != 0 {
-        return Some(7);
-    }
-    if half(file, 56) > 0 && !table_in_file(file) {
-        return Some(8);
-    }
-    None
+    table_refusal(file)
 }
 
 pub(crate) fn is_executable(header: &ProgramHeader) -> bool

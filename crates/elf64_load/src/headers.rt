@@ -2,9 +2,9 @@
 
 ghost use Rattle.std.specs.Prelude.{◌≡◌, ◌+◌, ◌*◌, ◌<◌, ◌≤◌, length, All, IfOk};
 ghost use Rattle.elf64_load.specs.Headers.{HasMemory};
-ghost use Rattle.sv_types.specs.Kernel.{is_loaded, loaded_among, table_place, table_count};
+ghost use Rattle.sv_types.specs.Kernel.{header_at, is_loaded, loaded_among, table_place, table_count};
 
-use crate::fields::{double, half, header_at};
+use elf64_sections::{double, half, word};
 use std::alloc::{AllocError, Global};
 use sv_types::ProgramHeader;
 
@@ -13,6 +13,23 @@ pub(crate) const PROGRAM_HEADER_BYTES: usize = 56;
 
 /// The kind of segment that is loaded.
 const LOADED: u32 = 1;
+
+/// The program header at `at`.
+#[tactic(auto, unfolding(sv_types::specs::Kernel::header_at))]
+fn header_at(file: &[u8], at: usize) -> ProgramHeader
+    requires { at + 56 ≤ length file.now }
+    ensures { result ≡ header_at file.now at }
+{
+    ProgramHeader {
+        kind: word(file, at),
+        flags: word(file, at + 4),
+        offset: double(file, at + 8),
+        va: double(file, at + 16),
+        gpa: double(file, at + 24),
+        file_size: double(file, at + 32),
+        memory_size: double(file, at + 40),
+    }
+}
 
 fn is_loaded(header: &ProgramHeader) -> bool
     ensures { result ≡ is_loaded header.now }

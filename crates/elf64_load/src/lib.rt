@@ -2,7 +2,6 @@
 #![tactic(auto)]
 
 mod checks;
-mod fields;
 mod headers;
 mod image;
 mod laws;

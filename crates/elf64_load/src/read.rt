@@ -6,9 +6,9 @@ ghost use Rattle.elf64_load.specs.Images.{segment_of, segments_of};
 ghost use Rattle.elf64_load.specs.Refusals.{IsRefusalOf};
 
 use crate::checks::{header_refusal, image_refusal, is_executable, segments_refusal};
-use crate::fields::double;
 use crate::headers::loaded_headers;
 use crate::image::{KernelImage, Segment};
+use elf64_sections::double;
 use std::alloc::{AllocError, Global};
 use sv_types::ProgramHeader;
 use thiserror::Error;

@@ -1,0 +1,16 @@
+//! What kernel images and module objects share: the header of an ELF-64 file, its sections, its symbols and their names.
+#![tactic(auto)]
+
+mod fields;
+mod header;
+mod names;
+mod sections;
+mod tables;
+
+pub use fields::{byte, double, half, word};
+pub use header::file_refusal;
+pub use names::name_at;
+pub use sections::{
+    SECTION_HEADER_BYTES, SectionHeader, part, part_in_file, section_headers, sections_in_file,
+};
+pub use tables::{SYMBOL_BYTES, Symbol, SymbolTables, symbol_at, symbol_count, symbol_tables};

@@ -1,0 +1,47 @@
+// Names of symbols.
+
+ghost use Rattle.std.specs.Prelude.{◌≡◌, ◌≤◌, ◌==◌, Some, None, if◌then◌else◌, length, take, position, option_map};
+ghost use Rattle.std.specs.Str.{is_utf8};
+ghost use Rattle.elf64_sections.specs.Sections as spec;
+
+use std::str;
+
+/// The most bytes of a name, with the zero byte behind it.
+const MOST_NAME_BYTES: usize = 65;
+
+// Where the first zero byte stands.
+fn zero_byte(bytes: &[u8]) -> Option<usize>
+    ensures { result ≡ position (λ b. b == 0) bytes.now }
+{
+    bytes.iter().position(|byte| *byte == 0)
+}
+
+fn text_of(bytes: &[u8]) -> Option<&str>
+    ensures { option_map (λ name. name.now) result ≡ (if is_utf8 bytes.now then Some bytes.now else None) }
+{
+    match str::from_utf8(bytes) {
+        Ok(text) => Some(text),
+        Err(_) => None,
+    }
+}
+
+fn name_in(bytes: &[u8]) -> Option<&str>
+    ensures { option_map (λ name. name.now) result ≡ spec.name_of bytes.now }
+{
+    let most = bytes.len().min(MOST_NAME_BYTES);
+    let Some(length) = zero_byte(&bytes[..most]) else {
+        return None;
+    };
+    if length == 0 {
+        return None;
+    }
+    text_of(&bytes[..length])
+}
+
+/// The name that begins at `at`: 1 to 64 bytes of UTF-8 text with a zero byte behind them. None where no such name does.
+#[tactic(auto, unfolding(crate::specs::Sections::name_at))]
+pub fn name_at(strings: &[u8], at: u32) -> Option<&str>
+    ensures { option_map (λ name. name.now) result ≡ spec.name_at strings.now at }
+{
+    name_in(&strings[strings.len().min(at as usize)..])
+}

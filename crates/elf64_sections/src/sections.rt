@@ -1,0 +1,82 @@
+// The headers of sections.
+
+ghost use Rattle.std.specs.Prelude.{◌≡◌, ◌+◌, ◌*◌, ◌≤◌, length, IfOk};
+ghost use Rattle.elf64_sections.specs.Sections as spec;
+ghost use Rattle.sv_types.specs.Bytes.{part};
+
+use crate::fields::{double, half, word};
+use std::alloc::{AllocError, Global};
+
+/// The bytes of a section's header.
+pub const SECTION_HEADER_BYTES: usize = 64;
+
+/// What the header of a section says: its kind, its flags, its bytes in the file, the number of a section that it is tied
+/// to, another number by its kind, and which multiples its address has to be.
+#[derive(Clone, Copy, Debug, PartialEq, Eq, Drop)]
+pub struct SectionHeader {
+    pub kind: u32,
+    pub flags: u64,
+    pub offset: u64,
+    pub size: u64,
+    pub link: u32,
+    pub info: u32,
+    pub alignment: u64,
+    pub entry_size: u64,
+}
+
+/// Whether the table of section headers has entries of 64 bytes and lies in the file.
+pub fn sections_in_file(file: &[u8]) -> bool
+    requires { 64 ≤ length file.now }
+    ensures { result ≡ spec.sections_in_file file.now }
+{
+    let end = double(file, 40) as u128 + SECTION_HEADER_BYTES as u128 * half(file, 60) as u128;
+    half(file, 58) as usize == SECTION_HEADER_BYTES && end <= file.len() as u128
+}
+
+#[tactic(auto, unfolding(crate::specs::Sections::section_at))]
+fn section_at(file: &[u8], at: usize) -> SectionHeader
+    requires { at + 64 ≤ length file.now }
+    ensures { result ≡ spec.section_at file.now at }
+{
+    SectionHeader {
+        kind: word(file, at + 4),
+        flags: double(file, at + 8),
+        offset: double(file, at + 24),
+        size: double(file, at + 32),
+        link: word(file, at + 40),
+        info: word(file, at + 44),
+        alignment: double(file, at + 48),
+        entry_size: double(file, at + 56),
+    }
+}
+
+/// The headers of all sections, in their order. Fails where memory is wanting.
+pub fn section_headers(alloc: Global, file: &[u8]) -> Result<Vec<SectionHeader>, AllocError>
+    requires header { 64 ≤ length file.now }
+    requires table { spec.sections_place file.now + 64 * spec.sections_count file.now ≤ length file.now }
+    ensures { IfOk result (λ sections. sections.items ≡ spec.sections_of file.now) }
+{
+    let table = double(file, 40) as usize;
+    let count = half(file, 60);
+    let mut sections = Vec::new(alloc);
+    'sections: for i in 0..count as usize {
+        sections.push(section_at(file, table + SECTION_HEADER_BYTES * i))?;
+    }
+    Ok(sections)
+}
+
+/// Whether the bytes of a section lie in the file.
+pub fn part_in_file(file: &[u8], section: &SectionHeader) -> bool
+    ensures { result ≡ spec.part_in_file file.now section.now }
+{
+    section.offset as u128 + section.size as u128 <= file.len() as u128
+}
+
+/// The bytes of a section.
+pub fn part<'a>(file: &'a [u8], section: &SectionHeader) -> &'a [u8]
+    requires { section.now.offset + section.now.size ≤ length file.now }
+    ensures { result.now ≡ part file.now section.now.offset section.now.size }
+{
+    let start = section.offset as usize;
+    &file[start..start + section.size as usize]
+}
