@@ -3,10 +3,8 @@
 #![tactic(auto)]
 
 mod csrs;
-mod law;
 #[cfg(test)]
 mod tests;
 
 pub use csrs::Csrs;
-pub use law::law_guest_view;
 pub use sv_types::CsrFault;

@@ -1,7 +1,8 @@
 -- What the entries of the trees give, bit by bit.
 use Rattle.std.proofs.Common.{◌≡◌, ℕ, ◌+◌, ◌*◌, ◌/◌, ◌%◌, ◌^◌, ◌<◌, Bool, true, false, refl, ap, arith, lit<}
 use Rattle.std.specs.Prelude.{◌&&◌, ◌||◌, not, Some, if◌then◌else◌}
-use Rattle.sv_types.specs.Translation.{bit, well_formed, is_pointer, is_leaf, at_entry, Destination, At, PageFault}
+use Rattle.sv_types.specs.Bits.{bit}
+use Rattle.sv_types.specs.Translation.{well_formed, is_pointer, is_leaf, at_entry, Destination, At, PageFault}
 use Rattle.sv_types.specs.SecondStage.{permits_guest, view_permits}
 use Rattle.sv_types.specs.declared.wires.Access.{Access}
 use Rattle.sv_types.specs.declared.wires.Access.TheVariants.{Fetch, Load, Store}

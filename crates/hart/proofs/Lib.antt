@@ -1,4 +1,3 @@
-pub mod EffectLemmas
 pub mod Places
 pub mod Roots
 pub mod Returns

@@ -7,27 +7,12 @@ use Rattle.sv_types.specs.declared.wires.Mode.{Mode}
 use Rattle.sv_types.specs.Regions.{Region, IsRegion, IsWidth, IsHostPlace}
 use Rattle.sv_types.specs.Translation.{Destination, At, PageFault, Unreadable, Settings, first_stage}
 use Rattle.sv_types.specs.SecondStage.{walk_guest, place_through, after_first_stage, two_stages, entry_through, WalksInside}
+use Rattle.sv_types.proofs.RegionLemmas.{keeps_width, ends_inside, whole_sum}
 use Rattle.sv_types.proofs.Walks.{Fits, first_stage_fits, walk_guest_fits}
 
 second_leads : (gpa : ℕ) (o : Option ℕ) (place : Place) → place_through gpa o ≡ Ok place → o ≡ Some place.hpa
 second_leads gpa None place e = absurd (cc)
 second_leads gpa (Some hpa) place e = let same : record { gpa = gpa; hpa = hpa } ≡ place = cc in rw (← same) refl
-
-keeps_width : (n a b : ℕ) → IsWidth n → b % 4096 ≡ a % 4096 → a % n ≡ 0 → b % n ≡ 0
-keeps_width n a b (inl one) same aligned = rw one (omega arith)
-keeps_width n a b (inr (inl two)) same aligned = let e : a % 2 ≡ 0 = rw two at aligned in rw two (omega arith)
-keeps_width n a b (inr (inr (inl four))) same aligned = let e : a % 4 ≡ 0 = rw four at aligned in rw four (omega arith)
-keeps_width n a b (inr (inr (inr eight))) same aligned = let e : a % 8 ≡ 0 = rw eight at aligned in rw eight (omega arith)
-
--- an aligned word that begins in whole pages ends there
-ends_inside : (n at size : ℕ) → IsWidth n → at % n ≡ 0 → size % 4096 ≡ 0 → at < size → at + n ≤ size
-ends_inside n at size (inl one) aligned whole below = omega arith
-ends_inside n at size (inr (inl two)) aligned whole below = let e : at % 2 ≡ 0 = rw two at aligned in omega arith
-ends_inside n at size (inr (inr (inl four))) aligned whole below = let e : at % 4 ≡ 0 = rw four at aligned in omega arith
-ends_inside n at size (inr (inr (inr eight))) aligned whole below = let e : at % 8 ≡ 0 = rw eight at aligned in omega arith
-
-whole_sum : (a b : ℕ) → a % 4096 ≡ 0 → b % 4096 ≡ 0 → (a + b) % 4096 ≡ 0
-whole_sum a b h k = omega arith
 
 -- a walk of an address in the same place of its page leads to a place for the width
 walk_places : (r : Region) (hgatp gpa va hpa n : ℕ) (access : Access) → IsRegion r → WalksInside r hgatp → IsWidth n → va % n ≡ 0

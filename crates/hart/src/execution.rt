@@ -5,10 +5,11 @@ ghost use Rattle.sv_types.specs.Regions.{IsHostPlace};
 ghost use Rattle.sv_types.specs.SecondStage.{WalksInside};
 ghost use Rattle.sv_types.specs.Effects.{set_register};
 ghost use Rattle.sv_types.specs.Encoding.{fits};
+ghost use Rattle.sv_types.specs.Requests.{IsRequest};
 ghost use Rattle.sv_types.specs.HardwareMemory.{load_htinst, store_htinst, atomic_htinst};
 ghost use Rattle.sv_types.specs.HardwareAttempt.{after_effect, after_instruction, after_word, after_fetch, attempt, OnlyWrites};
 ghost use Rattle.hart.specs.Cores.{core_of, step_of, attempted_of};
-ghost use Rattle.hart.specs.Conditions.{KeepsMode, IsRequest};
+ghost use Rattle.hart.specs.Conditions.{KeepsMode};
 
 use crate::hart::Hart;
 use crate::memory::{reached, translated};
@@ -93,7 +94,7 @@ fn carry_out(hart: &mut Hart, regs: &HRegs, mem: &mut HostMem, lines: &Lines, wo
     }
 }
 
-#[tactic(auto, using(crate::proofs::EffectLemmas::is_request), unfolding(sv_types::specs::HardwareAttempt::after_instruction))]
+#[tactic(auto, using(sv_types::proofs::EffectRequests::is_request), unfolding(sv_types::specs::HardwareAttempt::after_instruction))]
 fn execute(
     hart: &mut Hart,
     regs: &HRegs,

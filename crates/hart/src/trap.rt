@@ -75,7 +75,7 @@ pub(crate) fn interrupt(hart: &mut Hart, regs: &HRegs, interrupt: Interrupt) -> 
 }
 
 // Only kernel mode has a trap delegated, so the mode stays.
-#[tactic(auto, using(sv_types::proofs::RegisterBits::target_aligned), unfolding(sv_types::specs::Hardware::guest_trap))]
+#[tactic(auto, unfolding(sv_types::specs::Hardware::guest_trap))]
 fn guest_trap(hart: &mut Hart, regs: &HRegs, interrupt: bool, cause: u64, tval: u64) -> Outcome
     requires aligned { hart.old.pc % 4 ≡ 0 }
     requires kernel { regs.now.mode ≡ Mode.Kernel }

@@ -4,6 +4,7 @@ use Rattle.std.proofs.lemmas.List.{drop-drop, take-replicate, drop-replicate}
 use borrow.Rule.Slice.PartMut.{put_mid}
 use Rattle.sv_types.specs.Bytes.{word, write_word, overwrite, page_bytes, page_size}
 use Rattle.sv_types.specs.Regions.{Region, IsHostPlace, host_bytes, region_of, host_word, write_host}
+use Rattle.sv_types.proofs.ByteLemmas.{overwrite_behind}
 use Rattle.sv_types.proofs.RegionLemmas.{bytes_of_region, region_of_bytes, word_of_region, write_of_region, tables_of_region}
 use Rattle.host_mem.proofs.WordFacts.{part_put}
 
@@ -51,6 +52,19 @@ pub copy_seen : (tables : ℕ) (bytes copied : List ℕ) (r : Region) (at stop :
 copy_seen tables bytes copied r at stop seen end =
     bytes_of_region tables (put_mid at (stop - at) bytes copied) ∙ part_put bytes copied at stop end
     ∙ ap (λ (list : List ℕ). overwrite list at copied) (sym (bytes_seen tables bytes r seen))
+
+-- behind the tables it changes RAM alone
+pub copy_behind : (tables : ℕ) (bytes copied : List ℕ) (r : Region) (at stop : ℕ) → Seen tables bytes r → stop ≡ at + length copied → length r.tables ≤ at
+    → region_of tables (put_mid at (stop - at) bytes copied) ≡ record r { ram = overwrite r.ram (at - length r.tables) copied }
+copy_behind tables bytes copied r at stop seen end behind =
+    let place : length r.tables + (at - length r.tables) ≡ at = omega arith in
+    let after : Region = record r { ram = overwrite r.ram (at - length r.tables) copied } in
+    let whole : put_mid at (stop - at) bytes copied ≡ host_bytes after =
+    part_put bytes copied at stop end
+    ∙ ap (λ (list : List ℕ). overwrite list at copied) (sym (bytes_seen tables bytes r seen))
+    ∙ ap (λ (i : ℕ). overwrite (host_bytes r) i copied) (sym place)
+    ∙ overwrite_behind r.tables r.ram copied (at - length r.tables) in
+    ap (region_of tables) whole ∙ region_of_bytes after tables (tables_seen tables bytes r seen)
 
 pub zeros_seen : (tables ram size : ℕ) → size ≡ tables + ram
     → region_of tables (replicate {A = ℕ} size 0) ≡ record { tables = replicate {A = ℕ} tables 0; ram = replicate {A = ℕ} ram 0 }

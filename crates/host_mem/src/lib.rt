@@ -1,7 +1,7 @@
 //! Host memory: one region of bytes, the table part and behind it guest RAM.
 #![tactic(auto)]
 
-ghost use Rattle.std.specs.Prelude.{◌≡◌, ◌+◌, ◌*◌, ◌<◌, ◌≤◌, ◌%◌, ◌^◌, length, IfOk, replicate};
+ghost use Rattle.std.specs.Prelude.{◌≡◌, ◌+◌, ◌-◌, ◌*◌, ◌<◌, ◌≤◌, ◌%◌, ◌^◌, length, IfOk, replicate};
 ghost use Rattle.sv_types.specs.Bytes.{page_size, page_bytes, overwrite};
 ghost use Rattle.sv_types.specs.Regions.{Region, IsRegion, IsHostPlace, most_ram_pages, host_bytes, host_word, write_host};
 
@@ -11,6 +11,8 @@ use crate::words::{put_word, word_at};
 use raw_bytes::RawBytes;
 use std::alloc::{AllocError, Global};
 use std::marker::Model;
+use std::sync::ledger::Ledger;
+use sv_types::Steps;
 
 /// The bytes of a page.
 const PAGE_SIZE: usize = 4096;
@@ -84,6 +86,16 @@ impl HostMem {
         word_at(self.bytes.as_slice(), at, width)
     }
 
+    /// The word of 8 bytes at a host place, a multiple of 8, as an entry of a table is read. Counts one step.
+    pub fn word<L: Ledger>(&self, at: usize, steps: &mut Steps<L>) -> u64
+        requires { IsHostPlace self.now at 8 }
+        ensures value { result ≡ host_word self.now at 8 }
+        ensures step { steps.new ≡ steps.old + 1 }
+    {
+        steps.tick();
+        self.read(at, 8)
+    }
+
     /// Writes the `width` lowest bytes of `value` at a host place, the lowest first. The width is 1, 2, 4 or 8, and the
     /// place a multiple of it.
     pub fn write(&mut self, at: usize, width: u8, value: u64)
@@ -108,6 +120,7 @@ impl HostMem {
         requires { at + length bytes.now ≤ length (host_bytes self.old) }
         ensures bytes { host_bytes self.new ≡ overwrite (host_bytes self.old) at bytes.now }
         ensures tables { length self.new.tables ≡ length self.old.tables }
+        ensures ram { length self.old.tables ≤ at → self.new ≡ record self.old { ram = overwrite self.old.ram (at - length self.old.tables) bytes.now } }
     {
         self.bytes.as_mut_slice()[at..at + bytes.len()].copy_from_slice(bytes);
     }

@@ -5,7 +5,7 @@ use Rattle.std.proofs.Math.Nat.{mod-lt, one-le-pow}
 use Rattle.std.proofs.lemmas.Bool.Decides.{nat_tests}
 use Rattle.std.proofs.lemmas.Nat.Bits.{and_pow}
 use Rattle.std.specs.Int.Bits.{bit_and}
-use Rattle.sv_types.specs.Translation.{bit}
+use Rattle.sv_types.specs.Bits.{bit}
 
 by_cases : (b m : ℕ) → 0 < m → (b ≡ 0) ⊎ (b ≡ 1) → (b * m == m) ≡ (b == 1)
 by_cases b m some (inl e) = rw e (grind (arith, nat_tests))

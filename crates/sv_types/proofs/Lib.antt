@@ -13,4 +13,5 @@ pub mod EntryBits
 pub mod Walks
 pub mod Views
 pub mod HardwareWrites
+pub mod EffectRequests
 pub mod Reservations

@@ -111,3 +111,22 @@ bytes_of_region tables bytes = take-append-drop tables bytes
 pub write_in_tables : (r : Region) (at n value : ℕ) → at < length r.tables → write_host r at n value ≡ record r { tables = write_word r.tables at n value }
 unfolding write_host
 write_in_tables r at n value below = let test : nat_lt at (length r.tables) ≡ true = grind (arith, nat_tests) in rw test refl
+
+-- ---- whole pages
+
+-- a place of the same rest in a page is as aligned
+pub keeps_width : (n a b : ℕ) → IsWidth n → b % 4096 ≡ a % 4096 → a % n ≡ 0 → b % n ≡ 0
+keeps_width n a b (inl one) same aligned = rw one (omega arith)
+keeps_width n a b (inr (inl two)) same aligned = let e : a % 2 ≡ 0 = rw two at aligned in rw two (omega arith)
+keeps_width n a b (inr (inr (inl four))) same aligned = let e : a % 4 ≡ 0 = rw four at aligned in rw four (omega arith)
+keeps_width n a b (inr (inr (inr eight))) same aligned = let e : a % 8 ≡ 0 = rw eight at aligned in rw eight (omega arith)
+
+-- an aligned word that begins in whole pages ends there
+pub ends_inside : (n at size : ℕ) → IsWidth n → at % n ≡ 0 → size % 4096 ≡ 0 → at < size → at + n ≤ size
+ends_inside n at size (inl one) aligned whole below = omega arith
+ends_inside n at size (inr (inl two)) aligned whole below = let e : at % 2 ≡ 0 = rw two at aligned in omega arith
+ends_inside n at size (inr (inr (inl four))) aligned whole below = let e : at % 4 ≡ 0 = rw four at aligned in omega arith
+ends_inside n at size (inr (inr (inr eight))) aligned whole below = let e : at % 8 ≡ 0 = rw eight at aligned in omega arith
+
+pub whole_sum : (a b : ℕ) → a % 4096 ≡ 0 → b % 4096 ≡ 0 → (a + b) % 4096 ≡ 0
+whole_sum a b h k = omega arith

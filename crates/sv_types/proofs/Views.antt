@@ -6,7 +6,7 @@ use Rattle.std.proofs.lemmas.Bool.Decides.{nat_tests}
 use Rattle.sv_types.specs.Bytes.{word, in_ram, ram_base, ram_place, page_of, page_size}
 use Rattle.sv_types.specs.Regions.{Region, host_word}
 use Rattle.sv_types.specs.Translation.{Destination, At, PageFault, Unreadable, entry_in_ram, first_stage, place, Settings}
-use Rattle.sv_types.specs.SecondStage.{IsView, WalksInside, with_ram, page_in_ram, view_permits, view_answer, walk_guest, entry_there, entry_through, place_through, after_first_stage, two_stages, under_view}
+use Rattle.sv_types.specs.SecondStage.{IsView, WalksInside, WalksApart, with_ram, page_in_ram, view_permits, view_answer, walk_guest, entry_there, entry_through, place_through, after_first_stage, two_stages, under_view}
 use Rattle.sv_types.specs.declared.wires.Access.{Access}
 use Rattle.sv_types.specs.declared.wires.Access.TheVariants.{Load}
 use Rattle.sv_types.specs.declared.wires.Mode.{Mode}
@@ -17,7 +17,7 @@ use Rattle.sv_types.proofs.RegionLemmas.{word_in_ram}
 use Rattle.sv_types.proofs.Walks.{Agree, first_stage_agrees}
 
 -- 8 aligned bytes from p on are in n pages exactly where p's page is one of them
-whole_entry : (p n : ℕ) → p % 8 ≡ 0 → nat_le (p + 8) (4096 * n) ≡ nat_lt (p / 4096) n
+pub whole_entry : (p n : ℕ) → p % 8 ≡ 0 → nat_le (p + 8) (4096 * n) ≡ nat_lt (p / 4096) n
 whole_entry p n h = grind (arith, nat_tests)
 
 place_aligned : (a : ℕ) → a % 8 ≡ 0 → ram_place a % 8 ≡ 0
@@ -139,4 +139,22 @@ view_walks_inside tables ram ram_pages hgatp protections view is_view size = rec
       let below : hpa < length tables + 4096 * ram_pages =
       chosen_inside (page_in_ram ram_pages gpa && view_permits view (protections (page_of gpa)) access) (length tables + ram_place gpa) (length tables + 4096 * ram_pages) hpa
       (page_inside (length tables) ram_pages gpa (view_permits view (protections (page_of gpa)) access)) answer in omega arith;
+}
+
+-- behind the tables
+chosen_behind : (b : Bool) (t n x : ℕ) → (if b then Some (t + n) else None) ≡ Some x → t ≤ x
+chosen_behind true t n x e = let same : t + n ≡ x = cc in omega arith
+chosen_behind false t n x e = absurd (cc)
+
+-- and reads the tables alone
+pub view_walks_apart : (tables ram : List ℕ) (ram_pages hgatp : ℕ) (protections : ℕ → Protection) (view : View)
+    → IsView tables ram_pages protections view hgatp → length ram ≡ page_size * ram_pages → WalksApart (with_ram tables ram) hgatp
+unfolding view_answer
+view_walks_apart tables ram ram_pages hgatp protections view is_view size = record {
+  reads = λ gpa access small. is_view.reads ram gpa access size small;
+  leads = λ gpa hpa access e. (
+    chosen_behind (page_in_ram ram_pages gpa && view_permits view (protections (page_of gpa)) access) (length tables) (ram_place gpa) hpa
+        (sym (view_answers tables ram ram_pages hgatp protections view is_view size gpa access) ∙ e),
+    (view_walks_inside tables ram ram_pages hgatp protections view is_view size).inside gpa hpa access e,
+  );
 }

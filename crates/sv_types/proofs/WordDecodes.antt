@@ -1,8 +1,8 @@
 -- The word of an instruction whose fields are in range decodes to it.
-use Rattle.std.proofs.Common.{◌≡◌, ℕ, suc, ◌+◌, ◌-◌, ◌*◌, ◌/◌, ◌%◌, ◌^◌, ◌<◌, ◌≤◌, List, [], ◌∷◌, refl, sym, ◌∙◌, ap, subst, Bool, true, false, arith, ℤ, pos, negsuc, ◌⊎◌, inl, inr}
-use Rattle.std.specs.Prelude.{bit_and, ◌==◌, ◌&&◌, ◌||◌, Some, None, Option, nat_lt, unsigned_abs, if◌then◌else◌}
-use Rattle.std.specs.Int.{w64, cast_unsigned, from_bool}
-use Rattle.std.proofs.lemmas.Bool.{ltb-true, eqb-true, eq-eqb}
+use Rattle.std.proofs.Common.{◌≡◌, ℕ, suc, ◌+◌, ◌*◌, ◌/◌, ◌%◌, ◌^◌, ◌<◌, ◌≤◌, refl, sym, ◌∙◌, ap, subst, Bool, true, false, arith, ℤ, pos, negsuc, ◌⊎◌, inl, inr}
+use Rattle.std.specs.Prelude.{◌==◌, ◌&&◌, ◌||◌, Some, nat_lt, if◌then◌else◌}
+use Rattle.std.specs.Int.{from_bool}
+use Rattle.std.proofs.lemmas.Bool.{ltb-true, eqb-true}
 use Rattle.sv_types.specs.declared.instruction.Instr.{Instr}
 use Rattle.sv_types.specs.declared.instruction.BranchOp.{BranchOp}
 use Rattle.sv_types.specs.declared.instruction.BranchOp.TheVariants.{Beq, Bne, Blt, Bge, Bltu, Bgeu}
@@ -24,10 +24,10 @@ use Rattle.sv_types.specs.declared.instruction.AmoOp.{AmoOp}
 use Rattle.sv_types.specs.declared.instruction.AmoOp.TheVariants.{Amoswap, Amoadd, Amoxor, Amoand, Amoor, Amomin, Amomax, Amominu, Amomaxu}
 use Rattle.sv_types.specs.declared.instruction.HyperOp.{HyperOp}
 use Rattle.sv_types.specs.declared.instruction.HyperOp.TheVariants.{HlvB, HlvBu, HlvH, HlvHu, HlvxHu, HlvW, HlvWu, HlvxWu, HlvD, HsvB, HsvH, HsvW, HsvD, HfenceVvma, HfenceGvma}
-use Rattle.sv_types.specs.Instructions.{bits, signed_bits, rd, rs1, rs2, aq, rl, lui, auipc, jal, jalr, branch, load, store, op_imm, shift, op_imm_32, shift_32, op_op, op_32, plain, sfence, csr, lr, sc, amo, hyper_load, hyper_store, imm_i, imm_s, imm_b, imm_u, imm_j, rows, instruction_of}
-use Rattle.sv_types.specs.Encoding.{fits, is_register, is_immediate, is_operand, is_shift, is_shift_32, is_hyper_load, is_width, is_zero, imm_bits, r_word, i_word, s_word, b_word, u_word, j_word, branch_funct3, load_funct3, store_funct3, op_imm_funct3, op_imm_32_funct3, arithmetic_bit, arithmetic_bit_32, op_funct7, op_funct3, op_32_funct7, op_32_funct3, csr_funct3, amo_funct5, hyper_funct7, hyper_funct3, hyper_number, width_funct3, ordered, word_of}
-use Rattle.sv_types.proofs.Decoding.{IsOnlyRow, found, both, mask_opcode, mask_funct3, mask_funct7, mask_funct6, mask_funct5, mask_funct5_rs2, mask_funct7_rs2, mask_funct7_no_rd, mask_whole}
-use Rattle.sv_types.proofs.WordFields.{r_opcode, r_rd, r_funct3, r_rs1, r_rs2, r_funct7, r_rd_low, r_rd_high, r_funct7_low, r_funct7_high, r_funct5, r_aq, r_rl, r_below, i_opcode, i_rd, i_funct3, i_rs1, i_field, i_count, i_count_low, i_funct6, i_funct7, u_opcode, u_rd, u_field, j_opcode, j_rd, j_12_20, j_20, j_21_31, j_31, signed_12, signed_13, signed_21, signed_32, step_13, step_21, step_32}
+use Rattle.sv_types.specs.Instructions.{bits, lui, auipc, jal, jalr, branch, load, store, op_imm, shift, op_imm_32, shift_32, op_op, op_32, plain, sfence, csr, lr, sc, amo, hyper_load, hyper_store, rows, instruction_of}
+use Rattle.sv_types.specs.Encoding.{fits, is_register, is_immediate, is_operand, is_shift, is_shift_32, is_hyper_load, is_width, is_zero, imm_bits, r_word, i_word, s_word, b_word, u_word, j_word, branch_funct3, load_funct3, store_funct3, op_imm_funct3, op_imm_32_funct3, arithmetic_bit, arithmetic_bit_32, op_funct7, op_funct3, op_32_funct7, op_32_funct3, csr_funct3, amo_funct5, hyper_funct7, hyper_funct3, hyper_number, ordered, word_of}
+use Rattle.sv_types.proofs.Decoding.{IsOnlyRow, found, both, mask_opcode, mask_funct3, mask_funct7, mask_funct6, mask_funct5, mask_funct5_rs2, mask_funct7_rs2, mask_funct7_no_rd}
+use Rattle.sv_types.proofs.WordFields.{r_opcode, r_rd, r_funct3, r_rs1, r_rs2, r_funct7, r_rd_low, r_rd_high, r_funct7_low, r_funct7_high, r_funct5, r_aq, r_rl, i_opcode, i_rd, i_funct3, i_rs1, i_field, i_count, i_count_low, i_funct6, i_funct7, u_opcode, u_rd, u_field, j_opcode, j_rd, j_12_20, j_20, j_21_31, j_31, signed_12, signed_13, signed_21, signed_32, step_13, step_21, step_32}
 
 -- ---- tests that hold
 

@@ -4,6 +4,7 @@
 -- extensions "M", "A", "Zicsr" and "Zifencei"; Privileged manual, "Supervisor Instructions".
 use Rattle.std.specs.Prelude.{ℕ, ◌+◌, ◌-◌, ◌*◌, ◌/◌, ◌%◌, ◌^◌, ◌==◌, if◌then◌else◌, Bool, true, false, not, List, ℤ, pos, ◌*ℤ◌, nat_lt, int_lt, int_div, int_rem, bit_and, bit_or, bit_xor, min, max, slice_index, slice_set}
 use Rattle.std.specs.Int.{Width, w32, w64, w128, cast_signed, cast_unsigned, int_shr}
+use Rattle.sv_types.specs.Bits.{flag}
 use Rattle.sv_types.specs.declared.instruction.Instr.{Instr}
 use Rattle.sv_types.specs.declared.instruction.BranchOp.{BranchOp}
 use Rattle.sv_types.specs.declared.instruction.BranchOp.TheVariants.{Beq, Bne, Blt, Bge, Bltu, Bgeu}
@@ -64,10 +65,6 @@ signed_low a = cast_signed w32 (low_word a)
 -- the low 32 bits, sign-extended
 abbrev pub extended : ℕ → ℕ
 extended a = machine_word (signed_low a)
-
--- 1 where a test holds
-abbrev pub flag : Bool → ℕ
-flag test = if test then 1 else 0
 
 -- a number with bit 0 cleared
 abbrev pub even : ℕ → ℕ

@@ -1,7 +1,7 @@
 -- Accesses of a hart to memory through both stages of translation.
 -- RISC-V Privileged manual, H extension: "Two-Stage Address Translation", "Guest-Page Faults", "Transformed Instruction or
 -- Pseudoinstruction for mtinst or htinst"; Unprivileged manual, "Load and Store Instructions" and the extension "A".
-use Rattle.std.specs.Prelude.{ℕ, ◌/◌, ◌%◌, Bool, true, ◌==◌, if◌then◌else◌, bit_and, Option, Some, None, Result, Ok, Err}
+use Rattle.std.specs.Prelude.{ℕ, ◌+◌, ◌/◌, ◌%◌, Bool, true, ◌==◌, if◌then◌else◌, bit_and, Option, Some, None, Result, Ok, Err}
 use Rattle.sv_types.specs.Bits.{bit}
 use Rattle.sv_types.specs.Regions.{Region, host_word, write_host}
 use Rattle.sv_types.specs.Translation.{Settings}
@@ -36,15 +36,31 @@ guest_page_fault Fetch = Cause.GuestFetch
 guest_page_fault Load = Cause.GuestLoad
 guest_page_fault Store = Cause.GuestStore
 
--- the transformed instruction: without its immediate and rs1, and of an atomic one without rs1
+-- the fields of an instruction's word, each by its bits; funct7 of an atomic one has its aq and rl
+abbrev pub opcode_field : ℕ
+opcode_field = 0x0000007F
+
+abbrev pub rd_field : ℕ
+rd_field = 0x00000F80
+
+abbrev pub funct3_field : ℕ
+funct3_field = 0x00007000
+
+abbrev pub rs2_field : ℕ
+rs2_field = 0x01F00000
+
+abbrev pub funct7_field : ℕ
+funct7_field = 0xFE000000
+
+-- a transformed instruction keeps these fields of the word, and its others are 0: rs1 and the immediate
 abbrev pub load_htinst : ℕ → ℕ
-load_htinst w = bit_and w 0x00007FFF
+load_htinst w = bit_and w (funct3_field + rd_field + opcode_field)
 
 abbrev pub store_htinst : ℕ → ℕ
-store_htinst w = bit_and w 0x01F0707F
+store_htinst w = bit_and w (rs2_field + funct3_field + opcode_field)
 
 abbrev pub atomic_htinst : ℕ → ℕ
-atomic_htinst w = bit_and w 0xFFF07FFF
+atomic_htinst w = bit_and w (funct7_field + rs2_field + funct3_field + rd_field + opcode_field)
 
 -- the pseudoinstruction of a read of 64 bits for the first stage's translation
 abbrev pub implicit_read : ℕ

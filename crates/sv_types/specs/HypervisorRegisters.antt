@@ -69,14 +69,25 @@ line_bits lines = 2 ^ 6 * flag lines.timer + 2 ^ 10 * flag lines.external
 unfoldable pub hip_value : ℕ → Lines → ℕ
 hip_value hvip lines = bit_or hvip (line_bits lines)
 
--- a register of interrupts as the guest sees it: one place lower, and 0 where hideleg hasn't the bit
-unfoldable pub aliased : ℕ → ℕ → ℕ
-aliased hideleg register = bit_and register (bit_and hideleg virtual_interrupt_bits) / 2
+-- those of some bits that hideleg delegates to the guest
+abbrev pub delegated : ℕ → ℕ → ℕ
+delegated hideleg bits = bit_and hideleg bits
 
--- the register with those of its bits written through the alias that hideleg has
+-- interrupts 2, 6 and 10 at the guest's places 1, 5 and 9, and back
+abbrev pub at_guest_places : ℕ → ℕ
+at_guest_places bits = bits / 2
+
+abbrev pub at_hypervisor_places : ℕ → ℕ
+at_hypervisor_places value = 2 * bit_and value interrupt_bits
+
+-- the guest's sie and sip are the delegated bits of hie and hip, at the guest's places
+unfoldable pub aliased : ℕ → ℕ → ℕ
+aliased hideleg register = at_guest_places (bit_and register (delegated hideleg virtual_interrupt_bits))
+
+-- a write of sie or sip sets the delegated bits of hie or hvip as the value has them, and leaves the others
 unfoldable pub with_alias : ℕ → ℕ → ℕ → ℕ → ℕ
 with_alias hideleg register_bits register value =
-    bit_or (without register (bit_and hideleg register_bits)) (bit_and (2 * bit_and value interrupt_bits) (bit_and hideleg register_bits))
+    bit_or (without register (delegated hideleg register_bits)) (bit_and (at_hypervisor_places value) (delegated hideleg register_bits))
 
 -- each register holds only bits that may stand
 pub record IsLegal (c : HypervisorRegisters) : Type 0 where

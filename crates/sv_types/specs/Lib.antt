@@ -14,6 +14,7 @@ pub mod Numbers
 pub mod Output
 pub mod Translation
 pub mod SecondStage
+pub mod CachedWalks
 pub mod Bits
 pub mod Registers
 pub mod Traps

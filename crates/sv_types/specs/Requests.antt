@@ -2,10 +2,12 @@
 -- reservations. Places are numbers of bytes in one memory.
 -- RISC-V Unprivileged manual, "Load and Store Instructions", "Load-Reserved/Store-Conditional Instructions", and the
 -- extension "Zicsr".
-use Rattle.std.specs.Prelude.{ℕ, ◌+◌, ◌-◌, ◌%◌, Bool, true, false, ◌&&◌, ◌==◌, if◌then◌else◌, nat_le, nat_lt, min, max, bit_or, Option, Some, None}
+use Rattle.std.specs.Prelude.{◌≡◌, ◌⊎◌, ℕ, ◌+◌, ◌-◌, ◌%◌, ◌<◌, Bool, true, false, ◌&&◌, ◌==◌, if◌then◌else◌, nat_le, nat_lt, min, max, bit_or, Option, Some, None}
 use Rattle.std.specs.Int.{Width, w8, w16, w32, w64, cast_signed}
 use Rattle.sv_types.specs.Bits.{without}
 use Rattle.sv_types.specs.Effects.{machine_word}
+use Rattle.sv_types.specs.Regions.{IsWidth}
+use Rattle.sv_types.specs.declared.effect.Effect.{Effect}
 use Rattle.sv_types.specs.declared.instruction.CsrOp.{CsrOp}
 use Rattle.sv_types.specs.declared.instruction.CsrOp.TheVariants.{Csrrw, Csrrs, Csrrc, Csrrwi, Csrrsi, Csrrci}
 
@@ -50,3 +52,16 @@ touches reserved place width = nat_lt (max reserved place) (min (reserved + 8) (
 unfoldable pub after_write : ℕ → ℕ → Option ℕ → Option ℕ
 after_write place width None = None
 after_write place width (Some reserved) = if touches reserved place width then None else Some reserved
+
+-- ---- what an effect asks
+
+-- the register exists, the next pc is a multiple of 4, and the width is one of memory's
+abbrev pub IsRequest : Effect → Type 0
+IsRequest (Effect.Set rd value next) = (rd < 32) × (next % 4 ≡ 0)
+IsRequest (Effect.Load rd address width signed) = (rd < 32) × IsWidth width
+IsRequest (Effect.Store address width value) = IsWidth width
+IsRequest (Effect.LoadReserved rd address width) = (rd < 32) × IsWidth width
+IsRequest (Effect.StoreConditional rd address width value) = (rd < 32) × IsWidth width
+IsRequest (Effect.Amo rd address width op value) = (rd < 32) × (((width ≡ 4) ⊎ (width ≡ 8)) × IsWidth width)
+IsRequest (Effect.Csr rd number op operand writes) = rd < 32
+IsRequest _ = Unit {0}

@@ -1,7 +1,7 @@
 -- The second stage of translation, both stages together, and the view of memory that a root gives.
 -- RISC-V Privileged manual, H extension: "Two-Stage Address Translation", "Guest Physical Address Translation",
 -- "Hypervisor Guest Address Translation and Protection (hgatp) Register"; Sv39x4.
-use Rattle.std.specs.Prelude.{◌≡◌, ℕ, ◌+◌, ◌*◌, ◌/◌, ◌^◌, ◌<◌, Bool, true, false, ◌&&◌, List, [], ◌∷◌, length, ◌==◌, if◌then◌else◌, nat_le, nat_lt, Option, Some, None, Result, Ok, Err}
+use Rattle.std.specs.Prelude.{◌≡◌, ℕ, ◌+◌, ◌*◌, ◌/◌, ◌^◌, ◌<◌, ◌≤◌, Bool, true, false, ◌&&◌, List, [], ◌∷◌, length, ◌==◌, if◌then◌else◌, nat_le, nat_lt, Option, Some, None, Result, Ok, Err}
 use Rattle.sv_types.specs.Bytes.{word, ram_base, ram_place, page_of, page_size}
 use Rattle.sv_types.specs.Regions.{Region, host_word}
 use Rattle.sv_types.specs.Instructions.{bits}
@@ -80,6 +80,26 @@ two_stages r hgatp s mode va access = after_first_stage r hgatp access (first_st
 pub record WalksInside (r : Region) (hgatp : ℕ) : Type 0 where
   pub inside : (gpa hpa : ℕ) (access : Access) → walk_guest r hgatp gpa access ≡ Some hpa → hpa < length r.tables + length r.ram
 
+-- ---- walks of the tables alone
+
+-- the entry at a host place in the tables, none elsewhere
+unfoldable pub entry_in_tables : List ℕ → ℕ → Option ℕ
+entry_in_tables tables at = if nat_le (at + 8) (length tables) then Some (word tables at 8) else None
+
+-- where a second-stage walk over a reader of entries leads
+abbrev pub guest_destination : (ℕ → Option ℕ) → ℕ → ℕ → Access → Destination
+guest_destination read hgatp gpa access = walk read (permits_guest access) (sv39x4_indices gpa) (root_of hgatp) gpa
+
+-- a walk reads entries of the tables alone: where no other entry can be read, it leads to the same place
+abbrev pub ReadsTablesAlone : Region → (hgatp gpa : ℕ) → Access → Type 0
+ReadsTablesAlone r hgatp gpa access =
+    guest_destination (entry_in_tables r.tables) hgatp gpa access ≡ guest_destination (entry_in_region r) hgatp gpa access
+
+-- every walk under a root reads the tables alone, and leads to RAM
+pub record WalksApart (r : Region) (hgatp : ℕ) : Type 0 where
+  pub reads : (gpa : ℕ) (access : Access) → gpa < 2 ^ 41 → ReadsTablesAlone r hgatp gpa access
+  pub leads : (gpa hpa : ℕ) (access : Access) → walk_guest r hgatp gpa access ≡ Some hpa → (length r.tables ≤ hpa) × (hpa < length r.tables + length r.ram)
+
 -- ---- views
 
 -- the accesses that a page of this protection answers in a view
@@ -107,21 +127,12 @@ view_answer table_bytes ram_pages view protections gpa access =
 abbrev pub with_ram : List ℕ → List ℕ → Region
 with_ram tables ram = record { tables = tables; ram = ram }
 
--- the entry at a host place in the tables, none elsewhere
-unfoldable pub entry_in_tables : List ℕ → ℕ → Option ℕ
-entry_in_tables tables at = if nat_le (at + 8) (length tables) then Some (word tables at 8) else None
-
--- where a second-stage walk over a reader of entries leads
-abbrev pub guest_destination : (ℕ → Option ℕ) → ℕ → ℕ → Access → Destination
-guest_destination read hgatp gpa access = walk read (permits_guest access) (sv39x4_indices gpa) (root_of hgatp) gpa
-
--- whatever RAM holds, every gpa of 64 bits is answered as the view says, and a walk that can read the tables alone
--- leads to the same place
+-- whatever RAM holds, every gpa of 64 bits is answered as the view says, and each walk reads the tables alone
 pub record IsView (tables : List ℕ) (ram_pages : ℕ) (protections : ℕ → Protection) (view : View) (hgatp : ℕ) : Type 0 where
   pub answers : (ram : List ℕ) (gpa : ℕ) (access : Access) → length ram ≡ page_size * ram_pages → gpa < 2 ^ 64 →
       walk_guest (with_ram tables ram) hgatp gpa access ≡ view_answer (length tables) ram_pages view protections gpa access
   pub reads : (ram : List ℕ) (gpa : ℕ) (access : Access) → length ram ≡ page_size * ram_pages → gpa < 2 ^ 41 →
-      guest_destination (entry_in_tables tables) hgatp gpa access ≡ guest_destination (entry_in_region (with_ram tables ram)) hgatp gpa access
+      ReadsTablesAlone (with_ram tables ram) hgatp gpa access
 
 -- what a view makes of where the first stage leads
 abbrev pub under_view : ℕ → ℕ → View → (ℕ → Protection) → Access → Destination → Result Place Fault

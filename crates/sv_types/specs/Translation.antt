@@ -2,6 +2,7 @@
 -- RISC-V Privileged manual, "Sv39: Page-Based 39-bit Virtual-Memory System", with "Virtual Address
 -- Translation Process" of Sv32 and "Supervisor Address Translation and Protection (satp) Register".
 use Rattle.std.specs.Prelude.{ℕ, ◌+◌, ◌*◌, ◌/◌, ◌%◌, ◌^◌, ◌-◌, Bool, not, ◌&&◌, ◌||◌, List, [], ◌∷◌, length, ◌==◌, if◌then◌else◌, Option, Some, None}
+use Rattle.sv_types.specs.Bits.{bit}
 use Rattle.sv_types.specs.Bytes.{word, in_ram, ram_place, page_size}
 use Rattle.sv_types.specs.Instructions.{bits}
 use Rattle.sv_types.specs.declared.wires.Access.{Access}
@@ -21,10 +22,6 @@ pub record Settings : Type 0 where
   pub satp : ℕ
   pub sum : Bool
   pub mxr : Bool
-
--- bit i of a number is set
-abbrev pub bit : ℕ → ℕ → Bool
-bit n i = n / 2 ^ i % 2 == 1
 
 -- ---- the bits of a table entry
 

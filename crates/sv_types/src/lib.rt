@@ -2,6 +2,7 @@
 #![tactic(auto)]
 
 mod bits;
+mod cached;
 mod cause;
 mod csr;
 mod effect;
@@ -14,13 +15,16 @@ mod name;
 mod outcome;
 mod policy;
 mod pte_bits;
+mod register_laws;
 mod saved;
 mod status;
+mod steps;
 mod translation;
 mod view_laws;
 mod wires;
 
 pub use bits::{has_bit, with_bits};
+pub use cached::CacheLine;
 pub use cause::Cause;
 pub use csr::{Csr, CsrFault};
 pub use effect::Effect;
@@ -35,8 +39,10 @@ pub use name::{MOST_NAME_BYTES, Name};
 pub use outcome::{Exception, Outcome, Wrote};
 pub use policy::{Export, ModulePolicy, Policy};
 pub use pte_bits::PteBits;
+pub use register_laws::law_guest_view;
 pub use saved::{BlockState, SavedModule};
 pub use status::Status;
+pub use steps::Steps;
 pub use translation::{Fault, GuestFault, Place};
-pub use view_laws::{law_two_stages, law_walks_inside};
+pub use view_laws::{law_two_stages, law_walks_apart, law_walks_inside};
 pub use wires::{Access, Exit, HRegs, Interrupt, Lines, Mode, Protection, View};

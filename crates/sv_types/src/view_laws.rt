@@ -3,7 +3,7 @@
 ghost use Rattle.std.specs.Prelude.{◌≡◌, ℕ, ◌*◌, List, length};
 ghost use Rattle.sv_types.specs.Bytes.{page_size};
 ghost use Rattle.sv_types.specs.Translation.{Settings, place};
-ghost use Rattle.sv_types.specs.SecondStage.{IsView, WalksInside, with_ram, two_stages, under_view};
+ghost use Rattle.sv_types.specs.SecondStage.{IsView, WalksInside, WalksApart, with_ram, two_stages, under_view};
 ghost use Rattle.sv_types.specs.declared.wires.Access.{Access as Kind};
 ghost use Rattle.sv_types.specs.declared.wires.Mode.{Mode as Privilege};
 ghost use Rattle.sv_types.specs.declared.wires.Protection.{Protection as Guard};
@@ -18,4 +18,9 @@ pub fn law_two_stages()
 /// Under a view, every second-stage walk leads into the region.
 pub fn law_walks_inside()
     ensures { (tables ram : List ℕ) (ram_pages hgatp : ℕ) (guards : ℕ → Guard) (view : Tree) → IsView tables ram_pages guards view hgatp → length ram ≡ page_size * ram_pages → WalksInside (with_ram tables ram) hgatp }
+{}
+
+/// Under a view, every second-stage walk reads the tables alone and leads to RAM.
+pub fn law_walks_apart()
+    ensures { (tables ram : List ℕ) (ram_pages hgatp : ℕ) (guards : ℕ → Guard) (view : Tree) → IsView tables ram_pages guards view hgatp → length ram ≡ page_size * ram_pages → WalksApart (with_ram tables ram) hgatp }
 {}

@@ -60,9 +60,10 @@ fn mode_at_return(status: u64) -> Mode
 
 /// Where a guest's trap goes: to the base of `vstvec`, or for an interrupt, where its bit 0 is set, to the place of the
 /// cause behind it, modulo 2^64.
-#[tactic(auto, unfolding(sv_types::specs::Traps::trap_target))]
+#[tactic(auto, using(sv_types::proofs::RegisterBits::target_aligned), unfolding(sv_types::specs::Traps::trap_target))]
 pub fn target(csrs: &Csrs, interrupt: bool, cause: u64) -> u64
-    ensures { result ≡ trap_target csrs.now.vstvec interrupt cause }
+    ensures value { result ≡ trap_target csrs.now.vstvec interrupt cause }
+    ensures aligned { result % 4 ≡ 0 }
 {
     let base = csrs.vstvec & !VECTOR_MODE;
     if interrupt && has_bit(csrs.vstvec, 0) {
@@ -84,6 +85,7 @@ pub fn into_guest(
 ) -> u64
     requires { pc % 4 ≡ 0 }
     ensures target { result ≡ trap_target csrs.old.vstvec interrupt cause }
+    ensures aligned { result % 4 ≡ 0 }
     ensures registers { csrs.new ≡ registers_at_trap csrs.old from pc interrupt cause tval }
 {
     csrs.vsstatus = status_at_trap(csrs.vsstatus, from);
@@ -112,6 +114,7 @@ pub fn into_hypervisor(csrs: &mut Csrs, exit: Exit) -> Exit
 #[tactic(auto, unfolding(sv_types::specs::HypervisorRegisters::registers_at_return))]
 pub fn return_to_guest(csrs: &mut Csrs) -> (u64, Mode)
     ensures pc { result.0 ≡ csrs.old.vsepc }
+    ensures aligned { result.0 % 4 ≡ 0 }
     ensures mode { result.1 ≡ mode_at_return csrs.old.vsstatus }
     ensures registers { csrs.new ≡ registers_at_return csrs.old }
 {

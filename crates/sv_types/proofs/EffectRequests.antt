@@ -10,7 +10,7 @@ use Rattle.sv_types.specs.declared.effect.Effect.TheVariants as Effect
 use Rattle.sv_types.specs.Regions.{IsWidth}
 use Rattle.sv_types.specs.Encoding.{fits, is_width}
 use Rattle.sv_types.specs.Effects.{effect_of, register, plus, even, next_pc, immediate, jump, branch, branch_taken, load_width, store_width}
-use Rattle.hart.specs.Conditions.{IsRequest}
+use Rattle.sv_types.specs.Requests.{IsRequest}
 
 next_aligned : (pc : ℕ) → pc % 4 ≡ 0 → next_pc pc % 4 ≡ 0
 next_aligned pc aligned = omega arith

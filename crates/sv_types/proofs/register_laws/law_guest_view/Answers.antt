@@ -1,6 +1,6 @@
 -- Each clause is a lemma of the definitions.
 use Rattle.sv_types.proofs.GuestViews.{guest_accesses, reached_reads, reached_writes, guest_traps, guest_returns, guest_pending}
-use Rattle.csr_file.proofs.law.law_guest_view.Goals as goal
+use Rattle.sv_types.proofs.register_laws.law_guest_view.Goals as goal
 
 pub returns : goal.returns
 returns c = record {

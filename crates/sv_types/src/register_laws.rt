@@ -1,4 +1,5 @@
-// What the hardware shows a guest.
+// A law of the registers: what the hardware shows a guest. A law takes no argument and does nothing; its clauses are the
+// theorem.
 
 ghost use Rattle.std.specs.Prelude.{◌≡◌, ℕ, Bool, true, Some};
 ghost use Rattle.std.specs.Result.{result_ok};
