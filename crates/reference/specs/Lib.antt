@@ -12,3 +12,5 @@ pub mod Loads
 pub mod Turn
 pub mod Run
 pub mod Start
+pub mod Origins
+pub mod Soundness

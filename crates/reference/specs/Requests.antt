@@ -153,5 +153,5 @@ carry_out_csr r h hart w rd op operand writes None = exception r h hart Cause.Il
 carry_out_csr r h hart w rd op operand writes (Some csr) =
     carried_out r h (stepped_with (if writes then with_csr_set hart csr (csr_value op (csr_now r h hart csr) operand) else hart) rd (csr_now r h hart csr))
 
-abbrev pub csr_named : Hart → (number : ℕ) → (writes : Bool) → Option Csr
-csr_named hart number writes = guest_access hart.mode hart.supervisor number writes
+abbrev pub csr_asked : Hart → (number : ℕ) → (writes : Bool) → Option Csr
+csr_asked hart number writes = guest_access hart.mode hart.supervisor number writes

@@ -1,7 +1,7 @@
 -- One turn of a hart: an interrupt, a fetch, an instruction. The first case that applies is done.
 -- RISC-V Unprivileged manual, "RV32I", "A", "Zicsr"; Privileged manual, "Supervisor Instructions", "Supervisor Cause
 -- Register" (the priority of exceptions). Demotion is this project's own.
-use Rattle.std.specs.Prelude.{ℕ, true, List, ◌==◌, if◌then◌else◌, Option, Some, None, slice_get}
+use Rattle.std.specs.Prelude.{ℕ, List, ◌==◌, if◌then◌else◌, Option, Some, None, slice_get}
 use Rattle.sv_types.specs.Bytes.{word, in_ram, ram_place, page_of, place_in_page}
 use Rattle.sv_types.specs.Effects.{effect_of, set_register}
 use Rattle.sv_types.specs.Instructions.{instruction_of}
@@ -20,7 +20,7 @@ use Rattle.reference.specs.States.{State, Hart, Loading, with_hart}
 use Rattle.reference.specs.Counting.{count, note, count_demote}
 use Rattle.reference.specs.Devices.{lines_at}
 use Rattle.reference.specs.Trapping.{Interrupted, trap, exception, returned_from_trap}
-use Rattle.reference.specs.Requests.{stepped, carried_out, source_of, target_of, settings_of, csr_named, carry_out_load, carry_out_store, carry_out_load_reserved, carry_out_store_conditional, carry_out_amo, carry_out_csr}
+use Rattle.reference.specs.Requests.{stepped, carried_out, source_of, target_of, settings_of, csr_asked, carry_out_load, carry_out_store, carry_out_load_reserved, carry_out_store_conditional, carry_out_amo, carry_out_csr}
 use Rattle.reference.specs.ModuleCalls.{call}
 use Rattle.reference.specs.Loads.{load_step}
 
@@ -60,7 +60,7 @@ carry_out_effect r h hart w (Effect.StoreConditional rd address width value) =
 carry_out_effect r h hart w (Effect.Amo rd address width op value) =
     carry_out_amo r h hart rd address width op value (target_of r hart address width)
 carry_out_effect r h hart w (Effect.Csr rd number op operand writes) =
-    carry_out_csr r h hart w rd op operand writes (csr_named hart number writes)
+    carry_out_csr r h hart w rd op operand writes (csr_asked hart number writes)
 carry_out_effect r h hart w Effect.Ecall = carry_out_ecall r h hart hart.mode
 carry_out_effect r h hart w Effect.Ebreak = exception r h hart Cause.Breakpoint hart.pc
 carry_out_effect r h hart w Effect.Sret = carry_out_sret r h hart w hart.mode

@@ -1,0 +1,257 @@
+-- Beats, keys and ticks: the machine behind one stands for the state behind it, and nothing else changed.
+use Rattle.std.proofs.Common.{◌≡◌, ℕ, suc, ◌+◌, ◌*◌, ◌%◌, ◌<◌, ◌≤◌, List, [], ◌∷◌, length, map, refl, sym, ◌∙◌, ap, subst, Bool, true, false, not, ◌&&◌, arith, slice_get}
+use Rattle.std.specs.Prelude.{Some, None, option_map, if◌then◌else◌, nat_le}
+use Rattle.std.proofs.lemmas.Bool.Decides.{nat_tests}
+use Rattle.sv_types.specs.Bytes.{overwrite, in_ram, page_of, page_size, ram_base, ram_place}
+use Rattle.sv_types.specs.Clock.{after_tick}
+use Rattle.sv_types.specs.Console.{after_key, has_room}
+use Rattle.sv_types.specs.Regions.{IsRegion}
+use Rattle.sv_types.specs.SecondStage.{with_ram}
+use Rattle.sv_types.specs.declared.event.Counts.{Counts}
+use Rattle.sv_types.specs.declared.event.Event.{Event}
+use Rattle.sv_types.specs.declared.event.Event.TheVariants.{Turn, Beat, Key, Tick}
+use Rattle.sv_types.proofs.ByteLemmas.{length_overwrite}
+use Rattle.sv_types.specs.declared.event.Note.TheVariants.{Denied}
+use Rattle.sv_types.specs.declared.event.Verdict.{Verdict}
+use Rattle.sv_types.specs.declared.event.Verdict.TheVariants.{Running}
+use Rattle.reference.specs.States.{State, Hart, Disk, Journal, protection_in, is_protected, is_approved_in, has_number}
+use Rattle.reference.specs.Counting.{count, counted, count_beat, count_key, count_tick, count_dropped, noted, count_denied}
+use Rattle.reference.specs.Disk.{disk_beat, beat_size, Beaten, Move, Idle, FromRam, IntoRam, DeniedAt, OutsideRam}
+use Rattle.reference.specs.Devices.{beat, key, tick, after_move, with_bytes, with_disk, hart_after_write}
+use Rattle.machine_model.specs.Machine.{Machine, raised}
+use Rattle.machine_model.specs.HardwareEvent.{recorded, IsPermitted, OnlyDisk, IsEvent, Happens, HappensUnder}
+use Rattle.machine_model.specs.HostEvents.{beat_served, key_served, tick_served, event_served}
+use Rattle.reference.specs.Run.{happen_under, step, happen}
+use Rattle.machine_model.specs.StandsFor.{Unseen, IsRightFor, StandsFor, machine_of, is_free, protections_of, without_printed}
+use Rattle.reference.specs.Soundness.{IsSound}
+use Rattle.answer_laws.proofs.BeatsAgree.{beat_agrees, free_by, map_get}
+use Rattle.attempt_laws.proofs.Hosts.{hosts_forget}
+use Rattle.run_laws.proofs.Sounds.{bytes_keep_load}
+use Rattle.run_laws.proofs.StepsSound.{IsFreeBeat, FreeMove, beat_page, beat_sound, counted_sound, step_goes}
+use Rattle.answer_laws.proofs.ViewsMeet.{get_numbers}
+
+-- ---- what is open stays so
+
+length_map : (f : Hart → Hart) (harts : List Hart) → length (map f harts) ≡ length harts
+length_map f [] = refl
+length_map f (x ∷ harts) = ap suc (length_map f harts)
+
+region_kept : (tables ram bytes : List ℕ) (place : ℕ) → place + length bytes ≤ length ram → IsRegion (with_ram tables ram) → IsRegion (with_ram tables (overwrite ram place bytes))
+region_kept tables ram bytes place inside p =
+    let same : length (overwrite ram place bytes) ≡ length ram = length_overwrite ram bytes place inside in
+    record { tables = p.tables; ram = rw same p.ram; most = rw same p.most; small = rw same p.small }
+
+open_moved : (o : Unseen) (r : State) (disk : Disk) (x : Move) → IsRightFor o r → FreeMove r x → IsRightFor o (after_move (with_disk r disk) x)
+unfolding after_move with_bytes
+open_moved o r disk Idle p free = record { views = p.views; region = p.region; exits = p.exits; cleared = p.cleared }
+open_moved o r disk (FromRam gpa) p free = record { views = p.views; region = p.region; exits = p.exits; cleared = p.cleared }
+open_moved o r disk (IntoRam gpa bytes) p free = record {
+  views = p.views;
+  region = region_kept o.tables r.ram bytes (ram_place gpa) (beat_page r gpa bytes free).inside p.region;
+  exits = p.exits ∙ sym (length_map (hart_after_write (ram_place gpa) (length bytes)) r.harts);
+  cleared = p.cleared;
+}
+open_moved o r disk (DeniedAt gpa) p free = record { views = p.views; region = p.region; exits = p.exits; cleared = p.cleared }
+open_moved o r disk OutsideRam p free = record { views = p.views; region = p.region; exits = p.exits; cleared = p.cleared }
+
+open_beat : (o : Unseen) (r : State) → IsRightFor o r → IsSound r → IsRightFor o (beat r)
+unfolding beat
+open_beat o r p s =
+    open_moved o r (disk_beat r.devices.disk r.ram (λ page. not (is_protected r page))).disk (disk_beat r.devices.disk r.ram (λ page. not (is_protected r page))).move p (beat_sound r s).move
+
+open_key : (o : Unseen) (r : State) (byte : ℕ) (room : Bool) → IsRightFor o r → o.cleared ≤ length (if room then r.journal else counted count_dropped r.journal).printed
+open_key o r byte true p = p.cleared
+open_key o r byte false p = p.cleared
+
+open_key_event : (o : Unseen) (r : State) (byte : ℕ) → IsRightFor o r → IsRightFor o (key (count r count_key) byte)
+unfolding key
+open_key_event o r byte p = record {
+  views = p.views;
+  region = p.region;
+  exits = p.exits;
+  cleared = open_key o (count r count_key) byte (has_room r.devices.console)
+      (record { views = p.views; region = p.region; exits = p.exits; cleared = p.cleared });
+}
+
+open_tick_event : (o : Unseen) (r : State) (n : ℕ) → IsRightFor o r → IsRightFor o (tick (count r count_tick) n)
+unfolding tick
+open_tick_event o r n p = record { views = p.views; region = p.region; exits = p.exits; cleared = p.cleared }
+
+-- ---- what a beat changes
+
+permits : (r : State) (page : ℕ) → page < r.rules.ram_pages → not (is_protected r page) ≡ true → slice_get (map is_free (protections_of r)) page ≡ Some true
+unfolding protection_in is_protected
+permits r page below free =
+    let first : 0 + page ≡ page = omega arith in
+    map_get is_free (protections_of r) page ∙ ap (option_map is_free) (get_numbers (protection_in r.approved r.held) 0 r.rules.ram_pages page below
+    ∙ ap (λ (k : ℕ). Some (protection_in r.approved r.held k)) first)
+    ∙ ap Some (free_by (is_approved_in r.approved page) (has_number r.held page) ∙ free)
+
+in_one_page : (p n : ℕ) → p % 64 ≡ 0 → n ≤ 64 → p % 4096 + n ≤ 4096
+in_one_page p n aligned short = grind arith
+
+page_below : (ram : List ℕ) (gpa n : ℕ) → length ram ≡ page_size * n → in_ram ram gpa beat_size ≡ true → page_of gpa < n
+page_below ram gpa n size inside =
+    let tests : (nat_le ram_base gpa && nat_le (ram_place gpa + 64) (4096 * n)) ≡ true = ap (λ (k : ℕ). nat_le ram_base gpa && nat_le (ram_place gpa + 64) k) (sym size) ∙ inside in
+    grind (arith, nat_tests)
+
+fewer_inside : (ram : List ℕ) (gpa n : ℕ) → n ≤ 64 → in_ram ram gpa 64 ≡ true → in_ram ram gpa n ≡ true
+fewer_inside ram gpa n short inside = grind (arith, nat_tests)
+
+beat_permitted : (o : Unseen) (r : State) (gpa : ℕ) (bytes : List ℕ) → IsSound r → IsFreeBeat r gpa bytes → IsPermitted (machine_of o r) (Some (record { gpa = gpa; bytes = bytes }))
+unfolding machine_of
+beat_permitted o r gpa bytes s k = record {
+  inside = fewer_inside r.ram gpa (length bytes) k.short k.inside;
+  one_page = in_one_page (ram_place gpa) (length bytes) k.aligned k.short;
+  permitted = permits r (page_of gpa) (page_below r.ram gpa r.rules.ram_pages s.size k.inside) k.free;
+}
+
+moved_frame : (o : Unseen) (r : State) (f : Counts → Counts) (disk : Disk) (x : Move) → IsSound r → FreeMove r x → OnlyDisk (machine_of o r) (machine_of o (after_move (with_disk (count r f) disk) x))
+unfolding machine_of after_move with_bytes
+moved_frame o r f disk Idle s free =
+    record { disk = disk; bytes = None; new = record { counts = f r.journal.counts; notes = r.journal.notes }; permitted = tt; same = refl }
+moved_frame o r f disk (FromRam gpa) s free =
+    record { disk = disk; bytes = None; new = record { counts = f r.journal.counts; notes = r.journal.notes }; permitted = tt; same = refl }
+moved_frame o r f disk (IntoRam gpa bytes) s free = record {
+  disk = disk;
+  bytes = Some (record { gpa = gpa; bytes = bytes });
+  new = record { counts = f r.journal.counts; notes = r.journal.notes };
+  permitted = beat_permitted o r gpa bytes s free;
+  same = rw (hosts_forget (length o.tables) o.exits r.harts (ram_place gpa) (length bytes), bytes_keep_load r (ram_place gpa) bytes s (beat_page r gpa bytes free)) refl;
+}
+moved_frame o r f disk (DeniedAt gpa) s free =
+    let j : Journal = noted (Denied gpa) (counted count_denied (counted f r.journal)) in
+    record { disk = disk; bytes = None; new = record { counts = j.counts; notes = j.notes }; permitted = tt; same = refl }
+moved_frame o r f disk OutsideRam s free =
+    record { disk = disk; bytes = None; new = record { counts = f r.journal.counts; notes = r.journal.notes }; permitted = tt; same = refl }
+
+count_unprotected : (r : State) (f : Counts → Counts) (page : ℕ) → not (is_protected (count r f) page) ≡ true → not (is_protected r page) ≡ true
+unfolding is_protected
+count_unprotected r f page e = e
+
+count_free : (r : State) (f : Counts → Counts) (x : Move) → FreeMove (count r f) x → FreeMove r x
+count_free r f Idle free = tt
+count_free r f (FromRam gpa) free = tt
+count_free r f (IntoRam gpa bytes) free = record { aligned = free.aligned; short = free.short; inside = free.inside; free = count_unprotected r f (page_of gpa) free.free }
+count_free r f (DeniedAt gpa) free = tt
+count_free r f OutsideRam free = tt
+
+beat_frame : (o : Unseen) (r : State) (f : Counts → Counts) → IsSound r → IsSound (count r f) → OnlyDisk (machine_of o r) (machine_of o (beat (count r f)))
+unfolding beat
+beat_frame o r f s t =
+    let b : Beaten = disk_beat r.devices.disk r.ram (λ page. not (is_protected (count r f) page)) in
+    moved_frame o r f b.disk b.move s (count_free r f b.move (beat_sound (count r f) t).move)
+
+-- ---- keys and time
+
+-- a key changes counts alone beside the queue
+key_frame : (o : Unseen) (r : State) (byte : ℕ) (room : Bool)
+    → record (machine_of o r) {
+      devices = record r.devices { console = after_key r.devices.console byte };
+      journal = without_printed o.cleared (if room then counted count_key r.journal else counted count_dropped (counted count_key r.journal));
+    }
+    ≡ recorded (record (machine_of o r) { devices = record r.devices { console = after_key r.devices.console byte } }) (record {
+      counts = (if room then counted count_key r.journal else counted count_dropped (counted count_key r.journal)).counts;
+      notes = (if room then counted count_key r.journal else counted count_dropped (counted count_key r.journal)).notes;
+    })
+unfolding machine_of
+key_frame o r byte true = refl
+key_frame o r byte false = refl
+
+key_same : (o : Unseen) (r : State) (byte : ℕ) → key_served (raised (machine_of o r) count_key) byte ≡ machine_of o (key (count r count_key) byte)
+unfolding key_served key machine_of
+key_same o r byte = choice (has_room r.devices.console)
+  where
+    choice : (room : Bool) → record (machine_of o r) {
+      devices = record r.devices { console = after_key r.devices.console byte };
+      journal = if room then counted count_key (without_printed o.cleared r.journal) else counted count_dropped (counted count_key (without_printed o.cleared r.journal));
+    } ≡ record (machine_of o r) {
+      devices = record r.devices { console = after_key r.devices.console byte };
+      journal = without_printed o.cleared (if room then counted count_key r.journal else counted count_dropped (counted count_key r.journal));
+    }
+    choice true = refl
+    choice false = refl
+
+key_event : (o : Unseen) (r : State) (byte : ℕ) → Happens (machine_of o r) (Key byte) (machine_of o (key (count r count_key) byte))
+unfolding key machine_of
+key_event o r byte =
+    let room : Bool = has_room r.devices.console in
+    let j : Journal = if room then counted count_key r.journal else counted count_dropped (counted count_key r.journal) in
+    record { console = after_key r.devices.console byte; new = record { counts = j.counts; notes = j.notes }; same = key_frame o r byte room }
+
+tick_same : (o : Unseen) (r : State) (n : ℕ) → tick_served (raised (machine_of o r) count_tick) n ≡ machine_of o (tick (count r count_tick) n)
+unfolding tick_served tick machine_of
+tick_same o r n = refl
+
+tick_event : (o : Unseen) (r : State) (n : ℕ) → Happens (machine_of o r) (Tick n) (machine_of o (tick (count r count_tick) n))
+unfolding tick machine_of
+tick_event o r n = record {
+  time = (after_tick r.devices.clock n).time;
+  new = record { counts = count_tick r.journal.counts; notes = r.journal.notes };
+  same = refl;
+}
+
+-- ---- the events that are no turn
+
+abbrev pub IsNoTurn : Event → Type 0
+IsNoTurn (Turn h) = ⊥
+IsNoTurn Beat = Unit {0}
+IsNoTurn (Key byte) = Unit {0}
+IsNoTurn (Tick n) = Unit {0}
+
+raised_same : (o : Unseen) (r : State) (f : Counts → Counts) → raised (machine_of o r) f ≡ machine_of o (count r f)
+unfolding machine_of
+raised_same o r f = refl
+
+-- what is known of the machine behind an event
+record Follows (o : Unseen) (r : State) (e : Event) (after : State) : Type 0 where
+  same : event_served (machine_of o r) e ≡ machine_of o after
+  parts : IsRightFor o after
+  frame : Happens (machine_of o r) e (machine_of o after)
+
+follows : (o : Unseen) (r : State) (e : Event) → IsRightFor o r → IsSound r → IsNoTurn e → Follows o r e (happen r e)
+unfolding event_served happen
+follows o r (Turn h) p s no_turn = absurd no_turn
+follows o r Beat p s no_turn =
+    let t : IsSound (count r count_beat) = (counted_sound r count_beat s).sound in
+    let p2 : IsRightFor o (count r count_beat) = record { views = p.views; region = p.region; exits = p.exits; cleared = p.cleared } in
+    record {
+      same = ap beat_served (raised_same o r count_beat) ∙ beat_agrees o (count r count_beat) t;
+      parts = open_beat o (count r count_beat) p2 t;
+      frame = beat_frame o r count_beat s t;
+    }
+follows o r (Key byte) p s no_turn = record {
+  same = key_same o r byte;
+  parts = open_key_event o r byte p;
+  frame = key_event o r byte;
+}
+follows o r (Tick n) p s no_turn = record { same = tick_same o r n; parts = open_tick_event o r n p; frame = tick_event o r n }
+
+running : (r : State) (e : Event) → r.journal.verdict ≡ Running → step r e ≡ happen r e
+unfolding step happen_under
+running r e on = ap (λ (v : Verdict). happen_under v r e) on
+
+event_under : (m after : Machine) (e : Event) → m.journal.verdict ≡ Running → Happens m e after → IsEvent m e after
+unfolding IsEvent
+event_under m after e on happens = subst (λ (v : Verdict). HappensUnder v m e after) (sym on) happens
+
+verdict_of : (o : Unseen) (r : State) → (machine_of o r).journal.verdict ≡ r.journal.verdict
+unfolding machine_of
+verdict_of o r = refl
+
+-- a beat, a key or a tick of a machine that runs: it stands for the state behind the event, and no more was changed
+pub event_law : (m : Machine) (r : State) (e : Event) → StandsFor m r → r.journal.verdict ≡ Running → IsNoTurn e
+    → StandsFor (event_served m e) (step r e) × IsEvent m e (event_served m e)
+event_law m r e stands on no_turn =
+    let o : Unseen = stands.unseen in
+    let k : Follows o r e (happen r e) = follows o r e stands.unseen_is_right stands.sound no_turn in
+    let same : event_served m e ≡ machine_of o (happen r e) = ap (λ (x : Machine). event_served x e) stands.same ∙ k.same in (
+      subst (StandsFor (event_served m e)) (sym (running r e on)) (record {
+        unseen = o;
+        same = same;
+        unseen_is_right = k.parts;
+        sound = subst IsSound (running r e on) (step_goes r e stands.sound).sound;
+      }),
+      event_under m (event_served m e) e (ap (λ (x : Machine). x.journal.verdict) stands.same ∙ verdict_of o r ∙ on)
+          (subst (λ (x : Machine). Happens x e (event_served m e)) (sym stands.same) (subst (Happens (machine_of o r) e) (sym same) k.frame)),
+    )

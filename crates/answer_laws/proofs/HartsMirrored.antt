@@ -1,0 +1,262 @@
+-- Traps, returns, demotion, fetches and accesses: SecVisor's answers go with the reference machine's.
+use Rattle.std.proofs.Common.{◌≡◌, ℕ, ◌-◌, ◌%◌, ◌≤◌, [], ◌∷◌, length, refl, sym, ap, subst, Bool, true, false}
+use Rattle.std.specs.Prelude.{Option, Some, None, option_map, ◌==◌}
+use Rattle.sv_types.specs.Bytes.{in_ram}
+use Rattle.sv_types.specs.Causes.{cause_number}
+use Rattle.sv_types.specs.HypervisorRegisters.{registers_at_trap, HypervisorRegisters, registers_at_return}
+use Rattle.sv_types.specs.Requests.{loaded_value}
+use Rattle.sv_types.specs.Console.{after_load, loaded}
+use Rattle.sv_types.specs.Traps.{supervisor_at_trap, trap_target, supervisor_at_return, mode_at_return}
+use Rattle.sv_types.specs.declared.cause.Cause.{Cause}
+use Rattle.sv_types.specs.declared.effect.Effect.{Effect}
+use Rattle.sv_types.specs.declared.wires.Exit.{Exit}
+use Rattle.sv_types.specs.declared.wires.Mode.{Mode}
+use Rattle.sv_types.specs.declared.wires.Mode.TheVariants.{Kernel, User}
+use Rattle.sv_types.specs.declared.event.Note.TheVariants.{Demote}
+use Rattle.sv_types.specs.declared.event.Rule.TheVariants.{Entry, Write}
+use Rattle.sv_types.specs.declared.event.Verdict.TheVariants.{Stopped}
+use Rattle.attempt_laws.specs.Agree.{IsAt}
+use Rattle.reference.specs.Counting.{counted, noted, machine_ended, count_retired, count_return, count_demote, count_trap, printed_low}
+use Rattle.reference.specs.Disk.{disk_load}
+use Rattle.reference.specs.Devices.{port_load, device_load_of, DeviceLoad, DeviceStore, Port, ConsoleAt, DiskAt, Nowhere, device_load, device_store, port_store, port_at}
+use Rattle.machine_model.specs.HostHarts.{host_at_return, host_demoted, host_passed, host_with, host_trap, host_exception, host_illegal, host_return, host_demote, served_fetch, host_transformed, host_device_load, host_device_store, host_load, host_store, host_write_stopped, host_write, served_access, host_virtual, served_trap, host_at_trap}
+use Rattle.machine_model.specs.Machine.{HostHart}
+use Rattle.reference.specs.States.{State, Hart, Devices, Disk, Journal, without_reservation}
+use Rattle.reference.specs.Requests.{carry_out_device_load, carry_out_device_store, write_stopped, stepped, stepped_with}
+use Rattle.machine_model.specs.Served.{serve_fetch, serve_load, serve_store, serve_write, serve_access, serve_virtual, serve_trap, is_implicit, exit_gpa, is_sret_word, transformed}
+use Rattle.machine_model.specs.StandsFor.{Unseen, machine_of, host_hart, without_printed}
+use Rattle.reference.specs.Trapping.{hart_at_trap, hart_at_return, trap_from, exception, returned_from_trap, may_enter}
+use Rattle.reference.specs.Turn.{demote, demoted, illegal_instruction}
+use Rattle.attempt_laws.proofs.Under.{same_mode}
+use Rattle.answer_laws.proofs.Mirrored.{Mirrors, choose, one_hart, no_hart, Adds, prints_none, dropped_more}
+
+abbrev pub host_in : Unseen → HypervisorRegisters → Hart → HostHart
+host_in o c hart = host_hart (length o.tables) c hart
+
+-- ---- traps
+
+stopped : (o : Unseen) (r : State) (h : ℕ) (hart : Hart) (c : HypervisorRegisters) (j : Journal) → IsAt o r h hart c → Adds r.journal.printed j.printed
+    → Mirrors o r h (record (machine_of o r) { journal = without_printed o.cleared j }) (record r { journal = j })
+unfolding machine_of
+stopped o r h hart c j at adds = no_hart o r h hart c r.loading _ j at refl adds
+
+counted_trap : (c : ℕ) (mode : Mode) (j : Journal) → without_printed c (counted (count_trap mode) j) ≡ counted (count_trap mode) (without_printed c j)
+counted_trap c mode j = refl
+
+pub mirror_trap : (t : ℕ) (c : HypervisorRegisters) (hart : Hart) (interrupt : Bool) (cause tval : ℕ)
+    → host_at_trap interrupt cause tval (host_hart t c hart) ≡ host_hart t c (hart_at_trap hart hart.mode interrupt cause tval)
+unfolding host_at_trap hart_at_trap registers_at_trap supervisor_at_trap
+mirror_trap t c hart interrupt cause tval = rw (same_mode hart.mode) refl
+
+same_counteren : (hart : Hart) (from : Mode) (interrupt : Bool) (cause tval : ℕ)
+    → hart.supervisor.scounteren ≡ (hart_at_trap hart from interrupt cause tval).supervisor.scounteren
+unfolding hart_at_trap supervisor_at_trap
+same_counteren hart from interrupt cause tval = refl
+
+pub trap_mirrors : (o : Unseen) (r : State) (h : ℕ) (hart : Hart) (c : HypervisorRegisters) (interrupt : Bool) (cause tval : ℕ) → IsAt o r h hart c
+    → Mirrors o r h (host_trap (machine_of o r) h (host_in o c hart) hart.mode interrupt cause tval) (trap_from r h hart hart.mode interrupt cause tval)
+unfolding machine_of trap_from
+trap_mirrors o r h hart c interrupt cause tval at =
+    choose o r h (may_enter r.rules hart.mode (trap_target hart.supervisor.stvec interrupt cause)) _ _ _ _
+    (one_hart o r h hart (hart_at_trap hart hart.mode interrupt cause tval) c (host_at_trap interrupt cause tval) r.devices (counted (count_trap hart.mode) r.journal) at
+    (mirror_trap (length o.tables) c hart interrupt cause tval) (same_counteren hart hart.mode interrupt cause tval) refl (prints_none r.journal.printed))
+    (stopped o r h hart c (machine_ended (Stopped (Entry (trap_target hart.supervisor.stvec interrupt cause)) h r.journal.counts.turns) r.journal) at (prints_none r.journal.printed))
+
+pub exception_mirrors : (o : Unseen) (r : State) (h : ℕ) (hart : Hart) (c : HypervisorRegisters) (cause : Cause) (tval : ℕ) → IsAt o r h hart c
+    → Mirrors o r h (host_exception (machine_of o r) h (host_in o c hart) hart.mode cause tval) (exception r h hart cause tval)
+exception_mirrors o r h hart c cause tval at = trap_mirrors o r h hart c false (cause_number cause) tval at
+
+-- ---- returns
+
+mirror_return : (t : ℕ) (c : HypervisorRegisters) (hart : Hart) → host_at_return (host_hart t c hart) ≡ host_hart t c (hart_at_return hart)
+unfolding host_at_return hart_at_return registers_at_return supervisor_at_return
+mirror_return t c hart = refl
+
+returned_counteren : (hart : Hart) → hart.supervisor.scounteren ≡ (hart_at_return hart).supervisor.scounteren
+unfolding hart_at_return supervisor_at_return
+returned_counteren hart = refl
+
+pub return_mirrors : (o : Unseen) (r : State) (h : ℕ) (hart : Hart) (c : HypervisorRegisters) → IsAt o r h hart c
+    → Mirrors o r h (host_return (machine_of o r) h (host_in o c hart)) (returned_from_trap r h hart)
+unfolding machine_of returned_from_trap
+return_mirrors o r h hart c at =
+    one_hart o r h hart (hart_at_return hart) c host_at_return r.devices (counted (count_return (mode_at_return hart.supervisor.sstatus)) r.journal) at
+    (mirror_return (length o.tables) c hart) (returned_counteren hart) refl (prints_none r.journal.printed)
+
+-- ---- demotion and fetches
+
+mirror_demoted : (t : ℕ) (c : HypervisorRegisters) (hart : Hart) → host_demoted (host_hart t c hart) ≡ host_hart t c (demoted hart)
+unfolding host_demoted
+mirror_demoted t c hart = refl
+
+demote_mirrors : (o : Unseen) (r : State) (h : ℕ) (hart : Hart) (c : HypervisorRegisters) (gpa : ℕ) → IsAt o r h hart c
+    → Mirrors o r h (host_demote (machine_of o r) h (host_in o c hart) gpa) (demote r h hart gpa)
+unfolding machine_of
+demote_mirrors o r h hart c gpa at =
+    one_hart o r h hart (demoted hart) c host_demoted r.devices (noted (Demote h r.journal.counts.turns hart.pc gpa) (counted count_demote r.journal)) at
+    (mirror_demoted (length o.tables) c hart) refl refl (prints_none r.journal.printed)
+
+pub fetch_mirrors : (o : Unseen) (r : State) (h : ℕ) (hart : Hart) (c : HypervisorRegisters) (mode : Mode) (exit : Exit) → IsAt o r h hart c → hart.mode ≡ mode
+    → Mirrors o r h (served_fetch (machine_of o r) h (host_in o c hart) mode exit) (serve_fetch r h hart mode exit)
+unfolding machine_of served_fetch serve_fetch
+fetch_mirrors o r h hart c User exit at e = subst (λ (mode : Mode). Mirrors o r h (host_exception (machine_of o r) h (host_in o c hart) mode Cause.InstrAccess exit.stval) (exception r h hart Cause.InstrAccess exit.stval)) e (exception_mirrors o r h hart c Cause.InstrAccess exit.stval at)
+fetch_mirrors o r h hart c Kernel exit at e =
+    let refused : Mirrors o r h (host_exception (machine_of o r) h (host_in o c hart) Kernel Cause.InstrAccess exit.stval) (exception r h hart Cause.InstrAccess exit.stval) =
+    subst (λ (mode : Mode). Mirrors o r h (host_exception (machine_of o r) h (host_in o c hart) mode Cause.InstrAccess exit.stval) (exception r h hart Cause.InstrAccess exit.stval)) e (exception_mirrors o r h hart c Cause.InstrAccess exit.stval at) in
+    choose o r h (is_implicit exit) _ _ _ _ refused
+    (choose o r h (in_ram r.ram (exit_gpa exit) 4) _ _ _ _ (demote_mirrors o r h hart c (exit_gpa exit) at) refused)
+
+-- ---- what is printed
+
+pub printed_mirrors : (cleared value : ℕ) (j : Journal) → cleared ≤ length j.printed → printed_low value (without_printed cleared j) ≡ without_printed cleared (printed_low value j)
+printed_mirrors cleared value j small = rw (dropped_more j.printed ((value % 256) ∷ []) cleared small) refl
+
+-- a byte is printed
+pub prints_low : (value : ℕ) (j : Journal) → Adds j.printed (printed_low value j).printed
+prints_low value j = record { added = (value % 256) ∷ []; same = refl }
+
+-- ---- devices
+
+mirror_with : (t : ℕ) (c : HypervisorRegisters) (hart : Hart) (rd value : ℕ) → host_with rd value (host_hart t c hart) ≡ host_hart t c (stepped_with (without_reservation hart) rd value)
+unfolding host_with
+mirror_with t c hart rd value = refl
+
+mirror_passed : (t : ℕ) (c : HypervisorRegisters) (hart : Hart) → host_passed (host_hart t c hart) ≡ host_hart t c (stepped (without_reservation hart))
+unfolding host_passed
+mirror_passed t c hart = refl
+
+-- a device's load leaves time
+abbrev pub LeavesTime : Devices → Option DeviceLoad → Type 0
+LeavesTime d None = Unit {0}
+LeavesTime d (Some l) = l.devices.clock.time ≡ d.clock.time
+
+loads_time : (d e : Devices) (x : Option ℕ) → e.clock.time ≡ d.clock.time → LeavesTime d (option_map (device_load_of e) x)
+loads_time d e None same = tt
+loads_time d e (Some value) same = same
+
+port_loads_time : (d : Devices) (p : Port) (width : ℕ) → LeavesTime d (port_load d p width)
+unfolding port_load
+port_loads_time d (ConsoleAt offset) width = loads_time d (record d { console = after_load d.console offset width }) (loaded d.console offset width) refl
+port_loads_time d (DiskAt offset) width = loads_time d d (disk_load d.disk offset width) refl
+port_loads_time d Nowhere width = tt
+
+load_leaves_time : (d : Devices) (gpa width : ℕ) → LeavesTime d (device_load d gpa width)
+unfolding device_load
+load_leaves_time d gpa width = port_loads_time d (port_at gpa) width
+
+device_load_mirrors : (o : Unseen) (r : State) (h : ℕ) (hart : Hart) (c : HypervisorRegisters) (rd address width : ℕ) (signed : Bool) (x : Option DeviceLoad) → IsAt o r h hart c
+    → LeavesTime r.devices x
+    → Mirrors o r h (host_device_load (machine_of o r) h (host_in o c hart) hart.mode rd address width signed x) (carry_out_device_load r h hart rd address width signed x)
+unfolding machine_of host_device_load carry_out_device_load
+device_load_mirrors o r h hart c rd address width signed None at time = exception_mirrors o r h hart c Cause.LoadAccess address at
+device_load_mirrors o r h hart c rd address width signed (Some l) at time =
+    one_hart o r h hart (stepped_with (without_reservation hart) rd (loaded_value signed width l.value)) c (host_with rd (loaded_value signed width l.value)) l.devices
+    (counted count_retired r.journal) at (mirror_with (length o.tables) c hart rd (loaded_value signed width l.value)) refl time (prints_none r.journal.printed)
+
+-- a device's store with the journal's printed bytes as they are left
+abbrev pub left_printed : ℕ → DeviceStore → DeviceStore
+left_printed cleared s = record s { journal = without_printed cleared s.journal }
+
+-- it leaves time, and takes no printed byte away
+abbrev pub LeavesPrinted : Devices → Journal → Option DeviceStore → Type 0
+LeavesPrinted d j None = Unit {0}
+LeavesPrinted d j (Some s) = (s.devices.clock.time ≡ d.clock.time) × Adds j.printed s.journal.printed
+
+prints : (cleared : ℕ) (d : Devices) (j : Journal) (x : Option ℕ) → cleared ≤ length j.printed
+    → (option_map (λ byte. record { devices = d; journal = printed_low byte (without_printed cleared j) }) x
+    ≡ option_map (left_printed cleared) (option_map (λ byte. record { devices = d; journal = printed_low byte j }) x))
+    × LeavesPrinted d j (option_map (λ byte. record { devices = d; journal = printed_low byte j }) x)
+prints cleared d j None small = (refl, tt)
+prints cleared d j (Some byte) small =
+    (ap (λ (k : Journal). Some (record { devices = d; journal = k })) (printed_mirrors cleared byte j small), (refl, prints_low byte j))
+
+disk_stores : (cleared : ℕ) (d : Devices) (j : Journal) (x : Option Disk)
+    → (option_map (λ (disk : Disk). record { devices = record d { disk = disk }; journal = without_printed cleared j }) x
+    ≡ option_map (left_printed cleared) (option_map (λ (disk : Disk). record { devices = record d { disk = disk }; journal = j }) x))
+    × LeavesPrinted d j (option_map (λ (disk : Disk). record { devices = record d { disk = disk }; journal = j }) x)
+disk_stores cleared d j None = (refl, tt)
+disk_stores cleared d j (Some disk) = (refl, (refl, prints_none j.printed))
+
+port_stores : (cleared : ℕ) (d : Devices) (j : Journal) (p : Port) (width value : ℕ) → cleared ≤ length j.printed
+    → (port_store d (without_printed cleared j) p width value ≡ option_map (left_printed cleared) (port_store d j p width value)) × LeavesPrinted d j (port_store d j p width value)
+unfolding port_store
+port_stores cleared d j (ConsoleAt offset) width value small = prints cleared d j _ small
+port_stores cleared d j (DiskAt offset) width value small = disk_stores cleared d j _
+port_stores cleared d j Nowhere width value small = (refl, tt)
+
+stored_by : (o : Unseen) (r : State) (h : ℕ) (hart : Hart) (c : HypervisorRegisters) (address : ℕ) (x : Option DeviceStore) → IsAt o r h hart c → LeavesPrinted r.devices r.journal x
+    → Mirrors o r h (host_device_store (machine_of o r) h (host_in o c hart) hart.mode address (option_map (left_printed o.cleared) x)) (carry_out_device_store r h hart address x)
+unfolding machine_of host_device_store carry_out_device_store
+stored_by o r h hart c address None at leaves = exception_mirrors o r h hart c Cause.StoreAccess address at
+stored_by o r h hart c address (Some s) at leaves =
+    one_hart o r h hart (stepped (without_reservation hart)) c host_passed s.devices (counted count_retired s.journal) at (mirror_passed (length o.tables) c hart) refl leaves.0 leaves.1
+
+device_store_mirrors : (o : Unseen) (r : State) (h : ℕ) (hart : Hart) (c : HypervisorRegisters) (address gpa width value : ℕ) → IsAt o r h hart c
+    → Mirrors o r h (host_device_store (machine_of o r) h (host_in o c hart) hart.mode address (device_store (machine_of o r).devices (machine_of o r).journal gpa width value))
+    (carry_out_device_store r h hart address (device_store r.devices r.journal gpa width value))
+unfolding machine_of device_store
+device_store_mirrors o r h hart c address gpa width value at =
+    let k = port_stores o.cleared r.devices r.journal (port_at gpa) width value at.parts.cleared in
+    subst (λ (x : Option DeviceStore). Mirrors o r h (host_device_store (machine_of o r) h (host_in o c hart) hart.mode address x)
+    (carry_out_device_store r h hart address (port_store r.devices r.journal (port_at gpa) width value)))
+    (sym k.0) (stored_by o r h hart c address (port_store r.devices r.journal (port_at gpa) width value) at k.1)
+
+-- ---- accesses
+
+load_mirrors : (o : Unseen) (r : State) (h : ℕ) (hart : Hart) (c : HypervisorRegisters) (exit : Exit) (x : Option Effect) → IsAt o r h hart c
+    → Mirrors o r h (host_load (machine_of o r) h (host_in o c hart) hart.mode exit x) (serve_load r h hart exit x)
+unfolding machine_of host_load serve_load
+load_mirrors o r h hart c exit (Some (Effect.Load rd address width signed)) at =
+    device_load_mirrors o r h hart c rd exit.stval width signed (device_load r.devices (exit_gpa exit) width) at
+    (load_leaves_time r.devices (exit_gpa exit) width)
+load_mirrors o r h hart c exit _ at = exception_mirrors o r h hart c Cause.LoadAccess exit.stval at
+
+store_mirrors : (o : Unseen) (r : State) (h : ℕ) (hart : Hart) (c : HypervisorRegisters) (exit : Exit) (x : Option Effect) → IsAt o r h hart c
+    → Mirrors o r h (host_store (machine_of o r) h (host_in o c hart) hart.mode exit x) (serve_store r h hart exit x)
+unfolding host_store serve_store
+store_mirrors o r h hart c exit (Some (Effect.Store address width value)) at =
+    device_store_mirrors o r h hart c exit.stval (exit_gpa exit) width value at
+store_mirrors o r h hart c exit _ at = exception_mirrors o r h hart c Cause.StoreAccess exit.stval at
+
+write_stop_mirrors : (o : Unseen) (r : State) (h : ℕ) (hart : Hart) (c : HypervisorRegisters) (gpa : ℕ) → IsAt o r h hart c
+    → Mirrors o r h (host_write_stopped (machine_of o r) h (host_in o c hart) gpa) (write_stopped r h hart gpa)
+unfolding machine_of
+write_stop_mirrors o r h hart c gpa at = stopped o r h hart c (machine_ended (Stopped (Write hart.pc gpa) h r.journal.counts.turns) r.journal) at (prints_none r.journal.printed)
+
+same_transformed : (t : ℕ) (c : HypervisorRegisters) (hart : Hart) (htinst : ℕ) → host_transformed htinst (host_hart t c hart) ≡ transformed htinst hart
+unfolding host_transformed transformed
+same_transformed t c hart htinst = refl
+
+write_mirrors : (o : Unseen) (r : State) (h : ℕ) (hart : Hart) (c : HypervisorRegisters) (exit : Exit) → IsAt o r h hart c
+    → Mirrors o r h (host_write (machine_of o r) h (host_in o c hart) hart.mode exit) (serve_write r h hart exit)
+unfolding machine_of host_write serve_write host_transformed transformed
+write_mirrors o r h hart c exit at =
+    choose o r h (is_implicit exit) _ _ _ _ (exception_mirrors o r h hart c Cause.StoreAccess exit.stval at)
+    (choose o r h (in_ram r.ram (exit_gpa exit) 1) _ _ _ _ (write_stop_mirrors o r h hart c (exit_gpa exit) at) (store_mirrors o r h hart c exit (transformed exit.htinst hart) at))
+
+pub access_mirrors : (o : Unseen) (r : State) (h : ℕ) (hart : Hart) (c : HypervisorRegisters) (exit : Exit) → IsAt o r h hart c
+    → Mirrors o r h (served_access (machine_of o r) h (host_in o c hart) hart.mode exit) (serve_access r h hart exit)
+unfolding served_access serve_access host_transformed transformed
+access_mirrors o r h hart c exit at =
+    choose o r h (exit.cause == 21) _ _ _ _ (load_mirrors o r h hart c exit (transformed exit.htinst hart) at) (write_mirrors o r h hart c exit at)
+
+-- ---- the other traps
+
+illegal_mirrors : (o : Unseen) (r : State) (h : ℕ) (hart : Hart) (c : HypervisorRegisters) (mode : Mode) (w : ℕ) → IsAt o r h hart c → hart.mode ≡ mode
+    → Mirrors o r h (host_illegal (machine_of o r) h (host_in o c hart) mode w) (illegal_instruction r h hart w)
+illegal_mirrors o r h hart c mode w at e =
+    subst (λ (mode : Mode). Mirrors o r h (host_illegal (machine_of o r) h (host_in o c hart) mode w) (illegal_instruction r h hart w)) e (exception_mirrors o r h hart c Cause.Illegal w at)
+
+virtual_mirrors : (o : Unseen) (r : State) (h : ℕ) (hart : Hart) (c : HypervisorRegisters) (mode : Mode) (exit : Exit) → IsAt o r h hart c → hart.mode ≡ mode
+    → Mirrors o r h (host_virtual (machine_of o r) h (host_in o c hart) mode exit) (serve_virtual r h hart mode exit)
+unfolding host_virtual serve_virtual
+virtual_mirrors o r h hart c Kernel exit at e =
+    choose o r h (is_sret_word exit.stval) _ _ _ _ (return_mirrors o r h hart c at) (illegal_mirrors o r h hart c Kernel exit.stval at e)
+virtual_mirrors o r h hart c User exit at e = illegal_mirrors o r h hart c User exit.stval at e
+
+pub other_mirrors : (o : Unseen) (r : State) (h : ℕ) (hart : Hart) (c : HypervisorRegisters) (exit : Exit) → IsAt o r h hart c
+    → Mirrors o r h (served_trap (machine_of o r) h (host_in o c hart) hart.mode exit) (serve_trap r h hart exit)
+unfolding served_trap serve_trap
+other_mirrors o r h hart c exit at =
+    choose o r h exit.interrupt _ _ _ _ (trap_mirrors o r h hart c true (exit.cause - 1) 0 at)
+    (choose o r h (exit.cause == 22) _ _ _ _ (virtual_mirrors o r h hart c hart.mode exit at refl) (trap_mirrors o r h hart c false exit.cause exit.stval at))

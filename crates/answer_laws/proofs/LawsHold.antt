@@ -1,0 +1,178 @@
+-- The laws of attempts.
+use Rattle.std.proofs.Common.{◌≡◌, ℕ, zero, suc, ◌+◌, List, [], ◌∷◌, length, refl, sym, ◌∙◌, ap, subst, true, false, slice_get, slice_set}
+use Rattle.std.specs.Prelude.{Option, Some, None, ◌==◌}
+use Rattle.sv_types.specs.Hardware.{Attempted, leave, with_region}
+use Rattle.sv_types.specs.HypervisorRegisters.{HypervisorRegisters, registers_at_exit}
+use Rattle.sv_types.specs.declared.outcome.Outcome.{Outcome}
+use Rattle.sv_types.specs.declared.wires.Exit.{Exit}
+use Rattle.reference.specs.States.{State, Hart, Loading}
+use Rattle.machine_model.specs.Machine.{Machine, HostHart, raised, after_attempt, after_quiet_attempt, all_forget}
+use Rattle.machine_model.specs.StandsFor.{StandsFor, Unseen, IsRightFor, machine_of, host_hart, host_harts}
+use Rattle.reference.specs.Soundness.{IsSound}
+use Rattle.machine_model.specs.Served.{serve_exit}
+use Rattle.reference.specs.Turn.{turn}
+use Rattle.reference.specs.Run.{step, happen, happen_under}
+use Rattle.reference.specs.Counting.{count, count_turn}
+use Rattle.sv_types.specs.declared.event.Event.TheVariants.{Turn}
+use Rattle.sv_types.specs.declared.event.Verdict.{Verdict}
+use Rattle.sv_types.specs.declared.event.Verdict.TheVariants.{Running}
+use Rattle.attempt_laws.specs.Agree.{IsAt, AgreesBy, IsNotLoading, region_at, core_at, one_attempt_more}
+use Rattle.answer_laws.specs.Laws.{MakesAttempt, IsQuiet, QuietLaw, ExitLaw}
+use Rattle.machine_model.specs.HardwareEvent.{attempted}
+use Rattle.attempt_laws.proofs.Hosts.{hosts_get, hosts_exit}
+use Rattle.attempt_laws.proofs.Stays.{running_host}
+use Rattle.attempt_laws.proofs.AttemptLawHolds.{attempt_law}
+use Rattle.run_laws.proofs.StepsSound.{turn_goes, counted_sound}
+
+not_loading : (h : ℕ) (x : Option Loading) → ((load : Loading) → x ≡ Some load → (load.hart == h) ≡ false) → IsNotLoading h x
+not_loading h None other = tt
+not_loading h (Some load) other = other load refl
+
+quiet_by : (o : Unseen) (r : State) (h : ℕ) (hart : Hart) (c : HypervisorRegisters) (a : Attempted) (x : Outcome) → IsAt o r h hart c
+    → AgreesBy x o r h hart c a (turn r h) → IsQuiet x → StandsFor (after_quiet_attempt (machine_of o r) h a) (turn r h)
+quiet_by o r h hart c a (Outcome.Retired wrote) at agrees quiet =
+    record { unseen = one_attempt_more o; same = agrees.same; unseen_is_right = agrees.parts; sound = (turn_goes r h at.sound).sound }
+quiet_by o r h hart c a Outcome.GuestTrap at agrees quiet =
+    record { unseen = one_attempt_more o; same = agrees.same; unseen_is_right = agrees.parts; sound = (turn_goes r h at.sound).sound }
+quiet_by o r h hart c a (Outcome.Exit exit) at agrees quiet = absurd quiet
+
+same_host : (x : Option HostHart) (a b : HostHart) → x ≡ Some a → x ≡ Some b → a ≡ b
+same_host x a b e f = cc
+
+lines_same : (o : Unseen) (r : State) → (machine_of o r).devices ≡ r.devices
+unfolding machine_of
+lines_same o r = refl
+
+quiet_at : (o : Unseen) (r : State) (h : ℕ) (hart : Hart) (c : HypervisorRegisters) (host : HostHart) → IsAt o r h hart c → IsNotLoading h r.loading
+    → host ≡ host_hart (length o.tables) c hart → IsQuiet (attempted (machine_of o r) h host).outcome
+    → StandsFor (after_quiet_attempt (machine_of o r) h (attempted (machine_of o r) h host)) (turn r h)
+unfolding machine_of
+quiet_at o r h hart c host at other e =
+    subst (λ (x : HostHart). IsQuiet (attempted (machine_of o r) h x).outcome → StandsFor (after_quiet_attempt (machine_of o r) h (attempted (machine_of o r) h x)) (turn r h))
+    (sym e)
+    (λ quiet. quiet_by o r h hart c (attempted (machine_of o r) h (host_hart (length o.tables) c hart)) (attempted (machine_of o r) h (host_hart (length o.tables) c hart)).outcome
+    at (attempt_law o r h hart c at other) quiet)
+
+quiet_same : (m : Machine) (r : State) (h : ℕ) (host : HostHart) (hart : Hart) (o : Unseen) → m ≡ machine_of o r → IsRightFor o r → IsSound r
+    → slice_get m.harts h ≡ Some host → slice_get r.harts h ≡ Some hart → hart.started ≡ true → IsNotLoading h r.loading
+    → IsQuiet (attempted m h host).outcome → StandsFor (after_quiet_attempt m h (attempted m h host)) (turn r h)
+unfolding machine_of
+quiet_same m r h host hart o same parts sound host_is hart_is started other =
+    let c = hosts_get (length o.tables) o.exits r.harts h hart parts.exits hart_is in
+    let there : slice_get (machine_of o r).harts h ≡ Some host = subst (λ (x : Machine). slice_get x.harts h ≡ Some host) same host_is in
+    let e : host ≡ host_hart (length o.tables) c.0 hart = same_host (slice_get (machine_of o r).harts h) host (host_hart (length o.tables) c.0 hart) there c.1.1 in
+    subst (λ (x : Machine). IsQuiet (attempted x h host).outcome → StandsFor (after_quiet_attempt x h (attempted x h host)) (turn r h)) (sym same)
+    (quiet_at o r h hart c.0 host (record { parts = parts; sound = sound; found = hart_is; exits = c.1.0; started = started }) other e)
+
+-- over a turn whose count was raised already
+pub quiet_turn : (m : Machine) (r : State) (h : ℕ) (host : HostHart) (hart : Hart) → MakesAttempt m r h host hart
+    → IsQuiet (attempted m h host).outcome → StandsFor (after_quiet_attempt m h (attempted m h host)) (turn r h)
+quiet_turn m r h host hart makes quiet =
+    quiet_same m r h host hart makes.stands.unseen makes.stands.same makes.stands.unseen_is_right makes.stands.sound makes.host_is makes.hart_is makes.started
+    (not_loading h r.loading makes.loads) quiet
+
+-- ---- exits
+
+left : (o : Unseen) (r : State) (h : ℕ) (hart : Hart) (c : HypervisorRegisters) (exit : Exit) → IsAt o r h hart c
+    → after_attempt (machine_of o r) h (with_region (region_at o r) (leave (core_at o c hart) exit))
+    ≡ machine_of (record o { exits = slice_set o.exits h (registers_at_exit c exit); attempts = o.attempts + 1 }) r
+unfolding machine_of all_forget leave registers_at_exit
+left o r h hart c exit at =
+    let d : HypervisorRegisters = registers_at_exit c exit in
+    rw (ap (slice_set (host_harts (length o.tables) o.exits r.harts) h) (running_host (length o.tables) d hart at.started)
+    ∙ hosts_exit (length o.tables) o.exits r.harts h d hart at.found) refl
+
+length_exits : (exits : List HypervisorRegisters) (h : ℕ) (c : HypervisorRegisters) → length (slice_set exits h c) ≡ length exits
+length_exits [] h c = refl
+length_exits (x ∷ exits) zero c = refl
+length_exits (x ∷ exits) (suc h) c = ap suc (length_exits exits h c)
+
+exit_by : (o : Unseen) (r : State) (h : ℕ) (hart : Hart) (c : HypervisorRegisters) (a : Attempted) (x : Outcome) (exit : Exit) → IsAt o r h hart c
+    → AgreesBy x o r h hart c a (turn r h) → x ≡ Outcome.Exit exit
+    → StandsFor (after_attempt (machine_of o r) h a) r × (turn r h ≡ serve_exit r h hart exit)
+exit_by o r h hart c a (Outcome.Retired wrote) exit at agrees e = cc
+exit_by o r h hart c a Outcome.GuestTrap exit at agrees e = cc
+exit_by o r h hart c a (Outcome.Exit other) exit at agrees e =
+    let same : other ≡ exit = cc in (
+      record {
+        unseen = record o { exits = slice_set o.exits h (registers_at_exit c other); attempts = o.attempts + 1 };
+        same = ap (after_attempt (machine_of o r) h) agrees.0 ∙ left o r h hart c other at;
+        unseen_is_right = record {
+          views = at.parts.views;
+          region = at.parts.region;
+          exits = length_exits o.exits h (registers_at_exit c other) ∙ at.parts.exits;
+          cleared = at.parts.cleared;
+        };
+        sound = at.sound;
+      },
+      agrees.1 ∙ ap (serve_exit r h hart) same,
+    )
+
+exit_at : (o : Unseen) (r : State) (h : ℕ) (hart : Hart) (c : HypervisorRegisters) (host : HostHart) (exit : Exit) → IsAt o r h hart c → IsNotLoading h r.loading
+    → host ≡ host_hart (length o.tables) c hart → (attempted (machine_of o r) h host).outcome ≡ Outcome.Exit exit
+    → StandsFor (after_attempt (machine_of o r) h (attempted (machine_of o r) h host)) r × (turn r h ≡ serve_exit r h hart exit)
+unfolding machine_of
+exit_at o r h hart c host exit at other e =
+    subst (λ (x : HostHart). (attempted (machine_of o r) h x).outcome ≡ Outcome.Exit exit
+    → StandsFor (after_attempt (machine_of o r) h (attempted (machine_of o r) h x)) r × (turn r h ≡ serve_exit r h hart exit))
+    (sym e)
+    (λ left_by. exit_by o r h hart c (attempted (machine_of o r) h (host_hart (length o.tables) c hart)) (attempted (machine_of o r) h (host_hart (length o.tables) c hart)).outcome exit
+    at (attempt_law o r h hart c at other) left_by)
+
+exit_same : (m : Machine) (r : State) (h : ℕ) (host : HostHart) (hart : Hart) (exit : Exit) (o : Unseen) → m ≡ machine_of o r → IsRightFor o r → IsSound r
+    → slice_get m.harts h ≡ Some host → slice_get r.harts h ≡ Some hart → hart.started ≡ true → IsNotLoading h r.loading
+    → (attempted m h host).outcome ≡ Outcome.Exit exit → StandsFor (after_attempt m h (attempted m h host)) r × (turn r h ≡ serve_exit r h hart exit)
+unfolding machine_of
+exit_same m r h host hart exit o same parts sound host_is hart_is started other =
+    let c = hosts_get (length o.tables) o.exits r.harts h hart parts.exits hart_is in
+    let there : slice_get (machine_of o r).harts h ≡ Some host = subst (λ (x : Machine). slice_get x.harts h ≡ Some host) same host_is in
+    let e : host ≡ host_hart (length o.tables) c.0 hart = same_host (slice_get (machine_of o r).harts h) host (host_hart (length o.tables) c.0 hart) there c.1.1 in
+    subst (λ (x : Machine). (attempted x h host).outcome ≡ Outcome.Exit exit → StandsFor (after_attempt x h (attempted x h host)) r × (turn r h ≡ serve_exit r h hart exit)) (sym same)
+    (exit_at o r h hart c.0 host exit (record { parts = parts; sound = sound; found = hart_is; exits = c.1.0; started = started }) other e)
+
+pub exit_turn : (m : Machine) (r : State) (h : ℕ) (host : HostHart) (hart : Hart) (exit : Exit) → MakesAttempt m r h host hart
+    → (attempted m h host).outcome ≡ Outcome.Exit exit → StandsFor (after_attempt m h (attempted m h host)) r × (turn r h ≡ serve_exit r h hart exit)
+exit_turn m r h host hart exit makes left_by =
+    exit_same m r h host hart exit makes.stands.unseen makes.stands.same makes.stands.unseen_is_right makes.stands.sound makes.host_is makes.hart_is makes.started
+    (not_loading h r.loading makes.loads) left_by
+
+-- ---- over a step
+
+raised_at : (o : Unseen) (r : State) → IsRightFor o r → IsSound r → StandsFor (raised (machine_of o r) count_turn) (count r count_turn)
+unfolding machine_of
+raised_at o r p s = record {
+  unseen = o;
+  same = refl;
+  unseen_is_right = record { views = p.views; region = p.region; exits = p.exits; cleared = p.cleared };
+  sound = (counted_sound r count_turn s).sound;
+}
+
+-- the count of turns raised on both sides
+pub raised_stands : (m : Machine) (r : State) → StandsFor m r → StandsFor (raised m count_turn) (count r count_turn)
+raised_stands m r stands =
+    subst (λ (x : Machine). StandsFor (raised x count_turn) (count r count_turn)) (sym stands.same) (raised_at stands.unseen r stands.unseen_is_right stands.sound)
+
+pub running : (r : State) (h : ℕ) → r.journal.verdict ≡ Running → step r (Turn h) ≡ turn (count r count_turn) h
+unfolding step happen_under happen
+running r h on = ap (λ (v : Verdict). happen_under v r (Turn h)) on
+
+makes_raised : (m : Machine) (r : State) (h : ℕ) (host : HostHart) (hart : Hart) → MakesAttempt m r h host hart
+    → MakesAttempt (raised m count_turn) (count r count_turn) h host hart
+makes_raised m r h host hart k = record {
+  stands = raised_stands m r k.stands;
+  host_is = k.host_is;
+  hart_is = k.hart_is;
+  started = k.started;
+  loads = k.loads;
+}
+
+pub quiet_law : QuietLaw
+quiet_law m r h host hart makes on quiet =
+    subst (StandsFor (after_quiet_attempt (raised m count_turn) h (attempted m h host))) (sym (running r h on))
+    (quiet_turn (raised m count_turn) (count r count_turn) h host hart (makes_raised m r h host hart makes) quiet)
+
+pub exit_law : ExitLaw
+exit_law m r h host hart exit makes on gave = (
+  (exit_turn m r h host hart exit makes gave).0,
+  running r h on ∙ (exit_turn (raised m count_turn) (count r count_turn) h host hart exit (makes_raised m r h host hart makes) gave).1,
+)

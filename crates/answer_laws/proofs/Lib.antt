@@ -1,0 +1,15 @@
+pub mod LawsHold
+pub mod ViewsMeet
+pub mod BeatsAgree
+pub mod EventsAgree
+pub mod ProtectionsChange
+pub mod Mirrored
+pub mod HartsMirrored
+pub mod CallsMirrored
+pub mod ModulesMirrored
+pub mod SitesInPages
+pub mod LoadsMirrored
+pub mod ExitsMirrored
+pub mod TurnsServed
+pub mod RunsReach
+pub mod FreedOneByOne

@@ -1,0 +1,234 @@
+-- The turns of a load under way: the next page is counted, or the decision is made, as the reference machine's text says.
+use Rattle.std.proofs.Common.{◌≡◌, ℕ, zero, suc, ◌+◌, ◌-◌, ◌*◌, ◌/◌, ◌%◌, ◌<◌, ◌≤◌, List, [], ◌∷◌, ◌++◌, length, drop, refl, sym, ◌∙◌, ap, subst, Bool, true, ◌&&◌, arith, slice_get, length-drop}
+use Rattle.std.proofs.lemmas.List.{drop-take, take-take, drop-drop}
+use Rattle.std.specs.Prelude.{Option, Some, None, option_map, if◌then◌else◌, ◌==◌, filter, take}
+use Rattle.sv_types.specs.Bytes.{page_size, page_of, page_bytes, part, ram_place}
+use Rattle.sv_types.specs.HypervisorRegisters.{HypervisorRegisters}
+use Rattle.sv_types.specs.Measure.{measure, page_digest, page_digests, joined_digests}
+use Rattle.sv_types.specs.Policies.{Rules, ModuleRule}
+use Rattle.sv_types.specs.declared.wires.Protection.TheVariants.{Free, Approved}
+use Rattle.sv_types.proofs.ByteLemmas.{length_before}
+use Rattle.sv_types.specs.declared.event.Note.TheVariants.{Load}
+use Rattle.sv_types.specs.declared.saved.SavedModule.{SavedModule}
+use Rattle.attempt_laws.specs.Agree.{IsAt}
+use Rattle.machine_model.specs.Steps.{AreTables}
+use Rattle.reference.specs.Calls.{success, code_word, with_answer}
+use Rattle.reference.specs.Counting.{counted, noted, count_load, count_refused}
+use Rattle.machine_model.specs.HostExits.{host_is_good, host_load_approved, host_load_released, host_decide, page_sites, page_counted, load_counted, host_load_step, load_served, served_load_turn, with_tables}
+use Rattle.machine_model.specs.HostHarts.{host_answered}
+use Rattle.reference.specs.Loads.{module_text, module_bases, is_as_measured, is_good, load_approved, load_refused, decide, load_step_of}
+use Rattle.machine_model.specs.Machine.{Machine, HostLoad}
+use Rattle.reference.specs.ModuleCalls.{refused_by_measure}
+use Rattle.reference.specs.Protections.{with_pages}
+use Rattle.reference.specs.States.{State, Hart, Loading, pages_in_rule, with_module}
+use Rattle.reference.specs.Relocations.{masked, fields_right}
+use Rattle.machine_model.specs.StandsFor.{StandsFor, Unseen, IsRightFor, machine_of, load_kept, load_kept_by, kept_digests, kept_answer, protections_of}
+use Rattle.reference.specs.Soundness.{IsSound, IsSoundLoad, HoldsModule}
+use Rattle.reference.specs.Turn.{turn, turn_of, turn_of_started}
+use Rattle.answer_laws.proofs.CallsMirrored.{mirror_answered}
+use Rattle.answer_laws.proofs.ExitsMirrored.{Answered, stands_behind}
+use Rattle.attempt_laws.proofs.Hosts.{hosts_get}
+use Rattle.answer_laws.proofs.Mirrored.{Mirrors, tested, one_paged, no_hart, prints_none}
+use Rattle.run_laws.proofs.ModulesSound.{approves}
+use Rattle.answer_laws.proofs.ProtectionsChange.{approved_protections, released_protections}
+use Rattle.answer_laws.proofs.SitesInPages.{AllLieIn, rule_lies, digest_more, length_masked, page_masked, right_more, all_below, below}
+use Rattle.run_laws.proofs.StepsSound.{turn_goes}
+
+-- ---- the text of a load
+
+length_part : (list : List ℕ) (at n : ℕ) → at + n ≤ length list → length (part list at n) ≡ n
+length_part list at n room = let left = length-drop at list in length_before (drop at list) n (omega arith)
+
+text_size : (r : State) (load : Loading) (rule : ModuleRule) → IsSound r → HoldsModule r.rules r.approved r.loaded r.held load → slice_get r.rules.modules load.about.id ≡ Some rule
+    → length (module_text r.ram load.about rule.pages) ≡ 4096 * rule.pages
+text_size r load rule s k known =
+    let inside : ram_place load.about.gpa + page_size * rule.pages ≤ page_size * r.rules.ram_pages =
+    subst (λ (n : ℕ). ram_place load.about.gpa + page_size * n ≤ page_size * r.rules.ram_pages) (ap pages_in_rule known) k.inside in
+    length_part r.ram (ram_place load.about.gpa) (page_size * rule.pages) (rw s.size inside)
+
+text_lies : (r : State) (load : Loading) (rule : ModuleRule) → IsSound r → HoldsModule r.rules r.approved r.loaded r.held load → slice_get r.rules.modules load.about.id ≡ Some rule
+    → AllLieIn (length (module_text r.ram load.about rule.pages)) rule.sites
+text_lies r load rule s k known =
+    subst (λ (n : ℕ). AllLieIn n rule.sites) (sym (text_size r load rule s k known)) (rule_lies r.rules load.about.id rule s.within known)
+
+-- ---- the decision
+
+measured_same : (text : List ℕ) (pages : ℕ) (rule : ModuleRule) → length (masked text rule.sites) ≡ 4096 * pages → measure (masked text rule.sites) ≡ joined_digests (page_digests pages (masked text rule.sites))
+unfolding measure
+measured_same text pages rule size =
+    let n : length (masked text rule.sites) / page_size ≡ pages = omega arith in
+    ap (λ (k : ℕ). joined_digests (page_digests k (masked text rule.sites))) n
+
+all_counted : (pages : ℕ) (load : Loading) → load.left ≡ 0 → pages - load.left ≡ pages
+all_counted pages load e = omega arith
+
+good_is : (r : State) (load : Loading) (x : Option ModuleRule) → IsSound r → HoldsModule r.rules r.approved r.loaded r.held load → load.left ≡ 0 → slice_get r.rules.modules load.about.id ≡ x
+    → host_is_good (load_kept_by r.rules r.ram load x) x ≡ is_good r.rules r.ram load.about x
+unfolding host_is_good load_kept_by is_good is_as_measured kept_digests kept_answer
+good_is r load None s k none known = refl
+good_is r load (Some rule) s k none known =
+    let text : List ℕ = module_text r.ram load.about rule.pages in
+    let all = text_lies r load rule s k known in
+    let size = length_masked text rule.sites all ∙ text_size r load rule s k known in
+    rw (all_counted rule.pages load none, measured_same text rule.pages rule size, all_below rule.pages rule.sites (rule_lies r.rules load.about.id rule s.within known)) refl
+
+approved_mirrors : (o : Unseen) (r : State) (h : ℕ) (hart : Hart) (c : HypervisorRegisters) (load : Loading) → IsAt o r h hart c → HoldsModule r.rules r.approved r.loaded r.held load
+    → Mirrors o r h (host_load_approved (machine_of o r) h load.about) (load_approved r h hart load.about)
+unfolding machine_of
+approved_mirrors o r h hart c load at k =
+    one_paged o r h hart (with_answer hart (code_word success) 0) c (host_answered (code_word success) 0) (approves r load.about).approved [] (with_module r.loaded load.about)
+    None r.retired (noted (Load h r.journal.counts.turns load.about.id success) (counted count_load r.journal))
+    (with_pages (protections_of r) (page_of load.about.gpa) (pages_in_rule (slice_get r.rules.modules load.about.id)) Approved) None at
+    (mirror_answered (length o.tables) c hart (code_word success) 0) refl (approved_protections r load k) refl (prints_none r.journal.printed)
+
+released_mirrors : (o : Unseen) (r : State) (h : ℕ) (hart : Hart) (c : HypervisorRegisters) (load : Loading) → IsAt o r h hart c → HoldsModule r.rules r.approved r.loaded r.held load
+    → Mirrors o r h (host_load_released (machine_of o r) h load.about) (load_refused r h hart load.about)
+unfolding machine_of
+released_mirrors o r h hart c load at k =
+    one_paged o r h hart (with_answer hart (code_word refused_by_measure) 0) c (host_answered (code_word refused_by_measure) 0) r.approved [] r.loaded
+    None r.retired (noted (Load h r.journal.counts.turns load.about.id refused_by_measure) (counted count_refused r.journal))
+    (with_pages (protections_of r) (page_of load.about.gpa) (pages_in_rule (slice_get r.rules.modules load.about.id)) Free) None at
+    (mirror_answered (length o.tables) c hart (code_word refused_by_measure) 0) refl (released_protections r load k) refl (prints_none r.journal.printed)
+
+about_is : (rules : Rules) (ram : List ℕ) (load : Loading) (x : Option ModuleRule) → (load_kept_by rules ram load x).about ≡ load.about
+unfolding load_kept_by
+about_is rules ram load None = refl
+about_is rules ram load (Some rule) = refl
+
+left_is : (rules : Rules) (ram : List ℕ) (load : Loading) (x : Option ModuleRule) → (load_kept_by rules ram load x).left ≡ load.left
+unfolding load_kept_by
+left_is rules ram load None = refl
+left_is rules ram load (Some rule) = refl
+
+decided_by : (o : Unseen) (r : State) (h : ℕ) (load : Loading) (about : SavedModule) → about ≡ load.about
+    → (if host_is_good (load_kept r.rules r.ram load) (slice_get r.rules.modules about.id) then host_load_approved (machine_of o r) h about else host_load_released (machine_of o r) h about)
+    ≡ (if host_is_good (load_kept r.rules r.ram load) (slice_get r.rules.modules load.about.id) then host_load_approved (machine_of o r) h load.about else host_load_released (machine_of o r) h load.about)
+decided_by o r h load about e = rw e refl
+
+decision_mirrors : (o : Unseen) (r : State) (h : ℕ) (hart : Hart) (c : HypervisorRegisters) (load : Loading) → IsAt o r h hart c → HoldsModule r.rules r.approved r.loaded r.held load → load.left ≡ 0
+    → Mirrors o r h (host_decide (machine_of o r) h (load_kept r.rules r.ram load)) (decide r h hart load.about)
+unfolding machine_of host_decide decide
+decision_mirrors o r h hart c load at k none =
+    subst (λ (m : Machine). Mirrors o r h m (decide r h hart load.about)) (sym (decided_by o r h load (load_kept r.rules r.ram load).about (about_is r.rules r.ram load (slice_get r.rules.modules load.about.id))))
+    (tested o r h (host_is_good (load_kept r.rules r.ram load) (slice_get r.rules.modules load.about.id)) (is_good r.rules r.ram load.about (slice_get r.rules.modules load.about.id)) _ _ _ _
+    (good_is r load (slice_get r.rules.modules load.about.id) at.sound k none refl) (λ _. approved_mirrors o r h hart c load at k) (λ _. released_mirrors o r h hart c load at k))
+
+-- ---- a page turn
+
+part_of : (list : List ℕ) (at n i m : ℕ) → i + m ≤ n → part (part list at n) i m ≡ part list (at + i) m
+part_of list at n i m fits =
+    let split : n ≡ i + (n - i) = omega arith in
+    let e = subst (λ (k : ℕ). drop i (take k (drop at list)) ≡ take (n - i) (drop i (drop at list))) (sym split) (drop-take i (n - i) (drop at list)) in
+    rw (e, drop-drop) (take-take m (n - i) (drop (at + i) list) (omega arith))
+
+-- a page of the text is the page of RAM
+page_there : (ram : List ℕ) (from n pages : ℕ) → from % 4096 ≡ 0 → n < pages → page_bytes (part ram from (page_size * pages)) n ≡ page_bytes ram (from / 4096 + n)
+page_there ram from n pages aligned less =
+    let place : from + page_size * n ≡ page_size * (from / 4096 + n) = omega arith in
+    part_of ram from (page_size * pages) (page_size * n) page_size (omega arith) ∙ ap (λ (at : ℕ). part ram at page_size) place
+
+counted_left : (pages left : ℕ) → suc left ≤ pages → pages - left ≡ suc (pages - suc left)
+counted_left pages left least = omega arith
+
+page_room : (pages left : ℕ) → suc left ≤ pages → 4096 * (pages - suc left) + 4096 ≤ 4096 * pages
+page_room pages left least = omega arith
+
+page_less : (pages left : ℕ) → suc left ≤ pages → pages - suc left < pages
+page_less pages left least = omega arith
+
+counted_is : (r : State) (load : Loading) (left : ℕ) (rule : ModuleRule) → IsSound r → HoldsModule r.rules r.approved r.loaded r.held load → load.left ≡ suc left → slice_get r.rules.modules load.about.id ≡ Some rule
+    → load_kept_by r.rules r.ram (record load { left = left }) (Some rule) ≡ load_counted r.rules r.ram (load_kept_by r.rules r.ram load (Some rule)) left (Some rule)
+unfolding load_kept_by load_counted page_counted kept_digests kept_answer
+counted_is r load left rule s k more known =
+    let text : List ℕ = module_text r.ram load.about rule.pages in
+    let n : ℕ = rule.pages - suc left in
+    let least : suc left ≤ rule.pages = subst (λ (m : ℕ). m ≤ rule.pages) more (subst (λ (m : ℕ). load.left ≤ m) (ap pages_in_rule known) k.left) in
+    let all = text_lies r load rule s k known in
+    let room : 4096 * n + 4096 ≤ length text = rw (text_size r load rule s k known) (page_room rule.pages left least) in
+    let page : page_bytes text n ≡ page_bytes r.ram (page_of load.about.gpa + n) = page_there r.ram (ram_place load.about.gpa) n rule.pages k.aligned (page_less rule.pages left least) in
+    let old : rule.pages - load.left ≡ n = ap (λ (m : ℕ). rule.pages - m) more in
+    let digests : page_digests (rule.pages - left) (masked text rule.sites) ≡ page_digests (rule.pages - load.left) (masked text rule.sites) ++ page_digest (masked (page_bytes r.ram (page_of load.about.gpa + n)) (page_sites n rule.sites)) ∷ [] =
+    ap (λ (m : ℕ). page_digests m (masked text rule.sites)) (counted_left rule.pages left least) ∙ digest_more n (masked text rule.sites)
+    ∙ ap (λ (bytes : List ℕ). page_digests n (masked text rule.sites) ++ page_digest bytes ∷ []) (page_masked text n rule.sites room all ∙ ap (λ (bytes : List ℕ). masked bytes (page_sites n rule.sites)) page)
+    ∙ ap (λ (m : ℕ). page_digests m (masked text rule.sites) ++ page_digest (masked (page_bytes r.ram (page_of load.about.gpa + n)) (page_sites n rule.sites)) ∷ []) (sym old) in
+    let right : fields_right r.rules.exports (module_bases load.about) (filter (below (rule.pages - left)) rule.sites) text
+    ≡ (fields_right r.rules.exports (module_bases load.about) (filter (below (rule.pages - load.left)) rule.sites) text
+    && fields_right r.rules.exports (module_bases load.about) (page_sites n rule.sites) (page_bytes r.ram (page_of load.about.gpa + n))) =
+    ap (λ (m : ℕ). fields_right r.rules.exports (module_bases load.about) (filter (below m) rule.sites) text) (counted_left rule.pages left least)
+    ∙ right_more r.rules.exports (module_bases load.about) text n rule.sites all
+    ∙ ap (λ (bytes : List ℕ). fields_right r.rules.exports (module_bases load.about) (filter (below n) rule.sites) text && fields_right r.rules.exports (module_bases load.about) (page_sites n rule.sites) bytes) page
+    ∙ ap (λ (m : ℕ). fields_right r.rules.exports (module_bases load.about) (filter (below m) rule.sites) text && fields_right r.rules.exports (module_bases load.about) (page_sites n rule.sites) (page_bytes r.ram (page_of load.about.gpa + n))) (sym old) in
+    rw (digests, right) refl
+
+no_rule : (r : State) (load : Loading) (left : ℕ) → load_kept_by r.rules r.ram (record load { left = left }) None ≡ load_counted r.rules r.ram (load_kept_by r.rules r.ram load None) left None
+unfolding load_kept_by load_counted
+no_rule r load left = refl
+
+counted_by : (r : State) (load : Loading) (left : ℕ) (x : Option ModuleRule) → IsSound r → HoldsModule r.rules r.approved r.loaded r.held load → load.left ≡ suc left → slice_get r.rules.modules load.about.id ≡ x
+    → load_kept_by r.rules r.ram (record load { left = left }) x ≡ load_counted r.rules r.ram (load_kept_by r.rules r.ram load x) left x
+counted_by r load left None s k more known = no_rule r load left
+counted_by r load left (Some rule) s k more known = counted_is r load left rule s k more known
+
+page_mirrors : (o : Unseen) (r : State) (h : ℕ) (hart : Hart) (c : HypervisorRegisters) (load : Loading) (left : ℕ) → IsAt o r h hart c → HoldsModule r.rules r.approved r.loaded r.held load → load.left ≡ suc left
+    → Mirrors o r h (record (machine_of o r) { loading = Some (load_counted r.rules r.ram (load_kept r.rules r.ram load) left (slice_get r.rules.modules (load_kept r.rules r.ram load).about.id)) })
+    (record r { loading = Some (record load { left = left }) })
+unfolding machine_of
+page_mirrors o r h hart c load left at k more =
+    no_hart o r h hart c (Some (record load { left = left })) _ r.journal at
+    (ap Some (counted_by r load left (slice_get r.rules.modules load.about.id) at.sound k more refl
+    ∙ ap (λ (m : SavedModule). load_counted r.rules r.ram (load_kept r.rules r.ram load) left (slice_get r.rules.modules m.id)) (sym (about_is r.rules r.ram load (slice_get r.rules.modules load.about.id)))))
+    (prints_none r.journal.printed)
+
+-- ---- the next step
+
+step_by : (o : Unseen) (r : State) (h : ℕ) (hart : Hart) (c : HypervisorRegisters) (load : Loading) (left : ℕ) → IsAt o r h hart c → HoldsModule r.rules r.approved r.loaded r.held load → load.left ≡ left
+    → Mirrors o r h (host_load_step (machine_of o r) h (load_kept r.rules r.ram load) left) (load_step_of r h hart load left)
+unfolding machine_of host_load_step load_step_of
+step_by o r h hart c load zero at k e = decision_mirrors o r h hart c load at k e
+step_by o r h hart c load (suc left) at k e = page_mirrors o r h hart c load left at k e
+
+loading_is : (o : Unseen) (r : State) (load : Loading) → r.loading ≡ Some load → (machine_of o r).loading ≡ Some (load_kept r.rules r.ram load)
+unfolding machine_of
+loading_is o r load e = ap (option_map (load_kept r.rules r.ram)) e
+
+pub load_turn_mirrors : (o : Unseen) (r : State) (h : ℕ) (hart : Hart) (c : HypervisorRegisters) (load : Loading) → IsAt o r h hart c → r.loading ≡ Some load
+    → Mirrors o r h (served_load_turn (machine_of o r) h) (load_step_of r h hart load load.left)
+unfolding served_load_turn load_served
+load_turn_mirrors o r h hart c load at under =
+    let k : HoldsModule r.rules r.approved r.loaded r.held load = subst (IsSoundLoad r.rules r.approved r.loaded r.held) under at.sound.load in
+    subst (λ (x : Option HostLoad). Mirrors o r h (load_served (machine_of o r) h x) (load_step_of r h hart load load.left)) (sym (loading_is o r load under))
+    (subst (λ (n : ℕ). Mirrors o r h (host_load_step (machine_of o r) h (load_kept r.rules r.ram load) n) (load_step_of r h hart load load.left))
+    (sym (left_is r.rules r.ram load (slice_get r.rules.modules load.about.id))) (step_by o r h hart c load load.left at k refl))
+
+-- ---- the law
+
+turn_is : (r : State) (h : ℕ) (hart : Hart) (load : Loading) → slice_get r.harts h ≡ Some hart → hart.started ≡ true → r.loading ≡ Some load → (load.hart == h) ≡ true
+    → turn r h ≡ load_step_of r h hart load load.left
+unfolding turn turn_of turn_of_started
+turn_is r h hart load found started under its =
+    ap (turn_of r h) found ∙ ap (λ (b : Bool). if b then turn_of_started r h hart r.loading else r) started ∙ ap (turn_of_started r h hart) under ∙ rw its refl
+
+loads_at : (o : Unseen) (r : State) (h : ℕ) (hart : Hart) (load : Loading) (tables : List ℕ) → IsRightFor o r → IsSound r → slice_get r.harts h ≡ Some hart → hart.started ≡ true
+    → r.loading ≡ Some load → (load.hart == h) ≡ true → AreTables (machine_of o r) (served_load_turn (machine_of o r) h) tables
+    → Answered (machine_of o r) h (with_tables (served_load_turn (machine_of o r) h) tables) (turn r h)
+loads_at o r h hart load tables p s found started under its t =
+    let c = hosts_get (length o.tables) o.exits r.harts h hart p.exits found in
+    let at : IsAt o r h hart c.0 = record { parts = p; sound = s; found = found; exits = c.1.0; started = started } in
+    stands_behind o r h (served_load_turn (machine_of o r) h) (turn r h) tables p
+    (subst (Mirrors o r h (served_load_turn (machine_of o r) h)) (sym (turn_is r h hart load found started under its)) (load_turn_mirrors o r h hart c.0 load at under))
+    (turn_goes r h s).sound t
+
+-- hart h is started, and a load of it is under way
+pub record LoadsOn (m : Machine) (r : State) (h : ℕ) (hart : Hart) (load : Loading) : Type 0 where
+  pub stands : StandsFor m r
+  pub hart_is : slice_get r.harts h ≡ Some hart
+  pub started : hart.started ≡ true
+  pub under_way : r.loading ≡ Some load
+  pub its : (load.hart == h) ≡ true
+
+-- a turn of a load, its count raised already
+pub load_turn : (m : Machine) (r : State) (h : ℕ) (hart : Hart) (load : Loading) (tables : List ℕ) → LoadsOn m r h hart load
+    → AreTables m (served_load_turn m h) tables → Answered m h (with_tables (served_load_turn m h) tables) (turn r h)
+load_turn m r h hart load tables on t =
+    subst (λ (x : Machine). AreTables x (served_load_turn x h) tables → Answered x h (with_tables (served_load_turn x h) tables) (turn r h)) (sym on.stands.same)
+    (loads_at on.stands.unseen r h hart load tables on.stands.unseen_is_right on.stands.sound on.hart_is on.started on.under_way on.its) t

@@ -1,0 +1,278 @@
+-- What every answer of SecVisor's has in common: the machine that stands for a state goes with the state, and its frame is kept.
+use Rattle.std.proofs.Common.{◌≡◌, ℕ, zero, suc, ◌≤◌, List, [], ◌∷◌, ◌++◌, length, drop, map, refl, sym, ◌∙◌, ap, subst, Bool, true, false, slice_get, slice_set, arith}
+use Rattle.std.specs.Prelude.{Option, Some, option_map, if◌then◌else◌}
+use Rattle.sv_types.specs.HypervisorRegisters.{HypervisorRegisters}
+use Rattle.sv_types.specs.Reference.{ApprovedPage}
+use Rattle.sv_types.specs.declared.wires.Protection.{Protection}
+use Rattle.sv_types.specs.declared.saved.SavedModule.{SavedModule}
+use Rattle.reference.specs.States.{State, Hart, Loading, Devices, Journal}
+use Rattle.machine_model.specs.Machine.{Machine, HostHart, HostLoad, update}
+use Rattle.machine_model.specs.StandsFor.{Unseen, IsRightFor, machine_of, host_hart, host_harts, load_kept, is_free, protections_of, without_printed}
+use Rattle.attempt_laws.specs.Agree.{IsAt}
+use Rattle.machine_model.specs.HardwareEvent.{Answers, Others, Nobody, MayChange, others_changed, hart_answered, devices_answered, journal_answered}
+use Rattle.run_laws.proofs.Sounds.{length_set}
+
+-- bytes are printed behind those that were
+pub record Adds (old new : List ℕ) : Type 0 where
+  pub added : List ℕ
+  pub same : new ≡ old ++ added
+
+no_more : (list : List ℕ) → list ≡ list ++ []
+no_more [] = refl
+no_more (x ∷ list) = ap (◌∷◌ x) (no_more list)
+
+pub prints_none : (printed : List ℕ) → Adds printed printed
+prints_none printed = record { added = []; same = no_more printed }
+
+pub dropped_more : (list more : List ℕ) (n : ℕ) → n ≤ length list → drop n (list ++ more) ≡ drop n list ++ more
+dropped_more list more zero small = refl
+dropped_more [] more (suc n) small = absurd (omega arith)
+dropped_more (x ∷ list) more (suc n) small = dropped_more list more n (omega arith)
+
+longer : (list more : List ℕ) (n : ℕ) → n ≤ length list → n ≤ length (list ++ more)
+longer list more zero small = omega arith
+longer [] more (suc n) small = absurd (omega arith)
+longer (x ∷ list) more (suc n) small = let rest = longer list more n (omega arith) in omega arith
+
+left_by_adds : (n : ℕ) (old new : List ℕ) → Adds old new → n ≤ length old → n ≤ length new
+left_by_adds n old new k small = subst (λ (list : List ℕ). n ≤ length list) (sym k.same) (longer old k.added n small)
+
+-- the machine after an answer is what the state after it makes of the same unseen parts but for a hart's exit registers, and
+-- the answer stays in its frame
+pub record Mirrors (o : Unseen) (r : State) (h : ℕ) (after : Machine) (next : State) : Type 0 where
+  pub parts : Unseen
+  pub same : after ≡ machine_of parts next
+  pub tables : parts.tables ≡ o.tables
+  pub cleared : parts.cleared ≡ o.cleared
+  pub exits : length parts.exits ≡ length next.harts
+  pub printed : o.cleared ≤ length next.journal.printed
+  pub ram : next.ram ≡ r.ram
+  pub rules : next.rules ≡ r.rules
+  pub frame : Answers (machine_of o r) h after
+
+-- ---- choices
+
+pub choose : (o : Unseen) (r : State) (h : ℕ) (b : Bool) (m n : Machine) (x y : State) → Mirrors o r h m x → Mirrors o r h n y
+    → Mirrors o r h (if b then m else n) (if b then x else y)
+choose o r h true m n x y s t = s
+choose o r h false m n x y s t = t
+
+pub decided : (o : Unseen) (r : State) (h : ℕ) (b : Bool) (m n : Machine) (x y : State) → (b ≡ true → Mirrors o r h m x) → (b ≡ false → Mirrors o r h n y)
+    → Mirrors o r h (if b then m else n) (if b then x else y)
+decided o r h true m n x y s t = s refl
+decided o r h false m n x y s t = t refl
+
+-- the machine's test is the state's
+pub tested : (o : Unseen) (r : State) (h : ℕ) (a b : Bool) (m n : Machine) (x y : State) → a ≡ b → (b ≡ true → Mirrors o r h m x) → (b ≡ false → Mirrors o r h n y)
+    → Mirrors o r h (if a then m else n) (if b then x else y)
+tested o r h a b m n x y same s t = rw same (decided o r h b m n x y s t)
+
+-- ---- the state and the machine with all parts changed that an answer may change
+
+abbrev pub stepped : State → List Hart → List ApprovedPage → List ℕ → List SavedModule → Option Loading → Bool → Devices → Journal → State
+stepped r harts approved held loaded loading retired d j = record r {
+  harts = harts;
+  approved = approved;
+  held = held;
+  loaded = loaded;
+  loading = loading;
+  retired = retired;
+  devices = d;
+  journal = j;
+}
+
+abbrev pub hosted : Unseen → State → List HostHart → List Protection → List SavedModule → Option HostLoad → Bool → Devices → Journal → Machine
+hosted o r hosts protections loaded loading retired d j = record (machine_of o r) {
+  harts = hosts;
+  protections = protections;
+  dma = map is_free protections;
+  loaded = loaded;
+  loading = loading;
+  retired = retired;
+  devices = d;
+  journal = without_printed o.cleared j;
+}
+
+abbrev pub hosts_in : Unseen → State → List HostHart
+hosts_in o r = host_harts (length o.tables) o.exits r.harts
+
+all_same : (o : Unseen) (r : State) (exits : List HypervisorRegisters) (hosts : List HostHart) (harts : List Hart)
+    (approved : List ApprovedPage) (held : List ℕ) (loaded : List SavedModule) (loading : Option Loading) (retired : Bool) (d : Devices) (j : Journal)
+    (protections : List Protection) (hl : Option HostLoad)
+    → hosts ≡ host_harts (length o.tables) exits harts
+    → protections_of (record r { approved = approved; held = held }) ≡ protections
+    → option_map (load_kept r.rules r.ram) loading ≡ hl
+    → hosted o r hosts protections loaded hl retired d j ≡ machine_of (record o { exits = exits }) (stepped r harts approved held loaded loading retired d j)
+unfolding machine_of
+all_same o r exits hosts harts approved held loaded loading retired d j protections hl e f g = rw (e, sym f, sym g) refl
+
+abbrev pub hosted_as : Unseen → State → List HostHart → List Protection → List SavedModule → Option HostLoad → Bool → Devices → Journal → Machine
+hosted_as o r hosts protections loaded loading retired d j = record (machine_of o r) {
+  harts = hosts;
+  protections = protections;
+  dma = map is_free protections;
+  loaded = loaded;
+  loading = loading;
+  retired = retired;
+  devices = d;
+  journal = j;
+}
+
+devices_same : (old d : Devices) → d.clock.time ≡ old.clock.time → d ≡ devices_answered old d.console d.disk d.clock.timers
+devices_same old d e = ap (λ (t : ℕ). record { console = d.console; disk = d.disk; clock = record { time = t; timers = d.clock.timers } }) e
+
+journal_same : (n : ℕ) (old j : Journal) (k : Adds old.printed j.printed) → n ≤ length old.printed → without_printed n j ≡ journal_answered (without_printed n old) k.added j.notes j.counts j.verdict
+journal_same n old j k small =
+    ap (λ (list : List ℕ). record { printed = list; notes = j.notes; counts = j.counts; verdict = j.verdict })
+    (ap (drop n) k.same ∙ dropped_more old.printed k.added n small)
+
+all_frame : (o : Unseen) (r : State) (h : ℕ) (hosts : List HostHart) (host : HostHart) (others : Others)
+    (loaded : List SavedModule) (retired : Bool) (d : Devices) (j : Journal) (protections : List Protection) (hl : Option HostLoad)
+    → hosts ≡ others_changed others (update (hosts_in o r) h (hart_answered host)) → MayChange (hosts_in o r) others
+    → d.clock.time ≡ r.devices.clock.time → Adds r.journal.printed j.printed → o.cleared ≤ length r.journal.printed
+    → Answers (machine_of o r) h (hosted o r hosts protections loaded hl retired d j)
+unfolding machine_of
+all_frame o r h hosts host others loaded retired d j protections hl e may time adds small = record {
+  answer = record {
+    tables = o.tables;
+    protections = protections;
+    dma = map is_free protections;
+    hart = host;
+    others = others;
+    loaded = loaded;
+    loading = hl;
+    retired = retired;
+    console = d.console;
+    disk = d.disk;
+    timers = d.clock.timers;
+    printed = adds.added;
+    notes = j.notes;
+    counts = j.counts;
+    verdict = j.verdict;
+  };
+  size = refl;
+  may = may;
+  same = ap (λ (x : List HostHart). hosted_as o r x protections loaded hl retired d (without_printed o.cleared j)) e
+      ∙ ap (λ (x : Devices). hosted_as o r (others_changed others (update (hosts_in o r) h (hart_answered host))) protections loaded hl retired x (without_printed o.cleared j))
+      (devices_same r.devices d time)
+      ∙ ap (hosted_as o r (others_changed others (update (hosts_in o r) h (hart_answered host))) protections loaded hl retired (devices_answered r.devices d.console d.disk d.clock.timers))
+      (journal_same o.cleared r.journal j adds small);
+}
+
+pub mirrored : (o : Unseen) (r : State) (h : ℕ) (exits : List HypervisorRegisters) (hosts : List HostHart) (host : HostHart) (others : Others) (harts : List Hart)
+    (approved : List ApprovedPage) (held : List ℕ) (loaded : List SavedModule) (loading : Option Loading) (retired : Bool) (d : Devices) (j : Journal)
+    (protections : List Protection) (hl : Option HostLoad)
+    → IsRightFor o r
+    → hosts ≡ host_harts (length o.tables) exits harts
+    → hosts ≡ others_changed others (update (hosts_in o r) h (hart_answered host)) → MayChange (hosts_in o r) others
+    → length exits ≡ length harts
+    → protections_of (record r { approved = approved; held = held }) ≡ protections
+    → option_map (load_kept r.rules r.ram) loading ≡ hl
+    → d.clock.time ≡ r.devices.clock.time
+    → Adds r.journal.printed j.printed
+    → Mirrors o r h (hosted o r hosts protections loaded hl retired d j) (stepped r harts approved held loaded loading retired d j)
+mirrored o r h exits hosts host others harts approved held loaded loading retired d j protections hl p e e2 may size f g time adds = record {
+  parts = record o { exits = exits };
+  same = all_same o r exits hosts harts approved held loaded loading retired d j protections hl e f g;
+  tables = refl;
+  cleared = refl;
+  exits = size;
+  printed = left_by_adds o.cleared r.journal.printed j.printed adds p.cleared;
+  ram = refl;
+  rules = refl;
+  frame = all_frame o r h hosts host others loaded retired d j protections hl e2 may time adds p.cleared;
+}
+
+-- ---- one hart
+
+pub hosts_update : (t : ℕ) (exits : List HypervisorRegisters) (harts : List Hart) (h : ℕ) (c : HypervisorRegisters) (hart next : Hart) (change : HostHart → HostHart)
+    → slice_get exits h ≡ Some c → slice_get harts h ≡ Some hart → change (host_hart t c hart) ≡ host_hart t c next
+    → update (host_harts t exits harts) h change ≡ host_harts t exits (slice_set harts h next)
+unfolding host_harts update
+hosts_update t [] harts h c hart next change e f g = cc
+hosts_update t (d ∷ exits) [] h c hart next change e f g = cc
+hosts_update t (d ∷ exits) (x ∷ harts) zero c hart next change e f g = let p : d ≡ c = cc in let q : x ≡ hart = cc in rw (p, q, g) refl
+hosts_update t (d ∷ exits) (x ∷ harts) (suc h) c hart next change e f g = ap (◌∷◌ (host_hart t d x)) (hosts_update t exits harts h c hart next change e f g)
+
+pub update_sets : (harts : List HostHart) (h : ℕ) (host : HostHart) (change : HostHart → HostHart) → slice_get harts h ≡ Some host
+    → update harts h change ≡ slice_set harts h (change host)
+unfolding update
+update_sets [] h host change e = cc
+update_sets (x ∷ harts) zero host change e = let same : x ≡ host = cc in rw same refl
+update_sets (x ∷ harts) (suc h) host change e = ap (◌∷◌ x) (update_sets harts h host change e)
+
+pub host_there : (t : ℕ) (exits : List HypervisorRegisters) (harts : List Hart) (h : ℕ) (c : HypervisorRegisters) (hart : Hart)
+    → slice_get exits h ≡ Some c → slice_get harts h ≡ Some hart → slice_get (host_harts t exits harts) h ≡ Some (host_hart t c hart)
+unfolding host_harts
+host_there t [] harts h c hart e f = cc
+host_there t (d ∷ exits) [] h c hart e f = cc
+host_there t (d ∷ exits) (x ∷ harts) zero c hart e f = let p : d ≡ c = cc in let q : x ≡ hart = cc in rw (p, q) refl
+host_there t (d ∷ exits) (x ∷ harts) (suc h) c hart e f = host_there t exits harts h c hart e f
+
+-- what is changed of a hart lies in the frame, since scounteren stays
+own_same : (t : ℕ) (c : HypervisorRegisters) (hart next : Hart) → hart.supervisor.scounteren ≡ next.supervisor.scounteren
+    → host_hart t c next ≡ hart_answered (host_hart t c next) (host_hart t c hart)
+own_same t c hart next e = rw e refl
+
+pub framed : (o : Unseen) (r : State) (h : ℕ) (hart next : Hart) (c : HypervisorRegisters) (change : HostHart → HostHart) → IsAt o r h hart c
+    → change (host_hart (length o.tables) c hart) ≡ host_hart (length o.tables) c next → hart.supervisor.scounteren ≡ next.supervisor.scounteren
+    → update (hosts_in o r) h change ≡ update (hosts_in o r) h (hart_answered (host_hart (length o.tables) c next))
+framed o r h hart next c change at e same =
+    let t : ℕ = length o.tables in
+    let there = host_there t o.exits r.harts h c hart at.exits at.found in
+    update_sets (hosts_in o r) h (host_hart t c hart) change there
+    ∙ ap (slice_set (hosts_in o r) h) (e ∙ own_same t c hart next same)
+    ∙ sym (update_sets (hosts_in o r) h (host_hart t c hart) (hart_answered (host_hart t c next)) there)
+
+-- a hart is changed on both sides; pages and modules may change with it
+pub one_paged : (o : Unseen) (r : State) (h : ℕ) (hart next : Hart) (c : HypervisorRegisters) (change : HostHart → HostHart)
+    (approved : List ApprovedPage) (held : List ℕ) (loaded : List SavedModule) (loading : Option Loading) (retired : Bool) (j : Journal)
+    (protections : List Protection) (hl : Option HostLoad)
+    → IsAt o r h hart c → change (host_hart (length o.tables) c hart) ≡ host_hart (length o.tables) c next
+    → hart.supervisor.scounteren ≡ next.supervisor.scounteren
+    → protections_of (record r { approved = approved; held = held }) ≡ protections
+    → option_map (load_kept r.rules r.ram) loading ≡ hl
+    → Adds r.journal.printed j.printed
+    → Mirrors o r h (hosted o r (update (hosts_in o r) h change) protections loaded hl retired r.devices j)
+    (stepped r (slice_set r.harts h next) approved held loaded loading retired r.devices j)
+unfolding others_changed
+one_paged o r h hart next c change approved held loaded loading retired j protections hl at e same f g adds =
+    mirrored o r h o.exits (update (hosts_in o r) h change) (host_hart (length o.tables) c next) Nobody (slice_set r.harts h next)
+    approved held loaded loading retired r.devices j protections hl at.parts
+    (hosts_update (length o.tables) o.exits r.harts h c hart next change at.exits at.found e)
+    (framed o r h hart next c change at e same)
+    _ (at.parts.exits ∙ sym (length_set r.harts h next)) f g refl adds
+
+-- a hart, devices and the journal
+pub one_hart : (o : Unseen) (r : State) (h : ℕ) (hart next : Hart) (c : HypervisorRegisters) (change : HostHart → HostHart) (d : Devices) (j : Journal)
+    → IsAt o r h hart c → change (host_hart (length o.tables) c hart) ≡ host_hart (length o.tables) c next
+    → hart.supervisor.scounteren ≡ next.supervisor.scounteren → d.clock.time ≡ r.devices.clock.time → Adds r.journal.printed j.printed
+    → Mirrors o r h (record (machine_of o r) { harts = update (hosts_in o r) h change; devices = d; journal = without_printed o.cleared j })
+    (record r { harts = slice_set r.harts h next; devices = d; journal = j })
+unfolding machine_of others_changed
+one_hart o r h hart next c change d j at e same time adds =
+    mirrored o r h o.exits (update (hosts_in o r) h change) (host_hart (length o.tables) c next) Nobody (slice_set r.harts h next)
+    r.approved r.held r.loaded r.loading r.retired d j (protections_of r) (option_map (load_kept r.rules r.ram) r.loading) at.parts
+    (hosts_update (length o.tables) o.exits r.harts h c hart next change at.exits at.found e)
+    (framed o r h hart next c change at e same)
+    _ (at.parts.exits ∙ sym (length_set r.harts h next)) refl refl time adds
+
+-- no hart is changed
+same_set : {A : Type 0} (xs : List A) (h : ℕ) (x : A) → slice_get xs h ≡ Some x → xs ≡ slice_set xs h x
+same_set [] h x e = cc
+same_set (y ∷ xs) zero x e = let same : y ≡ x = cc in rw same refl
+same_set (y ∷ xs) (suc h) x e = ap (◌∷◌ y) (same_set xs h x e)
+
+pub no_hart : (o : Unseen) (r : State) (h : ℕ) (hart : Hart) (c : HypervisorRegisters) (loading : Option Loading) (hl : Option HostLoad) (j : Journal)
+    → IsAt o r h hart c → option_map (load_kept r.rules r.ram) loading ≡ hl → Adds r.journal.printed j.printed
+    → Mirrors o r h (record (machine_of o r) { loading = hl; journal = without_printed o.cleared j }) (record r { loading = loading; journal = j })
+unfolding machine_of others_changed
+no_hart o r h hart c loading hl j at e adds =
+    let t : ℕ = length o.tables in
+    let there = host_there t o.exits r.harts h c hart at.exits at.found in
+    mirrored o r h o.exits (hosts_in o r) (host_hart t c hart) Nobody r.harts
+    r.approved r.held r.loaded loading r.retired r.devices j (protections_of r) hl at.parts refl
+    (same_set (hosts_in o r) h (host_hart t c hart) there
+    ∙ ap (slice_set (hosts_in o r) h) (own_same t c hart hart refl)
+    ∙ sym (update_sets (hosts_in o r) h (host_hart t c hart) (hart_answered (host_hart t c hart)) there))
+    _ at.parts.exits refl e refl adds

@@ -1,0 +1,262 @@
+-- The fields of a module's text, page by page: a policy within its limits has each field in one page, so that clearing them and
+-- judging them goes page by page.
+use Rattle.std.proofs.Common.{◌≡◌, ℕ, zero, suc, ◌+◌, ◌-◌, ◌*◌, ◌/◌, ◌%◌, ◌<◌, ◌≤◌, ◌⊎◌, inl, inr, List, [], ◌∷◌, ◌++◌, length, take, drop, filter, refl, sym, ◌∙◌, ap, subst, Bool, true, false, not, ◌&&◌, ◌||◌, arith, slice_get, length-drop, drop-drop, take-append-drop}
+use Rattle.std.specs.Prelude.{Some, if◌then◌else◌, ◌==◌, nat_lt, IsTrue}
+use Rattle.std.proofs.lemmas.Bool.{eqb-true}
+use Rattle.std.proofs.lemmas.Bool.Decides.{nat_tests}
+use Rattle.sv_types.specs.Bits.{without}
+use Rattle.sv_types.specs.Bytes.{page_size, page_bytes, word, overwrite, write_word, low_bytes}
+use Rattle.sv_types.specs.Measure.{page_digest, page_digests}
+use Rattle.sv_types.specs.Policies.{Rules, ModuleRule, rules_within, numbers_within, lists_within, init_within, modules_count_within, modules_within, module_within, module_pages_within, sites_count_within, sites_within, sites_of, is_module, each_within, next_site_within, site_within, place_within, kind_within, base_within, anchor_within, is_behind, is_aligned}
+use Rattle.sv_types.specs.declared.module.Bases.{Bases}
+use Rattle.sv_types.specs.declared.module.Site.{Site}
+use Rattle.sv_types.specs.declared.policy.Export.{Export}
+use Rattle.sv_types.proofs.ByteLemmas.{length_low_bytes, length_overwrite, length_write_word, drop_front, take_front, length_before, part_before, part_after, overwrite_behind, overwrite_in_front, word_in_page_bytes}
+use Rattle.machine_model.specs.HostExits.{moved_site, is_site_in, page_sites}
+use Rattle.reference.specs.Relocations.{BField, JField, UField, IField, SField, field_of, field_width, field_bits, field_word, clear_field, masked, field_right, fields_right, site_value}
+use Rattle.run_laws.proofs.Lookups.{and_first, and_second, is_there}
+
+-- ---- where fields lie
+
+abbrev pub width_of : Site → ℕ
+width_of site = field_width (field_of site.kind)
+
+pub record LiesIn (bytes : ℕ) (site : Site) : Type 0 where
+  pub below : site.offset < bytes
+  pub inside : site.offset + width_of site ≤ bytes
+  pub whole : site.offset % 4096 + width_of site ≤ 4096
+
+abbrev pub AllLieIn : ℕ → List Site → Type 0
+AllLieIn bytes [] = Unit {0}
+AllLieIn bytes (site ∷ sites) = LiesIn bytes site × AllLieIn bytes sites
+
+narrow : (a b c d : Bool) → field_width (if a then BField else if b then JField else if c then UField else if d then IField else SField) ≡ 4
+narrow true b c d = refl
+narrow false true c d = refl
+narrow false false true d = refl
+narrow false false false true = refl
+narrow false false false false = refl
+
+width_by : (kind : ℕ) (b : Bool) → (kind == 2) ≡ b → field_width (field_of kind) ≡ (if b then 8 else 4)
+width_by kind true e = rw e refl
+width_by kind false e = rw e (narrow (kind == 16) (kind == 17) (kind == 23 || kind == 26) (kind == 24 || kind == 27))
+
+lies_by : (pages : ℕ) (site : Site) (b : Bool) → (site.kind == 2) ≡ b → site.offset % 4 ≡ 0 → site.offset < 4096 * pages → site.offset % (if b then 8 else 4) ≡ 0 → LiesIn (4096 * pages) site
+lies_by pages site true e four below aligned =
+    let w : width_of site ≡ 8 = width_by site.kind true e in
+    record { below = below; inside = rw w (omega arith); whole = rw w (grind arith) }
+lies_by pages site false e four below aligned =
+    let w : width_of site ≡ 4 = width_by site.kind false e in
+    record { below = below; inside = rw w (omega arith); whole = rw w (grind arith) }
+
+lies : (pages exports : ℕ) (site : Site) → site_within pages exports site ≡ true → LiesIn (4096 * pages) site
+lies pages exports site e =
+    let a = and_first (place_within pages site.offset && kind_within site.kind && is_aligned site.kind site.offset && base_within exports site.base) (anchor_within pages site.kind site.offset site.anchor) e in
+    let b = and_first (place_within pages site.offset && kind_within site.kind && is_aligned site.kind site.offset) (base_within exports site.base) a in
+    let c = and_first (place_within pages site.offset && kind_within site.kind) (is_aligned site.kind site.offset) b in
+    let aligned = and_second (place_within pages site.offset && kind_within site.kind) (is_aligned site.kind site.offset) b in
+    let d = and_first (place_within pages site.offset) (kind_within site.kind) c in
+    let four : site.offset % 4 ≡ 0 = eqb-true (site.offset % 4) 0 (and_first (site.offset % 4 == 0) (nat_lt site.offset (4096 * pages)) d) in
+    let lower = and_second (site.offset % 4 == 0) (nat_lt site.offset (4096 * pages)) d in
+    lies_by pages site (site.kind == 2) refl four (grind (arith, nat_tests)) (eqb-true (site.offset % (if site.kind == 2 then 8 else 4)) 0 aligned)
+
+all_lie : (pages exports : ℕ) (before sites : List Site) → each_within (next_site_within pages exports) before sites ≡ true → AllLieIn (4096 * pages) sites
+all_lie pages exports before [] e = tt
+all_lie pages exports before (site ∷ sites) e =
+    let first = and_first (next_site_within pages exports before site) (each_within (next_site_within pages exports) (before ++ site ∷ []) sites) e in (
+      lies pages exports site (and_first (site_within pages exports site) (is_behind before site) first),
+      all_lie pages exports (before ++ site ∷ []) sites (and_second (next_site_within pages exports before site) (each_within (next_site_within pages exports) (before ++ site ∷ []) sites) e),
+    )
+
+one_within : (exports : ℕ) (before xs : List ModuleRule) (i : ℕ) (rule : ModuleRule) → each_within (module_within exports) before xs ≡ true → slice_get xs i ≡ Some rule
+    → (b : List ModuleRule) × (module_within exports b rule ≡ true)
+one_within exports before [] i rule e found = absurd (cc)
+one_within exports before (x ∷ xs) zero rule e found =
+    let same : x ≡ rule = cc in
+    (before, subst (λ (y : ModuleRule). module_within exports before y ≡ true) same (and_first (module_within exports before x) (each_within (module_within exports) (before ++ x ∷ []) xs) e))
+one_within exports before (x ∷ xs) (suc i) rule e found =
+    one_within exports (before ++ x ∷ []) xs i rule (and_second (module_within exports before x) (each_within (module_within exports) (before ++ x ∷ []) xs) e) found
+
+-- each field of a module of the policy lies in one page
+pub rule_lies : (rules : Rules) (i : ℕ) (rule : ModuleRule) → IsTrue (rules_within rules) → slice_get rules.modules i ≡ Some rule → AllLieIn (4096 * rule.pages) rule.sites
+rule_lies rules i rule within found =
+    let modules : modules_within (length rules.exports) rules.modules ≡ true =
+    and_second (numbers_within rules && lists_within rules && init_within rules.ram_pages rules.init && modules_count_within (length rules.modules)) (modules_within (length rules.exports) rules.modules) within in
+    let one = one_within (length rules.exports) [] rules.modules i rule modules found in
+    let front = and_first (module_pages_within rule.pages && sites_count_within (sites_of one.0) (length rule.sites) && sites_within rule.pages (length rules.exports) rule.sites) (not (is_module rule.name one.0)) one.1 in
+    all_lie rule.pages (length rules.exports) [] rule.sites
+    (and_second (module_pages_within rule.pages && sites_count_within (sites_of one.0) (length rule.sites)) (sites_within rule.pages (length rules.exports) rule.sites) front)
+
+-- ---- digests
+
+pub digest_more : (n : ℕ) (bytes : List ℕ) → page_digests (suc n) bytes ≡ page_digests n bytes ++ page_digest (page_bytes bytes n) ∷ []
+digest_more zero bytes = refl
+digest_more (suc n) bytes =
+    let place : drop (page_size * n) (drop page_size bytes) ≡ drop (page_size * suc n) bytes =
+    drop-drop (page_size * n) page_size bytes ∙ ap (λ (k : ℕ). drop k bytes) (omega arith) in
+    ap (λ (ds : List (List ℕ)). page_digest (take page_size bytes) ∷ ds)
+    (digest_more n (drop page_size bytes)
+    ∙ ap (λ (rest : List ℕ). page_digests n (drop page_size bytes) ++ page_digest (take page_size rest) ∷ []) place)
+
+-- ---- clearing, page by page
+
+-- what is written inside a page
+inside_page : (text bytes : List ℕ) (n k : ℕ) → 4096 * n + 4096 ≤ length text → k + length bytes ≤ 4096
+    → page_bytes (overwrite text (4096 * n + k) bytes) n ≡ overwrite (page_bytes text n) k bytes
+inside_page text bytes n k room fits =
+    let front : List ℕ = take (4096 * n) text in
+    let rest : List ℕ = drop (4096 * n) text in
+    let size : length front ≡ 4096 * n = length_before text (4096 * n) (omega arith) in
+    let left = length-drop (4096 * n) text in
+    let page : List ℕ = take 4096 rest in
+    let full : length page ≡ 4096 = length_before rest 4096 (omega arith) in
+    let whole : overwrite text (4096 * n + k) bytes ≡ front ++ overwrite rest k bytes =
+    subst (λ (l : List ℕ). overwrite l (4096 * n + k) bytes ≡ front ++ overwrite rest k bytes) (take-append-drop (4096 * n) text)
+    (subst (λ (m : ℕ). overwrite (front ++ rest) (m + k) bytes ≡ front ++ overwrite rest k bytes) size (overwrite_behind front rest bytes k)) in
+    let split : overwrite rest k bytes ≡ overwrite page k bytes ++ drop 4096 rest =
+    subst (λ (l : List ℕ). overwrite l k bytes ≡ overwrite page k bytes ++ drop 4096 rest) (take-append-drop 4096 rest)
+    (overwrite_in_front page (drop 4096 rest) bytes k (rw full fits)) in
+    ap (λ (l : List ℕ). page_bytes l n) whole
+    ∙ ap (take 4096) (drop_front front (overwrite rest k bytes) (4096 * n) size ∙ split)
+    ∙ take_front (overwrite page k bytes) (drop 4096 rest) 4096 (length_overwrite page bytes k (rw full fits) ∙ full)
+
+-- the field of a page's word is that of the text's
+same_word : (text : List ℕ) (n : ℕ) (site : Site) → (4096 * n) + (site.offset - 4096 * n) ≡ site.offset → site.offset - 4096 * n + width_of site ≤ 4096
+    → field_word (page_bytes text n) (moved_site n site) ≡ field_word text site
+same_word text n site back fits =
+    word_in_page_bytes text n (site.offset - 4096 * n) (width_of site) fits ∙ ap (λ (at : ℕ). word text at (width_of site)) back
+
+abbrev pub cleared_value : List ℕ → Site → ℕ
+cleared_value text site = without (field_word text site) (field_bits (field_of site.kind))
+
+clear_here : (text : List ℕ) (n : ℕ) (site : Site) → 4096 * n + 4096 ≤ length text → 4096 * n + (site.offset - 4096 * n) ≡ site.offset → site.offset - 4096 * n + width_of site ≤ 4096
+    → page_bytes (clear_field text site) n ≡ clear_field (page_bytes text n) (moved_site n site)
+unfolding clear_field
+clear_here text n site room back fits =
+    let size : length (low_bytes (width_of site) (cleared_value text site)) ≡ width_of site = length_low_bytes (width_of site) (cleared_value text site) in
+    ap (λ (at : ℕ). page_bytes (overwrite text at (low_bytes (width_of site) (cleared_value text site))) n) (sym back)
+    ∙ inside_page text (low_bytes (width_of site) (cleared_value text site)) n (site.offset - 4096 * n) room (rw size fits)
+    ∙ ap (λ (w : ℕ). write_word (page_bytes text n) (site.offset - 4096 * n) (width_of site) (without w (field_bits (field_of site.kind)))) (sym (same_word text n site back fits))
+
+clear_there : (text : List ℕ) (n : ℕ) (site : Site) → LiesIn (length text) site → (site.offset / 4096 == n) ≡ false → page_bytes (clear_field text site) n ≡ page_bytes text n
+unfolding clear_field
+clear_there text n site k other =
+    let size : length (low_bytes (width_of site) (cleared_value text site)) ≡ width_of site = length_low_bytes (width_of site) (cleared_value text site) in
+    let inside = k.inside in
+    let whole = k.whole in
+    let apart : (site.offset / 4096 < n) ⊎ (n < site.offset / 4096) = grind (arith, nat_tests) in
+    elim apart [
+      | inl before ↦ part_after text (low_bytes (width_of site) (cleared_value text site)) site.offset (4096 * n) 4096 (rw size inside) (rw size (omega arith))
+      | inr behind ↦ part_before text (low_bytes (width_of site) (cleared_value text site)) site.offset (4096 * n) 4096 (rw size inside) (omega arith)
+    ]
+
+length_cleared : (text : List ℕ) (site : Site) → LiesIn (length text) site → length (clear_field text site) ≡ length text
+unfolding clear_field
+length_cleared text site k = length_write_word text site.offset (width_of site) (cleared_value text site) k.inside
+
+pub length_masked : (text : List ℕ) (sites : List Site) → AllLieIn (length text) sites → length (masked text sites) ≡ length text
+unfolding masked
+length_masked text [] all = refl
+length_masked text (site ∷ sites) all =
+    let same = length_cleared text site all.0 in
+    length_masked (clear_field text site) sites (subst (λ (n : ℕ). AllLieIn n sites) (sym same) all.1) ∙ same
+
+in_page : (n : ℕ) (site : Site) (bytes : ℕ) → LiesIn bytes site → (site.offset / 4096 == n) ≡ true → (4096 * n + (site.offset - 4096 * n) ≡ site.offset) × (site.offset - 4096 * n + width_of site ≤ 4096)
+in_page n site bytes k here =
+    let same : site.offset / 4096 ≡ n = eqb-true (site.offset / 4096) n here in
+    let whole = k.whole in
+    (omega arith, omega arith)
+
+-- a page of the cleared text is the page cleared
+pub page_masked : (text : List ℕ) (n : ℕ) (sites : List Site) → 4096 * n + 4096 ≤ length text → AllLieIn (length text) sites
+    → page_bytes (masked text sites) n ≡ masked (page_bytes text n) (page_sites n sites)
+unfolding masked page_sites
+page_masked text n [] room all = refl
+page_masked text n (site ∷ sites) room all =
+    let same = length_cleared text site all.0 in
+    let rest = page_masked (clear_field text site) n sites (rw same room) (subst (λ (m : ℕ). AllLieIn m sites) (sym same) all.1) in
+    rest ∙ elim (is_there (site.offset / 4096 == n)) [
+      | inl here ↦ let k = in_page n site (length text) all.0 here in
+          ap (λ (page : List ℕ). masked page (page_sites n sites)) (clear_here text n site room k.0 k.1)
+          ∙ ap (λ (b : Bool). masked (page_bytes text n) (if b then moved_site n site ∷ page_sites n sites else page_sites n sites)) (sym here)
+      | inr other ↦
+          ap (λ (page : List ℕ). masked page (page_sites n sites)) (clear_there text n site all.0 other)
+          ∙ ap (λ (b : Bool). masked (page_bytes text n) (if b then moved_site n site ∷ page_sites n sites else page_sites n sites)) (sym other)
+    ]
+
+-- ---- judging, page by page
+
+same_value : (exports : List Export) (bases : Bases) (n : ℕ) (site : Site) → site_value exports bases (moved_site n site) ≡ site_value exports bases site
+unfolding site_value
+same_value exports bases n site = refl
+
+same_right : (exports : List Export) (bases : Bases) (text : List ℕ) (n : ℕ) (site : Site) → LiesIn (length text) site → (site.offset / 4096 == n) ≡ true
+    → field_right exports bases (page_bytes text n) (moved_site n site) ≡ field_right exports bases text site
+unfolding field_right site_value
+same_right exports bases text n site k here =
+    let p = in_page n site (length text) k here in
+    rw (same_word text n site p.0 p.1) refl
+
+abbrev pub below : ℕ → Site → Bool
+below n site = nat_lt site.offset (page_size * n)
+
+three : (p q x y z b c : Bool) → (c ≡ true → q ≡ p) → (b ≡ true → c ≡ false) → x ≡ (y && z)
+    → (if b || c then p && x else x) ≡ ((if b then p && y else y) && (if c then q && z else z))
+three p q x y z true true same apart e = let no_such : true ≡ false = apart refl in cc
+three true q x y z true false same apart e = e
+three false q x y z true false same apart e = refl
+three p q x y z false true same apart e = rw (e, same refl) (swap p y z)
+  where
+    swap : (p y z : Bool) → (p && (y && z)) ≡ (y && (p && z))
+    swap true true z = refl
+    swap true false z = refl
+    swap false true z = refl
+    swap false false z = refl
+three p q x y z false false same apart e = e
+
+bounds : (off n : ℕ) → nat_lt off (page_size * suc n) ≡ (nat_lt off (page_size * n) || off / page_size == n)
+bounds off n = elim (is_there (nat_lt off (page_size * n))) [
+  | inl lower ↦ let more : nat_lt off (page_size * suc n) ≡ true = grind (arith, nat_tests) in more ∙ ap (λ (b : Bool). b || off / page_size == n) (sym lower)
+  | inr higher ↦ elim (is_there (off / page_size == n)) [
+    | inl here ↦ let more : nat_lt off (page_size * suc n) ≡ true = grind (arith, nat_tests) in
+        more ∙ sym here ∙ ap (λ (b : Bool). b || off / page_size == n) (sym higher)
+    | inr other ↦ let less : nat_lt off (page_size * suc n) ≡ false = grind (arith, nat_tests) in
+        less ∙ sym other ∙ ap (λ (b : Bool). b || off / page_size == n) (sym higher)
+  ]
+]
+
+not_both : (off n : ℕ) → nat_lt off (page_size * n) ≡ true → (off / page_size == n) ≡ false
+not_both off n lower = grind (arith, nat_tests)
+
+lifted : (exports : List Export) (bases : Bases) (text : List ℕ) (b : Bool) (site : Site) (sites : List Site)
+    → fields_right exports bases (if b then site ∷ sites else sites) text ≡ (if b then field_right exports bases text site && fields_right exports bases sites text else fields_right exports bases sites text)
+unfolding fields_right
+lifted exports bases text true site sites = refl
+lifted exports bases text false site sites = refl
+
+no_sites : (exports : List Export) (bases : Bases) (text page : List ℕ) → fields_right exports bases [] text ≡ (fields_right exports bases [] text && fields_right exports bases [] page)
+unfolding fields_right
+no_sites exports bases text page = refl
+
+-- the sites of the pages up to one are those of the pages before it, and its own
+pub right_more : (exports : List Export) (bases : Bases) (text : List ℕ) (n : ℕ) (sites : List Site) → AllLieIn (length text) sites
+    → fields_right exports bases (filter (below (suc n)) sites) text ≡ (fields_right exports bases (filter (below n) sites) text && fields_right exports bases (page_sites n sites) (page_bytes text n))
+unfolding page_sites
+right_more exports bases text n [] all = no_sites exports bases text (page_bytes text n)
+right_more exports bases text n (site ∷ sites) all =
+    let rest = right_more exports bases text n sites all.1 in
+    let x : Bool = fields_right exports bases (filter (below (suc n)) sites) text in
+    let p : Bool = field_right exports bases text site in
+    lifted exports bases text (below (suc n) site) site (filter (below (suc n)) sites)
+    ∙ ap (λ (b : Bool). if b then p && x else x) (bounds site.offset n)
+    ∙ three p (field_right exports bases (page_bytes text n) (moved_site n site)) x (fields_right exports bases (filter (below n) sites) text) (fields_right exports bases (page_sites n sites) (page_bytes text n))
+    (below n site) (is_site_in n site) (λ here. same_right exports bases text n site all.0 here) (λ lower. not_both site.offset n lower) rest
+    ∙ rw (lifted exports bases text (below n site) site (filter (below n) sites), lifted exports bases (page_bytes text n) (is_site_in n site) (moved_site n site) (page_sites n sites)) refl
+
+-- of a text all sites lie before its end
+pub all_below : (pages : ℕ) (sites : List Site) → AllLieIn (4096 * pages) sites → filter (below pages) sites ≡ sites
+all_below pages [] all = refl
+all_below pages (site ∷ sites) all =
+    let lower = all.0.below in
+    let there : below pages site ≡ true = grind (arith, nat_tests) in
+    ap (λ (b : Bool). if b then site ∷ filter (below pages) sites else filter (below pages) sites) there ∙ ap (◌∷◌ site) (all_below pages sites all.1)

@@ -1,0 +1,45 @@
+-- A view asks for the protections of the pages in RAM alone.
+use Rattle.std.proofs.Common.{◌≡◌, ℕ, zero, suc, ◌+◌, ◌<◌, List, length, map, refl, sym, ◌∙◌, ap, Bool, true, false, ◌&&◌, arith, slice_get}
+use Rattle.std.specs.Prelude.{Some, None, if◌then◌else◌}
+use Rattle.std.proofs.lemmas.Bool.Decides.{nat_tests}
+use Rattle.sv_types.specs.Bytes.{ram_place, page_of}
+use Rattle.sv_types.specs.Reference.{numbers_from}
+use Rattle.sv_types.specs.SecondStage.{AreViews, IsView, page_in_ram, view_permits, view_answer, view_hgatp}
+use Rattle.sv_types.specs.declared.wires.Access.{Access}
+use Rattle.sv_types.specs.declared.wires.Protection.{Protection}
+use Rattle.sv_types.specs.declared.wires.View.{View}
+
+-- two protections of the pages in RAM
+abbrev pub Meet : ℕ → (ℕ → Protection) → (ℕ → Protection) → Type 0
+Meet n p q = (page : ℕ) → page < n → p page ≡ q page
+
+by_page : (t : ℕ) (view : View) (x y : Protection) (access : Access) (b : Bool) (place : ℕ) → (b ≡ true → x ≡ y)
+    → (if b && view_permits view x access then Some (t + place) else None) ≡ (if b && view_permits view y access then Some (t + place) else None)
+by_page t view x y access true place same = ap (λ (z : Protection). if view_permits view z access then Some (t + place) else None) (same refl)
+by_page t view x y access false place same = refl
+
+page_below : (n gpa : ℕ) → page_in_ram n gpa ≡ true → page_of gpa < n
+page_below n gpa e = grind (arith, nat_tests)
+
+answer_meets : (t n : ℕ) (view : View) (p q : ℕ → Protection) (gpa : ℕ) (access : Access) → Meet n p q → view_answer t n view p gpa access ≡ view_answer t n view q gpa access
+unfolding view_answer
+answer_meets t n view p q gpa access meet =
+    by_page t view (p (page_of gpa)) (q (page_of gpa)) access (page_in_ram n gpa) (ram_place gpa) (λ e. meet (page_of gpa) (page_below n gpa e))
+
+view_meets : (tables : List ℕ) (n : ℕ) (p q : ℕ → Protection) (view : View) (hgatp : ℕ) → Meet n p q → IsView tables n p view hgatp → IsView tables n q view hgatp
+view_meets tables n p q view hgatp meet v = record {
+  answers = λ ram gpa access size small. v.answers ram gpa access size small ∙ answer_meets (length tables) n view p q gpa access meet;
+  reads = v.reads;
+}
+
+pub views_meet : (tables : List ℕ) (n : ℕ) (p q : ℕ → Protection) → Meet n p q → AreViews tables n p → AreViews tables n q
+views_meet tables n p q meet v = record {
+  kernel = view_meets tables n p q View.Kernel (view_hgatp View.Kernel) meet v.kernel;
+  user = view_meets tables n p q View.User (view_hgatp View.User) meet v.user;
+}
+
+-- the list of all pages' protections
+pub get_numbers : {A : Type 0} (f : ℕ → A) (first n i : ℕ) → i < n → slice_get (map f (numbers_from first n)) i ≡ Some (f (first + i))
+get_numbers f first zero i below = absurd (omega arith)
+get_numbers f first (suc n) zero below = let e : first + 0 ≡ first = omega arith in rw e refl
+get_numbers f first (suc n) (suc i) below = let e : first + suc i ≡ first + 1 + i = omega arith in get_numbers f (first + 1) n i (omega arith) ∙ ap (λ (k : ℕ). Some (f k)) (sym e)

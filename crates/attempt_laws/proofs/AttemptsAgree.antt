@@ -1,0 +1,131 @@
+-- An attempt of the hardware's is the reference machine's: interrupts, fetches and instructions.
+use Rattle.std.proofs.Common.{◌≡◌, ℕ, length, refl, sym, ◌∙◌, ap, subst, Bool, true, false, slice_get}
+use Rattle.std.specs.Prelude.{Option, Some, None, if◌then◌else◌}
+use Rattle.sv_types.specs.Bits.{bit}
+use Rattle.sv_types.specs.Effects.{effect_of}
+use Rattle.sv_types.specs.Hardware.{Step, with_region, after_interrupt, interrupt_exit, leave, guest_trap}
+use Rattle.sv_types.specs.HardwareAttempt.{after_instruction, after_word, after_pending, attempt}
+use Rattle.sv_types.specs.HypervisorRegisters.{HypervisorRegisters, pending, virtual_number}
+use Rattle.sv_types.specs.Instructions.{instruction_of}
+use Rattle.sv_types.specs.Regions.{IsWidth}
+use Rattle.sv_types.specs.Traps.{deliverable, interrupt_number}
+use Rattle.sv_types.specs.declared.cause.Cause.{Cause}
+use Rattle.sv_types.specs.declared.instruction.Instr.{Instr}
+use Rattle.sv_types.specs.declared.wires.Interrupt.{Interrupt}
+use Rattle.sv_types.specs.declared.wires.Interrupt.TheVariants.{External, Software, Timer}
+use Rattle.sv_types.specs.declared.wires.Mode.{Mode}
+use Rattle.sv_types.specs.declared.wires.Mode.TheVariants.{Kernel, User}
+use Rattle.sv_types.proofs.GuestViews.{guest_pending}
+use Rattle.reference.specs.States.{State, Hart, Loading}
+use Rattle.reference.specs.Devices.{lines_at}
+use Rattle.reference.specs.Trapping.{Interrupted, trap}
+use Rattle.reference.specs.Turn.{turn, turn_of, turn_of_started, carry_out_instruction as instructions, carry_out_word as carries_out, act_on_pending as pends, act as attempts}
+use Rattle.machine_model.specs.Served.{serve_exit, serve_trap}
+use Rattle.machine_model.specs.StandsFor.{Unseen, hregs_in, host_core}
+use Rattle.sv_types.specs.GuestView.{with_guest}
+use Rattle.attempt_laws.specs.Agree.{IsAt, Agrees, region_at, core_at, IsNotLoading}
+use Rattle.attempt_laws.proofs.Excepts.{exception_agrees, kernel_trap_agrees, leaves_agrees}
+use Rattle.attempt_laws.proofs.StoresAgree.{FreeKeeps}
+use Rattle.attempt_laws.proofs.FetchAgrees.{fetch_agrees, WordsAgree}
+use Rattle.attempt_laws.proofs.EffectsAgree.{IsTold, effect_agrees}
+
+-- ---- words
+
+-- what is known of each word
+abbrev pub AllTold : Hart → Type 0
+AllTold hart = (w : ℕ) (i : Instr) → instruction_of w ≡ Some i → IsTold w hart (effect_of i hart.registers hart.pc)
+
+instruction_agrees : (o : Unseen) (r : State) (h : ℕ) (hart : Hart) (c : HypervisorRegisters) (w : ℕ) (x : Option Instr)
+    → IsAt o r h hart c → ((width value : ℕ) → IsWidth width → FreeKeeps r width value) → AllTold hart → instruction_of w ≡ x
+    → Agrees o r h hart c (after_instruction (region_at o r) (core_at o c hart) (lines_at r.devices h) w x) (instructions r h hart w x)
+unfolding after_instruction instructions
+instruction_agrees o r h hart c w None at kept told found = exception_agrees o r h hart c Cause.Illegal w at refl
+instruction_agrees o r h hart c w (Some i) at kept told found =
+    effect_agrees o r h hart c w (effect_of i hart.registers hart.pc) at kept (told w i found)
+
+words_agree : (o : Unseen) (r : State) (h : ℕ) (hart : Hart) (c : HypervisorRegisters)
+    → IsAt o r h hart c → ((width value : ℕ) → IsWidth width → FreeKeeps r width value) → AllTold hart → WordsAgree o r h hart c
+unfolding after_word carries_out
+words_agree o r h hart c at kept told w = instruction_agrees o r h hart c w (instruction_of w) at kept told refl
+
+-- ---- interrupts
+
+interrupt_served : (r : State) (h : ℕ) (hart : Hart) (interrupt : Interrupt) (pc : ℕ)
+    → trap r h hart (Interrupted interrupt) ≡ serve_exit r h hart (interrupt_exit interrupt pc)
+unfolding serve_exit serve_trap
+interrupt_served r h hart External pc = refl
+interrupt_served r h hart Software pc = refl
+interrupt_served r h hart Timer pc = refl
+
+delegated_in : (interrupt : Interrupt) → bit (hregs_in Kernel).hideleg (virtual_number interrupt) ≡ true
+delegated_in External = refl
+delegated_in Software = refl
+delegated_in Timer = refl
+
+undelegated_in : (interrupt : Interrupt) → bit (hregs_in User).hideleg (virtual_number interrupt) ≡ false
+undelegated_in External = refl
+undelegated_in Software = refl
+undelegated_in Timer = refl
+
+kernel_interrupts : (t : ℕ) (c : HypervisorRegisters) (hart : Hart) (interrupt : Interrupt) → hart.mode ≡ Kernel
+    → after_interrupt (host_core t c hart) interrupt ≡ guest_trap (host_core t c hart) true (interrupt_number interrupt) 0
+unfolding after_interrupt
+kernel_interrupts t c hart interrupt kernel = rw (kernel, delegated_in interrupt) refl
+
+user_interrupts : (t : ℕ) (c : HypervisorRegisters) (hart : Hart) (interrupt : Interrupt) → hart.mode ≡ User
+    → after_interrupt (host_core t c hart) interrupt ≡ leave (host_core t c hart) (interrupt_exit interrupt hart.pc)
+unfolding after_interrupt
+user_interrupts t c hart interrupt user = rw (user, undelegated_in interrupt) refl
+
+interrupt_agrees : (o : Unseen) (r : State) (h : ℕ) (hart : Hart) (c : HypervisorRegisters) (interrupt : Interrupt) (mode : Mode) → IsAt o r h hart c → hart.mode ≡ mode
+    → Agrees o r h hart c (with_region (region_at o r) (after_interrupt (core_at o c hart) interrupt)) (trap r h hart (Interrupted interrupt))
+interrupt_agrees o r h hart c interrupt Kernel at kernel =
+    subst (λ (s : Step). Agrees o r h hart c (with_region (region_at o r) s) (trap r h hart (Interrupted interrupt)))
+    (sym (kernel_interrupts (length o.tables) c hart interrupt kernel))
+    (kernel_trap_agrees o r h hart c true (interrupt_number interrupt) 0 at kernel)
+interrupt_agrees o r h hart c interrupt User at user =
+    leaves_agrees o r h hart c (after_interrupt (core_at o c hart) interrupt) (interrupt_exit interrupt hart.pc) (trap r h hart (Interrupted interrupt))
+    (user_interrupts (length o.tables) c hart interrupt user) (interrupt_served r h hart interrupt hart.pc)
+
+-- ---- attempts
+
+pending_agrees : (o : Unseen) (r : State) (h : ℕ) (hart : Hart) (c : HypervisorRegisters) (x : Option Interrupt)
+    → IsAt o r h hart c → ((width value : ℕ) → IsWidth width → FreeKeeps r width value) → AllTold hart
+    → Agrees o r h hart c (after_pending (region_at o r) (core_at o c hart) (lines_at r.devices h) x) (pends r h hart x)
+unfolding after_pending pends
+pending_agrees o r h hart c (Some interrupt) at kept told = interrupt_agrees o r h hart c interrupt hart.mode at refl
+pending_agrees o r h hart c None at kept told =
+    fetch_agrees o r h hart c at (words_agree o r h hart c at kept told) (at.sound.harts h hart at.found).aligned
+
+same_pending : (r : State) (h : ℕ) (hart : Hart) (c : HypervisorRegisters) (mode : Mode) (t : ℕ)
+    → pending (hregs_in mode) (with_guest c hart.supervisor) (lines_at r.devices h) ≡ deliverable mode hart.supervisor (lines_at r.devices h)
+same_pending r h hart c Kernel t = guest_pending (hregs_in Kernel) c hart.supervisor (lines_at r.devices h) refl
+same_pending r h hart c User t = guest_pending (hregs_in User) c hart.supervisor (lines_at r.devices h) refl
+
+pub attempt_agrees : (o : Unseen) (r : State) (h : ℕ) (hart : Hart) (c : HypervisorRegisters)
+    → IsAt o r h hart c → ((width value : ℕ) → IsWidth width → FreeKeeps r width value) → AllTold hart
+    → Agrees o r h hart c (attempt (region_at o r) (core_at o c hart) (lines_at r.devices h)) (attempts r h hart)
+unfolding attempt attempts
+attempt_agrees o r h hart c at kept told =
+    rw (same_pending r h hart c hart.mode 0)
+    (pending_agrees o r h hart c (deliverable hart.mode hart.supervisor (lines_at r.devices h)) at kept told)
+
+-- ---- turns
+
+started_turn : (r : State) (h : ℕ) (hart : Hart) (x : Option Loading) → IsNotLoading h x → turn_of_started r h hart x ≡ attempts r h hart
+unfolding turn_of_started
+started_turn r h hart None other = refl
+started_turn r h hart (Some load) other = rw other refl
+
+pub turn_is : (r : State) (h : ℕ) (hart : Hart) → slice_get r.harts h ≡ Some hart → hart.started ≡ true → IsNotLoading h r.loading → turn r h ≡ attempts r h hart
+unfolding turn turn_of
+turn_is r h hart found started other =
+    ap (turn_of r h) found ∙ ap (λ (b : Bool). if b then turn_of_started r h hart r.loading else r) started ∙ started_turn r h hart r.loading other
+
+-- an attempt agrees with the reference machine's turn
+pub turn_agrees : (o : Unseen) (r : State) (h : ℕ) (hart : Hart) (c : HypervisorRegisters)
+    → IsAt o r h hart c → ((width value : ℕ) → IsWidth width → FreeKeeps r width value) → AllTold hart → IsNotLoading h r.loading
+    → Agrees o r h hart c (attempt (region_at o r) (core_at o c hart) (lines_at r.devices h)) (turn r h)
+turn_agrees o r h hart c at kept told other =
+    subst (Agrees o r h hart c (attempt (region_at o r) (core_at o c hart) (lines_at r.devices h))) (sym (turn_is r h hart at.found at.started other))
+    (attempt_agrees o r h hart c at kept told)

@@ -1,0 +1,17 @@
+pub mod Everywhere
+pub mod Hosts
+pub mod Stays
+pub mod Excepts
+pub mod Under
+pub mod LoadsAgree
+pub mod StoresAgree
+pub mod PlacesAgree
+pub mod AtomicsAgree
+pub mod CsrsAgree
+pub mod FetchAgrees
+pub mod EffectsAgree
+pub mod AttemptsAgree
+pub mod WordsTell
+pub mod AllTold
+pub mod LoadsKept
+pub mod AttemptLawHolds

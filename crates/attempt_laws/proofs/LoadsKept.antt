@@ -1,0 +1,82 @@
+-- A write into a free page leaves what is kept of a load under way.
+use Rattle.std.proofs.Common.{◌≡◌, ℕ, zero, suc, ◌+◌, ◌*◌, ◌%◌, ◌/◌, ◌<◌, ◌≤◌, ◌⊎◌, inl, inr, List, length, refl, sym, ◌∙◌, ap, Bool, true, false, ◌||◌, arith}
+use Rattle.std.specs.Prelude.{Option, Some, None, option_map, ◌==◌, nat_le, slice_get, ◌&&◌}
+use Rattle.std.proofs.lemmas.Bool.Decides.{nat_tests}
+use Rattle.sv_types.specs.Bytes.{part, write_word, low_bytes, ram_base, ram_place, page_of, page_size}
+use Rattle.sv_types.specs.Policies.{ModuleRule}
+use Rattle.sv_types.specs.Reference.{numbers_from}
+use Rattle.sv_types.specs.Regions.{IsWidth}
+use Rattle.sv_types.proofs.ByteLemmas.{part_before, part_after, length_low_bytes, lt_or_le}
+use Rattle.reference.specs.States.{State, Loading, has_number, is_protected, is_approved_in, pages_in_rule}
+use Rattle.reference.specs.Loads.{module_text}
+use Rattle.machine_model.specs.StandsFor.{load_kept_by, load_kept}
+use Rattle.reference.specs.Soundness.{IsSound, IsSoundLoad}
+use Rattle.attempt_laws.proofs.StoresAgree.{FreeKeeps}
+use Rattle.attempt_laws.proofs.Under.{whole_access}
+
+pub right_false : (a b : Bool) → (a || b) ≡ false → b ≡ false
+right_false true b e = cc
+right_false false b e = e
+
+left_false : (a b : Bool) → (a || b) ≡ false → a ≡ false
+left_false true b e = e
+left_false false b e = refl
+
+-- a number that isn't one of those from first on lies before or behind them
+pub elsewhere : (first n q : ℕ) → has_number (numbers_from first n) q ≡ false → (q < first) ⊎ (first + n ≤ q)
+elsewhere first zero q e = grind (arith, lt_or_le q first)
+elsewhere first (suc n) q e =
+    let here : (first == q) ≡ false = left_false (first == q) (has_number (numbers_from (first + 1) n) q) e in
+    let apart : (q < first) ⊎ (first < q) = grind (arith, nat_tests) in
+    elim (elsewhere (first + 1) n q (right_false (first == q) (has_number (numbers_from (first + 1) n) q) e)) [
+      | inl before ↦ elim apart [ inl less ↦ inl less | inr more ↦ absurd (omega arith) ]
+      | inr behind ↦ inr (omega arith)
+    ]
+
+in_page : (width p : ℕ) → IsWidth width → p % width ≡ 0 → p % 4096 + width ≤ 4096
+in_page width p (inl one) aligned = rw one (grind arith)
+in_page width p (inr (inl two)) aligned = let e : p % 2 ≡ 0 = rw two at aligned in rw two (grind arith)
+in_page width p (inr (inr (inl four))) aligned = let e : p % 4 ≡ 0 = rw four at aligned in rw four (grind arith)
+in_page width p (inr (inr (inr eight))) aligned = let e : p % 8 ≡ 0 = rw eight at aligned in rw eight (grind arith)
+
+text_kept : (ram : List ℕ) (from n p width value : ℕ) → IsWidth width → p % width ≡ 0 → p + width ≤ length ram → from % 4096 ≡ 0
+    → (p / 4096 < from / 4096) ⊎ (from / 4096 + n ≤ p / 4096) → part ram from (page_size * n) ≡ part (write_word ram p width value) from (page_size * n)
+text_kept ram from n p width value whole aligned inside page (inl before) =
+    let room = in_page width p whole aligned in
+    let size : length (low_bytes width value) ≡ width = length_low_bytes width value in
+    let far : p + width ≤ from = omega arith in
+    sym (part_after ram (low_bytes width value) p from (page_size * n) (rw size inside) (rw size far))
+text_kept ram from n p width value whole aligned inside page (inr behind) =
+    let size : length (low_bytes width value) ≡ width = length_low_bytes width value in
+    let far : from + page_size * n ≤ p = omega arith in
+    sym (part_before ram (low_bytes width value) p from (page_size * n) (rw size inside) far)
+
+pub rule_kept : (r : State) (load : Loading) (ram : List ℕ) (rule : Option ModuleRule)
+    → module_text r.ram load.about (pages_in_rule rule) ≡ module_text ram load.about (pages_in_rule rule)
+    → load_kept_by r.rules r.ram load rule ≡ load_kept_by r.rules ram load rule
+unfolding load_kept_by
+rule_kept r load ram None same = refl
+rule_kept r load ram (Some rule) same = rw same refl
+
+loading_stays : (r : State) (x : Option Loading) (p width value : ℕ) → IsSoundLoad r.rules r.approved r.loaded r.held x → IsWidth width → p % width ≡ 0 → p + width ≤ length r.ram
+    → has_number r.held (p / 4096) ≡ false
+    → option_map (load_kept r.rules r.ram) x ≡ option_map (load_kept r.rules (write_word r.ram p width value)) x
+loading_stays r None p width value sound whole aligned inside free = refl
+loading_stays r (Some load) p width value sound whole aligned inside free =
+    let n : ℕ = pages_in_rule (slice_get r.rules.modules load.about.id) in
+    let apart = elsewhere (page_of load.about.gpa) n (p / 4096) (rw sound.pages at free) in
+    ap Some (rule_kept r load (write_word r.ram p width value) (slice_get r.rules.modules load.about.id)
+    (text_kept r.ram (ram_place load.about.gpa) n p width value whole aligned inside sound.aligned apart))
+
+pub free_keeps : (r : State) (width value : ℕ) → IsSound r → IsWidth width → FreeKeeps r width value
+unfolding is_protected
+free_keeps r width value sound whole gpa inside free aligned =
+    let p : ℕ = ram_place gpa in
+    let tests : (nat_le ram_base gpa && nat_le (p + width) (4096 * r.rules.ram_pages)) ≡ true =
+    ap (λ (b : Bool). nat_le ram_base gpa && b) (whole_access width p r.rules.ram_pages whole aligned) ∙ inside in
+    let fits : p + width ≤ 4096 * r.rules.ram_pages = grind (arith, nat_tests) in
+    let room : p + width ≤ length r.ram = rw sound.size fits in (
+      room,
+      loading_stays r r.loading p width value sound.load whole aligned room
+          (right_false (is_approved_in r.approved (page_of gpa)) (has_number r.held (page_of gpa)) free),
+    )

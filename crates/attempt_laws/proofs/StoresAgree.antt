@@ -1,0 +1,142 @@
+-- A store of the hardware's is the reference machine's, wherever it leads.
+use Rattle.std.proofs.Common.{◌≡◌, ℕ, ◌+◌, ◌%◌, ◌/◌, inl, length, refl, sym, subst, Bool, true, false, not, ◌&&◌, arith}
+use Rattle.std.specs.Prelude.{Some, None, if◌then◌else◌, Err, ◌==◌}
+use Rattle.sv_types.specs.Bytes.{write_word, low_bytes, ram_place, page_of, in_ram}
+use Rattle.sv_types.specs.Hardware.{Attempted, with_region, plain_exception}
+use Rattle.sv_types.specs.HardwareMemory.{after_store, place_or_exception, fault_exception, implicit_read, retire, behind_write, wrote, reached}
+use Rattle.sv_types.specs.HypervisorRegisters.{HypervisorRegisters}
+use Rattle.sv_types.specs.Regions.{IsWidth, write_host}
+use Rattle.sv_types.specs.SecondStage.{page_in_ram, place_through, view_answer, with_ram}
+use Rattle.sv_types.specs.Translation.{Destination, At, PageFault, Unreadable, place, entry_in_ram}
+use Rattle.sv_types.specs.declared.cause.Cause.{Cause}
+use Rattle.sv_types.specs.declared.effect.Effect.{Effect}
+use Rattle.sv_types.specs.declared.outcome.Outcome.{Outcome}
+use Rattle.sv_types.specs.declared.translation.Fault.{Fault}
+use Rattle.sv_types.specs.declared.wires.Access.TheVariants as Access
+use Rattle.sv_types.proofs.RegionLemmas.{write_in_ram}
+use Rattle.sv_types.proofs.Reservations.{after_write_behind}
+use Rattle.attempt_laws.proofs.Everywhere.{Keeps, first_stage_keeps}
+use Rattle.reference.specs.States.{State, Hart, is_protected}
+use Rattle.reference.specs.Devices.{device_store, hart_after_write as forgetting}
+use Rattle.reference.specs.Trapping.{exception}
+use Rattle.reference.specs.Requests.{stepped, carried_out_writing, carry_out_device_store, write_stopped, ToRam, ToDevice, Guarded, NoTarget, target_at, store_target, target_of, settings_of, carry_out_store as stores}
+use Rattle.machine_model.specs.Served.{serve_exit, serve_access, serve_write, serve_store, transformed}
+use Rattle.machine_model.specs.StandsFor.{Unseen}
+use Rattle.attempt_laws.specs.Agree.{IsAt, Agrees, region_at, core_at}
+use Rattle.attempt_laws.proofs.Stays.{writes, CanWrite}
+use Rattle.attempt_laws.proofs.Excepts.{exception_agrees, exit_agrees}
+use Rattle.attempt_laws.proofs.Under.{under, view_in, translated_under, access_in_ram, moved, stores_permitted}
+use Rattle.attempt_laws.proofs.LoadsAgree.{gpa_back, aligned_if}
+
+-- the transformed instruction is this store, and no implicit read
+pub record IsStore (htinst : ℕ) (hart : Hart) (width value : ℕ) : Type 0 where
+  pub address : ℕ
+  pub effect : transformed htinst hart ≡ Some (Effect.Store address width value)
+  pub explicit : (htinst == implicit_read) ≡ false
+
+unreadable_served : (r : State) (h : ℕ) (hart : Hart) (address htval pc : ℕ)
+    → exception r h hart Cause.StoreAccess address
+    ≡ serve_exit r h hart (record { interrupt = false; cause = 23; pc = pc; stval = address; htval = htval; htinst = implicit_read })
+unfolding serve_exit serve_access serve_write
+unreadable_served r h hart address htval pc = refl
+
+device_served : (r : State) (h : ℕ) (hart : Hart) (address width value gpa htinst pc : ℕ)
+    → IsStore htinst hart width value → gpa % 4096 ≡ address % 4096 → in_ram r.ram gpa 1 ≡ false
+    → carry_out_device_store r h hart address (device_store r.devices r.journal gpa width value)
+    ≡ serve_exit r h hart (record { interrupt = false; cause = 23; pc = pc; stval = address; htval = gpa / 4; htinst = htinst })
+unfolding serve_exit serve_access serve_write serve_store
+device_served r h hart address width value gpa htinst pc store same outside =
+    rw (store.explicit, gpa_back gpa address same, outside, store.effect, store.explicit, gpa_back gpa address same) refl
+
+guarded_served : (r : State) (h : ℕ) (hart : Hart) (address width value gpa htinst pc : ℕ)
+    → IsStore htinst hart width value → gpa % 4096 ≡ address % 4096 → in_ram r.ram gpa 1 ≡ true
+    → write_stopped r h hart gpa
+    ≡ serve_exit r h hart (record { interrupt = false; cause = 23; pc = pc; stval = address; htval = gpa / 4; htinst = htinst })
+unfolding serve_exit serve_access serve_write
+guarded_served r h hart address width value gpa htinst pc store same inside =
+    rw (store.explicit, gpa_back gpa address same, inside) refl
+
+-- the bytes are written behind the tables, and the hart's own reservation there goes
+written : (o : Unseen) (r : State) (hart : Hart) (c : HypervisorRegisters) (p width value : ℕ)
+    → with_region (write_host (region_at o r) (length o.tables + p) width value)
+    (retire (behind_write (core_at o c hart) (length o.tables + p) width) (wrote (length o.tables + p) width))
+    ≡ record {
+      region = with_ram o.tables (write_word r.ram p width value);
+      core = core_at o c (forgetting p width (stepped hart));
+      outcome = Outcome.Retired (Some (record { hpa = length o.tables + p; width = width }));
+    }
+written o r hart c p width value =
+    rw (write_in_ram (region_at o r) p width value, after_write_behind (length o.tables) p width hart.reservation) refl
+
+-- over whether the page lies in RAM, and is protected
+at_place : (o : Unseen) (r : State) (h : ℕ) (hart : Hart) (c : HypervisorRegisters) (address width value gpa htinst : ℕ) (inside guarded : Bool)
+    → IsAt o r h hart c → IsStore htinst hart width value → gpa % 4096 ≡ address % 4096 → in_ram r.ram gpa 1 ≡ inside
+    → (inside ≡ true → guarded ≡ false → CanWrite r (ram_place gpa) width value)
+    → Agrees o r h hart c
+    (after_store (region_at o r) (core_at o c hart) width value
+    (place_or_exception Access.Store address htinst (place_through gpa (if inside && not guarded then Some (length o.tables + ram_place gpa) else None))))
+    (stores r h hart address width value (if inside then (if guarded then Guarded gpa else ToRam gpa) else ToDevice gpa))
+unfolding after_store stores
+at_place o r h hart c address width value gpa htinst true false at store same whole kept =
+    subst (λ (a : Attempted). Agrees o r h hart c a (carried_out_writing r h (stepped hart) (ram_place gpa) (low_bytes width value)))
+    (sym (written o r hart c (ram_place gpa) width value))
+    (writes o r h hart (stepped hart) c (ram_place gpa) width value at at.started (kept refl refl))
+at_place o r h hart c address width value gpa htinst true true at store same whole kept =
+    exit_agrees o r h hart c (fault_exception Access.Store address htinst (Fault.Guest gpa false)) (write_stopped r h hart gpa) refl
+    (guarded_served r h hart address width value gpa htinst hart.pc store same whole)
+at_place o r h hart c address width value gpa htinst false guarded at store same whole kept =
+    exit_agrees o r h hart c (fault_exception Access.Store address htinst (Fault.Guest gpa false))
+    (carry_out_device_store r h hart address (device_store r.devices r.journal gpa width value)) refl
+    (device_served r h hart address width value gpa htinst hart.pc store same whole)
+
+one_divides : (n : ℕ) → n % 1 ≡ 0
+one_divides n = grind arith
+
+-- a write into free RAM leaves what is kept of a load
+abbrev pub FreeKeeps : State → ℕ → ℕ → Type 0
+FreeKeeps r width value = (gpa : ℕ) → page_in_ram r.rules.ram_pages gpa ≡ true → is_protected r (page_of gpa) ≡ false → ram_place gpa % width ≡ 0
+    → CanWrite r (ram_place gpa) width value
+
+pub store_at : (o : Unseen) (r : State) (h : ℕ) (hart : Hart) (c : HypervisorRegisters) (address width value htinst : ℕ) (d : Destination)
+    → IsAt o r h hart c → IsStore htinst hart width value → IsWidth width → address % width ≡ 0 → Keeps address d → FreeKeeps r width value
+    → Agrees o r h hart c
+    (after_store (region_at o r) (core_at o c hart) width value (place_or_exception Access.Store address htinst (under o r hart.mode Access.Store d)))
+    (stores r h hart address width value (target_at r.ram (is_protected r) width d))
+unfolding target_at view_answer after_store stores
+store_at o r h hart c address width value htinst (At gpa) at store whole aligned fits kept =
+    rw (access_in_ram r gpa address width at.sound whole fits aligned, stores_permitted (view_in hart.mode) r (page_of gpa))
+    (at_place o r h hart c address width value gpa htinst (page_in_ram r.rules.ram_pages gpa) (is_protected r (page_of gpa)) at store fits
+    (access_in_ram r gpa address 1 at.sound (inl refl) fits (one_divides address))
+    (λ inside free. kept gpa inside free (moved width gpa address whole fits aligned)))
+store_at o r h hart c address width value htinst PageFault at store whole aligned fits kept =
+    exception_agrees o r h hart c Cause.StorePage address at refl
+store_at o r h hart c address width value htinst (Unreadable entry) at store whole aligned fits kept =
+    exit_agrees o r h hart c (fault_exception Access.Store address htinst (Fault.Guest entry true)) (exception r h hart Cause.StoreAccess address) refl
+    (unreadable_served r h hart address (entry / 4) hart.pc)
+
+by_alignment : (o : Unseen) (r : State) (h : ℕ) (hart : Hart) (c : HypervisorRegisters) (address width value htinst : ℕ) (aligned : Bool)
+    → IsAt o r h hart c → IsStore htinst hart width value → IsWidth width → FreeKeeps r width value → (aligned ≡ true → address % width ≡ 0)
+    → Agrees o r h hart c
+    (after_store (region_at o r) (core_at o c hart) width value
+    (if aligned
+    then place_or_exception Access.Store address htinst (under o r hart.mode Access.Store (place r.ram (settings_of hart.supervisor) hart.mode address Access.Store))
+    else Err (plain_exception Cause.StoreMisaligned address)))
+    (stores r h hart address width value
+    (if aligned then target_at r.ram (is_protected r) width (place r.ram (settings_of hart.supervisor) hart.mode address Access.Store) else NoTarget Cause.StoreMisaligned))
+unfolding after_store stores place
+by_alignment o r h hart c address width value htinst true at store whole kept aligned =
+    store_at o r h hart c address width value htinst (place r.ram (settings_of hart.supervisor) hart.mode address Access.Store) at store whole (aligned refl)
+    (first_stage_keeps (entry_in_ram r.ram) (settings_of hart.supervisor) hart.mode address Access.Store) kept
+by_alignment o r h hart c address width value htinst false at store whole kept aligned =
+    exception_agrees o r h hart c Cause.StoreMisaligned address at refl
+
+pub store_agrees : (o : Unseen) (r : State) (h : ℕ) (hart : Hart) (c : HypervisorRegisters) (address width value htinst : ℕ)
+    → IsAt o r h hart c → IsStore htinst hart width value → IsWidth width → FreeKeeps r width value
+    → Agrees o r h hart c
+    (after_store (region_at o r) (core_at o c hart) width value (reached (region_at o r) (core_at o c hart) Access.Store address width htinst))
+    (stores r h hart address width value (target_of r hart address width))
+unfolding reached store_target
+store_agrees o r h hart c address width value htinst at store whole kept =
+    rw (translated_under o r h hart c Access.Store address htinst at)
+    (by_alignment o r h hart c address width value htinst (address % width == 0) at store whole kept
+    (λ e. aligned_if address width (address % width == 0) refl e))

@@ -1,0 +1,11 @@
+//! The law of attempts: what the hardware makes of an attempt is the reference machine's turn.
+#![tactic(auto)]
+
+ghost use Rattle.attempt_laws.specs.Agree.{AttemptLaw};
+
+/// An attempt of a started hart without a load: either it gives no exit, and the machine after it is what the reference
+/// machine's turn makes of it; or it gives an exit, changes the exit registers alone, and the turn is what the exit asks for.
+/// Every instruction, both modes, both kinds of trap.
+pub fn law_attempts()
+    ensures { AttemptLaw }
+{}

@@ -1,0 +1,55 @@
+-- Beats, keys and time, as functions of the machine. This project's own: a beat asks the devices' bits of pages.
+use Rattle.std.specs.Prelude.{ℕ, ◌+◌, Bool, false, map, length, slice_get, if◌then◌else◌, Option, Some, None}
+use Rattle.sv_types.specs.Bytes.{overwrite, ram_place}
+use Rattle.sv_types.specs.Clock.{after_tick}
+use Rattle.sv_types.specs.Console.{after_key, has_room}
+use Rattle.sv_types.specs.declared.event.Event.{Event}
+use Rattle.sv_types.specs.declared.event.Event.TheVariants.{Turn, Beat, Key, Tick}
+use Rattle.sv_types.specs.declared.event.Note.TheVariants.{Denied}
+use Rattle.reference.specs.States.{Disk}
+use Rattle.reference.specs.Counting.{counted, noted, count_denied, count_dropped, count_beat, count_key, count_tick}
+use Rattle.reference.specs.Disk.{disk_beat, Beaten, Move, Idle, FromRam, IntoRam, DeniedAt, OutsideRam}
+use Rattle.machine_model.specs.Machine.{Machine, forgets, raised}
+
+-- ---- a beat
+
+abbrev pub or_false : Option Bool → Bool
+or_false None = false
+or_false (Some b) = b
+
+abbrev pub with_host_disk : Machine → Disk → Machine
+with_host_disk m disk = record m { devices = record m.devices { disk = disk } }
+
+unfoldable pub after_host_move : Machine → Move → Machine
+after_host_move m Idle = m
+after_host_move m (FromRam gpa) = m
+after_host_move m (IntoRam gpa bytes) = record m {
+  region = record m.region { ram = overwrite m.region.ram (ram_place gpa) bytes };
+  harts = map (forgets (length m.region.tables + ram_place gpa) (length bytes)) m.harts;
+}
+after_host_move m (DeniedAt gpa) = record m { journal = noted (Denied gpa) (counted count_denied m.journal) }
+after_host_move m OutsideRam = m
+
+abbrev pub after_host_beaten : Machine → Beaten → Machine
+after_host_beaten m b = after_host_move (with_host_disk m b.disk) b.move
+
+unfoldable pub beat_served : Machine → Machine
+beat_served m = after_host_beaten m (disk_beat m.devices.disk m.region.ram (λ page. or_false (slice_get m.dma page)))
+
+-- ---- keys and time
+
+unfoldable pub key_served : Machine → ℕ → Machine
+key_served m byte = record m {
+  devices = record m.devices { console = after_key m.devices.console byte };
+  journal = if has_room m.devices.console then m.journal else counted count_dropped m.journal;
+}
+
+unfoldable pub tick_served : Machine → ℕ → Machine
+tick_served m n = record m { devices = record m.devices { clock = after_tick m.devices.clock n } }
+
+-- the events that are no turn
+unfoldable pub event_served : Machine → Event → Machine
+event_served m (Turn h) = m
+event_served m Beat = beat_served (raised m count_beat)
+event_served m (Key byte) = key_served (raised m count_key) byte
+event_served m (Tick n) = tick_served (raised m count_tick) n

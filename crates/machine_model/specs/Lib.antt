@@ -1,0 +1,10 @@
+pub mod Machine
+pub mod StandsFor
+pub mod Served
+pub mod HardwareEvent
+pub mod HostHarts
+pub mod HostCalls
+pub mod HostExits
+pub mod HostEvents
+pub mod Steps
+pub mod Reaches

@@ -1,0 +1,88 @@
+-- The machine that runs the guest, as plain data: a region of host memory, harts with the hypervisor extension, and what
+-- SecVisor records. This project's own.
+use Rattle.std.specs.Prelude.{ℕ, zero, suc, ◌+◌, Bool, true, List, [], ◌∷◌, map, slice_set, Option, Some, None}
+use Rattle.sv_types.specs.Hardware.{Core, Attempted}
+use Rattle.sv_types.specs.Policies.{Rules}
+use Rattle.sv_types.specs.Regions.{Region}
+use Rattle.sv_types.specs.Requests.{after_write}
+use Rattle.sv_types.specs.declared.event.Counts.{Counts}
+use Rattle.sv_types.specs.declared.outcome.Outcome.{Outcome}
+use Rattle.sv_types.specs.declared.wires.Mode.TheVariants.{Kernel}
+use Rattle.sv_types.specs.declared.wires.Protection.{Protection}
+use Rattle.sv_types.specs.declared.saved.SavedModule.{SavedModule}
+use Rattle.reference.specs.States.{Devices, Journal}
+use Rattle.reference.specs.Counting.{counted, count_retired, count_trap}
+
+-- a hart of the hardware
+pub record HostHart : Type 0 where
+  pub core : Core
+  pub started : Bool
+
+-- a load under way: the page turns that are left, the digests of the pages that were counted, and whether their fields
+-- are right
+pub record HostLoad : Type 0 where
+  pub hart : ℕ
+  pub about : SavedModule
+  pub left : ℕ
+  pub digests : List (List ℕ)
+  pub right : Bool
+
+pub record Machine : Type 0 where
+  pub rules : Rules
+  pub region : Region
+  pub harts : List HostHart
+  -- of each page of RAM
+  pub protections : List Protection
+  -- whether a device may write each page of RAM
+  pub dma : List Bool
+  pub loaded : List SavedModule
+  pub loading : Option HostLoad
+  pub retired : Bool
+  pub devices : Devices
+  pub journal : Journal
+  -- how many printed bytes were taken away
+  pub cleared : ℕ
+  -- the attempts that were made
+  pub attempts : ℕ
+
+-- a hart changed in place
+unfoldable pub update : List HostHart → ℕ → (HostHart → HostHart) → List HostHart
+update [] h change = []
+update (hart ∷ harts) zero change = change hart ∷ harts
+update (hart ∷ harts) (suc h) change = hart ∷ update harts h change
+
+-- a count raised
+abbrev pub raised : Machine → (Counts → Counts) → Machine
+raised m f = record m { journal = counted f m.journal }
+
+-- ---- an attempt
+
+-- a reservation that a write touches goes
+abbrev pub forgets : ℕ → ℕ → HostHart → HostHart
+forgets hpa width hart = record hart { core = record hart.core { reservation = after_write hpa width hart.core.reservation } }
+
+unfoldable pub all_forget : Outcome → List HostHart → List HostHart
+all_forget (Outcome.Retired (Some wrote)) harts = map (forgets wrote.hpa wrote.width) harts
+all_forget (Outcome.Retired None) harts = harts
+all_forget Outcome.GuestTrap harts = harts
+all_forget (Outcome.Exit exit) harts = harts
+
+abbrev pub running : Core → HostHart
+running core = record { core = core; started = true }
+
+-- the machine after an attempt of hart h
+abbrev pub after_attempt : Machine → ℕ → Attempted → Machine
+after_attempt m h a = record m {
+  region = a.region;
+  harts = all_forget a.outcome (slice_set m.harts h (running a.core));
+  attempts = m.attempts + 1;
+}
+
+-- an attempt without an exit is an instruction that is carried out, or a trap of the kernel's
+abbrev pub count_outcome : Outcome → Counts → Counts
+count_outcome (Outcome.Retired wrote) c = count_retired c
+count_outcome Outcome.GuestTrap c = count_trap Kernel c
+count_outcome (Outcome.Exit exit) c = c
+
+abbrev pub after_quiet_attempt : Machine → ℕ → Attempted → Machine
+after_quiet_attempt m h a = record (after_attempt m h a) { journal = counted (count_outcome a.outcome) m.journal }

@@ -1,0 +1,132 @@
+-- When a machine stands for a state of the reference machine: it is what the state makes of the parts that it leaves free.
+-- This project's own.
+use Rattle.std.specs.Prelude.{◌≡◌, ℕ, ◌+◌, ◌-◌, ◌*◌, ◌≤◌, Bool, true, false, List, [], ◌∷◌, map, filter, length, drop, nat_lt, Option, Some, None, option_map, slice_get}
+use Rattle.sv_types.specs.Bytes.{page_size}
+use Rattle.sv_types.specs.GuestView.{with_guest, hideleg_in}
+use Rattle.sv_types.specs.Hardware.{Core}
+use Rattle.sv_types.specs.HypervisorRegisters.{HypervisorRegisters}
+use Rattle.sv_types.specs.Measure.{page_digests}
+use Rattle.sv_types.specs.Policies.{Rules, ModuleRule}
+use Rattle.sv_types.specs.Reference.{numbers_from}
+use Rattle.sv_types.specs.Regions.{IsRegion}
+use Rattle.sv_types.specs.SecondStage.{AreViews, view_hgatp, with_ram}
+use Rattle.sv_types.specs.declared.wires.HRegs.{HRegs}
+use Rattle.sv_types.specs.declared.wires.Mode.{Mode}
+use Rattle.sv_types.specs.declared.wires.Mode.TheVariants.{Kernel, User}
+use Rattle.sv_types.specs.declared.wires.Protection.{Protection}
+use Rattle.sv_types.specs.declared.wires.Protection.TheVariants.{Free, Held, Approved}
+use Rattle.sv_types.specs.declared.wires.View.TheVariants as View
+use Rattle.sv_types.specs.declared.saved.SavedModule.{SavedModule}
+use Rattle.reference.specs.States.{State, Hart, Journal, Loading, protection_in}
+use Rattle.reference.specs.Loads.{module_text, module_bases}
+use Rattle.reference.specs.Soundness.{IsSound}
+use Rattle.machine_model.specs.Machine.{Machine, HostHart, HostLoad}
+use Rattle.reference.specs.Relocations.{masked, fields_right}
+
+-- ---- a hart, as the hardware has it
+
+-- kernel mode runs under the kernel's view with what it takes itself delegated; user mode under the user's, with nothing
+-- delegated; and no SRET is carried out in either
+abbrev pub hregs_in : Mode → HRegs
+hregs_in Kernel = record { mode = Kernel; hgatp = view_hgatp View.Kernel; hedeleg = 0xB1FF; hideleg = hideleg_in Kernel; vtsr = true }
+hregs_in User = record { mode = User; hgatp = view_hgatp View.User; hedeleg = 0; hideleg = hideleg_in User; vtsr = true }
+
+-- RAM lies behind so many bytes of tables
+abbrev pub host_reservation : ℕ → Option ℕ → Option ℕ
+host_reservation tables reservation = option_map (λ place. tables + place) reservation
+
+-- what an exit writes is the hardware's own
+abbrev pub host_core : ℕ → HypervisorRegisters → Hart → Core
+host_core tables exits hart = record {
+  registers = hart.registers;
+  pc = hart.pc;
+  csrs = with_guest exits hart.supervisor;
+  hregs = hregs_in hart.mode;
+  reservation = host_reservation tables hart.reservation;
+}
+
+abbrev pub host_hart : ℕ → HypervisorRegisters → Hart → HostHart
+host_hart tables exits hart = record { core = host_core tables exits hart; started = hart.started }
+
+unfoldable pub host_harts : ℕ → List HypervisorRegisters → List Hart → List HostHart
+host_harts tables [] harts = []
+host_harts tables (exits ∷ rest) [] = []
+host_harts tables (exits ∷ rest) (hart ∷ harts) = host_hart tables exits hart ∷ host_harts tables rest harts
+
+-- ---- a load under way: what is kept of the pages that were counted, as they are now
+
+abbrev pub pages_counted : ℕ → Loading → ℕ
+pages_counted pages load = pages - load.left
+
+unfoldable pub kept_digests : ModuleRule → List ℕ → ℕ → List (List ℕ)
+kept_digests rule text n = page_digests n (masked text rule.sites)
+
+unfoldable pub kept_answer : Rules → ModuleRule → SavedModule → List ℕ → ℕ → Bool
+kept_answer rules rule m text n =
+    fields_right rules.exports (module_bases m) (filter (λ site. nat_lt site.offset (page_size * n)) rule.sites) text
+
+unfoldable pub load_kept_by : Rules → List ℕ → Loading → Option ModuleRule → HostLoad
+load_kept_by rules ram load None = record { hart = load.hart; about = load.about; left = load.left; digests = []; right = true }
+load_kept_by rules ram load (Some rule) = record {
+  hart = load.hart;
+  about = load.about;
+  left = load.left;
+  digests = kept_digests rule (module_text ram load.about rule.pages) (pages_counted rule.pages load);
+  right = kept_answer rules rule load.about (module_text ram load.about rule.pages) (pages_counted rule.pages load);
+}
+
+abbrev pub load_kept : Rules → List ℕ → Loading → HostLoad
+load_kept rules ram load = load_kept_by rules ram load (slice_get rules.modules load.about.id)
+
+-- ---- the machine
+
+-- what a machine has that the state doesn't say
+pub record Unseen : Type 0 where
+  pub tables : List ℕ
+  -- of each hart the registers that an exit writes
+  pub exits : List HypervisorRegisters
+  -- the printed bytes that were taken away
+  pub cleared : ℕ
+  pub attempts : ℕ
+
+abbrev pub is_free : Protection → Bool
+is_free Free = true
+is_free Held = false
+is_free Approved = false
+
+abbrev pub protections_of : State → List Protection
+protections_of r = map (protection_in r.approved r.held) (numbers_from 0 r.rules.ram_pages)
+
+abbrev pub without_printed : ℕ → Journal → Journal
+without_printed cleared j = record j { printed = drop cleared j.printed }
+
+unfoldable pub machine_of : Unseen → State → Machine
+machine_of o r = record {
+  rules = r.rules;
+  region = with_ram o.tables r.ram;
+  harts = host_harts (length o.tables) o.exits r.harts;
+  protections = protections_of r;
+  dma = map is_free (protections_of r);
+  loaded = r.loaded;
+  loading = option_map (load_kept r.rules r.ram) r.loading;
+  retired = r.retired;
+  devices = r.devices;
+  journal = without_printed o.cleared r.journal;
+  cleared = o.cleared;
+  attempts = o.attempts;
+}
+
+-- the unseen parts go with the state
+pub record IsRightFor (o : Unseen) (r : State) : Type 0 where
+  pub views : AreViews o.tables r.rules.ram_pages (protection_in r.approved r.held)
+  pub region : IsRegion (with_ram o.tables r.ram)
+  pub exits : length o.exits ≡ length r.harts
+  pub cleared : o.cleared ≤ length r.journal.printed
+
+-- ---- the relation
+
+pub record StandsFor (m : Machine) (r : State) : Type 0 where
+  pub unseen : Unseen
+  pub same : m ≡ machine_of unseen r
+  pub unseen_is_right : IsRightFor unseen r
+  pub sound : IsSound r

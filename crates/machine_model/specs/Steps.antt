@@ -1,0 +1,72 @@
+-- What an event does of the machine: an attempt of the hardware, and SecVisor's answer where it gave an exit. It speaks of no
+-- state of the reference machine, and leaves the words of the tables alone open. This project's own.
+use Rattle.std.specs.Prelude.{◌≡◌, ℕ, Bool, List, length, true, false, Option, Some, None, slice_get}
+use Rattle.sv_types.specs.SecondStage.{AreViews}
+use Rattle.sv_types.specs.declared.event.Event.{Event}
+use Rattle.sv_types.specs.declared.event.Event.TheVariants.{Turn, Beat, Key, Tick}
+use Rattle.sv_types.specs.declared.event.Verdict.{Verdict}
+use Rattle.sv_types.specs.declared.event.Verdict.TheVariants.{Running, Shutdown, Stopped}
+use Rattle.sv_types.specs.declared.outcome.Outcome.{Outcome}
+use Rattle.reference.specs.Counting.{count_turn}
+use Rattle.reference.specs.Protections.{protection_at}
+use Rattle.machine_model.specs.Machine.{Machine, HostHart, raised, after_attempt, after_quiet_attempt}
+use Rattle.machine_model.specs.HardwareEvent.{attempted, is_loading}
+use Rattle.machine_model.specs.HostExits.{served_exit, served_load_turn, with_tables}
+use Rattle.machine_model.specs.HostEvents.{event_served}
+
+-- as many bytes of tables as before hold both views of the protections after an answer
+pub record AreTables (before after : Machine) (tables : List ℕ) : Type 0 where
+  pub size : length tables ≡ length before.region.tables
+  pub views : AreViews tables before.rules.ram_pages (protection_at after.protections)
+
+-- the machine that an answer's function gives, with tables for its protections, whichever these are
+pub record WithTables (before served after : Machine) : Type 0 where
+  pub tables : List ℕ
+  pub are : AreTables before served tables
+  pub same : after ≡ with_tables served tables
+
+-- ---- turns, the count of turns raised already
+
+-- the machine that an attempt leaves to SecVisor
+abbrev pub left_by : Machine → ℕ → HostHart → Machine
+left_by m h host = after_attempt m h (attempted m h host)
+
+-- without an exit the attempt is all, and with one SecVisor answers
+abbrev pub OutcomeServed : Outcome → Machine → ℕ → HostHart → Machine → Type 0
+OutcomeServed (Outcome.Retired wrote) m h host after = after ≡ after_quiet_attempt m h (attempted m h host)
+OutcomeServed Outcome.GuestTrap m h host after = after ≡ after_quiet_attempt m h (attempted m h host)
+OutcomeServed (Outcome.Exit exit) m h host after = WithTables (left_by m h host) (served_exit (left_by m h host) h exit) after
+
+-- a load of this hart goes on without an attempt
+abbrev pub StartedServed : (loads : Bool) → Machine → ℕ → HostHart → Machine → Type 0
+StartedServed true m h host after = WithTables m (served_load_turn m h) after
+StartedServed false m h host after = OutcomeServed (attempted m h host).outcome m h host after
+
+abbrev pub HartServed : (started : Bool) → Machine → ℕ → HostHart → Machine → Type 0
+HartServed true m h host after = StartedServed (is_loading m.loading h) m h host after
+HartServed false m h host after = after ≡ m
+
+abbrev pub TurnServed : Machine → ℕ → Option HostHart → Machine → Type 0
+TurnServed m h None after = after ≡ m
+TurnServed m h (Some host) after = HartServed host.started m h host after
+
+-- ---- all events
+
+-- a turn raises its count, and then does the rest
+abbrev pub IsTurn : Machine → ℕ → Machine → Type 0
+IsTurn m h after = TurnServed (raised m count_turn) h (slice_get m.harts h) after
+
+abbrev pub Steps : Machine → Event → Machine → Type 0
+Steps m (Turn h) after = IsTurn m h after
+Steps m Beat after = after ≡ event_served m Beat
+Steps m (Key byte) after = after ≡ event_served m (Key byte)
+Steps m (Tick n) after = after ≡ event_served m (Tick n)
+
+-- a machine that has ended stays as it is
+abbrev pub StepsUnder : Verdict → Machine → Event → Machine → Type 0
+StepsUnder Running m e after = Steps m e after
+StepsUnder Shutdown m e after = after ≡ m
+StepsUnder (Stopped rule hart at) m e after = after ≡ m
+
+unfoldable pub IsStep : Machine → Event → Machine → Type 0
+IsStep m e after = StepsUnder m.journal.verdict m e after

@@ -1,0 +1,53 @@
+-- Which states of the reference machine are sound: each state that a run reaches is. This project's own.
+use Rattle.std.specs.Prelude.{◌≡◌, ℕ, ◌+◌, ◌*◌, ◌%◌, ◌^◌, ◌<◌, ◌≤◌, true, false, List, [], length, Option, Some, None, slice_get, IsTrue}
+use Rattle.sv_types.specs.Bytes.{page_size, page_bytes, ram_place}
+use Rattle.sv_types.specs.Policies.{Rules, rules_within}
+use Rattle.sv_types.specs.Reference.{ApprovedPage, approved_bytes}
+use Rattle.sv_types.specs.Registers.{IsLegalSupervisor}
+use Rattle.sv_types.specs.declared.saved.SavedModule.{SavedModule}
+use Rattle.sv_types.specs.declared.wires.Mode.TheVariants.{Kernel}
+use Rattle.reference.specs.States.{State, Hart, Disk, Loading, module_pages, pages_in_rule, has_number, is_approved_in, find_module}
+use Rattle.reference.specs.Disk.{is_busy, beat_size}
+use Rattle.reference.specs.Origins.{OwnsPages, IsMeasured, Ascends, ownership}
+use Rattle.reference.specs.Start.{AreWords}
+
+pub record IsSoundHart (hart : Hart) : Type 0 where
+  pub aligned : hart.pc % 4 ≡ 0
+  pub small : hart.pc < 2 ^ 64
+  pub legal : IsLegalSupervisor hart.supervisor
+  pub stopped : hart.started ≡ false → hart.mode ≡ Kernel
+
+-- in each approved page RAM has its bytes
+pub record KeepsText (approved : List ApprovedPage) (ram : List ℕ) : Type 0 where
+  pub same : (page : ℕ) (bytes : List ℕ) → approved_bytes approved page ≡ Some bytes → page_bytes ram page ≡ bytes
+
+-- the pages that are held are those of the load under way, whole pages in RAM. None of them is approved, and no module of
+-- its id is loaded
+pub record HoldsModule (rules : Rules) (approved : List ApprovedPage) (loaded : List SavedModule) (held : List ℕ) (load : Loading) : Type 0 where
+  pub pages : held ≡ module_pages rules load.about
+  pub aligned : ram_place load.about.gpa % page_size ≡ 0
+  pub inside : ram_place load.about.gpa + page_size * pages_in_rule (slice_get rules.modules load.about.id) ≤ page_size * rules.ram_pages
+  pub left : load.left ≤ pages_in_rule (slice_get rules.modules load.about.id)
+  pub free : (page : ℕ) → has_number held page ≡ true → is_approved_in approved page ≡ false
+  pub other : find_module loaded load.about.id ≡ None
+
+abbrev pub IsSoundLoad : Rules → List ApprovedPage → List SavedModule → List ℕ → Option Loading → Type 0
+IsSoundLoad rules approved loaded held None = held ≡ []
+IsSoundLoad rules approved loaded held (Some load) = HoldsModule rules approved loaded held load
+
+-- a transfer under way begins with whole beats, so that none of them reaches into a second page
+abbrev pub IsSoundDisk : Disk → Type 0
+IsSoundDisk d = is_busy d.block ≡ true → d.block.gpa % beat_size ≡ 0
+
+pub record IsSound (r : State) : Type 0 where
+  pub within : IsTrue (rules_within r.rules)
+  pub words : AreWords r.rules.entries
+  pub number : length r.harts ≡ r.rules.harts
+  pub harts : (h : ℕ) (hart : Hart) → slice_get r.harts h ≡ Some hart → IsSoundHart hart
+  pub size : length r.ram ≡ page_size * r.rules.ram_pages
+  pub text : KeepsText r.approved r.ram
+  pub ascends : Ascends r.loaded
+  pub modules : (m : SavedModule) → find_module r.loaded m.id ≡ Some m → IsMeasured r.rules r.ram m
+  pub load : IsSoundLoad r.rules r.approved r.loaded r.held r.loading
+  pub pages : OwnsPages (ownership r)
+  pub disk : IsSoundDisk r.devices.disk

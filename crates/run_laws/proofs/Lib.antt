@@ -1,0 +1,9 @@
+pub mod Lookups
+pub mod Sounds
+pub mod HartsSound
+pub mod RequestsSound
+pub mod ModulesSound
+pub mod CallsSound
+pub mod StepsSound
+pub mod StartsSound
+pub mod StateLawsHold

@@ -1,0 +1,275 @@
+-- What is found among approved pages and loaded modules behind a change of their lists.
+use Rattle.std.proofs.Common.{◌≡◌, ℕ, zero, suc, ◌+◌, ◌<◌, ◌≤◌, ◌⊎◌, inl, inr, List, [], ◌∷◌, ◌++◌, filter, refl, sym, ◌∙◌, ap, subst, Bool, true, false, not, ◌&&◌, ◌||◌, arith, slice_get}
+use Rattle.std.specs.Prelude.{Option, Some, None, if◌then◌else◌, is_some, ◌==◌, nat_lt}
+use Rattle.std.proofs.lemmas.Bool.{eqb-true}
+use Rattle.std.proofs.lemmas.Bool.Decides.{nat_tests}
+use Rattle.sv_types.specs.Bytes.{page_bytes}
+use Rattle.sv_types.specs.Reference.{ApprovedPage, numbers_from, approved_pages, approved_bytes}
+use Rattle.sv_types.specs.declared.saved.SavedModule.{SavedModule}
+use Rattle.reference.specs.Origins.{AllAbove, Ascends}
+use Rattle.reference.specs.States.{has_number, without_pages, find_module, with_module, without_module, State, is_protected, is_approved_in}
+
+-- ---- truth values
+
+pub not_true : (b : Bool) → (b ≡ true → ⊥) → b ≡ false
+not_true true no_such = absurd (no_such refl)
+not_true false no_such = refl
+
+pub both : (b : Bool) → b ≡ true → b ≡ false → ⊥
+both true t f = cc
+both false t f = cc
+
+pub and_both : (a b : Bool) → a ≡ true → b ≡ true → (a && b) ≡ true
+and_both true true s t = refl
+and_both true false s t = t
+and_both false b s t = cc
+
+pub and_first : (a b : Bool) → (a && b) ≡ true → a ≡ true
+and_first true b e = refl
+and_first false b e = e
+
+pub and_second : (a b : Bool) → (a && b) ≡ true → b ≡ true
+and_second true b e = e
+and_second false b e = cc
+
+pub or_first : (a b : Bool) → (a || b) ≡ false → a ≡ false
+or_first true b e = e
+or_first false b e = refl
+
+pub not_false : (b : Bool) → not b ≡ true → b ≡ false
+not_false true e = cc
+not_false false e = refl
+
+pub is_there : (a : Bool) → (a ≡ true) ⊎ (a ≡ false)
+is_there true = inl refl
+is_there false = inr refl
+
+pub same_number : (n : ℕ) → (n == n) ≡ true
+same_number n = grind (arith, nat_tests)
+
+-- ---- options
+
+pub none_there : {A : Type 0} (x : Option A) → is_some x ≡ false → x ≡ None
+none_there None e = refl
+none_there (Some a) e = cc
+
+-- ---- numbers
+
+pub numbers_bounds : (first n q : ℕ) → has_number (numbers_from first n) q ≡ true → (first ≤ q) × (q < first + n)
+numbers_bounds first zero q e = cc
+numbers_bounds first (suc n) q e = bounds_by first n q (first == q) refl e (numbers_bounds (first + 1) n q)
+  where
+    bounds_by : (first n q : ℕ) (b : Bool) → (first == q) ≡ b → (b || has_number (numbers_from (first + 1) n) q) ≡ true
+        → (has_number (numbers_from (first + 1) n) q ≡ true → (first + 1 ≤ q) × (q < first + 1 + n)) → (first ≤ q) × (q < first + suc n)
+    bounds_by first n q true at e rest = let same : first ≡ q = eqb-true first q at in (omega arith, omega arith)
+    bounds_by first n q false at e rest = let k = rest e in (omega arith, omega arith)
+
+filtered_by : (f : ℕ → Bool) (x n : ℕ) (xs : List ℕ) (at passes : Bool) → (x == n) ≡ at → f x ≡ passes
+    → has_number (filter f xs) n ≡ (has_number xs n && f n)
+    → has_number (if passes then x ∷ filter f xs else filter f xs) n ≡ ((at || has_number xs n) && f n)
+filtered_by f x n xs true true at passes rest = let same : x ≡ n = eqb-true x n at in rw at (sym passes ∙ ap f same)
+filtered_by f x n xs true false at passes rest =
+    let same : x ≡ n = eqb-true x n at in let there : f n ≡ false = ap f (sym same) ∙ passes in rw (rest, there) (none_left (has_number xs n))
+  where
+    none_left : (b : Bool) → (b && false) ≡ false
+    none_left true = refl
+    none_left false = refl
+filtered_by f x n xs false true at passes rest = rw at rest
+filtered_by f x n xs false false at passes rest = rest
+
+pub number_filtered : (f : ℕ → Bool) (xs : List ℕ) (n : ℕ) → has_number (filter f xs) n ≡ (has_number xs n && f n)
+number_filtered f [] n = refl
+number_filtered f (x ∷ xs) n = filtered_by f x n xs (x == n) (f x) refl refl (number_filtered f xs n)
+
+-- ---- protections
+
+pub or_second : (a b : Bool) → (a || b) ≡ false → b ≡ false
+or_second true b e = cc
+or_second false b e = e
+
+-- a page that isn't protected is neither approved nor held
+pub unprotected : (r : State) (page : ℕ) → is_protected r page ≡ false → is_approved_in r.approved page ≡ false
+unfolding is_protected
+unprotected r page e = or_first (is_approved_in r.approved page) (has_number r.held page) e
+
+pub unheld : (r : State) (page : ℕ) → is_protected r page ≡ false → has_number r.held page ≡ false
+unfolding is_protected
+unheld r page e = or_second (is_approved_in r.approved page) (has_number r.held page) e
+
+-- ---- approved pages
+
+front_by : (ram : List ℕ) (p page : ℕ) (there : Bool) (rest more : Option (List ℕ)) (b : Bool) → (p == page) ≡ b
+    → more ≡ (if there then Some (page_bytes ram page) else rest)
+    → (if b then Some (page_bytes ram p) else more) ≡ (if b || there then Some (page_bytes ram page) else rest)
+front_by ram p page there rest more true at e = ap (λ (q : ℕ). Some (page_bytes ram q)) (eqb-true p page at)
+front_by ram p page there rest more false at e = e
+
+-- pages in front of those that are approved
+pub approved_front : (ram pages : List ℕ) (rest : List ApprovedPage) (page : ℕ)
+    → approved_bytes (approved_pages ram pages ++ rest) page ≡ (if has_number pages page then Some (page_bytes ram page) else approved_bytes rest page)
+approved_front ram [] rest page = refl
+approved_front ram (p ∷ pages) rest page =
+    front_by ram p page (has_number pages page) (approved_bytes rest page) (approved_bytes (approved_pages ram pages ++ rest) page) (p == page) refl
+    (approved_front ram pages rest page)
+
+pub approved_alone : (ram pages : List ℕ) (page : ℕ)
+    → approved_bytes (approved_pages ram pages) page ≡ (if has_number pages page then Some (page_bytes ram page) else None)
+approved_alone ram [] page = refl
+approved_alone ram (p ∷ pages) page =
+    front_by ram p page (has_number pages page) None (approved_bytes (approved_pages ram pages) page) (p == page) refl (approved_alone ram pages page)
+
+without_by : (entry : ApprovedPage) (pages : List ℕ) (page : ℕ) (rest : List ApprovedPage) (gone at : Bool) → has_number pages entry.page ≡ gone → (entry.page == page) ≡ at
+    → approved_bytes rest page ≡ (if has_number pages page then None else approved_bytes rest page)
+    → (old : Option (List ℕ)) → approved_bytes rest page ≡ (if has_number pages page then None else old)
+    → approved_bytes (if not gone then entry ∷ rest else rest) page ≡ (if has_number pages page then None else (if at then Some entry.bytes else old))
+without_by entry pages page rest true true gone at _ old e =
+    let there : has_number pages page ≡ true = subst (λ (q : ℕ). has_number pages q ≡ true) (eqb-true entry.page page at) gone in rw there (rw there at e)
+without_by entry pages page rest true false gone at _ old e = e
+without_by entry pages page rest false true gone at _ old e =
+    let there : has_number pages page ≡ false = subst (λ (q : ℕ). has_number pages q ≡ false) (eqb-true entry.page page at) gone in rw (there, at) refl
+without_by entry pages page rest false false gone at _ old e = rw at e
+
+either_way : {A : Type 0} (b : Bool) (x : A) → x ≡ (if b then x else x)
+either_way true x = refl
+either_way false x = refl
+
+none_twice : {A : Type 0} (b : Bool) (x y : Option A) → x ≡ (if b then None else y) → x ≡ (if b then None else x)
+none_twice true x y e = e
+none_twice false x y e = refl
+
+-- the approved pages without some
+pub approved_without : (approved : List ApprovedPage) (pages : List ℕ) (page : ℕ)
+    → approved_bytes (without_pages approved pages) page ≡ (if has_number pages page then None else approved_bytes approved page)
+unfolding without_pages
+approved_without [] pages page = either_way (has_number pages page) None
+approved_without (entry ∷ approved) pages page =
+    let e = approved_without approved pages page in
+    without_by entry pages page (without_pages approved pages) (has_number pages entry.page) (entry.page == page) refl refl
+    (none_twice (has_number pages page) (approved_bytes (without_pages approved pages) page) (approved_bytes approved page) e) (approved_bytes approved page) e
+
+-- ---- modules
+
+-- a module that was found has the id that was asked for
+found_by : (m n : SavedModule) (id : ℕ) (b : Bool) (rest : Option SavedModule) → (n.id == id) ≡ b → (rest ≡ Some m → m.id ≡ id) → (if b then Some n else rest) ≡ Some m → m.id ≡ id
+found_by m n id true rest at more e = let same : n ≡ m = cc in ap (λ (x : SavedModule). x.id) (sym same) ∙ eqb-true n.id id at
+found_by m n id false rest at more e = more e
+
+pub found_id : (modules : List SavedModule) (id : ℕ) (m : SavedModule) → find_module modules id ≡ Some m → m.id ≡ id
+unfolding find_module
+found_id [] id m e = cc
+found_id (n ∷ modules) id m e = found_by m n id (n.id == id) (find_module modules id) refl (found_id modules id m) e
+
+two_ids : (m first : SavedModule) (id : ℕ) (a b : Bool) (rest : Option SavedModule) → (m.id == id) ≡ a → (first.id == id) ≡ b → ((first.id == m.id) ≡ true → ⊥)
+    → (if b then Some first else (if a then Some m else rest)) ≡ (if a then Some m else (if b then Some first else rest))
+two_ids m first id true true rest a b other =
+    let same : first.id ≡ m.id = eqb-true first.id id b ∙ sym (eqb-true m.id id a) in
+    absurd (other (ap (λ (n : ℕ). n == m.id) same ∙ same_number m.id))
+two_ids m first id true false rest a b other = refl
+two_ids m first id false true rest a b other = refl
+two_ids m first id false false rest a b other = refl
+
+not_found : (first : SavedModule) (id : ℕ) (b : Bool) (rest : Option SavedModule) → (first.id == id) ≡ b → (if b then Some first else rest) ≡ None → ((first.id == id) ≡ true → ⊥) × (rest ≡ None)
+not_found first id true rest at e = absurd (cc)
+not_found first id false rest at e = (λ t. both (first.id == id) t at, e)
+
+with_by : (before : Bool) (m first : SavedModule) (modules : List SavedModule) (id : ℕ) → ((first.id == m.id) ≡ true → ⊥)
+    → find_module (with_module modules m) id ≡ (if m.id == id then Some m else find_module modules id)
+    → find_module (if before then m ∷ (first ∷ modules) else first ∷ with_module modules m) id
+    ≡ (if m.id == id then Some m else (if first.id == id then Some first else find_module modules id))
+unfolding find_module
+with_by true m first modules id other e = refl
+with_by false m first modules id other e = rw e (two_ids m first id (m.id == id) (first.id == id) (find_module modules id) refl refl other)
+
+-- a list with a module more, of an id that it didn't have
+pub found_with : (modules : List SavedModule) (m : SavedModule) (id : ℕ) → find_module modules m.id ≡ None
+    → find_module (with_module modules m) id ≡ (if m.id == id then Some m else find_module modules id)
+unfolding find_module with_module
+found_with [] m id none = refl
+found_with (first ∷ modules) m id none =
+    let other = not_found first m.id (first.id == m.id) (find_module modules m.id) refl none in
+    with_by (nat_lt m.id first.id) m first modules id other.0 (found_with modules m id other.1)
+
+gone_by : (m : SavedModule) (gone id : ℕ) (rest : List SavedModule) (old : Option SavedModule) (out at : Bool) → (m.id == gone) ≡ out → (m.id == id) ≡ at
+    → find_module rest id ≡ (if gone == id then None else old)
+    → find_module (if not out then m ∷ rest else rest) id ≡ (if gone == id then None else (if at then Some m else old))
+unfolding find_module
+gone_by m gone id rest old true true out at e =
+    let same : gone ≡ id = sym (eqb-true m.id gone out) ∙ eqb-true m.id id at in
+    let there : (gone == id) ≡ true = ap (λ (n : ℕ). n == id) same ∙ same_number id in rw there (rw there at e)
+gone_by m gone id rest old true false out at e = e
+gone_by m gone id rest old false true out at e =
+    let same : m.id ≡ id = eqb-true m.id id at in
+    let there : (gone == id) ≡ false =
+    not_true (gone == id) (λ t. both (m.id == gone) (ap (λ (n : ℕ). n == gone) (same ∙ sym (eqb-true gone id t)) ∙ same_number gone) out) in
+    rw (there, at) refl
+gone_by m gone id rest old false false out at e = rw at e
+
+-- the modules without one
+pub found_without : (modules : List SavedModule) (gone id : ℕ) → find_module (without_module modules gone) id ≡ (if gone == id then None else find_module modules id)
+unfolding find_module
+found_without [] gone id = either_way (gone == id) None
+found_without (m ∷ modules) gone id =
+    gone_by m gone id (without_module modules gone) (find_module modules id) (m.id == gone) (m.id == id) refl refl (found_without modules gone id)
+
+-- ---- the list of modules ascends
+
+above_less : (low high : ℕ) (modules : List SavedModule) → low < high → AllAbove high modules → AllAbove low modules
+above_less low high [] less all = tt
+above_less low high (m ∷ modules) less all = let first : high < m.id = all.0 in (omega arith, above_less low high modules less all.1)
+
+above_insert : (id : ℕ) (before : Bool) (m first : SavedModule) (rest modules : List SavedModule) → id < m.id → id < first.id → AllAbove id rest → AllAbove id modules
+    → AllAbove id (if before then m ∷ (first ∷ modules) else first ∷ rest)
+above_insert id true m first rest modules new old more all = (new, (old, all))
+above_insert id false m first rest modules new old more all = (old, more)
+
+above_with : (id : ℕ) (modules : List SavedModule) (m : SavedModule) → id < m.id → AllAbove id modules → AllAbove id (with_module modules m)
+unfolding with_module
+above_with id [] m new all = (new, tt)
+above_with id (first ∷ modules) m new all =
+    above_insert id (nat_lt m.id first.id) m first (with_module modules m) modules new all.0 (above_with id modules m new all.1) all.1
+
+ascends_insert : (before : Bool) (m first : SavedModule) (modules : List SavedModule) → nat_lt m.id first.id ≡ before → (first.id == m.id) ≡ false → AllAbove first.id modules → Ascends modules
+    → Ascends (with_module modules m) → Ascends (if before then m ∷ (first ∷ modules) else first ∷ with_module modules m)
+ascends_insert true m first modules at other above rest more =
+    let less : m.id < first.id = grind (arith, nat_tests) in ((less, above_less m.id first.id modules less above), (above, rest))
+ascends_insert false m first modules at other above rest more =
+    let less : first.id < m.id = grind (arith, nat_tests) in (above_with first.id modules m less above, more)
+
+pub ascends_with : (modules : List SavedModule) (m : SavedModule) → Ascends modules → find_module modules m.id ≡ None → Ascends (with_module modules m)
+unfolding with_module find_module
+ascends_with [] m up none = (tt, tt)
+ascends_with (first ∷ modules) m up none =
+    let other = not_found first m.id (first.id == m.id) (find_module modules m.id) refl none in
+    ascends_insert (nat_lt m.id first.id) m first modules refl (not_true (first.id == m.id) other.0) up.0 up.1 (ascends_with modules m up.1 other.1)
+
+above_kept : (id : ℕ) (out : Bool) (m : SavedModule) (rest : List SavedModule) → id < m.id → AllAbove id rest → AllAbove id (if not out then m ∷ rest else rest)
+above_kept id true m rest first all = all
+above_kept id false m rest first all = (first, all)
+
+above_without : (id : ℕ) (modules : List SavedModule) (gone : ℕ) → AllAbove id modules → AllAbove id (without_module modules gone)
+above_without id [] gone all = tt
+above_without id (m ∷ modules) gone all = above_kept id (m.id == gone) m (without_module modules gone) all.0 (above_without id modules gone all.1)
+
+ascends_kept : (out : Bool) (m : SavedModule) (rest : List SavedModule) → AllAbove m.id rest → Ascends rest → Ascends (if not out then m ∷ rest else rest)
+ascends_kept true m rest above up = up
+ascends_kept false m rest above up = (above, up)
+
+pub ascends_without : (modules : List SavedModule) (gone : ℕ) → Ascends modules → Ascends (without_module modules gone)
+ascends_without [] gone up = tt
+ascends_without (m ∷ modules) gone up =
+    ascends_kept (m.id == gone) m (without_module modules gone) (above_without m.id modules gone up.0) (ascends_without modules gone up.1)
+
+above_at : (id : ℕ) (modules : List SavedModule) (i : ℕ) (m : SavedModule) → AllAbove id modules → slice_get modules i ≡ Some m → id < m.id
+above_at id [] i m all e = cc
+above_at id (n ∷ modules) zero m all e = let same : n ≡ m = cc in subst (λ (k : SavedModule). id < k.id) same all.0
+above_at id (n ∷ modules) (suc i) m all e = above_at id modules i m all.1 e
+
+-- so each of them is found by its id
+pub all_found : (modules : List SavedModule) (i : ℕ) (m : SavedModule) → Ascends modules → slice_get modules i ≡ Some m → find_module modules m.id ≡ Some m
+unfolding find_module
+all_found [] i m up e = cc
+all_found (n ∷ modules) zero m up e =
+    let same : n ≡ m = cc in subst (λ (k : SavedModule). (if n.id == k.id then Some n else find_module modules k.id) ≡ Some k) same (rw (same_number n.id) refl)
+all_found (n ∷ modules) (suc i) m up e =
+    let less : n.id < m.id = above_at n.id modules i m up.0 e in
+    let other : (n.id == m.id) ≡ false = grind (arith, nat_tests) in rw other (all_found modules i m up.1 e)

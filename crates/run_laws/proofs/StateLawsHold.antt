@@ -1,0 +1,109 @@
+-- The laws of bytes and of modules.
+use Rattle.std.proofs.Common.{◌≡◌, ℕ, ◌*◌, ◌/◌, ◌⊎◌, inl, inr, List, [], length, sym, ◌∙◌, subst, true, false}
+use Rattle.std.specs.Prelude.{Option, Some, None}
+use Rattle.sv_types.specs.Boot.{flat_ram_pages}
+use Rattle.sv_types.specs.Bytes.{padded, page_bytes, page_size, ram_base}
+use Rattle.sv_types.specs.Kernel.{header_entry, kernel_segments, segments_ram, text_pages}
+use Rattle.sv_types.specs.Policies.{Rules}
+use Rattle.sv_types.specs.Reference.{approved_bytes, numbers_from}
+use Rattle.sv_types.specs.declared.event.Event.{Event}
+use Rattle.sv_types.specs.declared.saved.SavedModule.{SavedModule}
+use Rattle.reference.specs.Origins.{IsPageOf, IsOwned, TextStays, is_kernel_text, ownership}
+use Rattle.reference.specs.States.{State, Loading, has_number, is_approved_in, find_module}
+use Rattle.reference.specs.Run.{run}
+use Rattle.reference.specs.Start.{IsStart, StartsFlat, StartsImage, start, flat_rules, flat_start, boot_start}
+use Rattle.reference.specs.Soundness.{IsSound, IsSoundLoad, HoldsModule}
+use Rattle.run_laws.specs.StateLaws.{BytesLaw, IsText, IsModulePage, HoldsLoad, HasOrigins, ModulesLaw}
+use Rattle.run_laws.proofs.Lookups.{not_true, both, all_found}
+use Rattle.run_laws.proofs.ModulesSound.{same_module}
+use Rattle.run_laws.proofs.Sounds.{Goes}
+use Rattle.run_laws.proofs.StartsSound.{CanStart, start_sound, start_text, flat_can, image_can}
+use Rattle.run_laws.proofs.StepsSound.{run_goes}
+
+-- ---- starts
+
+-- a start is sound, and its text has the bytes that RAM has
+record Begins (s : State) : Type 0 where
+  sound : IsSound s
+  text : (page : ℕ) → is_kernel_text (ownership s) page ≡ true → approved_bytes s.approved page ≡ Some (page_bytes s.ram page)
+
+start_begins : (rules : Rules) (ram text : List ℕ) (entry : ℕ) (disk : List ℕ) → CanStart rules ram text entry → Begins (start rules ram text entry disk)
+unfolding start
+start_begins rules ram text entry disk can = record { sound = start_sound rules ram text entry disk can; text = λ page e. start_text rules ram text entry disk page e }
+
+flat_begins : (s : State) → StartsFlat s → Begins s
+unfolding flat_start
+flat_begins s k = subst Begins (sym k.same)
+    (start_begins (flat_rules k.digest) (padded k.pages (page_size * flat_ram_pages)) (numbers_from 0 (length k.pages / page_size)) ram_base []
+    (flat_can k.pages k.digest k.fits))
+
+image_begins : (s : State) → StartsImage s → Begins s
+unfolding boot_start
+image_begins s k = subst Begins (sym k.same)
+    (start_begins k.rules (segments_ram (kernel_segments k.file) k.rules.ram_pages) (text_pages (kernel_segments k.file)) (header_entry k.file) k.disk
+    (image_can k.rules k.file k.within k.words k.accepted k.entry))
+
+begins : (s : State) → IsStart s → Begins s
+begins s (inl flat) = flat_begins s flat
+begins s (inr image) = image_begins s image
+
+-- every state that a run reaches from a start is sound
+pub reached_sound : (s : State) (events : List Event) → IsStart s → IsSound (run s events)
+reached_sound s events is_start = (run_goes s events (begins s is_start).sound).sound
+
+-- ---- bytes
+
+pub bytes_law : BytesLaw
+bytes_law s events is_start = (reached_sound s events is_start).text
+
+-- ---- modules
+
+text_of_start : (s r : State) (page : ℕ) → Begins s → TextStays (ownership s) (ownership r) → is_kernel_text (ownership r) page ≡ true → IsText s r page
+text_of_start s r page b stays e = record { unretired = e; bytes = stays.bytes page e ∙ b.text page (stays.was page e) }
+
+module_page : (r : State) (m : SavedModule) (page : ℕ) → IsSound r → IsPageOf r.rules r.loaded m page → IsModulePage r m page
+module_page r m page sound p = record {
+  page_of = p;
+  approved = λ q there. sound.pages.modules m q (record { loaded_is = p.loaded_is; inside = there });
+  good = (sound.modules m p.loaded_is).good;
+}
+
+origin_of : (s r : State) (page : ℕ) → Begins s → Goes s r → IsOwned (ownership r) page → IsText s r page ⊎ ((m : SavedModule) × IsModulePage r m page)
+origin_of s r page b goes (inl text) = inl (text_of_start s r page b goes.text text)
+origin_of s r page b goes (inr of) = inr (of.0, module_page r of.0 page goes.sound of.1)
+
+held_by : (r : State) (x : Option Loading) → IsSoundLoad r.rules r.approved r.loaded r.held x → HoldsLoad r x
+held_by r None load = load
+held_by r (Some load) k = k.pages
+
+no_held : (held : List ℕ) (page : ℕ) → held ≡ [] → has_number held page ≡ true → ⊥
+no_held held page none e = let k : has_number [] page ≡ true = subst (λ (list : List ℕ). has_number list page ≡ true) none e in cc
+
+held_free : (r : State) (x : Option Loading) (page : ℕ) → IsSoundLoad r.rules r.approved r.loaded r.held x → has_number r.held page ≡ true → is_approved_in r.approved page ≡ false
+held_free r None page load e = absurd (no_held r.held page load e)
+held_free r (Some load) page k e = k.free page e
+
+not_loaded : (r : State) (load : Loading) → IsSound r → r.loading ≡ Some load → find_module r.loaded load.about.id ≡ None
+not_loaded r load sound under =
+    let k : HoldsModule r.rules r.approved r.loaded r.held load = subst (IsSoundLoad r.rules r.approved r.loaded r.held) under sound.load in k.other
+
+has_origins : (s r : State) → Begins s → Goes s r → HasOrigins s r
+has_origins s r b goes = record {
+  rules = goes.text.rules;
+  text = goes.text.text;
+  origin = λ page e. origin_of s r page b goes (goes.sound.pages.owned page e);
+  held = held_by r r.loading goes.sound.load;
+  text_and_module = λ m page p. goes.sound.pages.no_text m page p;
+  text_and_held = λ page e. not_true (is_kernel_text (ownership r) page)
+      (λ t. both (is_approved_in r.approved page) (goes.sound.pages.text page t) (held_free r r.loading page goes.sound.load e));
+  module_and_held = λ m page p. not_true (has_number r.held page)
+      (λ t. both (is_approved_in r.approved page) (goes.sound.pages.modules m page p) (held_free r r.loading page goes.sound.load t));
+  two_modules = λ m n page p q. same_module r m n (goes.sound.pages.one_module m n page p q) p.loaded_is q.loaded_is;
+  ascends = goes.sound.ascends;
+  listed = λ i m e. all_found r.loaded i m goes.sound.ascends e;
+  ids = goes.sound.pages.ids;
+  not_both = λ load under. not_loaded r load goes.sound under;
+}
+
+pub modules_law : ModulesLaw
+modules_law s events is_start = let b = begins s is_start in has_origins s (run s events) b (run_goes s events b.sound)

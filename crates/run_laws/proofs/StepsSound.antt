@@ -1,0 +1,298 @@
+-- Each event keeps a sound state sound, and so does a run.
+use Rattle.std.proofs.Common.{◌≡◌, ℕ, ◌+◌, ◌*◌, ◌/◌, ◌%◌, ◌^◌, ◌<◌, ◌≤◌, List, [], ◌∷◌, length, take, drop, refl, Bool, true, false, not, arith, min, slice_get, length-take}
+use Rattle.std.specs.Prelude.{Option, Some, None, if◌then◌else◌, ◌==◌}
+use Rattle.std.proofs.lemmas.Bool.Decides.{nat_tests}
+use Rattle.sv_types.specs.Bytes.{part, in_ram, page_of, ram_place}
+use Rattle.sv_types.specs.Clock.{after_tick}
+use Rattle.sv_types.specs.Console.{after_key, has_room}
+use Rattle.sv_types.specs.Effects.{effect_of, set_register}
+use Rattle.sv_types.specs.Instructions.{instruction_of}
+use Rattle.sv_types.specs.Traps.{interrupt_number, deliverable}
+use Rattle.sv_types.specs.declared.cause.Cause.{Cause}
+use Rattle.sv_types.specs.declared.effect.Effect.{Effect}
+use Rattle.sv_types.specs.declared.event.Counts.{Counts}
+use Rattle.sv_types.specs.declared.event.Event.{Event}
+use Rattle.sv_types.specs.declared.event.Event.TheVariants.{Turn, Beat, Key, Tick}
+use Rattle.sv_types.specs.declared.instruction.Instr.{Instr}
+use Rattle.sv_types.specs.declared.wires.Interrupt.{Interrupt}
+use Rattle.sv_types.specs.declared.wires.Mode.{Mode}
+use Rattle.sv_types.specs.declared.wires.Mode.TheVariants.{Kernel, User}
+use Rattle.sv_types.specs.declared.event.Note.TheVariants.{Demote, Denied}
+use Rattle.sv_types.specs.declared.event.Verdict.{Verdict}
+use Rattle.sv_types.specs.declared.event.Verdict.TheVariants.{Running, Shutdown, Stopped}
+use Rattle.reference.specs.States.{State, Hart, Disk, Loading, is_protected}
+use Rattle.reference.specs.Counting.{count, counted, noted, count_turn, count_beat, count_key, count_tick, count_retired, count_demote, count_denied, count_dropped}
+use Rattle.reference.specs.Disk.{Beaten, Move, Idle, FromRam, IntoRam, DeniedAt, OutsideRam, disk_beat, to_memory, to_disk, transfer_ended, block_ended, block_after_beat, beat_gpa, beat_place, beat_size, is_busy, sector_size}
+use Rattle.reference.specs.Devices.{lines_at, with_disk, with_bytes, after_move, beat, key, tick}
+use Rattle.reference.specs.Trapping.{exception}
+use Rattle.reference.specs.Origins.{ownership}
+use Rattle.reference.specs.Requests.{stepped, carried_out, source_of, target_of, csr_asked}
+use Rattle.reference.specs.Turn.{carry_out_kernel_only, carry_out_ecall, carry_out_sret, with_set, carry_out_effect, carry_out_instruction, carry_out_word, Fetched, NoWord, Stray, Word, fetch_of, demote, act_on_fetch, act_on_pending, act, turn_of_started, turn_of, turn}
+use Rattle.reference.specs.Calls.{asked_by}
+use Rattle.reference.specs.Run.{happen, happen_under, step, run}
+use Rattle.reference.specs.Soundness.{IsSound, IsSoundHart, IsSoundDisk}
+use Rattle.attempt_laws.proofs.AllTold.{all_told}
+use Rattle.attempt_laws.proofs.EffectsAgree.{IsTold}
+use Rattle.run_laws.proofs.CallsSound.{call_goes, load_step_goes}
+use Rattle.run_laws.proofs.HartsSound.{at_pc, demoted_sound, GoesRight, effects_right}
+use Rattle.run_laws.proofs.Lookups.{unprotected, unheld, not_false}
+use Rattle.run_laws.proofs.RequestsSound.{exception_goes, trap_goes, return_goes, retire_goes, load_goes, load_reserved_goes, store_goes, store_conditional_goes, amo_goes, target_free, csr_goes}
+use Rattle.run_laws.proofs.Sounds.{Goes, InFreePage, goes_set, goes_beside, goes_bytes, goes_on, choose_goes, decide_goes, text_stays}
+
+-- ---- instructions
+
+illegal_goes : (r : State) (h : ℕ) (hart : Hart) (w : ℕ) → IsSound r → IsSoundHart hart → Goes r (exception r h hart Cause.Illegal w)
+illegal_goes r h hart w s k = exception_goes r h hart Cause.Illegal w s k
+
+behind_goes : (r : State) (h : ℕ) (hart : Hart) → IsSound r → IsSoundHart hart → Goes r (carried_out r h (stepped hart))
+behind_goes r h hart s k = retire_goes r h hart hart.registers hart.reservation s k
+
+kernel_only_goes : (r : State) (h : ℕ) (hart : Hart) (w : ℕ) (mode : Mode) → IsSound r → IsSoundHart hart → Goes r (carry_out_kernel_only r h hart w mode)
+unfolding carry_out_kernel_only
+kernel_only_goes r h hart w Kernel s k = behind_goes r h hart s k
+kernel_only_goes r h hart w User s k = illegal_goes r h hart w s k
+
+ecall_goes : (r : State) (h : ℕ) (hart : Hart) (mode : Mode) → IsSound r → IsSoundHart hart → hart.mode ≡ mode → Goes r (carry_out_ecall r h hart mode)
+unfolding carry_out_ecall
+ecall_goes r h hart Kernel s k at = call_goes r h hart (asked_by hart.registers) s k at
+ecall_goes r h hart User s k at = exception_goes r h hart Cause.UserCall 0 s k
+
+sret_goes : (r : State) (h : ℕ) (hart : Hart) (w : ℕ) (mode : Mode) → IsSound r → IsSoundHart hart → hart.started ≡ true → Goes r (carry_out_sret r h hart w mode)
+unfolding carry_out_sret
+sret_goes r h hart w Kernel s k on = return_goes r h hart s k on
+sret_goes r h hart w User s k on = illegal_goes r h hart w s k
+
+set_goes : (r : State) (h : ℕ) (hart : Hart) (rd value next : ℕ) → IsSound r → IsSoundHart hart → (next % 4 ≡ 0) × (next < 2 ^ 64) → Goes r (carried_out r h (with_set hart rd value next))
+set_goes r h hart rd value next s k right =
+    goes_set r h (with_set hart rd value next) r.devices (counted count_retired r.journal) s
+    (at_pc hart (set_register hart.registers rd value) next hart.reservation k right.0 right.1) s.disk
+
+effect_goes : (r : State) (h : ℕ) (hart : Hart) (w : ℕ) (e : Effect) → IsSound r → IsSoundHart hart → hart.started ≡ true → IsTold w hart e → GoesRight e
+    → Goes r (carry_out_effect r h hart w e)
+unfolding carry_out_effect
+effect_goes r h hart w (Effect.Set rd value next) s k on told right = set_goes r h hart rd value next s k right
+effect_goes r h hart w (Effect.MisalignedJump target) s k on told right = exception_goes r h hart Cause.InstrMisaligned target s k
+effect_goes r h hart w (Effect.Load rd address width signed) s k on told right = load_goes r h hart rd address width signed (source_of r hart address width) s k
+effect_goes r h hart w (Effect.Store address width value) s k on told right =
+    store_goes r h hart address width value (target_of r hart address width) s k told.1 (target_free r hart address width told.1)
+effect_goes r h hart w (Effect.LoadReserved rd address width) s k on told right = load_reserved_goes r h hart rd address width (source_of r hart address width) s k
+effect_goes r h hart w (Effect.StoreConditional rd address width value) s k on told right =
+    store_conditional_goes r h hart rd address width value (target_of r hart address width) s k told.1 (target_free r hart address width told.1)
+effect_goes r h hart w (Effect.Amo rd address width op value) s k on told right =
+    amo_goes r h hart rd address width op value (target_of r hart address width) s k told.1 (target_free r hart address width told.1)
+effect_goes r h hart w (Effect.Csr rd number op operand writes) s k on told right = csr_goes r h hart w rd op operand writes (csr_asked hart number writes) s k
+effect_goes r h hart w Effect.Ecall s k on told right = ecall_goes r h hart hart.mode s k refl
+effect_goes r h hart w Effect.Ebreak s k on told right = exception_goes r h hart Cause.Breakpoint hart.pc s k
+effect_goes r h hart w Effect.Sret s k on told right = sret_goes r h hart w hart.mode s k on
+effect_goes r h hart w Effect.Wfi s k on told right = kernel_only_goes r h hart w hart.mode s k
+effect_goes r h hart w Effect.SfenceVma s k on told right = kernel_only_goes r h hart w hart.mode s k
+effect_goes r h hart w Effect.Fence s k on told right = behind_goes r h hart s k
+effect_goes r h hart w Effect.Hyper s k on told right = illegal_goes r h hart w s k
+
+instruction_goes : (r : State) (h : ℕ) (hart : Hart) (w : ℕ) (x : Option Instr) → IsSound r → IsSoundHart hart → hart.started ≡ true → instruction_of w ≡ x
+    → Goes r (carry_out_instruction r h hart w x)
+unfolding carry_out_instruction
+instruction_goes r h hart w None s k on e = illegal_goes r h hart w s k
+instruction_goes r h hart w (Some i) s k on e =
+    effect_goes r h hart w (effect_of i hart.registers hart.pc) s k on (all_told hart w i e) (effects_right i hart.registers hart.pc k.aligned)
+
+-- ---- the fetch
+
+demote_goes : (r : State) (h : ℕ) (hart : Hart) (gpa : ℕ) → IsSound r → IsSoundHart hart → hart.started ≡ true → Goes r (demote r h hart gpa)
+demote_goes r h hart gpa s k on =
+    goes_set r h (record hart { mode = User; reservation = None }) r.devices (noted (Demote h r.journal.counts.turns hart.pc gpa) (counted count_demote r.journal)) s
+    (demoted_sound hart on k) s.disk
+
+fetch_goes : (r : State) (h : ℕ) (hart : Hart) (x : Fetched) → IsSound r → IsSoundHart hart → hart.started ≡ true → Goes r (act_on_fetch r h hart x)
+unfolding act_on_fetch carry_out_word
+fetch_goes r h hart (NoWord cause) s k on = exception_goes r h hart cause hart.pc s k
+fetch_goes r h hart (Stray gpa) s k on = demote_goes r h hart gpa s k on
+fetch_goes r h hart (Word w) s k on = instruction_goes r h hart w (instruction_of w) s k on refl
+
+-- ---- the turn
+
+pending_goes : (r : State) (h : ℕ) (hart : Hart) (x : Option Interrupt) → IsSound r → IsSoundHart hart → hart.started ≡ true → Goes r (act_on_pending r h hart x)
+unfolding act_on_pending
+pending_goes r h hart (Some interrupt) s k on = trap_goes r h hart hart.mode true (interrupt_number interrupt) 0 s k
+pending_goes r h hart None s k on = fetch_goes r h hart (fetch_of r hart) s k on
+
+attempt_goes : (r : State) (h : ℕ) (hart : Hart) → IsSound r → IsSoundHart hart → hart.started ≡ true → Goes r (act r h hart)
+unfolding act
+attempt_goes r h hart s k on = pending_goes r h hart (deliverable hart.mode hart.supervisor (lines_at r.devices h)) s k on
+
+started_goes : (r : State) (h : ℕ) (hart : Hart) (x : Option Loading) → IsSound r → IsSoundHart hart → hart.started ≡ true → r.loading ≡ x → Goes r (turn_of_started r h hart x)
+unfolding turn_of_started
+started_goes r h hart None s k on under = attempt_goes r h hart s k on
+started_goes r h hart (Some load) s k on under =
+    choose_goes r (load.hart == h) _ _ (load_step_goes r h hart load load.left s k under refl) (attempt_goes r h hart s k on)
+
+nothing_goes : (r : State) → IsSound r → Goes r r
+nothing_goes r s = record { sound = s; text = text_stays (ownership r) }
+
+hart_turn_goes : (r : State) (h : ℕ) (x : Option Hart) → IsSound r → slice_get r.harts h ≡ x → Goes r (turn_of r h x)
+unfolding turn_of
+hart_turn_goes r h None s there = nothing_goes r s
+hart_turn_goes r h (Some hart) s there =
+    decide_goes r hart.started _ _ (λ on. started_goes r h hart r.loading s (s.harts h hart there) on refl) (λ off. nothing_goes r s)
+
+pub turn_goes : (r : State) (h : ℕ) → IsSound r → Goes r (turn r h)
+unfolding turn
+turn_goes r h s = hart_turn_goes r h (slice_get r.harts h) s refl
+
+-- ---- beats
+
+-- what a beat writes: at most its bytes, at a multiple of their number, in RAM and in a page that isn't protected
+pub record IsFreeBeat (r : State) (gpa : ℕ) (bytes : List ℕ) : Type 0 where
+  pub aligned : ram_place gpa % beat_size ≡ 0
+  pub short : length bytes ≤ beat_size
+  pub inside : in_ram r.ram gpa beat_size ≡ true
+  pub free : not (is_protected r (page_of gpa)) ≡ true
+
+abbrev pub FreeMove : State → Move → Type 0
+FreeMove r (IntoRam gpa bytes) = IsFreeBeat r gpa bytes
+FreeMove r _ = Unit {0}
+
+-- what a beat leaves
+pub record IsSoundBeat (r : State) (b : Beaten) : Type 0 where
+  pub disk : IsSoundDisk b.disk
+  pub move : FreeMove r b.move
+
+block_sound : (d : Disk) (last : Bool) → d.block.gpa % beat_size ≡ 0
+    → ((if last then block_ended d.block 2 else record d.block { done = d.block.done + 1 }).status == 1) ≡ true
+    → (if last then block_ended d.block 2 else record d.block { done = d.block.done + 1 }).gpa % beat_size ≡ 0
+block_sound d true aligned busy = aligned
+block_sound d false aligned busy = aligned
+
+short : (xs : List ℕ) (at n : ℕ) → length (part xs at n) ≤ n
+short xs at n = let e : length (take n (drop at xs)) ≡ min n (length (drop at xs)) = length-take n (drop at xs) in rw e (omega arith)
+
+beat_last : (p n : ℕ) → p % 64 ≡ 0 → n ≤ 64 → p + n ≤ 4096 * (p / 4096 + 1)
+beat_last p n aligned small = grind arith
+
+place_aligned : (gpa done : ℕ) → gpa % 64 ≡ 0 → ram_place (gpa + 64 * done) % 64 ≡ 0
+place_aligned gpa done e = grind arith
+
+room_of : (ram : List ℕ) (gpa n : ℕ) → n ≤ 64 → in_ram ram gpa 64 ≡ true → ram_place gpa + n ≤ length ram
+room_of ram gpa n small e = grind (arith, nat_tests)
+
+pub beat_page : (r : State) (gpa : ℕ) (bytes : List ℕ) → IsFreeBeat r gpa bytes → InFreePage r (ram_place gpa) bytes
+beat_page r gpa bytes k = record {
+  page = page_of gpa;
+  free = unprotected r (page_of gpa) (not_false (is_protected r (page_of gpa)) k.free);
+  unheld = unheld r (page_of gpa) (not_false (is_protected r (page_of gpa)) k.free);
+  first = whole_page (ram_place gpa);
+  last = beat_last (ram_place gpa) (length bytes) k.aligned k.short;
+  inside = room_of r.ram gpa (length bytes) k.short k.inside;
+}
+  where
+    whole_page : (p : ℕ) → 4096 * (p / 4096) ≤ p
+    whole_page p = omega arith
+
+memory_sound : (r : State) (d : Disk) (free : Bool) → d.block.gpa % beat_size ≡ 0 → in_ram r.ram (beat_gpa d.block) beat_size ≡ true
+    → not (is_protected r (page_of (beat_gpa d.block))) ≡ free
+    → IsSoundBeat r (if free
+    then record { disk = record d { block = block_after_beat d.block }; move = IntoRam (beat_gpa d.block) (part d.bytes (beat_place d.block) beat_size) }
+    else transfer_ended d 3 (DeniedAt (beat_gpa d.block)))
+memory_sound r d true aligned inside free = record {
+  disk = block_sound d (beat_size * (d.block.done + 1) == sector_size * d.block.count) aligned;
+  move = record {
+    aligned = place_aligned d.block.gpa d.block.done aligned;
+    short = short d.bytes (beat_place d.block) beat_size;
+    inside = inside;
+    free = free;
+  };
+}
+memory_sound r d false aligned inside free = record { disk = λ busy. cc; move = tt }
+
+reads_sound : (r : State) (d : Disk) (memory : Bool) → d.block.gpa % beat_size ≡ 0 → in_ram r.ram (beat_gpa d.block) beat_size ≡ true
+    → IsSoundBeat r (if memory then to_memory d (λ page. not (is_protected r page)) else to_disk d r.ram)
+reads_sound r d true aligned inside = memory_sound r d (not (is_protected r (page_of (beat_gpa d.block)))) aligned inside refl
+reads_sound r d false aligned inside = record { disk = block_sound d (beat_size * (d.block.done + 1) == sector_size * d.block.count) aligned; move = tt }
+
+inside_sound : (r : State) (d : Disk) (inside : Bool) → d.block.gpa % beat_size ≡ 0 → in_ram r.ram (beat_gpa d.block) beat_size ≡ inside
+    → IsSoundBeat r (if not inside then transfer_ended d 4 OutsideRam else if d.block.command == 1 then to_memory d (λ page. not (is_protected r page)) else to_disk d r.ram)
+inside_sound r d true aligned inside = reads_sound r d (d.block.command == 1) aligned inside
+inside_sound r d false aligned inside = record { disk = λ busy. cc; move = tt }
+
+busy_sound : (r : State) (d : Disk) (busy : Bool) → IsSoundDisk d → is_busy d.block ≡ busy
+    → IsSoundBeat r (if not busy then record { disk = d; move = Idle }
+    else if not (in_ram r.ram (beat_gpa d.block) beat_size) then transfer_ended d 4 OutsideRam
+    else if d.block.command == 1 then to_memory d (λ page. not (is_protected r page)) else to_disk d r.ram)
+busy_sound r d true k at = inside_sound r d (in_ram r.ram (beat_gpa d.block) beat_size) (k at) refl
+busy_sound r d false k at = record { disk = k; move = tt }
+
+pub beat_sound : (r : State) → IsSound r → IsSoundBeat r (disk_beat r.devices.disk r.ram (λ page. not (is_protected r page)))
+unfolding disk_beat
+beat_sound r s = busy_sound r r.devices.disk (is_busy r.devices.disk.block) s.disk refl
+
+same_free : (r : State) (disk : Disk) (gpa : ℕ) → not (is_protected r (page_of gpa)) ≡ true → not (is_protected (with_disk r disk) (page_of gpa)) ≡ true
+unfolding is_protected
+same_free r disk gpa free = free
+
+moved_goes : (r : State) (disk : Disk) (x : Move) → IsSound r → IsSoundDisk disk → FreeMove r x → Goes r (after_move (with_disk r disk) x)
+unfolding after_move
+moved_goes r disk Idle s k free = goes_beside r (record r.devices { disk = disk }) r.journal s k
+moved_goes r disk (FromRam gpa) s k free = goes_beside r (record r.devices { disk = disk }) r.journal s k
+moved_goes r disk (IntoRam gpa bytes) s k free =
+    let first : Goes r (with_disk r disk) = goes_beside r (record r.devices { disk = disk }) r.journal s k in
+    goes_on r (with_disk r disk) (with_bytes (with_disk r disk) (ram_place gpa) bytes) first
+    (goes_bytes (with_disk r disk) (ram_place gpa) bytes first.sound
+    (beat_page (with_disk r disk) gpa bytes (record { aligned = free.aligned; short = free.short; inside = free.inside; free = same_free r disk gpa free.free })))
+moved_goes r disk (DeniedAt gpa) s k free = goes_beside r (record r.devices { disk = disk }) (noted (Denied gpa) (counted count_denied r.journal)) s k
+moved_goes r disk OutsideRam s k free = goes_beside r (record r.devices { disk = disk }) r.journal s k
+
+pub beat_goes : (r : State) → IsSound r → Goes r (beat r)
+unfolding beat
+beat_goes r s =
+    let b : Beaten = disk_beat r.devices.disk r.ram (λ page. not (is_protected r page)) in
+    let k : IsSoundBeat r b = beat_sound r s in
+    moved_goes r b.disk b.move s k.disk k.move
+
+pub key_goes : (r : State) (byte : ℕ) → IsSound r → Goes r (key r byte)
+unfolding key
+key_goes r byte s =
+    goes_beside r (record r.devices { console = after_key r.devices.console byte })
+    (if has_room r.devices.console then r.journal else counted count_dropped r.journal) s s.disk
+
+pub tick_goes : (r : State) (n : ℕ) → IsSound r → Goes r (tick r n)
+unfolding tick
+tick_goes r n s = goes_beside r (record r.devices { clock = after_tick r.devices.clock n }) r.journal s s.disk
+
+-- ---- events and runs
+
+pub counted_sound : (r : State) (f : Counts → Counts) → IsSound r → Goes r (count r f)
+counted_sound r f s = goes_beside r r.devices (counted f r.journal) s s.disk
+
+happen_goes : (r : State) (e : Event) → IsSound r → Goes r (happen r e)
+unfolding happen
+happen_goes r (Turn h) s =
+    let first = counted_sound r count_turn s in goes_on r (count r count_turn) (turn (count r count_turn) h) first (turn_goes (count r count_turn) h first.sound)
+happen_goes r Beat s =
+    let first = counted_sound r count_beat s in goes_on r (count r count_beat) (beat (count r count_beat)) first (beat_goes (count r count_beat) first.sound)
+happen_goes r (Key byte) s =
+    let first = counted_sound r count_key s in goes_on r (count r count_key) (key (count r count_key) byte) first (key_goes (count r count_key) byte first.sound)
+happen_goes r (Tick n) s =
+    let first = counted_sound r count_tick s in goes_on r (count r count_tick) (tick (count r count_tick) n) first (tick_goes (count r count_tick) n first.sound)
+
+under_goes : (verdict : Verdict) (r : State) (e : Event) → IsSound r → Goes r (happen_under verdict r e)
+unfolding happen_under
+under_goes Running r e s = happen_goes r e s
+under_goes Shutdown r e s = nothing_goes r s
+under_goes (Stopped rule h at) r e s = nothing_goes r s
+
+-- each event
+pub step_goes : (r : State) (e : Event) → IsSound r → Goes r (step r e)
+unfolding step
+step_goes r e s = under_goes r.journal.verdict r e s
+
+pub step_sound : (r : State) (e : Event) → IsSound r → IsSound (step r e)
+step_sound r e s = (step_goes r e s).sound
+
+-- and each run
+pub run_goes : (r : State) (events : List Event) → IsSound r → Goes r (run r events)
+run_goes r [] s = nothing_goes r s
+run_goes r (e ∷ events) s =
+    let first = step_goes r e s in goes_on r (step r e) (run (step r e) events) first (run_goes (step r e) events first.sound)
+
+pub run_sound : (r : State) (events : List Event) → IsSound r → IsSound (run r events)
+run_sound r events s = (run_goes r events s).sound

@@ -1,0 +1,59 @@
+-- Two laws of the reference machine alone, for each state that a run reaches from a start. This project's own.
+use Rattle.std.specs.Prelude.{◌≡◌, ℕ, ◌<◌, ◌⊎◌, true, false, List, [], length, Option, Some, None, slice_get}
+use Rattle.sv_types.specs.Bytes.{page_bytes}
+use Rattle.sv_types.specs.Reference.{approved_bytes}
+use Rattle.sv_types.specs.declared.event.Event.{Event}
+use Rattle.sv_types.specs.declared.saved.SavedModule.{SavedModule}
+use Rattle.reference.specs.Loads.{is_good}
+use Rattle.reference.specs.Origins.{IsPageOf, Ascends, is_kernel_text, ownership}
+use Rattle.reference.specs.States.{State, Loading, has_number, is_approved_in, find_module, module_pages}
+use Rattle.reference.specs.Run.{run}
+use Rattle.reference.specs.Start.{IsStart}
+use Rattle.reference.specs.Soundness.{KeepsText}
+
+-- ---- bytes
+
+-- RAM has in each approved page its bytes
+abbrev pub BytesLaw : Type 0
+BytesLaw = (s : State) (events : List Event) → IsStart s → KeepsText (run s events).approved (run s events).ram
+
+-- ---- modules
+
+-- a page of the kernel's text that wasn't retired, with the bytes that it had at the start
+pub record IsText (s r : State) (page : ℕ) : Type 0 where
+  pub unretired : is_kernel_text (ownership r) page ≡ true
+  pub bytes : approved_bytes r.approved page ≡ Some (page_bytes s.ram page)
+
+-- a page of a loaded module, all of whose pages are approved. Its text in RAM, each field cleared, measures to the policy's
+-- digest, and the fields are right for its bases
+pub record IsModulePage (r : State) (m : SavedModule) (page : ℕ) : Type 0 where
+  pub page_of : IsPageOf r.rules r.loaded m page
+  pub approved : (q : ℕ) → has_number (module_pages r.rules m) q ≡ true → is_approved_in r.approved q ≡ true
+  pub good : is_good r.rules r.ram m (slice_get r.rules.modules m.id) ≡ true
+
+-- the pages that are held are those of the load under way
+abbrev pub HoldsLoad : State → Option Loading → Type 0
+HoldsLoad r None = r.held ≡ []
+HoldsLoad r (Some load) = r.held ≡ module_pages r.rules load.about
+
+pub record HasOrigins (s r : State) : Type 0 where
+  -- the policy and the pages that were approved at boot are those of the start
+  pub rules : r.rules ≡ s.rules
+  pub text : r.text ≡ s.text
+  -- where approved pages come from
+  pub origin : (page : ℕ) → is_approved_in r.approved page ≡ true → IsText s r page ⊎ ((m : SavedModule) × IsModulePage r m page)
+  pub held : HoldsLoad r r.loading
+  -- the kernel's text, the pages of each module and those that are held share none
+  pub text_and_module : (m : SavedModule) (page : ℕ) → IsPageOf r.rules r.loaded m page → is_kernel_text (ownership r) page ≡ false
+  pub text_and_held : (page : ℕ) → has_number r.held page ≡ true → is_kernel_text (ownership r) page ≡ false
+  pub module_and_held : (m : SavedModule) (page : ℕ) → IsPageOf r.rules r.loaded m page → has_number r.held page ≡ false
+  pub two_modules : (m n : SavedModule) (page : ℕ) → IsPageOf r.rules r.loaded m page → IsPageOf r.rules r.loaded n page → m ≡ n
+  -- the list of loaded modules ascends by id, so each of them is found by its id
+  pub ascends : Ascends r.loaded
+  pub listed : (i : ℕ) (m : SavedModule) → slice_get r.loaded i ≡ Some m → find_module r.loaded m.id ≡ Some m
+  -- a loaded module is one of the policy's, and none is loaded and under way
+  pub ids : (m : SavedModule) → find_module r.loaded m.id ≡ Some m → m.id < length r.rules.modules
+  pub not_both : (load : Loading) → r.loading ≡ Some load → find_module r.loaded load.about.id ≡ None
+
+abbrev pub ModulesLaw : Type 0
+ModulesLaw = (s : State) (events : List Event) → IsStart s → HasOrigins s (run s events)

@@ -1,0 +1,15 @@
+//! The laws of whole runs of the reference machine: which bytes are approved, and where they come from.
+#![tactic(auto)]
+
+ghost use Rattle.run_laws.specs.StateLaws.{BytesLaw, ModulesLaw};
+
+/// In each state that a run reaches from a start, RAM has in each approved page the bytes that were approved.
+pub fn law_bytes()
+    ensures { BytesLaw }
+{}
+
+/// In each such state every approved page is the kernel's text, as it was at the start and not retired, or lies in a loaded
+/// module that is as it was measured; and no page is two parties'.
+pub fn law_modules()
+    ensures { ModulesLaw }
+{}
