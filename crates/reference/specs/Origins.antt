@@ -1,6 +1,6 @@
 -- Where approved pages come from, and which pages are whose. This project's own.
-use Rattle.std.specs.Prelude.{◌≡◌, ℕ, ◌%◌, ◌<◌, ◌⊎◌, Bool, true, false, not, ◌&&◌, List, [], ◌∷◌, Option, Some, None, slice_get, length}
-use Rattle.sv_types.specs.Bytes.{page_size, ram_place}
+use Rattle.std.specs.Prelude.{◌≡◌, ℕ, ◌%◌, ◌<◌, ◌≤◌, ◌⊎◌, Bool, true, false, not, ◌&&◌, List, [], ◌∷◌, Option, Some, None, slice_get, length}
+use Rattle.sv_types.specs.Bytes.{page_size, ram_place, ram_base}
 use Rattle.sv_types.specs.Policies.{Rules}
 use Rattle.sv_types.specs.Reference.{ApprovedPage, approved_bytes}
 use Rattle.sv_types.specs.declared.module.Span.{Span}
@@ -48,9 +48,10 @@ pub record OwnsPages (r : Ownership) : Type 0 where
   pub ids : (m : SavedModule) → find_module r.loaded m.id ≡ Some m → m.id < length r.rules.modules
 
 -- a loaded module is as it was measured: RAM has the text whose digest the policy has, and its fields are right for its
--- bases. It begins with a page
+-- bases. It begins with a page of RAM
 pub record IsMeasured (rules : Rules) (ram : List ℕ) (m : SavedModule) : Type 0 where
   pub good : is_good rules ram m (slice_get rules.modules m.id) ≡ true
+  pub base : ram_base ≤ m.gpa
   pub aligned : ram_place m.gpa % page_size ≡ 0
 
 -- the list of loaded modules ascends by id

@@ -1,6 +1,6 @@
 -- Which states of the reference machine are sound: each state that a run reaches is. This project's own.
 use Rattle.std.specs.Prelude.{◌≡◌, ℕ, ◌+◌, ◌*◌, ◌%◌, ◌^◌, ◌<◌, ◌≤◌, true, false, List, [], length, Option, Some, None, slice_get, IsTrue}
-use Rattle.sv_types.specs.Bytes.{page_size, page_bytes, ram_place}
+use Rattle.sv_types.specs.Bytes.{page_size, page_bytes, ram_place, ram_base}
 use Rattle.sv_types.specs.Policies.{Rules, rules_within}
 use Rattle.sv_types.specs.Reference.{ApprovedPage, approved_bytes}
 use Rattle.sv_types.specs.Registers.{IsLegalSupervisor}
@@ -21,10 +21,12 @@ pub record IsSoundHart (hart : Hart) : Type 0 where
 pub record KeepsText (approved : List ApprovedPage) (ram : List ℕ) : Type 0 where
   pub same : (page : ℕ) (bytes : List ℕ) → approved_bytes approved page ≡ Some bytes → page_bytes ram page ≡ bytes
 
--- the pages that are held are those of the load under way, whole pages in RAM. None of them is approved, and no module of
--- its id is loaded
+-- the module is one of the policy's. The pages that are held are its own, whole pages in RAM; none of them is approved, and no
+-- module of its id is loaded
 pub record HoldsModule (rules : Rules) (approved : List ApprovedPage) (loaded : List SavedModule) (held : List ℕ) (load : Loading) : Type 0 where
+  pub known : load.about.id < length rules.modules
   pub pages : held ≡ module_pages rules load.about
+  pub base : ram_base ≤ load.about.gpa
   pub aligned : ram_place load.about.gpa % page_size ≡ 0
   pub inside : ram_place load.about.gpa + page_size * pages_in_rule (slice_get rules.modules load.about.id) ≤ page_size * rules.ram_pages
   pub left : load.left ≤ pages_in_rule (slice_get rules.modules load.about.id)

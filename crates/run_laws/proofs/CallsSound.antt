@@ -156,7 +156,7 @@ begun_goes : (r : State) (h : ℕ) (hart : Hart) (m : SavedModule) (rule : Modul
 begun_goes r h hart m rule s k known other good =
     let first : Goes r (stay r h hart) = stay_goes r h hart s k in
     goes_on r (stay r h hart) (load_begun r h hart m rule.pages) first
-    (load_begins (stay r h hart) h m rule first.sound known other (record { aligned = good.aligned; inside = good.inside; free = good.free }))
+    (load_begins (stay r h hart) h m rule first.sound known other (record { base = good.base; aligned = good.aligned; inside = good.inside; free = good.free }))
 
 load_call_goes : (r : State) (h : ℕ) (hart : Hart) (ask : Asked) (x : Option ModuleRule) → IsSound r → IsSoundHart hart → slice_get r.rules.modules ask.a0 ≡ x
     → Goes r (load_call r h hart ask x)
@@ -229,6 +229,7 @@ can_approve r load s under good =
     let k : HoldsModule r.rules r.approved r.loaded r.held load = subst (IsSoundLoad r.rules r.approved r.loaded r.held) under s.load in
     record {
       good = good;
+      base = k.base;
       aligned = k.aligned;
       inside = k.inside;
       free = λ page there. k.free page (subst (λ (list : List ℕ). has_number list page ≡ true) (sym k.pages) there);

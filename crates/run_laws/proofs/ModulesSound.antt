@@ -55,6 +55,7 @@ none_of test (x ∷ xs) page e there = none_by test x xs page (x == page) refl e
 
 -- an address that is good for so many pages
 pub record IsGoodAddress (r : State) (gpa pages : ℕ) : Type 0 where
+  pub base : ram_base ≤ gpa
   pub aligned : ram_place gpa % page_size ≡ 0
   pub inside : ram_place gpa + page_size * pages ≤ page_size * r.rules.ram_pages
   pub free : (page : ℕ) → has_number (numbers_from (page_of gpa) pages) page ≡ true → is_approved_in r.approved page ≡ false
@@ -71,6 +72,7 @@ address_good r gpa va pages size e =
     ∙ and_second (gpa % page_size == 0 && va % page_size == 0) (in_ram r.ram gpa (page_size * pages)) a in
     let whole : gpa % page_size ≡ 0 = eqb-true (gpa % page_size) 0 (and_first (gpa % page_size == 0) (va % page_size == 0) both_aligned) in
     record {
+      base = grind (arith, nat_tests);
       aligned = grind (arith, nat_tests);
       inside = grind (arith, nat_tests);
       free = λ page there. unprotected r page (none_of (is_protected r) (numbers_from (page_of gpa) pages) page free there);
@@ -81,7 +83,9 @@ pub load_begins : (r : State) (h : ℕ) (m : SavedModule) (rule : ModuleRule) �
 load_begins r h m rule s known other good =
     let n : pages_in_rule (slice_get r.rules.modules m.id) ≡ rule.pages = ap pages_in_rule known in
     goes_load r (module_pages r.rules m) (Some (record { hart = h; about = m; left = rule.pages })) s (record {
+      known = slice_get_within r.rules.modules m.id rule known;
       pages = refl;
+      base = good.base;
       aligned = good.aligned;
       inside = rw n good.inside;
       left = rw n (omega arith);
@@ -95,7 +99,9 @@ load_goes_on r load left s under_way more =
     let k : HoldsModule r.rules r.approved r.loaded r.held load = subst (IsSoundLoad r.rules r.approved r.loaded r.held) under_way s.load in
     let least : load.left ≤ pages_in_rule (slice_get r.rules.modules load.about.id) = k.left in
     goes_load r r.held (Some (record load { left = left })) s (record {
+      known = k.known;
       pages = k.pages;
+      base = k.base;
       aligned = k.aligned;
       inside = k.inside;
       left = omega arith;
@@ -136,6 +142,7 @@ approves r m = record r {
 -- what is known of the module that a load approves
 pub record CanApprove (r : State) (m : SavedModule) : Type 0 where
   pub good : is_good r.rules r.ram m (slice_get r.rules.modules m.id) ≡ true
+  pub base : ram_base ≤ m.gpa
   pub aligned : ram_place m.gpa % page_size ≡ 0
   pub inside : ram_place m.gpa + page_size * pages_in_rule (slice_get r.rules.modules m.id) ≤ page_size * r.rules.ram_pages
   pub free : (page : ℕ) → has_number (module_pages r.rules m) page ≡ true → is_approved_in r.approved page ≡ false
@@ -238,7 +245,7 @@ approves_text r m s = record {
 
 approves_measured : (r : State) (m n : SavedModule) → IsSound r → CanApprove r m → find_module (with_module r.loaded m) n.id ≡ Some n → IsMeasured r.rules r.ram n
 approves_measured r m n s can e = elim (new_or_old r m n can.other e) [
-  | inl same ↦ subst (IsMeasured r.rules r.ram) same (record { good = can.good; aligned = can.aligned })
+  | inl same ↦ subst (IsMeasured r.rules r.ram) same (record { good = can.good; base = can.base; aligned = can.aligned })
   | inr old ↦ s.modules n old.1
 ]
 
@@ -353,7 +360,9 @@ less_load : (rules : Rules) (approved fewer : List ApprovedPage) (loaded left : 
     → IsSoundLoad rules approved loaded held x → IsSoundLoad rules fewer left held x
 less_load rules approved fewer loaded left held None pages modules load = load
 less_load rules approved fewer loaded left held (Some load) pages modules k = record {
+  known = k.known;
   pages = k.pages;
+  base = k.base;
   aligned = k.aligned;
   inside = k.inside;
   left = k.left;

@@ -155,6 +155,7 @@ measured_kept r place bytes m s free found =
     record {
       good = good_kept r.rules r.ram (overwrite r.ram place bytes) m (slice_get r.rules.modules m.id)
           (pages_kept r.ram bytes place free.page (ram_place m.gpa) n free.inside free.first free.last old.aligned (elsewhere (page_of m.gpa) n free.page other)) old.good;
+      base = old.base;
       aligned = old.aligned;
     }
 

@@ -1,5 +1,5 @@
 -- The laws of bytes and of modules.
-use Rattle.std.proofs.Common.{◌≡◌, ℕ, ◌*◌, ◌/◌, ◌⊎◌, inl, inr, List, [], length, sym, ◌∙◌, subst, true, false}
+use Rattle.std.proofs.Common.{◌≡◌, ℕ, ◌*◌, ◌/◌, ◌⊎◌, inl, inr, List, [], length, sym, ◌∙◌, subst, true, false, ◌<◌}
 use Rattle.std.specs.Prelude.{Option, Some, None}
 use Rattle.sv_types.specs.Boot.{flat_ram_pages}
 use Rattle.sv_types.specs.Bytes.{padded, page_bytes, page_size, ram_base}
@@ -83,6 +83,10 @@ held_free : (r : State) (x : Option Loading) (page : ℕ) → IsSoundLoad r.rule
 held_free r None page load e = absurd (no_held r.held page load e)
 held_free r (Some load) page k e = k.free page e
 
+known_load : (r : State) (load : Loading) → IsSound r → r.loading ≡ Some load → load.about.id < length r.rules.modules
+known_load r load sound under =
+    let k : HoldsModule r.rules r.approved r.loaded r.held load = subst (IsSoundLoad r.rules r.approved r.loaded r.held) under sound.load in k.known
+
 not_loaded : (r : State) (load : Loading) → IsSound r → r.loading ≡ Some load → find_module r.loaded load.about.id ≡ None
 not_loaded r load sound under =
     let k : HoldsModule r.rules r.approved r.loaded r.held load = subst (IsSoundLoad r.rules r.approved r.loaded r.held) under sound.load in k.other
@@ -102,6 +106,7 @@ has_origins s r b goes = record {
   ascends = goes.sound.ascends;
   listed = λ i m e. all_found r.loaded i m goes.sound.ascends e;
   ids = goes.sound.pages.ids;
+  id_under_way = λ load under. known_load r load goes.sound under;
   not_both = λ load under. not_loaded r load goes.sound under;
 }
 

@@ -36,6 +36,7 @@ abbrev pub HoldsLoad : State → Option Loading → Type 0
 HoldsLoad r None = r.held ≡ []
 HoldsLoad r (Some load) = r.held ≡ module_pages r.rules load.about
 
+-- what is said of a state that a run reaches from a start
 pub record HasOrigins (s r : State) : Type 0 where
   -- the policy and the pages that were approved at boot are those of the start
   pub rules : r.rules ≡ s.rules
@@ -51,8 +52,9 @@ pub record HasOrigins (s r : State) : Type 0 where
   -- the list of loaded modules ascends by id, so each of them is found by its id
   pub ascends : Ascends r.loaded
   pub listed : (i : ℕ) (m : SavedModule) → slice_get r.loaded i ≡ Some m → find_module r.loaded m.id ≡ Some m
-  -- a loaded module is one of the policy's, and none is loaded and under way
+  -- each module that is loaded or under way is one of the policy's, and none is both
   pub ids : (m : SavedModule) → find_module r.loaded m.id ≡ Some m → m.id < length r.rules.modules
+  pub id_under_way : (load : Loading) → r.loading ≡ Some load → load.about.id < length r.rules.modules
   pub not_both : (load : Loading) → r.loading ≡ Some load → find_module r.loaded load.about.id ≡ None
 
 abbrev pub ModulesLaw : Type 0
