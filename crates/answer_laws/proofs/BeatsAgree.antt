@@ -7,8 +7,9 @@ use Rattle.sv_types.specs.declared.wires.Protection.{Protection}
 use Rattle.reference.specs.States.{State, Disk, protection_in, protection_by, is_protected, is_approved_in, has_number}
 use Rattle.reference.specs.Disk.{disk_beat, to_memory, to_disk, block_after_beat, beat_place, Move, Idle, FromRam, IntoRam, DeniedAt, OutsideRam, beat_gpa, beat_size, is_busy, transfer_ended}
 use Rattle.reference.specs.Devices.{beat, after_beaten, after_move, with_bytes}
+use Rattle.reference.specs.Protections.{is_free}
 use Rattle.machine_model.specs.HostEvents.{beat_served, after_host_beaten, after_host_move, or_false}
-use Rattle.machine_model.specs.StandsFor.{Unseen, machine_of, is_free, protections_of}
+use Rattle.machine_model.specs.StandsFor.{Unseen, machine_of, protections_of}
 use Rattle.reference.specs.Soundness.{IsSound}
 use Rattle.attempt_laws.proofs.Hosts.{hosts_forget}
 use Rattle.run_laws.proofs.Sounds.{bytes_keep_load}

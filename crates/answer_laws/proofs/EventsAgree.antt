@@ -18,11 +18,12 @@ use Rattle.reference.specs.States.{State, Hart, Disk, Journal, protection_in, is
 use Rattle.reference.specs.Counting.{count, counted, count_beat, count_key, count_tick, count_dropped, noted, count_denied}
 use Rattle.reference.specs.Disk.{disk_beat, beat_size, Beaten, Move, Idle, FromRam, IntoRam, DeniedAt, OutsideRam}
 use Rattle.reference.specs.Devices.{beat, key, tick, after_move, with_bytes, with_disk, hart_after_write}
+use Rattle.reference.specs.Protections.{is_free}
 use Rattle.machine_model.specs.Machine.{Machine, raised}
 use Rattle.machine_model.specs.HardwareEvent.{recorded, IsPermitted, OnlyDisk, IsEvent, Happens, HappensUnder}
 use Rattle.machine_model.specs.HostEvents.{beat_served, key_served, tick_served, event_served}
 use Rattle.reference.specs.Run.{happen_under, step, happen}
-use Rattle.machine_model.specs.StandsFor.{Unseen, IsRightFor, StandsFor, machine_of, is_free, protections_of, without_printed}
+use Rattle.machine_model.specs.StandsFor.{Unseen, IsRightFor, StandsFor, machine_of, protections_of, without_printed}
 use Rattle.reference.specs.Soundness.{IsSound}
 use Rattle.answer_laws.proofs.BeatsAgree.{beat_agrees, free_by, map_get}
 use Rattle.attempt_laws.proofs.Hosts.{hosts_forget}

@@ -23,10 +23,10 @@ use Rattle.machine_model.specs.HostCalls.{host_noted, host_good_address, host_lo
 use Rattle.machine_model.specs.Machine.{HostLoad}
 use Rattle.reference.specs.ModuleCalls.{under_way, module_asked, span_pages, count_answer, good_address, load_begun, answer_load, load_call, unloaded, answer_unload, unload_call, answer_noted, init_text, init_retired, answer_retire, retire_call, module_call}
 use Rattle.reference.specs.Origins.{AllAbove, Ascends, IsOwned, ownership, is_kernel_text}
-use Rattle.reference.specs.Protections.{protection_at, or_free, with_pages, with_each}
+use Rattle.reference.specs.Protections.{protection_at, or_free, with_pages, with_each, is_free}
 use Rattle.reference.specs.States.{State, Hart, Loading, has_number, is_approved_in, is_protected, module_pages, find_module, without_module, without_pages, without_reservation, pages_in_rule, protection_in, protection_by}
 use Rattle.reference.specs.Relocations.{fields_right}
-use Rattle.machine_model.specs.StandsFor.{Unseen, machine_of, load_kept, load_kept_by, kept_digests, kept_answer, is_free, protections_of}
+use Rattle.machine_model.specs.StandsFor.{Unseen, machine_of, load_kept, load_kept_by, kept_digests, kept_answer, protections_of}
 use Rattle.reference.specs.Soundness.{IsSound, IsSoundLoad}
 use Rattle.answer_laws.proofs.BeatsAgree.{free_by}
 use Rattle.answer_laws.proofs.CallsMirrored.{mirror_answered, mirror_stayed, refuse_mirrors}

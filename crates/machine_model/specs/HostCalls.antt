@@ -21,8 +21,7 @@ use Rattle.machine_model.specs.HardwareEvent.{interrupted_hosts}
 use Rattle.machine_model.specs.HostHarts.{with_host, host_with, host_answered, host_stayed, host_stopped, host_started}
 use Rattle.machine_model.specs.Machine.{Machine, HostHart, update}
 use Rattle.reference.specs.ModuleCalls.{count_answer, under_way, module_asked, span_pages}
-use Rattle.reference.specs.Protections.{protection_at, with_pages, with_each}
-use Rattle.machine_model.specs.StandsFor.{is_free}
+use Rattle.reference.specs.Protections.{protection_at, with_pages, with_each, is_free}
 
 -- ---- answers
 

@@ -8,3 +8,4 @@ pub mod HostExits
 pub mod HostEvents
 pub mod Steps
 pub mod Reaches
+pub mod Frame

@@ -1,6 +1,6 @@
 -- When a machine stands for a state of the reference machine: it is what the state makes of the parts that it leaves free.
 -- This project's own.
-use Rattle.std.specs.Prelude.{◌≡◌, ℕ, ◌+◌, ◌-◌, ◌*◌, ◌≤◌, Bool, true, false, List, [], ◌∷◌, map, filter, length, drop, nat_lt, Option, Some, None, option_map, slice_get}
+use Rattle.std.specs.Prelude.{◌≡◌, ℕ, ◌+◌, ◌-◌, ◌*◌, ◌≤◌, Bool, true, List, [], ◌∷◌, map, filter, length, drop, nat_lt, Option, Some, None, option_map, slice_get}
 use Rattle.sv_types.specs.Bytes.{page_size}
 use Rattle.sv_types.specs.GuestView.{with_guest, hideleg_in}
 use Rattle.sv_types.specs.Hardware.{Core}
@@ -14,12 +14,12 @@ use Rattle.sv_types.specs.declared.wires.HRegs.{HRegs}
 use Rattle.sv_types.specs.declared.wires.Mode.{Mode}
 use Rattle.sv_types.specs.declared.wires.Mode.TheVariants.{Kernel, User}
 use Rattle.sv_types.specs.declared.wires.Protection.{Protection}
-use Rattle.sv_types.specs.declared.wires.Protection.TheVariants.{Free, Held, Approved}
 use Rattle.sv_types.specs.declared.wires.View.TheVariants as View
 use Rattle.sv_types.specs.declared.saved.SavedModule.{SavedModule}
 use Rattle.reference.specs.States.{State, Hart, Journal, Loading, protection_in}
 use Rattle.reference.specs.Loads.{module_text, module_bases}
 use Rattle.reference.specs.Soundness.{IsSound}
+use Rattle.reference.specs.Protections.{is_free}
 use Rattle.machine_model.specs.Machine.{Machine, HostHart, HostLoad}
 use Rattle.reference.specs.Relocations.{masked, fields_right}
 
@@ -88,11 +88,6 @@ pub record Unseen : Type 0 where
   -- the printed bytes that were taken away
   pub cleared : ℕ
   pub attempts : ℕ
-
-abbrev pub is_free : Protection → Bool
-is_free Free = true
-is_free Held = false
-is_free Approved = false
 
 abbrev pub protections_of : State → List Protection
 protections_of r = map (protection_in r.approved r.held) (numbers_from 0 r.rules.ram_pages)

@@ -1,3 +1,11 @@
 //! The machine that runs the guest, as plain data: hardware, events, and SecVisor's answers. In `specs/` stand its
 //! definitions, which contracts cite.
 #![tactic(auto)]
+
+ghost use Rattle.machine_model.specs.Frame.{FrameLaw};
+
+/// No answer of SecVisor's changes guest RAM, the size of the tables, the policy, time, what was printed, or the counts of
+/// printed bytes that were taken away and of attempts.
+pub fn law_frame()
+    ensures { FrameLaw }
+{}

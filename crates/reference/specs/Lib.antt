@@ -14,3 +14,4 @@ pub mod Run
 pub mod Start
 pub mod Origins
 pub mod Soundness
+pub mod Report

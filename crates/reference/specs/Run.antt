@@ -25,6 +25,12 @@ happen_under (Stopped rule hart at) r event = r
 unfoldable pub step : State → Event → State
 step r event = happen_under r.journal.verdict r event
 
+-- shut down or stopped
+abbrev pub HasEnded : Verdict → Type 0
+HasEnded Running = ⊥
+HasEnded Shutdown = Unit {0}
+HasEnded (Stopped rule hart at) = Unit {0}
+
 abbrev pub run : State → List Event → State
 run r [] = r
 run r (event ∷ events) = run (step r event) events
