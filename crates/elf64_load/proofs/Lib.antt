@@ -5,3 +5,4 @@ pub mod Sweeps
 pub mod Owners
 pub mod LoadedBytes
 pub mod LoadedText
+pub mod ExportsFound

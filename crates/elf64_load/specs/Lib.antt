@@ -1,3 +1,5 @@
+pub mod Addresses
+pub mod Exports
 pub mod Headers
 pub mod Images
 pub mod Refusals

@@ -2,6 +2,7 @@
 #![tactic(auto)]
 
 mod checks;
+mod exports;
 mod headers;
 mod image;
 mod laws;
@@ -10,6 +11,7 @@ mod shared_text;
 #[cfg(test)]
 mod tests;
 
+pub use exports::read_exports;
 pub use image::{KernelImage, Segment};
 pub use laws::law_text_in_ram;
 pub use read::{ElfRefusal, read_kernel};

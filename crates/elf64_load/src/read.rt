@@ -4,12 +4,13 @@ ghost use Rattle.std.specs.Prelude.{◌≡◌, ◌+◌, ◌≤◌, None, length,
 ghost use Rattle.sv_types.specs.Kernel.{first_refusal, segment_checks, loaded_headers, loaded_segment, header_entry, kernel_refusal, kernel_segments};
 ghost use Rattle.elf64_load.specs.Images.{segment_of, segments_of};
 ghost use Rattle.elf64_load.specs.Refusals.{IsRefusalOf};
+ghost use Rattle.elf64_load.specs.declared.read.ElfRefusal.TheVariants.{Memory};
 
 use crate::checks::{header_refusal, image_refusal, is_executable, segments_refusal};
 use crate::headers::loaded_headers;
 use crate::image::{KernelImage, Segment};
 use elf64_sections::double;
-use std::alloc::{AllocError, Global};
+use std::alloc::{AllocError, AllocFailed, Global};
 use sv_types::ProgramHeader;
 use thiserror::Error;
 
@@ -19,11 +20,28 @@ pub enum ElfRefusal {
     /// The first fault. The header: 1 shorter than a header, 2 the magic bytes, 3 class or byte order, 4 version, 5
     /// machine, 6 kind of file, 7 flags, 8 the table of program headers. A segment: 9 its bytes are outside the file, 10
     /// its memory is outside RAM, 11 more bytes than memory, 12 executable and writable, 13 text that begins inside a page.
-    /// All segments: 14 a page of text is touched by two, 15 no text.
+    /// All segments: 14 a page of text is touched by two, 15 no text. Exports: 16 no good tables of sections and symbols, 17
+    /// a name that no global symbol defines, 18 too many names.
     #[error("fault {0} of the image")]
     Number(u8),
     #[error("out of memory")]
     Memory,
+}
+
+impl From<AllocError> for ElfRefusal {
+    ghost from_gives = { λ _ e. e ≡ Memory };
+
+    fn from(_e: AllocError) -> ElfRefusal {
+        ElfRefusal::Memory
+    }
+}
+
+impl<T: Drop> From<AllocFailed<T>> for ElfRefusal {
+    ghost from_gives = { λ _ e. e ≡ Memory };
+
+    fn from(_e: AllocFailed<T>) -> ElfRefusal {
+        ElfRefusal::Memory
+    }
 }
 
 // The headers of the segments of a good file.

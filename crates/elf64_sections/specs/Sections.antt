@@ -88,6 +88,13 @@ symbol_at symbols i = record {
   value = word symbols (24 * i + 8) 8;
 }
 
+-- n symbols, from one on
+abbrev pub symbols_from : List ℕ → (first n : ℕ) → List Symbol
+symbols_from symbols first n = map (symbol_at symbols) (numbers_from first n)
+
+abbrev pub symbols_of : List ℕ → List Symbol
+symbols_of symbols = symbols_from symbols 0 (symbol_count symbols)
+
 -- ---- names
 
 -- 1 to 64 bytes of UTF-8 text

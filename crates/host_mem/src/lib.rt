@@ -7,7 +7,7 @@ ghost use Rattle.sv_types.specs.Regions.{Region, IsRegion, IsHostPlace, most_ram
 
 mod words;
 
-use crate::words::{put_word, word_at};
+pub use crate::words::{put_word, word_at};
 use raw_bytes::RawBytes;
 use std::alloc::{AllocError, Global};
 use std::marker::Model;

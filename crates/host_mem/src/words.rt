@@ -5,7 +5,7 @@ ghost use Rattle.sv_types.specs.Bytes.{word, write_word};
 ghost use Rattle.sv_types.specs.Regions.{IsWidth};
 
 /// The word of `width` bytes at `at`.
-pub(crate) fn word_at(bytes: &[u8], at: usize, width: u8) -> u64
+pub fn word_at(bytes: &[u8], at: usize, width: u8) -> u64
     requires width { IsWidth width }
     requires inside { at + width ≤ length bytes.now }
     ensures value { result ≡ word bytes.now at width }
@@ -29,7 +29,7 @@ pub(crate) fn word_at(bytes: &[u8], at: usize, width: u8) -> u64
 }
 
 /// Writes the `width` lowest bytes of `value` at `at`.
-pub(crate) fn put_word(bytes: &mut [u8], at: usize, width: u8, value: u64)
+pub fn put_word(bytes: &mut [u8], at: usize, width: u8, value: u64)
     requires width { IsWidth width }
     requires inside { at + width ≤ length bytes.old }
     ensures { bytes.new ≡ write_word bytes.old at width value }

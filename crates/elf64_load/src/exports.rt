@@ -1,0 +1,138 @@
+// The addresses of the kernel's functions that modules call.
+
+ghost use Rattle.std.specs.Prelude.{◌≡◌, ◌≤◌, ◌*◌, ℕ, List, [], length, if◌then◌else◌, Some, Ok, IfOk, IfErr, OnOk, option_map};
+ghost use Rattle.elf64_load.specs.Addresses.{found};
+ghost use Rattle.elf64_load.specs.Exports as spec;
+ghost use Rattle.elf64_load.specs.Refusals.{Refuses};
+ghost use Rattle.elf64_sections.specs.Judged.{each};
+ghost use Rattle.elf64_sections.specs.Sections.{sections_in_file, sections_of, tables_of};
+ghost use Rattle.elf64_sections.specs.Views.{tables_view};
+
+use crate::checks::EXECUTABLE_FILE;
+use crate::read::ElfRefusal;
+use elf64_sections::{
+    Symbol, SymbolTables, file_refusal, name_at, section_headers, sections_in_file, symbol_at,
+    symbol_count, symbol_tables,
+};
+use std::alloc::{AllocError, Global};
+use std::collections::BTreeMap;
+use sv_types::{Export, Name};
+
+/// The most exports that may be wanted.
+const MOST_EXPORTS: usize = 4096;
+
+fn is_defined_global(symbol: &Symbol) -> bool
+    ensures { result ≡ spec.is_defined_global symbol.now }
+{
+    symbol.info / 16 == 1 && symbol.section != 0
+}
+
+// Writes a symbol's value at its name, if it is a defined global one.
+fn define<'a>(
+    addresses: &mut BTreeMap<&'a str, u64>,
+    strings: &'a [u8],
+    symbol: &Symbol,
+) -> Result<(), AllocError>
+    ensures { OnOk result ((name : List ℕ) → found addresses.new name ≡ (if spec.defines strings.now name symbol.now then Some symbol.now.value else found addresses.old name)) }
+{
+    if !is_defined_global(symbol) {
+        return Ok(());
+    }
+    if let Some(name) = name_at(strings, symbol.name) {
+        addresses.insert(name, symbol.value)?;
+    }
+    Ok(())
+}
+
+// The value of the first defined global symbol of each name.
+fn addresses<'a>(
+    alloc: Global,
+    tables: &SymbolTables<'a>,
+) -> Result<BTreeMap<&'a str, u64>, AllocError>
+    ensures { IfOk result (λ addresses. (name : List ℕ) → found addresses name ≡ spec.address_of (tables_view tables.now) name) }
+{
+    let mut addresses = BTreeMap::new(alloc);
+    'symbols: for i in (0..symbol_count(tables.symbols)).rev() {
+        define(
+            &mut addresses,
+            tables.strings,
+            &symbol_at(tables.symbols, i),
+        )?;
+    }
+    Ok(addresses)
+}
+
+fn export_at(addresses: &BTreeMap<&str, u64>, name: &Name) -> Result<Export, ElfRefusal>
+    ensures { result ≡ spec.export_at name.now (found addresses.now name.now) }
+{
+    match addresses.get(name.text()) {
+        Some(addr) => Ok(Export {
+            name: *name,
+            addr: *addr,
+        }),
+        None => Err(ElfRefusal::Number(17)),
+    }
+}
+
+fn exports_in(
+    alloc: Global,
+    tables: &SymbolTables,
+    names: &[Name],
+) -> Result<Vec<Export>, ElfRefusal>
+    ensures ok { IfOk result (λ exports. each (spec.export_of (tables_view tables.now)) [] names.now ≡ Ok exports.items) }
+    ensures refused { IfErr result (Refuses (each (spec.export_of (tables_view tables.now)) [] names.now)) }
+{
+    let addresses = addresses(alloc, tables)?;
+    let mut exports = Vec::new(alloc);
+    'names: for name in names {
+        let export = export_at(&addresses, name)?;
+        exports.push(export)?;
+    }
+    Ok(exports)
+}
+
+fn few_exports(
+    alloc: Global,
+    tables: &SymbolTables,
+    names: &[Name],
+) -> Result<Vec<Export>, ElfRefusal>
+    ensures ok { IfOk result (λ exports. spec.exports_in (Some (tables_view tables.now)) names.now ≡ Ok exports.items) }
+    ensures refused { IfErr result (Refuses (spec.exports_in (Some (tables_view tables.now)) names.now)) }
+{
+    let exports = exports_in(alloc, tables, names)?;
+    if exports.len() > MOST_EXPORTS {
+        return Err(ElfRefusal::Number(18));
+    }
+    Ok(exports)
+}
+
+// The symbol table of a kernel's file with that of its names, if they are good.
+fn kernel_tables(alloc: Global, file: &[u8]) -> Result<Option<SymbolTables<'_>>, AllocError>
+    requires { 64 ≤ length file.now }
+    ensures { IfOk result (λ tables. option_map tables_view tables ≡ spec.kernel_tables file.now) }
+{
+    if !sections_in_file(file) {
+        return Ok(None);
+    }
+    let sections = section_headers(alloc, file)?;
+    Ok(symbol_tables(file, &sections))
+}
+
+/// The exports of these names, in their order: the values of the first global symbols of the kernel's file that define
+/// them. Refuses a file by 1 to 7 as `read_kernel` does; by 16 where its section headers, its symbol table or the table of
+/// its names is absent, outside the file, or of a wrong size of entries or link; by 17 where a name is no defined global
+/// symbol; by 18 where there are more than 4,096 names; and for want of memory. The time is linear in the file, but for
+/// looking names up.
+#[tactic(auto, unfolding(crate::specs::Exports::exports_judged))]
+pub fn read_exports(alloc: Global, bytes: &[u8], names: &[Name]) -> Result<Vec<Export>, ElfRefusal>
+    ensures exports { IfOk result (λ exports. spec.exports_judged bytes.now names.now ≡ Ok exports.items) }
+    ensures refused { IfErr result (Refuses (spec.exports_judged bytes.now names.now)) }
+{
+    if let Some(number) = file_refusal(bytes, EXECUTABLE_FILE) {
+        return Err(ElfRefusal::Number(number));
+    }
+    match kernel_tables(alloc, bytes)? {
+        Some(tables) => few_exports(alloc, &tables, names),
+        None => Err(ElfRefusal::Number(16)),
+    }
+}

@@ -1,0 +1,118 @@
+// Where in an instruction, or in data, a value stands.
+
+ghost use Rattle.std.specs.Prelude.{◌≡◌, ◌+◌, ◌-◌, ◌^◌, ◌<◌, ◌≤◌};
+ghost use Rattle.sv_types.specs.Instructions.{bits};
+ghost use Rattle.sv_types.specs.Regions.{IsWidth};
+ghost use Rattle.reference.specs.Relocations as spec;
+ghost use Rattle.relocated_fields.specs.Fields.{field_view};
+
+/// 8 bytes of data, or the immediate of an instruction's format.
+#[derive(Clone, Copy, Drop)]
+pub(crate) enum Field {
+    DoubleWord,
+    Branch,
+    Jump,
+    Upper,
+    Immediate,
+    Store,
+}
+
+/// The field of a relocation's kind.
+pub(crate) fn field_of(kind: u8) -> Field
+    ensures { field_view result ≡ spec.field_of kind }
+{
+    match kind {
+        2 => Field::DoubleWord,
+        16 => Field::Branch,
+        17 => Field::Jump,
+        23 | 26 => Field::Upper,
+        24 | 27 => Field::Immediate,
+        _ => Field::Store,
+    }
+}
+
+/// The bytes of the word in which the field stands.
+pub(crate) fn width(field: Field) -> u8
+    ensures value { result ≡ spec.field_width (field_view field) }
+    ensures width { IsWidth result }
+{
+    match field {
+        Field::DoubleWord => 8,
+        _ => 4,
+    }
+}
+
+/// The bits of the word that the field takes.
+pub(crate) fn field_bits(field: Field) -> u64
+    ensures { result ≡ spec.field_bits (field_view field) }
+{
+    match field {
+        Field::DoubleWord => u64::MAX,
+        Field::Branch | Field::Store => 0xFE00_0F80,
+        Field::Jump | Field::Upper => 0xFFFF_F000,
+        Field::Immediate => 0xFFF0_0000,
+    }
+}
+
+// The bits of a value from `low` up to below `high`.
+fn bits(value: u64, low: u32, high: u32) -> u64
+    requires some { low < high }
+    requires width { high - low < 32 }
+    requires within { high ≤ 32 }
+    ensures value { result ≡ bits value low high }
+    ensures bound { result < 2 ^ (high - low) }
+{
+    (value >> low) % (1 << (high - low))
+}
+
+// The upper 20 bits, rounded so that a low part of 12 signed bits makes the value whole.
+fn upper(value: u64) -> u64
+    ensures value { result ≡ bits (value + 0x800) 12 32 }
+    ensures bound { result < 2 ^ 20 }
+{
+    ((value as u128 + 0x800) / 0x1000 % 0x10_0000) as u64
+}
+
+/// A value as it stands in the field.
+pub(crate) fn in_field(field: Field, value: u64) -> u64
+    ensures { result ≡ spec.in_field (field_view field) value }
+{
+    match field {
+        Field::DoubleWord => value,
+        Field::Branch => {
+            0x80 * bits(value, 11, 12)
+                + 0x100 * bits(value, 1, 5)
+                + 0x200_0000 * bits(value, 5, 11)
+                + 0x8000_0000 * bits(value, 12, 13)
+        }
+        Field::Jump => {
+            0x1000 * bits(value, 12, 20)
+                + 0x10_0000 * bits(value, 11, 12)
+                + 0x20_0000 * bits(value, 1, 11)
+                + 0x8000_0000 * bits(value, 20, 21)
+        }
+        Field::Upper => 0x1000 * upper(value),
+        Field::Immediate => 0x10_0000 * bits(value, 0, 12),
+        Field::Store => 0x80 * bits(value, 0, 5) + 0x200_0000 * bits(value, 5, 12),
+    }
+}
+
+// Whether a value, read as a signed number, is from `low` to `high`.
+fn is_between(low: i64, high: i64, value: u64) -> bool
+    ensures { result ≡ spec.from_to low high value }
+{
+    let signed = value.cast_signed();
+    low <= signed && signed <= high
+}
+
+/// Whether the field holds all of the value.
+pub(crate) fn value_fits(field: Field, value: u64) -> bool
+    ensures { result ≡ spec.value_fits (field_view field) value }
+{
+    match field {
+        Field::DoubleWord => true,
+        Field::Branch => is_between(-4096, 4094, value) && value % 2 == 0,
+        Field::Jump => is_between(-1_048_576, 1_048_574, value) && value % 2 == 0,
+        _ => is_between(-2_147_485_696, 2_147_481_599, value),
+    }
+}

@@ -1,0 +1,41 @@
+// The value of a relocated field.
+
+ghost use Rattle.std.specs.Prelude.{◌≡◌};
+ghost use Rattle.reference.specs.Relocations as spec;
+
+use sv_types::{Bases, Export, Site};
+
+// The address that a symbol's base stands for: the text's, the data's, none, or an export's.
+fn symbol_base(exports: &[Export], bases: &Bases, base: u16) -> u64
+    ensures { result ≡ spec.symbol_base exports.now bases.now base }
+{
+    match base {
+        0 => bases.va,
+        1 => bases.data_va,
+        2 => 0,
+        _ => match exports.get((base - 3) as usize) {
+            Some(export) => export.addr,
+            None => 0,
+        },
+    }
+}
+
+// Whether the value is an address, and none that is relative to the field's place.
+fn is_absolute_kind(kind: u8) -> bool
+    ensures { result ≡ spec.is_absolute_kind kind }
+{
+    kind == 2 || kind == 26 || kind == 27 || kind == 28
+}
+
+/// The value that a field has to have for these bases, modulo 2^64.
+#[tactic(auto, unfolding(reference::specs::Relocations::site_value))]
+pub(crate) fn site_value(exports: &[Export], bases: &Bases, site: &Site) -> u64
+    ensures { result ≡ spec.site_value exports.now bases.now site.now }
+{
+    let address = symbol_base(exports, bases, site.base).wrapping_add(site.addend.cast_unsigned());
+    if is_absolute_kind(site.kind) {
+        address
+    } else {
+        address.wrapping_sub(bases.va.wrapping_add(site.anchor as u64))
+    }
+}
