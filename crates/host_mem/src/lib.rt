@@ -115,6 +115,13 @@ impl HostMem {
         &self.bytes.as_slice()[start..start + PAGE_SIZE]
     }
 
+    /// Guest RAM, all of it.
+    pub fn ram(&self) -> &[u8]
+        ensures { result.now ≡ self.now.ram }
+    {
+        &self.bytes.as_slice()[self.table_bytes..]
+    }
+
     /// Copies `bytes` to the host places from `at` on, which all lie in the region.
     pub fn copy_in(&mut self, at: usize, bytes: &[u8])
         requires { at + length bytes.now ≤ length (host_bytes self.old) }

@@ -1,0 +1,39 @@
+-- The registers as the code names them, and what holds of the device at each moment.
+use Rattle.std.specs.Prelude.{◌≡◌, ℕ, ◌+◌, ◌*◌, ◌%◌, ◌<◌, ◌≤◌, Bool, not, if◌then◌else◌, List, length}
+use Rattle.sv_types.specs.Bytes.{in_ram}
+use Rattle.reference.specs.States.{Disk}
+use Rattle.reference.specs.Disk.{BlockRegister, Sector, Address, Count, Command, Status, Beaten, OutsideRam, beat_size, sector_size, busy, out_of_range, beat_gpa, transfer_ended, to_memory, to_disk}
+use Rattle.block_device.specs.declared.registers.Register.{Register}
+
+abbrev pub register_named : Register → BlockRegister
+register_named Register.Sector = Sector
+register_named Register.Address = Address
+register_named Register.Count = Count
+register_named Register.Command = Command
+register_named Register.Status = Status
+
+abbrev pub width_of : Register → ℕ
+width_of Register.Sector = 8
+width_of Register.Address = 8
+width_of Register.Count = 4
+width_of Register.Command = 4
+width_of Register.Status = 4
+
+-- a transfer under way begins at a multiple of a beat's bytes, has beats left, and lies on the disk
+pub record IsSound (d : Disk) : Type 0 where
+  pub aligned : d.block.status ≡ busy → d.block.gpa % beat_size ≡ 0
+  pub left : d.block.status ≡ busy → beat_size * d.block.done < sector_size * d.block.count
+  pub inside : d.block.status ≡ busy → sector_size * (d.block.sector + d.block.count) ≤ length d.bytes
+
+-- an idle device with a disk
+abbrev pub idle_disk : List ℕ → Disk
+idle_disk bytes = record { block = record { sector = 0; gpa = 0; count = 0; command = 0; status = 0; done = 0 }; bytes = bytes }
+
+-- a beat of each command, where a transfer is under way
+abbrev pub beat_to_memory : Disk → List ℕ → (ℕ → Bool) → Beaten
+beat_to_memory d ram may_write =
+    if not (in_ram ram (beat_gpa d.block) beat_size) then transfer_ended d out_of_range OutsideRam else to_memory d may_write
+
+abbrev pub beat_to_disk : Disk → List ℕ → Beaten
+beat_to_disk d ram =
+    if not (in_ram ram (beat_gpa d.block) beat_size) then transfer_ended d out_of_range OutsideRam else to_disk d ram

@@ -1,0 +1,286 @@
+//! A block device: a disk in memory, behind five registers, that moves 64 bytes in each beat of a transfer.
+#![tactic(auto)]
+
+ghost use Rattle.std.specs.Prelude.{◌≡◌, ◌≢◌, ◌+◌, ◌%◌, ◌^◌, ◌<◌, ◌≤◌, length, true, false};
+ghost use Rattle.sv_types.specs.Bytes.{overwrite};
+ghost use Rattle.reference.specs.Disk.{is_busy, can_begin, block_ended, after_command, block_value, block_stored, block_after_beat, beat_gpa, beat_place, busy};
+ghost use Rattle.dma_guard.specs.Transfers.{is_writable, told, after_move};
+ghost use Rattle.block_device.specs.Registers.{idle_disk, register_named, width_of, beat_to_memory, beat_to_disk};
+
+mod registers;
+
+use crate::registers::{Register, register_at};
+use dma_guard::{Beaten, DiskPort, DmaGuard, DmaRefused};
+use host_mem::HostMem;
+use std::marker::Model;
+use sv_types::BlockState;
+
+/// The bytes of a sector, and of a beat.
+const SECTOR_BYTES: u64 = 512;
+
+const BEAT_BYTES: u64 = 64;
+
+/// How a device stands.
+const IDLE: u8 = 0;
+
+const BUSY: u8 = 1;
+
+const DONE: u8 = 2;
+
+const DENIED: u8 = 3;
+
+const OUT_OF_RANGE: u8 = 4;
+
+/// The commands.
+const DISK_TO_MEMORY: u8 = 1;
+
+const MEMORY_TO_DISK: u8 = 2;
+
+/// A block device with its disk. Contracts see its registers, its transfer and the bytes of the disk.
+#[derive(Drop)]
+pub struct Block {
+    block: BlockState,
+    bytes: Vec<u8>,
+}
+
+impl Model for Block {
+    ghost use Rattle.reference.specs.States.{Disk};
+
+    ghost Value = { Disk };
+
+    ghost use Rattle.std.specs.Prelude.{◌≡◌};
+    ghost use Rattle.block_device.specs.Registers.{IsSound};
+
+    ghost view = { λ b. record { block = b.block; bytes = b.bytes.items } };
+
+    ghost invariant = { λ b. IsSound (record { block = b.block; bytes = b.bytes.items }) };
+}
+
+impl Block {
+    /// An idle device with a disk, in whole sectors of 512 bytes.
+    pub fn new(disk: Vec<u8>) -> Block
+        requires sectors { length disk.items % 512 ≡ 0 }
+        ensures { result ≡ idle_disk disk.items }
+    {
+        Block {
+            block: BlockState {
+                sector: 0,
+                gpa: 0,
+                count: 0,
+                command: 0,
+                status: IDLE,
+                done: 0,
+            },
+            bytes: disk,
+        }
+    }
+
+    /// The registers and the transfer.
+    pub fn state(&self) -> BlockState
+        ensures { result ≡ self.now.block }
+    {
+        self.block
+    }
+
+    fn is_busy(&self) -> bool
+        ensures { result ≡ is_busy self.now.block }
+    {
+        self.block.status == BUSY
+    }
+
+    // There are sectors, all on the disk, and the address is a multiple of a beat's bytes. No test wraps.
+    fn can_begin(&self) -> bool
+        ensures { result ≡ can_begin self.now.block (length self.now.bytes) }
+    {
+        let end = self.block.sector as u128 + self.block.count as u128;
+        0 < self.block.count
+            && SECTOR_BYTES as u128 * end <= self.bytes.len() as u128
+            && self.block.gpa % BEAT_BYTES == 0
+    }
+
+    // No transfer is under way any more.
+    fn end(&mut self, status: u8)
+        requires { status ≢ busy }
+        ensures { self.new ≡ record self.old { block = block_ended self.old.block status } }
+    {
+        self.block.status = status;
+        self.block.command = 0;
+        self.block.done = 0;
+    }
+
+    fn begin(&mut self, command: u64)
+        requires { is_busy self.old.block ≡ false }
+        ensures { self.new ≡ record self.old { block = after_command self.old.block (length self.old.bytes) command } }
+    {
+        if command == DISK_TO_MEMORY as u64 || command == MEMORY_TO_DISK as u64 {
+            if self.can_begin() {
+                self.block.status = BUSY;
+                self.block.command = command as u8;
+                self.block.done = 0;
+            } else {
+                self.end(OUT_OF_RANGE);
+            }
+        }
+    }
+
+    // A store into a register while no transfer is under way.
+    fn put(&mut self, register: Register, value: u64)
+        requires idle { is_busy self.old.block ≡ false }
+        requires fits { value < 256 ^ width_of register }
+        ensures { self.new ≡ record self.old { block = block_stored self.old.block (length self.old.bytes) (register_named register) value } }
+    {
+        match register {
+            Register::Sector => self.block.sector = value,
+            Register::Address => self.block.gpa = value,
+            Register::Count => self.block.count = value as u32,
+            Register::Command => self.begin(value),
+            Register::Status => self.end(IDLE),
+        }
+    }
+
+    // A beat of the disk's bytes into memory.
+    #[tactic(auto, unfolding(dma_guard::specs::Transfers::write_answer, dma_guard::specs::Transfers::after_write))]
+    fn write_memory(&mut self, guard: &DmaGuard, mem: &mut HostMem, gpa: u64) -> Beaten
+        requires busy { is_busy self.old.block ≡ true }
+        requires gpa { gpa ≡ beat_gpa self.old.block }
+        ensures device { self.new ≡ (beat_to_memory self.old mem.old.ram (is_writable guard.now)).disk }
+        ensures told { result ≡ told (beat_to_memory self.old mem.old.ram (is_writable guard.now)).move }
+        ensures memory { mem.new ≡ after_move mem.old (beat_to_memory self.old mem.old.ram (is_writable guard.now)).move }
+    {
+        let place = self.beat_place();
+        match guard.write(mem, gpa, &self.bytes[place..place + 64]) {
+            Ok(()) => {
+                self.advance();
+                Beaten::Wrote { gpa, len: 64 }
+            }
+            Err(DmaRefused::Protected { page: _ }) => {
+                self.end(DENIED);
+                Beaten::Denied { gpa }
+            }
+            Err(DmaRefused::OutOfRam) => {
+                self.end(OUT_OF_RANGE);
+                Beaten::Range
+            }
+        }
+    }
+
+    // A beat of memory's bytes onto the disk.
+    #[tactic(auto, unfolding(dma_guard::specs::Transfers::read_answer, dma_guard::specs::Transfers::after_read))]
+    fn read_memory(&mut self, guard: &DmaGuard, mem: &HostMem, gpa: u64) -> Beaten
+        requires busy { is_busy self.old.block ≡ true }
+        requires gpa { gpa ≡ beat_gpa self.old.block }
+        ensures device { self.new ≡ (beat_to_disk self.old mem.now.ram).disk }
+        ensures told { result ≡ told (beat_to_disk self.old mem.now.ram).move }
+    {
+        let mut bytes = [0; 64];
+        match guard.read(mem, gpa, &mut bytes) {
+            Ok(()) => {
+                self.keep(&bytes);
+                self.advance();
+                Beaten::Read { gpa }
+            }
+            Err(_) => {
+                self.end(OUT_OF_RANGE);
+                Beaten::Range
+            }
+        }
+    }
+
+    // The bytes of a beat go onto the disk.
+    fn keep(&mut self, bytes: &[u8; 64])
+        requires { is_busy self.old.block ≡ true }
+        ensures { self.new ≡ record self.old { bytes = overwrite self.old.bytes (beat_place self.old.block) bytes.now } }
+    {
+        let place = self.beat_place();
+        self.bytes[place..place + 64].copy_from_slice(bytes);
+    }
+
+    // Where the next beat goes on the disk.
+    fn beat_place(&self) -> usize
+        requires { is_busy self.now.block ≡ true }
+        ensures place { result ≡ beat_place self.now.block }
+        ensures inside { result + 64 ≤ length self.now.bytes }
+    {
+        (SECTOR_BYTES * self.block.sector + BEAT_BYTES * self.block.done) as usize
+    }
+
+    // One beat is done; the last one ends the transfer.
+    fn advance(&mut self)
+        requires { is_busy self.old.block ≡ true }
+        ensures { self.new ≡ record self.old { block = block_after_beat self.old.block } }
+    {
+        let done = self.block.done + 1;
+        if BEAT_BYTES * done == SECTOR_BYTES * self.block.count as u64 {
+            self.end(DONE);
+        } else {
+            self.block.done = done;
+        }
+    }
+}
+
+impl DiskPort for Block {
+    ghost state = { λ b. b };
+
+    #[tactic(auto, unfolding(reference::specs::Disk::disk_load))]
+    fn load(&self, offset: u64, width: u8) -> Option<u64> {
+        match register_at(offset, width)? {
+            Register::Sector => Some(self.block.sector),
+            Register::Address => Some(self.block.gpa),
+            Register::Count => Some(self.block.count as u64),
+            Register::Command => Some(0),
+            Register::Status => Some(self.block.status as u64),
+        }
+    }
+
+    #[tactic(auto, unfolding(reference::specs::Disk::disk_store))]
+    fn store(&mut self, offset: u64, width: u8, value: u64) -> bool {
+        let Some(register) = register_at(offset, width) else {
+            return false;
+        };
+        if self.is_busy() {
+            return true;
+        }
+        self.put(register, low_bytes(register, value));
+        true
+    }
+
+    #[tactic(auto, unfolding(reference::specs::Disk::disk_beat))]
+    fn beat(&mut self, guard: &DmaGuard, mem: &mut HostMem) -> Beaten {
+        if !self.is_busy() {
+            return Beaten::Idle;
+        }
+        let _ram_pages = mem.ram_pages();
+        let Some(gpa) = self.block.gpa.checked_add(BEAT_BYTES * self.block.done) else {
+            self.end(OUT_OF_RANGE);
+            return Beaten::Range;
+        };
+        if self.block.command == DISK_TO_MEMORY {
+            self.write_memory(guard, mem, gpa)
+        } else {
+            self.read_memory(guard, mem, gpa)
+        }
+    }
+
+    #[tactic(auto, unfolding(reference::specs::Disk::disk_line))]
+    fn line(&self) -> bool {
+        self.block.status >= DONE
+    }
+
+    fn disk(&self) -> &[u8] {
+        &self.bytes
+    }
+}
+
+// The low bytes of a value, as many as a register has.
+fn low_bytes(register: Register, value: u64) -> u64
+    ensures value { result ≡ value % 256 ^ width_of register }
+    ensures fits { result < 256 ^ width_of register }
+{
+    match register {
+        Register::Sector | Register::Address => value,
+        Register::Count | Register::Command | Register::Status => value % (1 << 32),
+    }
+}
+
+#[cfg(test)]
+mod tests;

@@ -1,0 +1,40 @@
+// The registers, by their offsets and widths.
+ghost use Rattle.std.specs.Prelude.{◌≡◌, ◌%◌, ◌^◌, ◌⊎◌, IfSome, option_map};
+ghost use Rattle.reference.specs.Disk.{block_register};
+ghost use Rattle.block_device.specs.Registers.{register_named, width_of};
+
+/// A register of the device.
+#[derive(Clone, Copy, Debug, PartialEq, Eq, Drop)]
+pub enum Register {
+    /// The first sector of a transfer.
+    Sector,
+    /// The guest-physical address of a transfer.
+    Address,
+    /// The number of sectors of a transfer.
+    Count,
+    /// Begins a transfer; it reads as 0.
+    Command,
+    /// How the last transfer ended, or that one is under way.
+    Status,
+}
+
+/// The register that has this offset and width in bytes, if there is one.
+#[tactic(auto, unfolding(reference::specs::Disk::block_register))]
+pub fn register_at(offset: u64, width: u8) -> Option<Register>
+    ensures register { option_map register_named result ≡ block_register offset width }
+    ensures width { IfSome result (λ r. width ≡ width_of r) }
+{
+    if offset == 0x00 && width == 8 {
+        Some(Register::Sector)
+    } else if offset == 0x08 && width == 8 {
+        Some(Register::Address)
+    } else if offset == 0x10 && width == 4 {
+        Some(Register::Count)
+    } else if offset == 0x14 && width == 4 {
+        Some(Register::Command)
+    } else if offset == 0x18 && width == 4 {
+        Some(Register::Status)
+    } else {
+        None
+    }
+}

@@ -1,0 +1,114 @@
+//! What a device may do to memory: a guard with one bit for each page of RAM, and what a block device is to the machine.
+#![tactic(auto)]
+
+ghost use Rattle.std.specs.Prelude.{◌≡◌, ◌+◌, ◌<◌, ◌≤◌, ◌%◌, length, replicate, slice_set, IfOk, IsTrue, true};
+ghost use Rattle.sv_types.specs.Bytes.{page_size, in_ram, ram_base, ram_place};
+ghost use Rattle.sv_types.specs.Regions.{IsRegion};
+ghost use Rattle.dma_guard.specs.Transfers.{is_writable, write_answer, after_write, read_answer, after_read};
+
+mod port;
+
+use host_mem::HostMem;
+pub use port::{Beaten, DiskPort};
+use std::alloc::{AllocError, Global};
+use std::marker::Model;
+
+/// Where guest RAM begins.
+const RAM_BASE: u64 = 0x8000_0000;
+
+const PAGE_SIZE: usize = 4096;
+
+/// Why a device's access to memory is refused.
+#[derive(Clone, Copy, Debug, PartialEq, Eq, Drop)]
+pub enum DmaRefused {
+    /// The page, counted from 0, may not be written.
+    Protected { page: u32 },
+    /// The bytes are not all in RAM.
+    OutOfRam,
+}
+
+/// Which pages of RAM a device may write. Contracts see one bit for each page, counted from 0.
+#[derive(Drop)]
+pub struct DmaGuard {
+    writable: Vec<bool>,
+}
+
+impl Model for DmaGuard {
+    ghost use Rattle.std.specs.Prelude.{List, Bool};
+
+    ghost Value = { List Bool };
+
+    ghost view = { λ g. g.writable.items };
+}
+
+impl DmaGuard {
+    /// A guard under which all pages of RAM are writable.
+    pub fn new(alloc: Global, ram_pages: usize) -> Result<DmaGuard, AllocError>
+        ensures { IfOk result (λ g. g ≡ replicate ram_pages true) }
+    {
+        let writable = vec![in alloc; true; ram_pages]?;
+        Ok(DmaGuard { writable })
+    }
+
+    /// Whether a device may write a page.
+    pub fn may_write(&self, page: u32) -> bool
+        ensures { result ≡ is_writable self.now page }
+    {
+        self.writable.get(page as usize).copied().unwrap_or(false)
+    }
+
+    /// Says of one page whether a device may write it.
+    pub fn set(&mut self, page: u32, writable: bool)
+        requires { page < length self.old }
+        ensures { self.new ≡ slice_set self.old page writable }
+    {
+        self.writable[page as usize] = writable;
+    }
+
+    /// Writes bytes at a guest-physical address. They lie in one page's span. Where they are refused nothing changes.
+    #[tactic(auto, unfolding(crate::specs::Transfers::write_answer, crate::specs::Transfers::after_write))]
+    pub fn write(&self, mem: &mut HostMem, gpa: u64, bytes: &[u8]) -> Result<(), DmaRefused>
+        requires one_page { gpa % page_size + length bytes.now ≤ page_size }
+        ensures answer { result ≡ write_answer mem.old.ram self.now gpa (length bytes.now) }
+        ensures memory { mem.new ≡ after_write mem.old self.now gpa bytes.now }
+    {
+        if !is_in_ram(mem, gpa, bytes.len()) {
+            return Err(DmaRefused::OutOfRam);
+        }
+        let place = (gpa - RAM_BASE) as usize;
+        let page = (place / PAGE_SIZE) as u32;
+        if !self.may_write(page) {
+            return Err(DmaRefused::Protected { page });
+        }
+        mem.copy_in(mem.table_bytes() + place, bytes);
+        Ok(())
+    }
+
+    /// Reads bytes from a guest-physical address on, as many as there is room for. Every page of RAM may be read.
+    #[tactic(auto, unfolding(crate::specs::Transfers::read_answer, crate::specs::Transfers::after_read))]
+    pub fn read(&self, mem: &HostMem, gpa: u64, into: &mut [u8]) -> Result<(), DmaRefused>
+        ensures answer { result ≡ read_answer mem.now.ram gpa (length into.old) }
+        ensures read { into.new ≡ after_read mem.now.ram gpa into.old }
+    {
+        if !is_in_ram(mem, gpa, into.len()) {
+            return Err(DmaRefused::OutOfRam);
+        }
+        let place = (gpa - RAM_BASE) as usize;
+        into.copy_from_slice(&mem.ram()[place..place + into.len()]);
+        Ok(())
+    }
+}
+
+// Whether bytes all lie in RAM. Neither test can wrap.
+fn is_in_ram(mem: &HostMem, gpa: u64, len: usize) -> bool
+    ensures value { result ≡ in_ram mem.now.ram gpa len }
+    ensures begins { IsTrue result → ram_base ≤ gpa }
+    ensures ends { IsTrue result → ram_place gpa + len ≤ length mem.now.ram }
+    ensures region { IsRegion mem.now }
+{
+    let size = PAGE_SIZE * mem.ram_pages();
+    gpa >= RAM_BASE && len <= size && gpa - RAM_BASE <= (size - len) as u64
+}
+
+#[cfg(test)]
+mod tests;

@@ -1,0 +1,46 @@
+-- A page's protection set in the list is one set in the function of pages.
+use Rattle.std.proofs.Common.{◌≡◌, ℕ, zero, suc, ◌*◌, ◌<◌, List, [], ◌∷◌, length, refl, sym, ◌∙◌, ap, subst, Bool, true, false, slice_get, slice_set, arith}
+use Rattle.std.specs.Prelude.{Some, ◌==◌, if◌then◌else◌}
+use Rattle.std.proofs.lemmas.Bool.{eqb-true, eq-eqb}
+use Rattle.std.proofs.lemmas.List.{length-set}
+use Rattle.sv_types.specs.Regions.{Region}
+use Rattle.sv_types.specs.SecondStage.{protect, AreViews}
+use Rattle.sv_types.specs.Bytes.{page_size}
+use Rattle.sv_types.specs.declared.wires.Protection.{Protection}
+use Rattle.gstage_tables.specs.Layout.{HoldsTrees}
+use Rattle.reference.specs.Protections.{protection_at, or_free}
+use Rattle.page_guard.specs.Guarded.{IsTheirs}
+
+pub get_same : (g : List Protection) (page : ℕ) (x : Protection) → page < length g → slice_get (slice_set g page x) page ≡ Some x
+get_same [] page x below = absurd (omega arith)
+get_same (y ∷ g) zero x below = refl
+get_same (y ∷ g) (suc page) x below = get_same g page x (omega arith)
+
+pub get_other : (g : List Protection) (page k : ℕ) (x : Protection) → (k ≡ page → ⊥) → slice_get (slice_set g page x) k ≡ slice_get g k
+get_other [] page k x other = refl
+get_other (y ∷ g) zero zero x other = absurd (other refl)
+get_other (y ∷ g) zero (suc k) x other = refl
+get_other (y ∷ g) (suc page) zero x other = refl
+get_other (y ∷ g) (suc page) (suc k) x other = get_other g page k x (λ e. other (ap suc e))
+
+by_test : (g : List Protection) (page k : ℕ) (x : Protection) (b : Bool) → (k == page) ≡ b → page < length g
+    → or_free (slice_get (slice_set g page x) k) ≡ (if b then x else or_free (slice_get g k))
+by_test g page k x true e below = let same : k ≡ page = eqb-true k page e in ap or_free (subst (λ (n : ℕ). slice_get (slice_set g page x) n ≡ Some x) (sym same) (get_same g page x below))
+by_test g page k x false e below = ap or_free (get_other g page k x (λ same. let t : (page == page) ≡ false = subst (λ (n : ℕ). (n == page) ≡ false) same e in apart page t))
+  where
+    apart : (n : ℕ) → (n == n) ≡ false → ⊥
+    apart n t = let r : (n == n) ≡ true = eq-eqb n n refl in cc
+
+-- functions of pages that agree everywhere are the same
+pub set_is_protect : (g : List Protection) (page : ℕ) (x : Protection) → page < length g → protect (protection_at g) page x ≡ protection_at (slice_set g page x)
+set_is_protect g page x below = λ i k. sym (by_test g page k x (k == page) refl below) i
+
+pub set_theirs : (r : Region) (g : List Protection) (page : ℕ) (x : Protection) → page < length g → HoldsTrees r.tables (length g) (protect (protection_at g) page x)
+    → AreViews r.tables (length g) (protect (protection_at g) page x) → length r.ram ≡ page_size * length g → IsTheirs r (slice_set g page x)
+set_theirs r g page x below trees views ram =
+    let same = set_is_protect g page x below in
+    let size = sym (length-set g page x) in record {
+      ram = ram ∙ ap (λ (n : ℕ). page_size * n) size;
+      views = subst (λ (n : ℕ). AreViews r.tables n (protection_at (slice_set g page x))) size (subst (AreViews r.tables (length g)) same views);
+      trees = subst (λ (n : ℕ). HoldsTrees r.tables n (protection_at (slice_set g page x))) size (subst (HoldsTrees r.tables (length g)) same trees);
+    }

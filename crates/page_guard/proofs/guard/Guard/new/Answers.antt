@@ -1,0 +1,30 @@
+use Rattle.std.proofs.Common.{rules, ◌≡◌, ◌≤◌, ◌∙◌, sym, ap, arith, ℕ, List, length, map, replicate, subst}
+use Rattle.sv_types.specs.Regions.{most_ram_pages}
+use Rattle.sv_types.specs.SecondStage.{AreViews, all_free}
+use Rattle.sv_types.specs.declared.wires.Protection.TheVariants.{Free}
+use Rattle.gstage_tables.specs.Layout.{HoldsTrees}
+use Rattle.reference.specs.Protections.{is_free}
+use Rattle.page_guard.specs.Guarded.{IsTheirs}
+use Rattle.page_guard.proofs.Spans.{free_bits, new_theirs}
+use Rattle.page_guard.proofs.guard.Guard.new.Goals as goal
+
+pub invariant_of-result : goal.invariant_of-result
+invariant_of-result c =
+    let items : c.in_ok-protections.protections.items ≡ replicate c.ram_pages-pages.result Free = search rules in
+    let size : length c.in_ok-protections.protections.items ≡ c.ram_pages-pages.result = search rules in
+    let ram = ap (λ (ram : List ℕ). length ram) c.new-trees.ensures.ram in
+    let pages : c.new-trees.result ≡ c.ram_pages-pages.result = omega (arith, c.new-trees.ensures.pages, c.ram_pages-pages.ensures.value, ram) in
+    let most : c.ram_pages-pages.result ≤ most_ram_pages = omega (arith, c.ram_pages-pages.ensures.value, c.ram_pages-pages.ensures.region.most) in
+    let bits : c.in_ok-dma.dma ≡ map is_free (replicate c.ram_pages-pages.result Free) = c.in_ok-dma.ensures ∙ sym (free_bits c.ram_pages-pages.result) in
+    (pages ∙ sym size, (bits ∙ ap (map is_free) (sym items), rw size most))
+
+pub returns-clause-theirs : goal.returns-clause-theirs
+returns-clause-theirs c =
+    let items : c.in_ok-protections.protections.items ≡ replicate c.ram_pages-pages.result Free = search rules in
+    let ram = ap (λ (ram : List ℕ). length ram) c.new-trees.ensures.ram in
+    let pages : c.new-trees.result ≡ c.ram_pages-pages.result = omega (arith, c.new-trees.ensures.pages, c.ram_pages-pages.ensures.value, ram) in
+    subst (IsTheirs c.new-trees.new.mem) (sym items)
+    (new_theirs c.new-trees.new.mem c.ram_pages-pages.result
+    (omega (arith, c.new-trees.ensures.pages, pages))
+    (subst (λ (n : ℕ). AreViews c.new-trees.new.mem.tables n all_free) pages c.new-trees.ensures.views)
+    (subst (λ (n : ℕ). HoldsTrees c.new-trees.new.mem.tables n all_free) pages c.new-trees.ensures.holds))

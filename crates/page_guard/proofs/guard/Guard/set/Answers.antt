@@ -1,0 +1,38 @@
+use Rattle.std.proofs.Common.{rules, ◌≡◌, length, ap, ◌∙◌, sym, subst, ℕ, List, ◌<◌}
+use Rattle.std.proofs.lemmas.List.{map-set}
+use Rattle.reference.specs.Protections.{is_free}
+use Rattle.gstage_tables.specs.Layout.{HoldsTrees}
+use Rattle.sv_types.specs.SecondStage.{protect, AreViews}
+use Rattle.reference.specs.Protections.{protection_at}
+use Rattle.page_guard.specs.Guarded.{IsTheirs}
+use Rattle.sv_types.specs.declared.wires.Protection.{Protection}
+use Rattle.page_guard.proofs.Sets.{set_theirs}
+use Rattle.page_guard.proofs.guard.Guard.set.Goals as goal
+
+-- src/guard.rt
+pub returns-clause-theirs : goal.returns-clause-theirs
+returns-clause-theirs c =
+    let guard = c.self.inside.protections.items in
+    let view : c.args.self.now ≡ guard = sym c.self.view_is in
+    let theirs : IsTheirs c.args.mem.now guard = subst (IsTheirs c.args.mem.now) view c.requires.theirs in
+    let inside : c.args.page < length guard = subst (λ (g : List Protection). c.args.page < length g) view c.requires.inside in
+    let before : HoldsTrees c.args.mem.now.tables c.self.inside.trees (protection_at guard) =
+    subst (λ (n : ℕ). HoldsTrees c.args.mem.now.tables n (protection_at guard)) (sym c.self.invariant.0) theirs.trees in
+    let after : HoldsTrees c.set.new.mem.tables (length guard) (protect (protection_at guard) c.args.page c.args.protection) =
+    subst (λ (n : ℕ). HoldsTrees c.set.new.mem.tables n (protect (protection_at guard) c.args.page c.args.protection)) c.self.invariant.0
+    (c.set.ensures.holds (protection_at guard) before) in
+    let views : AreViews c.set.new.mem.tables (length guard) (protect (protection_at guard) c.args.page c.args.protection) =
+    subst (λ (n : ℕ). AreViews c.set.new.mem.tables n (protect (protection_at guard) c.args.page c.args.protection)) c.self.invariant.0
+    (c.set.ensures.views (protection_at guard) before) in
+    set_theirs c.set.new.mem guard c.args.page c.args.protection inside after views
+    (ap (λ (xs : List ℕ). length xs) c.set.ensures.ram ∙ theirs.ram)
+
+pub invariant_of-self : goal.invariant_of-self
+invariant_of-self c =
+    let guard = c.self.inside.protections.items in (
+      search rules,
+      (
+        (search rules ∙ sym (map-set is_free guard c.args.page c.args.protection)),
+        search rules,
+      ),
+    )

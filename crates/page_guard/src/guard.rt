@@ -1,0 +1,212 @@
+// The guard of pages.
+
+ghost use Rattle.std.specs.Prelude.{◌≡◌, ◌+◌, ◌*◌, ◌/◌, ◌<◌, ◌≤◌, length, map, replicate, slice_set, slice_get, Some, None, IfOk, OnOk, IfErr, OnErr};
+ghost use Rattle.sv_types.specs.Bytes.{page_size};
+ghost use Rattle.sv_types.specs.SecondStage.{view_hgatp};
+ghost use Rattle.sv_types.specs.declared.wires.Protection.TheVariants.{Free, Held, Approved};
+ghost use Rattle.gstage_tables.specs.Layout.{table_size};
+ghost use Rattle.reference.specs.Protections.{with_pages};
+ghost use Rattle.reference.specs.Protections.{is_free};
+ghost use Rattle.page_guard.specs.Guarded.{with_span, IsInRam, AllAre, first_taken, IsTheirs};
+
+use dma_guard::DmaGuard;
+use gstage_tables::Trees;
+use host_mem::HostMem;
+use std::alloc::{AllocError, Global};
+use std::marker::Model;
+use sv_types::{Protection, Span, View};
+
+/// The protection of each page of RAM, with the trees and the bits for devices that follow it. Contracts see the list of
+/// protections, by the number of the page.
+#[derive(Drop)]
+pub struct Guard {
+    trees: Trees,
+    dma: DmaGuard,
+    protections: Vec<Protection>,
+}
+
+impl Model for Guard {
+    ghost use Rattle.std.specs.Prelude.{List};
+    ghost use Rattle.sv_types.specs.declared.wires.Protection.{Protection as Kind};
+
+    ghost Value = { List Kind };
+
+    ghost use Rattle.std.specs.Prelude.{◌≡◌, ◌≤◌, length, map};
+    ghost use Rattle.sv_types.specs.Regions.{most_ram_pages};
+    ghost use Rattle.reference.specs.Protections.{is_free};
+
+    ghost view = { λ g. g.protections.items };
+
+    ghost invariant = { λ g. (g.trees ≡ length g.protections.items) × ((g.dma ≡ map is_free g.protections.items) × (length g.protections.items ≤ most_ram_pages)) };
+}
+
+/// Pages that are held, until they are approved or released. It can't be dropped. Contracts see the span.
+pub struct Hold {
+    span: Span,
+}
+
+impl Model for Hold {
+    ghost use Rattle.sv_types.specs.declared.module.Span.{Span as Pages};
+
+    ghost Value = { Pages };
+
+    ghost view = { λ h. h.span };
+}
+
+/// The first page of a span that isn't free.
+#[derive(Clone, Copy, Debug, PartialEq, Eq, Drop)]
+pub struct Taken {
+    pub page: u32,
+}
+
+impl Guard {
+    /// All pages free. The region's table part has the size that the trees ask for.
+    pub fn new(alloc: Global, mem: &mut HostMem) -> Result<Guard, AllocError>
+        requires { length mem.old.tables ≡ table_size (length mem.old.ram / page_size) }
+        ensures guard { IfOk result (λ g. g ≡ replicate (length mem.old.ram / page_size) Free) }
+        ensures theirs { IfOk result (λ g. IsTheirs mem.new g) }
+        ensures ram { mem.new.ram ≡ mem.old.ram }
+    {
+        let pages = mem.ram_pages();
+        let protections = vec![in alloc; Protection::Free; pages]?;
+        let dma = DmaGuard::new(alloc, pages)?;
+        let trees = Trees::new(mem);
+        Ok(Guard {
+            trees,
+            dma,
+            protections,
+        })
+    }
+
+    /// The protection of a page of RAM.
+    pub fn protection(&self, page: u32) -> Protection
+        requires { page < length self.now }
+        ensures { slice_get self.now page ≡ Some result }
+    {
+        self.protections[page as usize]
+    }
+
+    /// Which pages a device may write: the free ones.
+    pub fn dma(&self) -> &DmaGuard
+        ensures { result.now ≡ map is_free self.now }
+    {
+        &self.dma
+    }
+
+    /// The `hgatp` value of a view's root.
+    pub fn root(&self, view: View) -> u64
+        ensures { result ≡ view_hgatp view }
+    {
+        self.trees.root(view)
+    }
+
+    /// Holds the pages of a span, all of them or, where one is not free, none.
+    pub fn hold(&mut self, mem: &mut HostMem, span: Span) -> Result<Hold, Taken>
+        requires inside { IsInRam self.old span }
+        requires theirs { IsTheirs mem.old self.old }
+        ensures free { OnOk result (first_taken self.old span ≡ None) }
+        ensures guard { OnOk result (self.new ≡ with_span self.old span Held) }
+        ensures held { OnOk result (AllAre self.new span Held) }
+        ensures hold { IfOk result (λ hold. hold ≡ span) }
+        ensures taken { IfErr result (λ taken. first_taken self.old span ≡ Some taken.page) }
+        ensures kept { OnErr result ((self.new ≡ self.old) × (mem.new ≡ mem.old)) }
+        ensures size { length self.new ≡ length self.old }
+        ensures theirs { IsTheirs mem.new self.new }
+        ensures ram { mem.new.ram ≡ mem.old.ram }
+    {
+        self.all_free(span)?;
+        self.set_all(mem, span, Protection::Held);
+        Ok(Hold { span })
+    }
+
+    /// Approves the pages that are held.
+    pub fn approve(&mut self, mem: &mut HostMem, hold: Hold)
+        requires inside { IsInRam self.old hold }
+        requires held { AllAre self.old hold Held }
+        requires theirs { IsTheirs mem.old self.old }
+        ensures guard { self.new ≡ with_span self.old hold Approved }
+        ensures approved { AllAre self.new hold Approved }
+        ensures size { length self.new ≡ length self.old }
+        ensures theirs { IsTheirs mem.new self.new }
+        ensures ram { mem.new.ram ≡ mem.old.ram }
+    {
+        let Hold { span: approved } = hold;
+        self.set_all(mem, approved, Protection::Approved);
+    }
+
+    /// Frees the pages that are held.
+    pub fn release(&mut self, mem: &mut HostMem, hold: Hold)
+        requires inside { IsInRam self.old hold }
+        requires held { AllAre self.old hold Held }
+        requires theirs { IsTheirs mem.old self.old }
+        ensures guard { self.new ≡ with_span self.old hold Free }
+        ensures size { length self.new ≡ length self.old }
+        ensures theirs { IsTheirs mem.new self.new }
+        ensures ram { mem.new.ram ≡ mem.old.ram }
+    {
+        let Hold { span: released } = hold;
+        self.set_all(mem, released, Protection::Free);
+    }
+
+    /// Frees pages that are approved.
+    pub fn unapprove(&mut self, mem: &mut HostMem, span: Span)
+        requires inside { IsInRam self.old span }
+        requires approved { AllAre self.old span Approved }
+        requires theirs { IsTheirs mem.old self.old }
+        ensures guard { self.new ≡ with_span self.old span Free }
+        ensures size { length self.new ≡ length self.old }
+        ensures theirs { IsTheirs mem.new self.new }
+        ensures ram { mem.new.ram ≡ mem.old.ram }
+    {
+        self.set_all(mem, span, Protection::Free);
+    }
+
+    // The first page of a span that isn't free is the refusal.
+    fn all_free(&self, span: Span) -> Result<(), Taken>
+        requires { IsInRam self.now span }
+        ensures free { OnOk result (first_taken self.now span ≡ None) }
+        ensures taken { IfErr result (λ taken. first_taken self.now span ≡ Some taken.page) }
+    {
+        'tested: for i in 0..span.count {
+            let page = span.first + i;
+            if !is_free(self.protections[page as usize]) {
+                return Err(Taken { page });
+            }
+        }
+        Ok(())
+    }
+
+    fn set_all(&mut self, mem: &mut HostMem, span: Span, protection: Protection)
+        requires inside { IsInRam self.old span }
+        requires theirs { IsTheirs mem.old self.old }
+        ensures guard { self.new ≡ with_span self.old span protection }
+        ensures all { AllAre self.new span protection }
+        ensures size { length self.new ≡ length self.old }
+        ensures theirs { IsTheirs mem.new self.new }
+        ensures ram { mem.new.ram ≡ mem.old.ram }
+    {
+        'changed: for i in 0..span.count {
+            self.set(mem, span.first + i, protection);
+        }
+    }
+
+    #[tactic(auto, using(crate::proofs::Sets::set_theirs))]
+    fn set(&mut self, mem: &mut HostMem, page: u32, protection: Protection)
+        requires inside { page < length self.old }
+        requires theirs { IsTheirs mem.old self.old }
+        ensures guard { self.new ≡ slice_set self.old page protection }
+        ensures theirs { IsTheirs mem.new self.new }
+        ensures ram { mem.new.ram ≡ mem.old.ram }
+    {
+        self.trees.set(mem, page, protection);
+        self.dma.set(page, is_free(protection));
+        self.protections[page as usize] = protection;
+    }
+}
+
+// Whether a device may write a page of this protection.
+fn is_free(protection: Protection) -> bool
+    ensures { result ≡ is_free protection }
+{
+    matches!(protection, Protection::Free)
+}

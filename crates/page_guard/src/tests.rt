@@ -1,0 +1,31 @@
+// Calls that take memory, with memory; and a span that is held, approved and freed again.
+use super::{Entries, Guard};
+use gstage_tables::Trees;
+use host_mem::HostMem;
+use std::test::Fail;
+use sv_types::{Protection, Span};
+
+#[test]
+fn entries_of_a_list(rt: HostRuntime) -> Result<(), Fail> {
+    let entries = Entries::new(rt.alloc(), &[0x8000_0000, 0x8000_0104])?;
+    assert!(rt; entries.permits(0x8000_0104));
+    assert!(rt; !entries.permits(0x8000_0108));
+    Ok(())
+}
+
+#[test]
+fn a_span_held_approved_and_freed(rt: HostRuntime) -> Result<(), Fail> {
+    let size = Trees::table_bytes(16);
+    let mut mem = HostMem::new(rt.alloc(), size, 16)?;
+    assert_eq!(rt; mem.table_bytes(), size);
+    assert_eq!(rt; mem.ram_pages(), 16);
+    let mut guard = Guard::new(rt.alloc(), &mut mem)?;
+    let text = Span { first: 2, count: 3 };
+    let hold = guard.hold(&mut mem, text)?;
+    assert_eq!(rt; guard.protection(4), Protection::Held);
+    guard.approve(&mut mem, hold);
+    assert_eq!(rt; guard.protection(4), Protection::Approved);
+    guard.unapprove(&mut mem, text);
+    assert!(rt; guard.dma().may_write(2));
+    Ok(())
+}
