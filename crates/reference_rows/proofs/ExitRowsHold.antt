@@ -1,0 +1,42 @@
+-- Exits, computed.
+use Rattle.std.proofs.Common.{refl}
+use Rattle.machine_model.specs.Served.{serve_exit, serve_fetch, serve_access, serve_load, serve_write, serve_store, serve_virtual, serve_trap, transformed, is_sret}
+use Rattle.reference_rows.specs.ExitRows.{ExitRows}
+use Rattle.reference_rows.proofs.Computing.{computing}
+
+pub exit_rows : ExitRows
+unfolding computing serve_exit serve_fetch serve_access serve_load serve_write serve_store serve_virtual serve_trap transformed is_sret
+exit_rows = record {
+  kernel_call = refl;
+  kernel_fetch = refl;
+  kernel_return = refl;
+  kernel_virtual = refl;
+  kernel_fetch_implicit = refl;
+  user_fetch = refl;
+  user_virtual = refl;
+  user_software = refl;
+  user_timer = refl;
+  user_external = refl;
+  user_0 = refl;
+  user_1 = refl;
+  user_2 = refl;
+  user_3 = refl;
+  user_4 = refl;
+  user_5 = refl;
+  user_6 = refl;
+  user_7 = refl;
+  user_8 = refl;
+  user_12 = refl;
+  user_13 = refl;
+  user_15 = refl;
+  kernel_fetch_outside_ram = refl;
+  user_fetch_outside_ram = refl;
+  device_loads = refl;
+  device_loads_of_another_width = refl;
+  loads_of_no_device = refl;
+  load_of_an_unreadable_entry = refl;
+  protected_store = refl;
+  device_stores = refl;
+  device_stores_of_another_width = refl;
+  stores_to_no_device = refl;
+}

@@ -1,0 +1,48 @@
+-- Modules, computed.
+use Rattle.std.proofs.Common.{◌≡◌, refl, [], ◌∷◌}
+use Rattle.std.specs.Prelude.{pos}
+use Rattle.sv_types.specs.declared.event.Note.TheVariants.{Denied, Load, Unload}
+use Rattle.sha2.specs.Sha256.{sha256, first_words, schedule, rounds, compress, hash_after, digest_bytes}
+use Rattle.sv_types.specs.Measure.{measure}
+use Rattle.reference.specs.Loads.{is_good, is_as_measured, decide, load_step_of}
+use Rattle.reference.specs.Relocations.{masked, fields_right, field_right, clear_field, site_value}
+use Rattle.reference_rows.specs.ModuleRows.{ModuleRows, all_calls, beat_after_a_page, beat_before_the_call, refused_by}
+use Rattle.reference_rows.proofs.Computing.{computing}
+
+its_calls_noted : all_calls.journal.notes ≡ Load 1 2 1 (refused_by 6) ∷ Load 0 6 0 (pos 0) ∷ Load 0 7 0 (refused_by 5) ∷ Load 0 8 1 (refused_by 4) ∷ Load 0 9 1 (refused_by 4) ∷ Load 0 10 2 (refused_by 2) ∷ Unload 0 11 1 (refused_by 2) ∷ Unload 0 12 0 (pos 0) ∷ []
+unfolding computing load_step_of decide is_good is_as_measured masked fields_right field_right clear_field site_value measure sha256 first_words schedule rounds compress hash_after digest_bytes
+its_calls_noted = refl
+
+its_held_pages_are_not_written : beat_after_a_page.journal.notes ≡ Denied 0x80005000 ∷ Load 0 5 0 (pos 0) ∷ []
+unfolding computing load_step_of decide is_good is_as_measured masked fields_right field_right clear_field site_value measure sha256 first_words schedule rounds compress hash_after digest_bytes
+its_held_pages_are_not_written = refl
+
+its_bytes_written_before_count : beat_before_the_call.journal.notes ≡ Load 0 5 0 (refused_by 3) ∷ []
+unfolding computing load_step_of decide is_good is_as_measured masked fields_right field_right clear_field site_value measure sha256 first_words schedule rounds compress hash_after digest_bytes
+its_bytes_written_before_count = refl
+
+pub module_rows : ModuleRows
+unfolding computing load_step_of decide is_good is_as_measured masked fields_right field_right clear_field site_value measure sha256 first_words schedule rounds compress hash_after digest_bytes
+module_rows = record {
+  right_call = refl;
+  wrong_call = refl;
+  cleared_call = refl;
+  wrong_call_cleared = refl;
+  held = refl;
+  stays_at_its_call = refl;
+  begun_without_a_note = refl;
+  takes_no_interrupt = refl;
+  crooked_place = refl;
+  crooked_address = refl;
+  in_kernel_text = refl;
+  outside_ram = refl;
+  calls_noted = its_calls_noted;
+  held_pages_are_not_written = its_held_pages_are_not_written;
+  bytes_written_before_count = its_bytes_written_before_count;
+  unload_demotes_who_runs_there = refl;
+  unload_while_a_load_is_under_way = refl;
+  unload_of_none = refl;
+  retire = refl;
+  retire_twice = refl;
+  nothing_to_retire = refl;
+}

@@ -1,0 +1,91 @@
+-- What SecVisor makes of an exit, a row for each line: kernel mode, user mode, and both. This project's own.
+use Rattle.std.specs.Prelude.{◌≡◌, ℕ, ◌/◌, true, false}
+use Rattle.sv_types.specs.declared.cause.Cause.{Cause}
+use Rattle.sv_types.specs.declared.wires.Exit.{Exit}
+use Rattle.sv_types.specs.declared.wires.Interrupt.{Interrupt}
+use Rattle.sv_types.specs.declared.wires.Mode.TheVariants.{Kernel, User}
+use Rattle.reference.specs.Devices.{device_load, device_store}
+use Rattle.reference.specs.ModuleCalls.{call}
+use Rattle.reference.specs.Requests.{carry_out_device_load, carry_out_device_store, write_stopped}
+use Rattle.reference.specs.States.{State, Hart}
+use Rattle.reference.specs.Trapping.{Interrupted, trap, exception, returned_from_trap}
+use Rattle.reference.specs.Turn.{demote}
+use Rattle.machine_model.specs.Served.{serve_exit}
+use Rattle.reference_rows.specs.Guests.{small, hart_in, with_two}
+
+abbrev pub before : State
+before = small 0x13 0x13
+
+abbrev pub of_kernel : Hart
+of_kernel = hart_in Kernel 0x80000000 (with_two 0x10000000 65)
+
+abbrev pub of_user : Hart
+of_user = hart_in User 0x80001000 (with_two 0x10000000 65)
+
+-- what an exit by an exception tells: the guest-physical address, and the transformed instruction
+abbrev pub by_cause : (cause stval gpa htinst : ℕ) → Exit
+by_cause cause stval gpa htinst = record { interrupt = false; cause = cause; pc = 0; stval = stval; htval = gpa / 4; htinst = htinst }
+
+abbrev pub by_interrupt : (number : ℕ) → Exit
+by_interrupt number = record { interrupt = true; cause = number; pc = 0; stval = 0; htval = 0; htinst = 0 }
+
+abbrev pub kernel_makes : Exit → State
+kernel_makes exit = serve_exit before 0 of_kernel exit
+
+abbrev pub user_makes : Exit → State
+user_makes exit = serve_exit before 0 of_user exit
+
+-- LB, LW, SB and SW of x6, as htinst has them, and an implicit read of an entry
+abbrev pub load_byte : ℕ
+load_byte = 0x0303
+
+abbrev pub load_word : ℕ
+load_word = 0x2303
+
+abbrev pub store_byte : ℕ
+store_byte = 0x00600023
+
+abbrev pub store_word : ℕ
+store_word = 0x00602023
+
+abbrev pub implicit : ℕ
+implicit = 0x3000
+
+pub record ExitRows : Type 0 where
+  -- ---- kernel mode
+  pub kernel_call : kernel_makes (by_cause 10 0 0 0) ≡ call before 0 of_kernel
+  pub kernel_fetch : kernel_makes (by_cause 20 0x80002000 0x80002000 0) ≡ demote before 0 of_kernel 0x80002000
+  pub kernel_return : kernel_makes (by_cause 22 0x10200073 0 0) ≡ returned_from_trap before 0 of_kernel
+  pub kernel_virtual : kernel_makes (by_cause 22 0x20002373 0 0) ≡ exception before 0 of_kernel Cause.Illegal 0x20002373
+  pub kernel_fetch_implicit : kernel_makes (by_cause 20 0x80002000 0x80002000 implicit) ≡ exception before 0 of_kernel Cause.InstrAccess 0x80002000
+  -- ---- user mode
+  pub user_fetch : user_makes (by_cause 20 0x80000000 0x80000000 0) ≡ exception before 0 of_user Cause.InstrAccess 0x80000000
+  pub user_virtual : user_makes (by_cause 22 0x10200073 0 0) ≡ exception before 0 of_user Cause.Illegal 0x10200073
+  pub user_software : user_makes (by_interrupt 2) ≡ trap before 0 of_user (Interrupted Interrupt.Software)
+  pub user_timer : user_makes (by_interrupt 6) ≡ trap before 0 of_user (Interrupted Interrupt.Timer)
+  pub user_external : user_makes (by_interrupt 10) ≡ trap before 0 of_user (Interrupted Interrupt.External)
+  pub user_0 : user_makes (by_cause 0 9 0 0) ≡ exception before 0 of_user Cause.InstrMisaligned 9
+  pub user_1 : user_makes (by_cause 1 9 0 0) ≡ exception before 0 of_user Cause.InstrAccess 9
+  pub user_2 : user_makes (by_cause 2 9 0 0) ≡ exception before 0 of_user Cause.Illegal 9
+  pub user_3 : user_makes (by_cause 3 9 0 0) ≡ exception before 0 of_user Cause.Breakpoint 9
+  pub user_4 : user_makes (by_cause 4 9 0 0) ≡ exception before 0 of_user Cause.LoadMisaligned 9
+  pub user_5 : user_makes (by_cause 5 9 0 0) ≡ exception before 0 of_user Cause.LoadAccess 9
+  pub user_6 : user_makes (by_cause 6 9 0 0) ≡ exception before 0 of_user Cause.StoreMisaligned 9
+  pub user_7 : user_makes (by_cause 7 9 0 0) ≡ exception before 0 of_user Cause.StoreAccess 9
+  pub user_8 : user_makes (by_cause 8 0 0 0) ≡ exception before 0 of_user Cause.UserCall 0
+  pub user_12 : user_makes (by_cause 12 9 0 0) ≡ exception before 0 of_user Cause.InstrPage 9
+  pub user_13 : user_makes (by_cause 13 9 0 0) ≡ exception before 0 of_user Cause.LoadPage 9
+  pub user_15 : user_makes (by_cause 15 9 0 0) ≡ exception before 0 of_user Cause.StorePage 9
+  -- ---- both
+  pub kernel_fetch_outside_ram : kernel_makes (by_cause 20 0x90000000 0x90000000 0) ≡ exception before 0 of_kernel Cause.InstrAccess 0x90000000
+  pub user_fetch_outside_ram : user_makes (by_cause 20 0x90000000 0x90000000 0) ≡ exception before 0 of_user Cause.InstrAccess 0x90000000
+  pub device_loads : kernel_makes (by_cause 21 0x10000005 0x10000005 load_byte)
+      ≡ carry_out_device_load before 0 of_kernel 6 0x10000005 1 true (device_load before.devices 0x10000005 1)
+  pub device_loads_of_another_width : kernel_makes (by_cause 21 0x10000000 0x10000000 load_word) ≡ exception before 0 of_kernel Cause.LoadAccess 0x10000000
+  pub loads_of_no_device : user_makes (by_cause 21 0x90000000 0x90000000 load_word) ≡ exception before 0 of_user Cause.LoadAccess 0x90000000
+  pub load_of_an_unreadable_entry : user_makes (by_cause 21 0x5000 0x10000000 implicit) ≡ exception before 0 of_user Cause.LoadAccess 0x5000
+  pub protected_store : kernel_makes (by_cause 23 0x80000003 0x80000003 store_byte) ≡ write_stopped before 0 of_kernel 0x80000003
+  pub device_stores : kernel_makes (by_cause 23 0x10000000 0x10000000 store_byte)
+      ≡ carry_out_device_store before 0 of_kernel 0x10000000 (device_store before.devices before.journal 0x10000000 1 65)
+  pub device_stores_of_another_width : kernel_makes (by_cause 23 0x10000000 0x10000000 store_word) ≡ exception before 0 of_kernel Cause.StoreAccess 0x10000000
+  pub stores_to_no_device : user_makes (by_cause 23 0x90000000 0x90000000 store_word) ≡ exception before 0 of_user Cause.StoreAccess 0x90000000

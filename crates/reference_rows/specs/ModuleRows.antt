@@ -1,0 +1,158 @@
+-- Relocated fields, loads, unloads and retired text. RISC-V ELF psABI, "Relocations"; this project's own.
+use Rattle.std.specs.Prelude.{◌≡◌, ℕ, List, [], ◌∷◌, ◌++◌, map, replicate, Option, Some, None, ℤ, pos, negsuc, Bool, true, false}
+use Rattle.sv_types.specs.Bytes.{padded}
+use Rattle.sv_types.specs.Policies.{Rules, ModuleRule}
+use Rattle.sv_types.specs.Reference.{ApprovedPage, approved_pages}
+use Rattle.sv_types.specs.declared.event.Event.TheVariants.{Turn, Beat}
+use Rattle.sv_types.specs.declared.event.Note.TheVariants.{Demote, Denied, Load, Unload, Retire}
+use Rattle.sv_types.specs.declared.module.Bases.{Bases}
+use Rattle.sv_types.specs.declared.module.Site.{Site}
+use Rattle.sv_types.specs.declared.module.Span.{Span}
+use Rattle.sv_types.specs.declared.policy.Export.{Export}
+use Rattle.sv_types.specs.declared.wires.Mode.TheVariants.{Kernel}
+use Rattle.reference.specs.Relocations.{masked, fields_right}
+use Rattle.reference.specs.Run.{step, run}
+use Rattle.reference.specs.Start.{start}
+use Rattle.reference.specs.States.{State, with_hart}
+use Rattle.reference_rows.specs.CallRows.{asking, answer, refused}
+use Rattle.reference_rows.specs.DeviceRows.{busy_with, disk_with}
+use Rattle.reference_rows.specs.Guests.{words, page, hart_in, hart_of, at_pc}
+
+-- ---- a call of an export, by two fields
+
+abbrev pub site : (offset kind base anchor : ℕ) → Site
+site offset kind base anchor = record { offset = offset; kind = kind; base = base; addend = pos 0; anchor = anchor }
+
+abbrev pub call_sites : List Site
+call_sites = site 0 23 3 0 ∷ site 4 24 3 0 ∷ []
+
+abbrev pub print_at : List Export
+print_at = record { name = []; addr = 0x80003010 } ∷ []
+
+abbrev pub at_8000 : Bases
+at_8000 = record { va = 0x80008000; data_va = 0 }
+
+abbrev pub are_right : List ℕ → Bool
+are_right text = fields_right print_at at_8000 call_sites text
+
+-- ---- modules: the first of three pages, each with one word, and the second of one
+
+abbrev pub one_word_page : List ℕ
+one_word_page = page (words (0x00000073 ∷ []))
+
+-- SHA-256 of the three pages' digests
+abbrev pub three_page_digest : List ℕ
+three_page_digest = 225 ∷ 21 ∷ 118 ∷ 203 ∷ 216 ∷ 47 ∷ 46 ∷ 149 ∷ 52 ∷ 141 ∷ 135 ∷ 78 ∷ 78 ∷ 120 ∷ 165 ∷ 250 ∷ 34 ∷ 111 ∷ 196 ∷ 33 ∷ 84 ∷ 58 ∷ 243 ∷ 123 ∷ 19 ∷ 58 ∷ 24 ∷ 104 ∷ 135 ∷ 61 ∷ 112 ∷ 7 ∷ []
+
+abbrev pub module_of : ℕ → List ℕ → ModuleRule
+module_of pages measure = record { name = []; pages = pages; measure = measure; sites = [] }
+
+abbrev pub rules_with : Option Span → Rules
+rules_with init = record {
+  format = 1;
+  harts = 2;
+  ram_pages = 8;
+  entries = 0x80000100 ∷ [];
+  exports = [];
+  kernel = [];
+  init = init;
+  modules = module_of 3 three_page_digest ∷ module_of 1 [] ∷ [];
+}
+
+-- two pages of kernel text, whose words are ECALLs, and the first module's text from page 5 on
+abbrev pub memory : List ℕ
+memory = padded (page (words (0x00000073 ∷ 0x00000073 ∷ [])) ++ one_word_page ++ replicate 12288 0 ++ one_word_page ++ one_word_page ++ one_word_page) 32768
+
+abbrev pub begin : Option Span → State
+begin init = start (rules_with init) memory (0 ∷ 1 ∷ []) 0x80000000 []
+
+-- hart h makes a call of the modules' extension
+abbrev pub asks : State → (h function a0 a1 a2 : ℕ) → State
+asks r h function a0 a1 a2 = step (with_hart r h (hart_in Kernel 0x80000000 (asking 0x08534543 function a0 a1 a2 0))) (Turn h)
+
+abbrev pub loads : State → (h id gpa : ℕ) → State
+loads r h id gpa = asks r h 0 id gpa 0x80008000
+
+abbrev pub first : State
+first = begin None
+
+-- the first module's load, with the second asked for meanwhile; then it goes on to its decision
+abbrev pub under_way : State
+under_way = loads first 0 0 0x80005000
+
+abbrev pub decided : State
+decided = run (loads under_way 1 1 0x80005000) (replicate 4 (Turn 0))
+
+abbrev pub all_calls : State
+all_calls = asks (asks (loads (loads (loads (loads decided 0 0 0x80005000) 0 1 0x80006000) 0 1 0x80008000) 0 2 0x80010000) 0 1 1 0 0) 0 1 0 0 0
+
+-- a transfer of the disk into the module's first page is under way
+abbrev pub with_transfer : State → State
+with_transfer r = record r { devices = record r.devices { disk = disk_with (busy_with 1 0x80005000 0) } }
+
+abbrev pub beat_after_a_page : State
+beat_after_a_page = run (loads (with_transfer first) 0 0 0x80005000) (Turn 0 ∷ Beat ∷ Turn 0 ∷ Turn 0 ∷ Turn 0 ∷ [])
+
+abbrev pub beat_before_the_call : State
+beat_before_the_call = run (loads (step (with_transfer first) Beat) 0 0 0x80005000) (Turn 0 ∷ Turn 0 ∷ Turn 0 ∷ Turn 0 ∷ [])
+
+-- the second module is loaded, and hart 1 runs in it
+abbrev pub with_second : State
+with_second = record first {
+  approved = approved_pages memory (0 ∷ 1 ∷ 4 ∷ []);
+  loaded = record { id = 1; gpa = 0x80004000; va = 0; data_va = 0 } ∷ [];
+}
+
+abbrev pub running_in_it : State
+running_in_it = with_hart with_second 1 (hart_in Kernel 0x80004000 (replicate 32 0))
+
+-- the second page of the kernel's text is its init text
+abbrev pub with_init : State
+with_init = begin (Some (record { first = 1; count = 4 }))
+
+abbrev pub pages_of : State → List ℕ
+pages_of r = map (λ (entry : ApprovedPage). entry.page) r.approved
+
+abbrev pub refused_by : ℕ → ℤ
+refused_by n = negsuc n
+
+-- its hart has an interrupt that it might take
+abbrev pub interruptible : State → State
+interruptible r = with_hart r 0 (record (hart_of r 0) { supervisor = record (hart_of r 0).supervisor { sstatus = 2; sie = 2; software = true } })
+
+pub record ModuleRows : Type 0 where
+  -- ---- relocated fields
+  pub right_call : are_right (words (0xFFFFB097 ∷ 0x010080E7 ∷ [])) ≡ true
+  pub wrong_call : are_right (words (0xFFFFB097 ∷ 0x014080E7 ∷ [])) ≡ false
+  pub cleared_call : masked (words (0xFFFFB097 ∷ 0x010080E7 ∷ [])) call_sites ≡ words (0x00000097 ∷ 0x000080E7 ∷ [])
+  pub wrong_call_cleared : masked (words (0xFFFFB097 ∷ 0x014080E7 ∷ [])) call_sites ≡ words (0x00000097 ∷ 0x000080E7 ∷ [])
+  -- ---- a load begins: its pages are held, and the hart stays at its call
+  pub held : under_way.held ≡ 5 ∷ 6 ∷ 7 ∷ []
+  pub stays_at_its_call : at_pc under_way ≡ 0x80000000 ∷ 0 ∷ []
+  pub begun_without_a_note : under_way.journal.notes ≡ []
+  pub takes_no_interrupt : (step (interruptible under_way) (Turn 0)).journal.counts.traps ≡ 0
+  -- ---- refusals, and the answer
+  pub crooked_place : answer (loads first 0 0 0x80005008) ≡ refused 5
+  pub crooked_address : answer (asks first 0 0 0 0x80005000 0x80008004) ≡ refused 5
+  pub in_kernel_text : answer (loads first 0 1 0x80001000) ≡ refused 5
+  pub outside_ram : answer (loads first 0 0 0x80006000) ≡ refused 5
+  pub calls_noted : all_calls.journal.notes ≡
+      Load 1 2 1 (refused_by 6)
+      ∷ Load 0 6 0 (pos 0)
+      ∷ Load 0 7 0 (refused_by 5)
+      ∷ Load 0 8 1 (refused_by 4)
+      ∷ Load 0 9 1 (refused_by 4)
+      ∷ Load 0 10 2 (refused_by 2)
+      ∷ Unload 0 11 1 (refused_by 2)
+      ∷ Unload 0 12 0 (pos 0)
+      ∷ []
+  -- ---- bytes of the deciding moment
+  pub held_pages_are_not_written : beat_after_a_page.journal.notes ≡ Denied 0x80005000 ∷ Load 0 5 0 (pos 0) ∷ []
+  pub bytes_written_before_count : beat_before_the_call.journal.notes ≡ Load 0 5 0 (refused_by 3) ∷ []
+  -- ---- unload and retire
+  pub unload_demotes_who_runs_there : (step (asks running_in_it 0 1 1 0 0) (Turn 1)).journal.notes ≡ Unload 0 1 1 (pos 0) ∷ Demote 1 2 0x80004000 0x80004000 ∷ []
+  pub unload_while_a_load_is_under_way : answer (asks (record with_second { loading = Some (record { hart = 1; about = record { id = 0; gpa = 0x80005000; va = 0; data_va = 0 }; left = 3 }) }) 0 1 1 0 0) ≡ refused 7
+  pub unload_of_none : answer (asks first 0 1 1 0 0) ≡ refused 3
+  pub retire : pages_of (asks with_init 0 2 0 0 0) ≡ 0 ∷ []
+  pub retire_twice : (asks (asks with_init 0 2 0 0 0) 0 2 0 0 0).journal.notes ≡ Retire 0 1 (pos 0) ∷ Retire 0 2 (refused_by 5) ∷ []
+  pub nothing_to_retire : answer (asks first 0 2 0 0 0) ≡ refused 3

@@ -1,0 +1,46 @@
+//! The reference machine, computed on cases: whole runs, and a row for each line of the tables of turns, calls, devices and
+//! exits. The clause of each function is a list of equations that hold by computing.
+#![tactic(auto)]
+
+ghost use Rattle.reference_rows.specs.FlatRows.{FlatRows};
+ghost use Rattle.reference_rows.specs.TurnRows.{TurnRows};
+ghost use Rattle.reference_rows.specs.CallRows.{CallRows};
+ghost use Rattle.reference_rows.specs.DeviceRows.{DeviceRows};
+ghost use Rattle.reference_rows.specs.ExitRows.{ExitRows};
+ghost use Rattle.reference_rows.specs.ModuleRows.{ModuleRows};
+ghost use Rattle.reference_rows.specs.GuestRows.{GuestRows};
+
+/// Whole runs of one page.
+pub fn rows_of_one_page()
+    ensures { FlatRows }
+{}
+
+/// One turn, for each case and each kind of effect.
+pub fn rows_of_turns()
+    ensures { TurnRows }
+{}
+
+/// Calls from kernel mode, for each function.
+pub fn rows_of_calls()
+    ensures { CallRows }
+{}
+
+/// Registers, commands and beats of the devices; keys and time.
+pub fn rows_of_devices()
+    ensures { DeviceRows }
+{}
+
+/// What SecVisor makes of each exit.
+pub fn rows_of_exits()
+    ensures { ExitRows }
+{}
+
+/// Relocated fields, loads, unloads and retired text.
+pub fn rows_of_modules()
+    ensures { ModuleRows }
+{}
+
+/// Two guests of some length.
+pub fn rows_of_guests()
+    ensures { GuestRows }
+{}
