@@ -1,14 +1,18 @@
 -- Where both stages lead, a word of a width that divides the virtual address may be read and written.
-use Rattle.std.proofs.Common.{◌≡◌, ◌∙◌, ℕ, ◌+◌, ◌%◌, ◌^◌, ◌<◌, ◌≤◌, inl, inr, length, refl, arith}
+use Rattle.std.proofs.Common.{◌≡◌, ◌∙◌, ℕ, ◌+◌, ◌%◌, ◌^◌, ◌<◌, ◌≤◌, length, refl}
 use Rattle.std.specs.Prelude.{Option, Some, None, Ok}
 use Rattle.sv_types.specs.declared.translation.Place.{Place}
 use Rattle.sv_types.specs.declared.wires.Access.{Access}
 use Rattle.sv_types.specs.declared.wires.Mode.{Mode}
 use Rattle.sv_types.specs.Regions.{Region, IsRegion, IsWidth, IsHostPlace}
 use Rattle.sv_types.specs.Translation.{Destination, At, PageFault, Unreadable, Settings, first_stage}
-use Rattle.sv_types.specs.SecondStage.{walk_guest, place_through, after_first_stage, two_stages, entry_through, WalksInside}
+use Rattle.sv_types.specs.SecondStage.{walk_guest, place_through, after_first_stage, two_stages, entry_through, WalksInside, WalksApart}
 use Rattle.sv_types.proofs.RegionLemmas.{keeps_width, ends_inside, whole_sum}
 use Rattle.sv_types.proofs.Walks.{Fits, first_stage_fits, walk_guest_fits}
+
+-- a root whose walks lead to RAM alone
+pub apart_inside : (r : Region) (hgatp : ℕ) → WalksApart r hgatp → WalksInside r hgatp
+apart_inside r hgatp apart = record { inside = λ gpa hpa access e. (apart.leads gpa hpa access e).1 }
 
 second_leads : (gpa : ℕ) (o : Option ℕ) (place : Place) → place_through gpa o ≡ Ok place → o ≡ Some place.hpa
 second_leads gpa None place e = absurd (cc)
@@ -40,3 +44,18 @@ unfolding two_stages
 stages_place r hgatp va n s mode access place region inside small e width aligned =
     first_leads r hgatp va n access (first_stage (entry_through r hgatp) s mode va access) place region inside width aligned
     (first_stage_fits (entry_through r hgatp) s mode va access small) e
+
+first_behind : (r : Region) (hgatp : ℕ) (access : Access) (d : Destination) (place : Place) → WalksApart r hgatp
+    → after_first_stage r hgatp access d ≡ Ok place → length r.tables ≤ place.hpa
+unfolding after_first_stage
+first_behind r hgatp access (At gpa) place apart e =
+    (apart.leads gpa place.hpa access (second_leads gpa (walk_guest r hgatp gpa access) place e)).0
+first_behind r hgatp access PageFault place apart e = absurd (cc)
+first_behind r hgatp access (Unreadable entry) place apart e = absurd (cc)
+
+-- and the place lies behind the tables
+pub stages_behind : (r : Region) (hgatp va : ℕ) (s : Settings) (mode : Mode) (access : Access) (place : Place) → WalksApart r hgatp
+    → two_stages r hgatp s mode va access ≡ Ok place → length r.tables ≤ place.hpa
+unfolding two_stages
+stages_behind r hgatp va s mode access place apart e =
+    first_behind r hgatp access (first_stage (entry_through r hgatp) s mode va access) place apart e

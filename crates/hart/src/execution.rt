@@ -2,7 +2,8 @@
 
 ghost use Rattle.std.specs.Prelude.{◌≡◌, ◌<◌, ◌/◌, ◌%◌, ◌^◌, IsTrue, IfOk, Some, None};
 ghost use Rattle.sv_types.specs.Regions.{IsHostPlace};
-ghost use Rattle.sv_types.specs.SecondStage.{WalksInside};
+ghost use Rattle.sv_types.specs.SecondStage.{WalksApart};
+ghost use Rattle.sv_types.specs.CachedWalks.{CacheAgrees, FilledUnder};
 ghost use Rattle.sv_types.specs.Effects.{set_register};
 ghost use Rattle.sv_types.specs.Encoding.{fits};
 ghost use Rattle.sv_types.specs.Requests.{IsRequest};
@@ -18,6 +19,7 @@ use crate::system::{
     CsrAccess, call, csr, csr_reached, illegal, sret, supervisor_only, virtual_instruction,
 };
 use crate::trap::{interrupt, plain_exception, raise};
+use gstage_cache::Cache;
 use host_mem::HostMem;
 use rv64_decode::decode;
 use rv64_exec::effect;
@@ -27,33 +29,45 @@ use trap_entry::pending;
 /// One attempt of a hart in VS or VU mode: it takes an interrupt, or fetches an instruction through both stages of
 /// translation and carries it out. The bytes that it wrote are those that `Retired` names.
 ///
-/// `hgatp` has mode 8 (Sv39x4).
-#[tactic(auto, unfolding(sv_types::specs::HardwareAttempt::attempt, sv_types::specs::HardwareAttempt::after_pending))]
-pub fn attempt(hart: &mut Hart, regs: &HRegs, mem: &mut HostMem, lines: &Lines) -> Outcome
+/// `hgatp` has mode 8 (Sv39x4). Walks under it read the tables alone and lead to RAM, and every line of the cache agrees
+/// with the tables.
+#[tactic(auto, using(gstage_cache::specs::Fills::nothing_filled, gstage_cache::specs::Fills::filled_further), unfolding(sv_types::specs::HardwareAttempt::attempt, sv_types::specs::HardwareAttempt::after_pending))]
+pub fn attempt(
+    hart: &mut Hart,
+    regs: &HRegs,
+    cache: &mut Cache,
+    mem: &mut HostMem,
+    lines: &Lines,
+) -> Outcome
     requires aligned { hart.old.pc % 4 ≡ 0 }
     requires mode { KeepsMode regs.now }
     requires second { regs.now.hgatp / 2 ^ 60 ≡ 8 }
-    requires inside { WalksInside mem.old regs.now.hgatp }
+    requires apart { WalksApart mem.old regs.now.hgatp }
+    requires agrees { CacheAgrees mem.old.tables cache.old }
     ensures attempted { attempted_of mem.new hart.new regs.now result ≡ attempt mem.old (core_of hart.old regs.now) lines.now }
     ensures id { hart.new.id ≡ hart.old.id }
     ensures started { hart.new.started ≡ hart.old.started }
     ensures pc { hart.new.pc % 4 ≡ 0 }
+    ensures tables { mem.new.tables ≡ mem.old.tables }
+    ensures filled { FilledUnder mem.old.tables regs.now.hgatp cache.old cache.new }
+    ensures agrees { CacheAgrees mem.new.tables cache.new }
     ensures written { OnlyWrites mem.old mem.new result }
 {
     match pending(&hart.csrs, regs, lines) {
         Some(taken) => interrupt(hart, regs, taken),
         None => {
-            let place = translated(hart, regs, mem, Access::Fetch, hart.pc, 0);
-            fetch(hart, regs, mem, lines, place)
+            let place = translated(hart, regs, cache, mem, Access::Fetch, hart.pc, 0);
+            fetch(hart, regs, cache, mem, lines, place)
         }
     }
 }
 
 // The word at the place that the pc reached, carried out.
-#[tactic(auto, unfolding(sv_types::specs::HardwareAttempt::after_fetch))]
+#[tactic(auto, using(gstage_cache::specs::Fills::nothing_filled), unfolding(sv_types::specs::HardwareAttempt::after_fetch))]
 fn fetch(
     hart: &mut Hart,
     regs: &HRegs,
+    cache: &mut Cache,
     mem: &mut HostMem,
     lines: &Lines,
     place: Result<u64, Exception>,
@@ -61,35 +75,48 @@ fn fetch(
     requires aligned { hart.old.pc % 4 ≡ 0 }
     requires mode { KeepsMode regs.now }
     requires second { regs.now.hgatp / 2 ^ 60 ≡ 8 }
-    requires inside { WalksInside mem.old regs.now.hgatp }
+    requires apart { WalksApart mem.old regs.now.hgatp }
+    requires agrees { CacheAgrees mem.old.tables cache.old }
     requires place { IfOk place (λ hpa. IsHostPlace mem.old hpa 4) }
     ensures attempted { attempted_of mem.new hart.new regs.now result ≡ after_fetch mem.old (core_of hart.old regs.now) lines.now place }
     ensures id { hart.new.id ≡ hart.old.id }
     ensures started { hart.new.started ≡ hart.old.started }
     ensures pc { hart.new.pc % 4 ≡ 0 }
+    ensures tables { mem.new.tables ≡ mem.old.tables }
+    ensures filled { FilledUnder mem.old.tables regs.now.hgatp cache.old cache.new }
 {
     match place {
         Ok(hpa) => {
             let word = mem.read(hpa as usize, 4) as u32;
-            carry_out(hart, regs, mem, lines, word)
+            carry_out(hart, regs, cache, mem, lines, word)
         }
         Err(exception) => raise(hart, regs, exception),
     }
 }
 
-#[tactic(auto, unfolding(sv_types::specs::HardwareAttempt::after_word, sv_types::specs::HardwareAttempt::after_instruction))]
-fn carry_out(hart: &mut Hart, regs: &HRegs, mem: &mut HostMem, lines: &Lines, word: u32) -> Outcome
+#[tactic(auto, using(gstage_cache::specs::Fills::nothing_filled), unfolding(sv_types::specs::HardwareAttempt::after_word, sv_types::specs::HardwareAttempt::after_instruction))]
+fn carry_out(
+    hart: &mut Hart,
+    regs: &HRegs,
+    cache: &mut Cache,
+    mem: &mut HostMem,
+    lines: &Lines,
+    word: u32,
+) -> Outcome
     requires aligned { hart.old.pc % 4 ≡ 0 }
     requires mode { KeepsMode regs.now }
     requires second { regs.now.hgatp / 2 ^ 60 ≡ 8 }
-    requires inside { WalksInside mem.old regs.now.hgatp }
+    requires apart { WalksApart mem.old regs.now.hgatp }
+    requires agrees { CacheAgrees mem.old.tables cache.old }
     ensures attempted { attempted_of mem.new hart.new regs.now result ≡ after_word mem.old (core_of hart.old regs.now) lines.now word }
     ensures id { hart.new.id ≡ hart.old.id }
     ensures started { hart.new.started ≡ hart.old.started }
     ensures pc { hart.new.pc % 4 ≡ 0 }
+    ensures tables { mem.new.tables ≡ mem.old.tables }
+    ensures filled { FilledUnder mem.old.tables regs.now.hgatp cache.old cache.new }
 {
     match decode(word) {
-        Some(instr) => execute(hart, regs, mem, lines, word, &instr),
+        Some(instr) => execute(hart, regs, cache, mem, lines, word, &instr),
         None => raise(hart, regs, illegal(word)),
     }
 }
@@ -98,6 +125,7 @@ fn carry_out(hart: &mut Hart, regs: &HRegs, mem: &mut HostMem, lines: &Lines, wo
 fn execute(
     hart: &mut Hart,
     regs: &HRegs,
+    cache: &mut Cache,
     mem: &mut HostMem,
     lines: &Lines,
     word: u32,
@@ -106,15 +134,18 @@ fn execute(
     requires aligned { hart.old.pc % 4 ≡ 0 }
     requires mode { KeepsMode regs.now }
     requires second { regs.now.hgatp / 2 ^ 60 ≡ 8 }
-    requires inside { WalksInside mem.old regs.now.hgatp }
+    requires apart { WalksApart mem.old regs.now.hgatp }
+    requires agrees { CacheAgrees mem.old.tables cache.old }
     requires fits { IsTrue (fits instr.now) }
     ensures attempted { attempted_of mem.new hart.new regs.now result ≡ after_instruction mem.old (core_of hart.old regs.now) lines.now word (Some instr.now) }
     ensures id { hart.new.id ≡ hart.old.id }
     ensures started { hart.new.started ≡ hart.old.started }
     ensures pc { hart.new.pc % 4 ≡ 0 }
+    ensures tables { mem.new.tables ≡ mem.old.tables }
+    ensures filled { FilledUnder mem.old.tables regs.now.hgatp cache.old cache.new }
 {
     let effect = effect(instr, &hart.regs, hart.pc);
-    apply(hart, regs, mem, lines, word, effect)
+    apply(hart, regs, cache, mem, lines, word, effect)
 }
 
 fn load_htinst(word: u32) -> u32
@@ -145,10 +176,11 @@ fn set(hart: &mut Hart, rd: u8, value: u64, next: u64) -> Outcome
     Outcome::Retired { wrote: None }
 }
 
-#[tactic(auto, unfolding(sv_types::specs::HardwareAttempt::after_effect))]
+#[tactic(auto, using(gstage_cache::specs::Fills::nothing_filled), unfolding(sv_types::specs::HardwareAttempt::after_effect))]
 fn apply(
     hart: &mut Hart,
     regs: &HRegs,
+    cache: &mut Cache,
     mem: &mut HostMem,
     lines: &Lines,
     word: u32,
@@ -157,12 +189,15 @@ fn apply(
     requires aligned { hart.old.pc % 4 ≡ 0 }
     requires mode { KeepsMode regs.now }
     requires second { regs.now.hgatp / 2 ^ 60 ≡ 8 }
-    requires inside { WalksInside mem.old regs.now.hgatp }
+    requires apart { WalksApart mem.old regs.now.hgatp }
+    requires agrees { CacheAgrees mem.old.tables cache.old }
     requires request { IsRequest effect }
     ensures attempted { attempted_of mem.new hart.new regs.now result ≡ after_effect mem.old (core_of hart.old regs.now) lines.now word effect }
     ensures id { hart.new.id ≡ hart.old.id }
     ensures started { hart.new.started ≡ hart.old.started }
     ensures pc { hart.new.pc % 4 ≡ 0 }
+    ensures tables { mem.new.tables ≡ mem.old.tables }
+    ensures filled { FilledUnder mem.old.tables regs.now.hgatp cache.old cache.new }
 {
     match effect {
         Effect::Set { rd, value, next } => set(hart, rd, value, next),
@@ -176,17 +211,17 @@ fn apply(
             signed,
         } => {
             let htinst = load_htinst(word);
-            let source = reached(hart, regs, mem, Access::Load, addr, width, htinst);
+            let source = reached(hart, regs, cache, mem, Access::Load, addr, width, htinst);
             load(hart, regs, mem, rd, width, signed, source)
         }
         Effect::Store { addr, width, value } => {
             let htinst = store_htinst(word);
-            let target = reached(hart, regs, mem, Access::Store, addr, width, htinst);
+            let target = reached(hart, regs, cache, mem, Access::Store, addr, width, htinst);
             store(hart, regs, mem, width, value, target)
         }
         Effect::LoadReserved { rd, addr, width } => {
             let htinst = atomic_htinst(word);
-            let source = reached(hart, regs, mem, Access::Load, addr, width, htinst);
+            let source = reached(hart, regs, cache, mem, Access::Load, addr, width, htinst);
             load_reserved(hart, regs, mem, rd, width, source)
         }
         Effect::StoreConditional {
@@ -196,7 +231,7 @@ fn apply(
             value,
         } => {
             let htinst = atomic_htinst(word);
-            let target = reached(hart, regs, mem, Access::Store, addr, width, htinst);
+            let target = reached(hart, regs, cache, mem, Access::Store, addr, width, htinst);
             store_conditional(hart, regs, mem, rd, width, value, target)
         }
         Effect::Amo {
@@ -207,7 +242,7 @@ fn apply(
             value,
         } => {
             let htinst = atomic_htinst(word);
-            let place = reached(hart, regs, mem, Access::Store, addr, width, htinst);
+            let place = reached(hart, regs, cache, mem, Access::Store, addr, width, htinst);
             atomic(hart, regs, mem, rd, width, Operation { op, value }, place)
         }
         Effect::Csr {

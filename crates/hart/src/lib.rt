@@ -1,6 +1,7 @@
 //! A hart of hardware with the hypervisor extension: one attempt of an instruction under two stages of translation.
 #![tactic(auto)]
 
+mod cpu;
 mod execution;
 mod hart;
 mod memory;
@@ -8,9 +9,7 @@ mod requests;
 mod system;
 mod trap;
 
+pub use cpu::Cpu;
 pub use execution::attempt;
 pub use hart::Hart;
 pub use sv_types::{Outcome, Wrote};
-
-#[cfg(test)]
-mod tests;

@@ -1,17 +1,19 @@
 // Where an access to memory goes.
 
-ghost use Rattle.std.specs.Prelude.{◌≡◌, ◌⊎◌, ℕ, ◌/◌, ◌%◌, ◌^◌, IfOk};
+ghost use Rattle.std.specs.Prelude.{◌≡◌, ◌⊎◌, ◌≤◌, ℕ, ◌/◌, ◌%◌, ◌^◌, length, IfOk};
 ghost use Rattle.sv_types.specs.Regions.{IsWidth, IsHostPlace};
-ghost use Rattle.sv_types.specs.SecondStage.{WalksInside};
+ghost use Rattle.sv_types.specs.SecondStage.{WalksApart};
+ghost use Rattle.sv_types.specs.CachedWalks.{CacheAgrees, FilledUnder};
 ghost use Rattle.sv_types.specs.HardwareMemory.{misaligned, page_fault, guest_page_fault, fault_exception, settings_at, translated, reached};
 ghost use Rattle.hart.specs.Cores.{core_of};
 ghost use Rattle.sv39_walk.specs.Regimes.{settings_of};
 
 use crate::hart::Hart;
 use crate::trap::plain_exception;
+use gstage_cache::Cache;
 use host_mem::HostMem;
 use sv_types::{Access, Cause, Exception, Fault, HRegs, has_bit};
-use sv39_walk::{Regime, translate};
+use sv39_walk::{Regime, translate_through};
 
 /// `htinst` of a guest-page fault at an entry of the first stage: a read of 64 bits for its translation.
 const IMPLICIT_READ: u32 = 0x3000;
@@ -83,18 +85,23 @@ fn regime(hart: &Hart, regs: &HRegs) -> Regime
 pub(crate) fn translated(
     hart: &Hart,
     regs: &HRegs,
+    cache: &mut Cache,
     mem: &HostMem,
     access: Access,
     va: u64,
     htinst: u32,
 ) -> Result<u64, Exception>
     requires second { regs.now.hgatp / 2 ^ 60 ≡ 8 }
-    requires inside { WalksInside mem.now regs.now.hgatp }
+    requires apart { WalksApart mem.now regs.now.hgatp }
+    requires agrees { CacheAgrees mem.now.tables cache.old }
     ensures value { result ≡ translated mem.now (core_of hart.now regs.now) access va htinst }
     ensures place { (width : ℕ) → IsWidth width → va % width ≡ 0 → IfOk result (λ hpa. IsHostPlace mem.now hpa width) }
+    ensures ram { IfOk result (λ hpa. length mem.now.tables ≤ hpa) }
+    ensures agrees { CacheAgrees mem.now.tables cache.new }
+    ensures filled { FilledUnder mem.now.tables regs.now.hgatp cache.old cache.new }
 {
     let _table_bytes = mem.table_bytes();
-    match translate(mem, &regime(hart, regs), va, access) {
+    match translate_through(cache, mem, &regime(hart, regs), va, access) {
         Ok(place) => Ok(place.hpa),
         Err(fault) => Err(fault_exception(access, va, htinst, fault)),
     }
@@ -106,6 +113,7 @@ pub(crate) fn translated(
 pub(crate) fn reached(
     hart: &Hart,
     regs: &HRegs,
+    cache: &mut Cache,
     mem: &HostMem,
     access: Access,
     address: u64,
@@ -113,13 +121,17 @@ pub(crate) fn reached(
     htinst: u32,
 ) -> Result<u64, Exception>
     requires second { regs.now.hgatp / 2 ^ 60 ≡ 8 }
-    requires inside { WalksInside mem.now regs.now.hgatp }
+    requires apart { WalksApart mem.now regs.now.hgatp }
+    requires agrees { CacheAgrees mem.now.tables cache.old }
     requires width { IsWidth width }
     ensures value { result ≡ reached mem.now (core_of hart.now regs.now) access address width htinst }
     ensures place { IfOk result (λ hpa. IsHostPlace mem.now hpa width) }
+    ensures ram { IfOk result (λ hpa. length mem.now.tables ≤ hpa) }
+    ensures agrees { CacheAgrees mem.now.tables cache.new }
+    ensures filled { FilledUnder mem.now.tables regs.now.hgatp cache.old cache.new }
 {
     if address.is_multiple_of(u64::from(width)) {
-        translated(hart, regs, mem, access, address, htinst)
+        translated(hart, regs, cache, mem, access, address, htinst)
     } else {
         Err(plain_exception(misaligned(access), address))
     }

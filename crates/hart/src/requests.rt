@@ -1,6 +1,6 @@
 // Loads, stores and atomic instructions, by the host place that they reached.
 
-ghost use Rattle.std.specs.Prelude.{◌≡◌, ◌⊎◌, ◌<◌, ◌%◌, ◌^◌, IfOk};
+ghost use Rattle.std.specs.Prelude.{◌≡◌, ◌⊎◌, ◌<◌, ◌≤◌, ◌%◌, ◌^◌, length, IfOk};
 ghost use Rattle.sv_types.specs.Effects.{set_register, next_pc};
 ghost use Rattle.sv_types.specs.Regions.{IsWidth, IsHostPlace};
 ghost use Rattle.sv_types.specs.Requests.{loaded_value, reserved_at, covers};
@@ -113,7 +113,7 @@ pub(crate) fn load_reserved(
 }
 
 /// A store of the `width` lowest bytes of a value.
-#[tactic(auto, unfolding(sv_types::specs::HardwareMemory::after_store))]
+#[tactic(auto, using(gstage_cache::proofs::Fences::write_behind), unfolding(sv_types::specs::HardwareMemory::after_store))]
 pub(crate) fn store(
     hart: &mut Hart,
     regs: &HRegs,
@@ -125,7 +125,9 @@ pub(crate) fn store(
     requires aligned { hart.old.pc % 4 ≡ 0 }
     requires mode { KeepsMode regs.now }
     requires place { IfOk place (λ hpa. IsHostPlace mem.old hpa width) }
+    requires ram { IfOk place (λ hpa. length mem.old.tables ≤ hpa) }
     ensures attempted { attempted_of mem.new hart.new regs.now result ≡ after_store mem.old (core_of hart.old regs.now) width value place }
+    ensures tables { mem.new.tables ≡ mem.old.tables }
     ensures id { hart.new.id ≡ hart.old.id }
     ensures started { hart.new.started ≡ hart.old.started }
     ensures pc { hart.new.pc % 4 ≡ 0 }
@@ -151,7 +153,7 @@ fn covers(reservation: Option<u64>, hpa: u64, width: u8) -> bool
 }
 
 /// A store that is carried out where its bytes lie in the hart's reservation, which goes in both cases.
-#[tactic(auto, unfolding(sv_types::specs::HardwareMemory::after_store_conditional))]
+#[tactic(auto, using(gstage_cache::proofs::Fences::write_behind), unfolding(sv_types::specs::HardwareMemory::after_store_conditional))]
 pub(crate) fn store_conditional(
     hart: &mut Hart,
     regs: &HRegs,
@@ -165,7 +167,9 @@ pub(crate) fn store_conditional(
     requires mode { KeepsMode regs.now }
     requires register { rd < 32 }
     requires place { IfOk place (λ hpa. IsHostPlace mem.old hpa width) }
+    requires ram { IfOk place (λ hpa. length mem.old.tables ≤ hpa) }
     ensures attempted { attempted_of mem.new hart.new regs.now result ≡ after_store_conditional mem.old (core_of hart.old regs.now) rd width value place }
+    ensures tables { mem.new.tables ≡ mem.old.tables }
     ensures id { hart.new.id ≡ hart.old.id }
     ensures started { hart.new.started ≡ hart.old.started }
     ensures pc { hart.new.pc % 4 ≡ 0 }
@@ -193,7 +197,7 @@ pub(crate) struct Operation {
 }
 
 /// An atomic instruction: a load, and a store of what the operation makes of the loaded word.
-#[tactic(auto, unfolding(sv_types::specs::HardwareMemory::after_amo))]
+#[tactic(auto, using(gstage_cache::proofs::Fences::write_behind), unfolding(sv_types::specs::HardwareMemory::after_amo))]
 pub(crate) fn atomic(
     hart: &mut Hart,
     regs: &HRegs,
@@ -208,7 +212,9 @@ pub(crate) fn atomic(
     requires register { rd < 32 }
     requires width { (width ≡ 4) ⊎ (width ≡ 8) }
     requires place { IfOk place (λ hpa. IsHostPlace mem.old hpa width) }
+    requires ram { IfOk place (λ hpa. length mem.old.tables ≤ hpa) }
     ensures attempted { attempted_of mem.new hart.new regs.now result ≡ after_amo mem.old (core_of hart.old regs.now) rd width operation.op operation.value place }
+    ensures tables { mem.new.tables ≡ mem.old.tables }
     ensures id { hart.new.id ≡ hart.old.id }
     ensures started { hart.new.started ≡ hart.old.started }
     ensures pc { hart.new.pc % 4 ≡ 0 }

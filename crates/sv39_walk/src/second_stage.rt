@@ -4,11 +4,31 @@ ghost use Rattle.std.specs.Prelude.{◌≡◌, ◌+◌, ◌*◌, ◌/◌, ◌%�
 ghost use Rattle.std.specs.Option.{ok_or};
 ghost use Rattle.sv_types.specs.Translation.{walk, root_of};
 ghost use Rattle.sv_types.specs.SecondStage.{host_entry, entry_in_region, permits_guest, address_at, walk_guest};
+ghost use Rattle.sv_types.specs.declared.wires.Access.{Access as Kind};
 ghost use Rattle.sv39_walk.specs.Levels.{indices_of, IsTable};
+ghost use Rattle.sv39_walk.specs.Mappings.{mapping_answer, found_mapping};
 
 use crate::entry::{entry_page, index, is_leaf, is_pointer, leaf_address, permits_guest};
 use host_mem::HostMem;
-use sv_types::{Access, GuestFault, PteBits};
+use std::marker::Brand;
+use std::sync::ledger::{Blank, Ledger};
+use sv_types::{Access, GuestFault, PteBits, Steps};
+
+/// The leaf at which a second-stage walk ends, and the host place to which it maps the address.
+#[derive(Clone, Copy, Drop)]
+pub struct Mapping {
+    pub leaf: PteBits,
+    pub hpa: u64,
+}
+
+impl Mapping {
+    /// Whether the leaf permits an access.
+    pub fn permits(&self, access: Access) -> bool
+        ensures { result ≡ permits_guest access self.now.leaf.0 }
+    {
+        permits_guest(self.leaf, access)
+    }
+}
 
 /// The host place of a guest-physical address under the second-stage root that `hgatp` names.
 ///
@@ -21,12 +41,81 @@ pub fn walk_g(mem: &HostMem, hgatp: u64, gpa: u64, access: Access) -> Result<u64
     walk_from_root(mem, hgatp, gpa, access).ok_or(GuestFault { gpa })
 }
 
+/// `walk_g`, which counts the table words that it reads: at most three.
+pub fn walk_g_counted<L: Ledger>(
+    mem: &HostMem,
+    hgatp: u64,
+    gpa: u64,
+    access: Access,
+    steps: &mut Steps<L>,
+) -> Result<u64, GuestFault>
+    requires { hgatp / 2 ^ 60 ≡ 8 }
+    ensures value { result ≡ ok_or (walk_guest mem.now hgatp gpa access) (record { gpa = gpa }) }
+    ensures steps { steps.new ≤ steps.old + 3 }
+{
+    walk_counted(mem, hgatp, gpa, access, steps).ok_or(GuestFault { gpa })
+}
+
 /// `walk_g` without the fault's address.
 pub(crate) fn walk_from_root(mem: &HostMem, hgatp: u64, gpa: u64, access: Access) -> Option<u64>
     ensures { result ≡ walk_guest mem.now hgatp gpa access }
 {
+    walk_on::<Brand>(mem, hgatp, gpa, access, Blank::new(1))
+}
+
+// `walk_from_root` with a count of its own.
+fn walk_on<L: Ledger>(
+    mem: &HostMem,
+    hgatp: u64,
+    gpa: u64,
+    access: Access,
+    blank: Blank,
+) -> Option<u64>
+    requires name { blank.name ≡ L.name }
+    requires parts { blank.parts ≡ L.parts }
+    requires some { 0 < blank.parts }
+    ensures { result ≡ walk_guest mem.now hgatp gpa access }
+{
+    let mut steps = Steps::<L>::new(blank);
+    walk_counted(mem, hgatp, gpa, access, &mut steps)
+}
+
+// `walk_from_root`, counted.
+fn walk_counted<L: Ledger>(
+    mem: &HostMem,
+    hgatp: u64,
+    gpa: u64,
+    access: Access,
+    steps: &mut Steps<L>,
+) -> Option<u64>
+    ensures value { result ≡ walk_guest mem.now hgatp gpa access }
+    ensures steps { steps.new ≤ steps.old + 3 }
+{
+    match find_mapping(mem, hgatp, gpa, steps) {
+        Some(mapping) => {
+            if mapping.permits(access) {
+                Some(mapping.hpa)
+            } else {
+                None
+            }
+        }
+        None => None,
+    }
+}
+
+/// The leaf that the second-stage walk of an address finds, whichever the access, and where it maps the address. Reads at
+/// most three table words, and counts them.
+pub fn find_mapping<L: Ledger>(
+    mem: &HostMem,
+    hgatp: u64,
+    gpa: u64,
+    steps: &mut Steps<L>,
+) -> Option<Mapping>
+    ensures value { (access : Kind) → walk_guest mem.now hgatp gpa access ≡ mapping_answer result access }
+    ensures steps { steps.new ≤ steps.old + 3 }
+{
     if gpa >> 41 == 0 {
-        walk_tables(mem, 3, root_table(hgatp, gpa), gpa, access)
+        walk_three(mem, root_table(hgatp, gpa), gpa, steps)
     } else {
         None
     }
@@ -41,34 +130,81 @@ fn root_table(hgatp: u64, gpa: u64) -> u64
     4096 * ((hgatp & 0xFFF_FFFF_FFFF) + (gpa >> 39))
 }
 
-// The walk that has `levels` tables before it.
-fn walk_tables(mem: &HostMem, levels: u32, table: u64, gpa: u64, access: Access) -> Option<u64>
-    requires levels { levels ≤ 3 }
-    requires table { IsTable table }
-    ensures { result ≡ address_at (walk (entry_in_region mem.now) (permits_guest access) (indices_of levels gpa) table gpa) }
+// The walk that has three tables before it.
+fn walk_three<L: Ledger>(
+    mem: &HostMem,
+    table: u64,
+    gpa: u64,
+    steps: &mut Steps<L>,
+) -> Option<Mapping>
+    requires { IsTable table }
+    ensures value { (access : Kind) → address_at (walk (entry_in_region mem.now) (permits_guest access) (indices_of 3 gpa) table gpa) ≡ mapping_answer result access }
+    ensures steps { steps.new ≤ steps.old + 3 }
 {
-    if levels == 0 {
-        return None;
-    }
-    let below = levels - 1;
-    let entry = host_entry(mem, table + 8 * index(gpa, below));
+    let entry = host_entry(mem, table + 8 * index(gpa, 2), steps);
     if is_pointer(entry) {
-        walk_tables(mem, below, entry_page(entry), gpa, access)
-    } else if is_leaf(entry, below) & permits_guest(entry, access) {
-        Some(leaf_address(entry, below, gpa))
+        walk_two(mem, entry_page(entry), gpa, steps)
+    } else {
+        at_leaf(entry, 2, gpa)
+    }
+}
+
+// The walk that has two tables before it.
+fn walk_two<L: Ledger>(mem: &HostMem, table: u64, gpa: u64, steps: &mut Steps<L>) -> Option<Mapping>
+    requires { IsTable table }
+    ensures value { (access : Kind) → address_at (walk (entry_in_region mem.now) (permits_guest access) (indices_of 2 gpa) table gpa) ≡ mapping_answer result access }
+    ensures steps { steps.new ≤ steps.old + 2 }
+{
+    let entry = host_entry(mem, table + 8 * index(gpa, 1), steps);
+    if is_pointer(entry) {
+        walk_one(mem, entry_page(entry), gpa, steps)
+    } else {
+        at_leaf(entry, 1, gpa)
+    }
+}
+
+// The walk that has one table before it.
+fn walk_one<L: Ledger>(mem: &HostMem, table: u64, gpa: u64, steps: &mut Steps<L>) -> Option<Mapping>
+    requires { IsTable table }
+    ensures value { (access : Kind) → address_at (walk (entry_in_region mem.now) (permits_guest access) (indices_of 1 gpa) table gpa) ≡ mapping_answer result access }
+    ensures steps { steps.new ≤ steps.old + 1 }
+{
+    let entry = host_entry(mem, table + 8 * index(gpa, 0), steps);
+    if is_pointer(entry) {
+        None
+    } else {
+        at_leaf(entry, 0, gpa)
+    }
+}
+
+// What an entry that is no pointer gives, with so many levels below it.
+fn at_leaf(entry: PteBits, below: u32, gpa: u64) -> Option<Mapping>
+    requires { below < 3 }
+    ensures { result ≡ found_mapping below entry gpa }
+{
+    if is_leaf(entry, below) {
+        Some(Mapping {
+            leaf: entry,
+            hpa: leaf_address(entry, below, gpa),
+        })
     } else {
         None
     }
 }
 
-// The entry at a host place. One that isn't whole in the region counts as one with V clear.
+// The entry at a host place, counted where it is read. One that isn't whole in the region counts as one with V clear.
 #[tactic(auto, unfolding(sv_types::specs::SecondStage::host_entry))]
-fn host_entry(mem: &HostMem, at: u64) -> PteBits
+fn host_entry<L: Ledger>(mem: &HostMem, at: u64, steps: &mut Steps<L>) -> PteBits
     requires aligned { at % 8 ≡ 0 }
     requires small { at < 2 ^ 60 }
-    ensures { result.0 ≡ host_entry mem.now at }
+    ensures value { result.0 ≡ host_entry mem.now at }
+    ensures steps { steps.new ≤ steps.old + 1 }
 {
     let size = mem.table_bytes() + 4096 * mem.ram_pages();
     let at = at as usize;
-    PteBits(if at + 8 <= size { mem.read(at, 8) } else { 0 })
+    if at + 8 <= size {
+        PteBits(mem.word(at, steps))
+    } else {
+        PteBits(0)
+    }
 }

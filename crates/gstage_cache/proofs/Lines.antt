@@ -1,0 +1,223 @@
+-- Lines of a cache: what they answer, how they are filled, and what a fence leaves.
+use Rattle.std.proofs.Common.{◌≡◌, ℕ, zero, suc, ◌+◌, ◌-◌, ◌*◌, ◌/◌, ◌%◌, ◌^◌, ◌<◌, ◌⊎◌, inl, inr, List, length, get_or, set, replicate, refl, sym, ◌∙◌, ap, subst, arith, Bool, true, false, ◌&&◌}
+use Rattle.std.specs.Prelude.{Option, Some, None, if◌then◌else◌, ◌==◌, map}
+use Rattle.std.proofs.lemmas.Bool.Decides.{nat_tests, eqb_tells}
+use Rattle.std.proofs.lemmas.List.{get_or-set_same, get_or-set_other, ext_get_or, length-set, length-map}
+use Rattle.std.proofs.Math.ListN.{get_or-map}
+use Rattle.sv_types.specs.Regions.{Region}
+use Rattle.sv_types.specs.Translation.{Destination, At, PageFault, Unreadable}
+use Rattle.sv_types.specs.SecondStage.{walk_guest, address_at, entry_in_region, entry_in_tables, guest_destination, permits_guest, WalksApart}
+use Rattle.sv_types.specs.CachedWalks.{line_permits, line_leads, line_at, LineAgrees, CacheAgrees, FilledUnder, no_lines, without_page}
+use Rattle.sv_types.specs.declared.cached.CacheLine.{CacheLine}
+use Rattle.sv_types.specs.declared.wires.Access.{Access}
+use Rattle.sv_types.specs.declared.wires.Access.TheVariants.{Fetch, Load, Store}
+use Rattle.sv_types.proofs.Walks.{walk_guest_fits}
+use Rattle.sv39_walk.specs.Mappings.{mapping_answer}
+use Rattle.sv39_walk.specs.declared.second_stage.Mapping.{Mapping}
+use Rattle.gstage_cache.specs.Lookup.{tagged, line_for, is_held, IsPlaced, line_of_mapping, IsKept, is_of_page}
+use Rattle.gstage_cache.proofs.Walks.{IsReadable, moved, leads_in_region, region_readable, page_moves, answer_near, answer_is}
+
+-- ---- what a line answers
+
+line_readable : (b : Bool) (x : ℕ) → IsReadable (if b then At x else PageFault)
+line_readable true x = tt
+line_readable false x = tt
+
+line_address : (b : Bool) (x : ℕ) → address_at (if b then At x else PageFault) ≡ (if b then Some x else None)
+line_address true x = refl
+line_address false x = refl
+
+-- as the walk of the tables, for each address of its page
+pub line_answers : (r : Region) (line : CacheLine) (gpa : ℕ) (access : Access) → LineAgrees r.tables line → line.page ≡ gpa / 4096
+    → walk_guest r line.hgatp gpa access ≡ (if line_permits line access then Some (line.host + gpa % 4096) else None)
+line_answers r line gpa access agrees same =
+    let place : 4096 * line.page + gpa % 4096 ≡ gpa = omega arith in
+    let near : gpa < 2 ^ 41 = let reach = agrees.reach in omega arith in
+    let small : gpa % 4096 < 4096 = omega arith in
+    let leads : guest_destination (entry_in_tables r.tables) line.hgatp gpa access ≡ line_leads line access (gpa % 4096) =
+    ap (λ (a : ℕ). guest_destination (entry_in_tables r.tables) line.hgatp a access) (sym place) ∙ agrees.leads (gpa % 4096) access small in
+    let readable : IsReadable (guest_destination (entry_in_tables r.tables) line.hgatp gpa access) =
+    subst (λ (d : Destination). IsReadable d) (sym leads) (line_readable (line_permits line access) (line.host + gpa % 4096)) in
+    answer_is r line.hgatp gpa access near
+    ∙ ap address_at (leads_in_region r line.hgatp gpa access readable ∙ leads)
+    ∙ line_address (line_permits line access) (line.host + gpa % 4096)
+
+pub line_fits : (r : Region) (line : CacheLine) (gpa : ℕ) (access : Access) → LineAgrees r.tables line → line.page ≡ gpa / 4096
+    → line_permits line access ≡ true → line.host + gpa % 4096 < 2 ^ 64
+line_fits r line gpa access agrees same permitted =
+    let answer : walk_guest r line.hgatp gpa access ≡ Some (line.host + gpa % 4096) =
+    line_answers r line gpa access agrees same ∙ ap (λ (b : Bool). if b then Some (line.host + gpa % 4096) else None) permitted in
+    (walk_guest_fits r line.hgatp gpa (line.host + gpa % 4096) access answer).1
+
+-- ---- how a line is filled
+
+lead_of : (d : Destination) (permits : Bool) (hpa place : ℕ) → IsReadable d → address_at d ≡ (if permits then Some hpa else None)
+    → moved place d ≡ (if permits then At (hpa - hpa % 4096 + place) else PageFault)
+lead_of (At x) true hpa place readable e = let same : x ≡ hpa = cc in rw same refl
+lead_of (At x) false hpa place readable e = absurd (cc)
+lead_of PageFault true hpa place readable e = absurd (cc)
+lead_of PageFault false hpa place readable e = refl
+lead_of (Unreadable entry) permits hpa place readable e = absurd readable
+
+permits_as : (hgatp gpa : ℕ) (mapping : Mapping) (access : Access) → permits_guest access mapping.leaf.0 ≡ line_permits (line_of_mapping hgatp gpa mapping) access
+permits_as hgatp gpa mapping Fetch = refl
+permits_as hgatp gpa mapping Load = refl
+permits_as hgatp gpa mapping Store = refl
+
+pub fill_agrees : (r : Region) (hgatp gpa : ℕ) (access : Access) (mapping : Mapping) → WalksApart r hgatp
+    → ((other : Access) → walk_guest r hgatp gpa other ≡ mapping_answer (Some mapping) other) → permits_guest access mapping.leaf.0 ≡ true
+    → LineAgrees r.tables (line_of_mapping hgatp gpa mapping)
+fill_agrees r hgatp gpa access mapping apart answers permitted =
+    let found : walk_guest r hgatp gpa access ≡ Some mapping.hpa = answers access ∙ ap (λ (b : Bool). if b then Some mapping.hpa else None) permitted in
+    let near : gpa < 2 ^ 41 = answer_near r hgatp gpa mapping.hpa access found in
+    record {
+      reach = omega arith;
+      leads = λ place other below.
+          let at : ℕ = 4096 * (gpa / 4096) + place in
+          let same : gpa / 4096 ≡ at / 4096 = omega arith in
+          let inside : at % 4096 ≡ place = omega arith in
+          let answer : address_at (guest_destination (entry_in_region r) hgatp gpa other) ≡ (if permits_guest other mapping.leaf.0 then Some mapping.hpa else None) =
+          sym (answer_is r hgatp gpa other near) ∙ answers other in
+          apart.reads at other (omega arith)
+          ∙ page_moves (entry_in_region r) hgatp gpa at other same
+          ∙ ap (λ (p : ℕ). moved p (guest_destination (entry_in_region r) hgatp gpa other)) inside
+          ∙ lead_of (guest_destination (entry_in_region r) hgatp gpa other) (permits_guest other mapping.leaf.0) mapping.hpa place (region_readable r hgatp gpa other) answer
+          ∙ ap (λ (b : Bool). if b then At (mapping.hpa - mapping.hpa % 4096 + place) else PageFault) (permits_as hgatp gpa mapping other);
+    }
+
+-- line j behind a change of line i
+set_at : (lines : List (Option CacheLine)) (i j : ℕ) (o : Option CacheLine) → i < length lines
+    → ((j ≡ i) × (get_or (set lines i o) j None ≡ o)) ⊎ ((j ≡ i → ⊥) × (get_or (set lines i o) j None ≡ get_or lines j None))
+set_at lines i j o fits = elim (eqb_tells j i) [
+  | inl same ↦ inl (same.1, ap (λ (k : ℕ). get_or (set lines i o) k None) same.1 ∙ get_or-set_same lines i o None fits)
+  | inr other ↦ inr (other.1, get_or-set_other lines i j o None other.1)
+]
+
+kept_fits : (before : List (Option CacheLine)) (page : ℕ) → length before ≡ 256 → page % 256 < length before
+kept_fits before page size = omega arith
+
+pub kept_agrees : (tables : List ℕ) (before after : List (Option CacheLine)) (line : CacheLine) → IsKept before after line → LineAgrees tables line
+    → CacheAgrees tables before → CacheAgrees tables after
+kept_agrees tables before after line kept agrees all = record {
+  held = λ j found e.
+      let at : get_or (set before (line.page % 256) (Some line)) j None ≡ Some found = ap (λ (lines : List (Option CacheLine)). get_or lines j None) (sym kept.is) ∙ e in
+      elim (set_at before (line.page % 256) j (Some line) (kept_fits before line.page kept.size)) [
+        | inl same ↦ let is : line ≡ found = let both = sym same.1 ∙ at in cc in subst (λ (l : CacheLine). LineAgrees tables l) is agrees
+        | inr other ↦ all.held j found (sym other.1 ∙ at)
+      ];
+}
+
+pub kept_filled : (tables : List ℕ) (hgatp : ℕ) (before after : List (Option CacheLine)) (line : CacheLine) → IsKept before after line → LineAgrees tables line
+    → line.hgatp ≡ hgatp → FilledUnder tables hgatp before after
+kept_filled tables hgatp before after line kept agrees tag = record {
+  lines = λ j.
+      let at : get_or after j None ≡ get_or (set before (line.page % 256) (Some line)) j None = ap (λ (lines : List (Option CacheLine)). get_or lines j None) kept.is in
+      elim (set_at before (line.page % 256) j (Some line) (kept_fits before line.page kept.size)) [
+        | inl same ↦ inr (line, (at ∙ same.1, (tag, agrees)))
+        | inr other ↦ inl (at ∙ other.1)
+      ];
+}
+
+-- so walks under an hgatp value leave a cache that agrees with the tables as such a one
+pub filled_agrees : (tables : List ℕ) (hgatp : ℕ) (before after : List (Option CacheLine)) → FilledUnder tables hgatp before after → CacheAgrees tables before
+    → CacheAgrees tables after
+filled_agrees tables hgatp before after filled all = record {
+  held = λ i line e. elim (filled.lines i) [
+    | inl same ↦ all.held i line (sym same ∙ e)
+    | inr fresh ↦ let is : fresh.0 ≡ line = let both = sym fresh.1.0 ∙ e in cc in subst (λ (l : CacheLine). LineAgrees tables l) is fresh.1.1.1
+  ];
+}
+
+test_same : (hgatp page : ℕ) → (hgatp == hgatp && page == page) ≡ true
+test_same hgatp page = grind (arith, nat_tests)
+
+pub kept_held : (before after : List (Option CacheLine)) (line : CacheLine) (hgatp page : ℕ) → IsKept before after line → line.hgatp ≡ hgatp → line.page ≡ page
+    → is_held (line_for after hgatp page) ≡ true
+unfolding line_for
+kept_held before after line hgatp page kept tag same =
+    let at : get_or after (page % 256) None ≡ Some line =
+    ap (λ (lines : List (Option CacheLine)). get_or lines (page % 256) None) kept.is
+    ∙ ap (λ (p : ℕ). get_or (set before (line.page % 256) (Some line)) (p % 256) None) (sym same)
+    ∙ get_or-set_same before (line.page % 256) (Some line) None (kept_fits before line.page kept.size) in
+    let test : (line.hgatp == hgatp && line.page == page) ≡ true = rw (tag, same) (test_same hgatp page) in
+    ap (λ (o : Option CacheLine). is_held (tagged hgatp page o)) at
+    ∙ ap (λ (b : Bool). is_held (if b then Some line else None)) test
+
+-- ---- how a line is looked up
+
+tags_test : (hgatp page : ℕ) (found line : CacheLine) (b : Bool) → (found.hgatp == hgatp && found.page == page) ≡ b → (if b then Some found else None) ≡ Some line
+    → (line.hgatp ≡ hgatp) × ((line.page ≡ page) × (Some found ≡ Some line))
+tags_test hgatp page found line true test e =
+    let same : found ≡ line = cc in
+    let tags : (found.hgatp ≡ hgatp) × (found.page ≡ page) = (grind (arith, nat_tests), grind (arith, nat_tests)) in
+    (ap (λ (l : CacheLine). l.hgatp) (sym same) ∙ tags.0, (ap (λ (l : CacheLine). l.page) (sym same) ∙ tags.1, e))
+tags_test hgatp page found line false test e = absurd (cc)
+
+tagged_is : (hgatp page : ℕ) (o : Option CacheLine) (line : CacheLine) → tagged hgatp page o ≡ Some line
+    → (line.hgatp ≡ hgatp) × ((line.page ≡ page) × (o ≡ Some line))
+tagged_is hgatp page None line e = absurd (cc)
+tagged_is hgatp page (Some found) line e = tags_test hgatp page found line (found.hgatp == hgatp && found.page == page) refl e
+
+pub found_is : (lines : List (Option CacheLine)) (hgatp page : ℕ) (line : CacheLine) → line_for lines hgatp page ≡ Some line
+    → (line.hgatp ≡ hgatp) × ((line.page ≡ page) × (line_at lines (page % 256) ≡ Some line))
+unfolding line_for
+found_is lines hgatp page line e = tagged_is hgatp page (line_at lines (page % 256)) line e
+
+-- ---- empty lines
+
+none_at : (n i : ℕ) → get_or (replicate {A = Option CacheLine} n None) i None ≡ None
+none_at zero i = refl
+none_at (suc n) zero = refl
+none_at (suc n) (suc i) = none_at n i
+
+pub none_placed : IsPlaced no_lines
+none_placed = record { size = refl; place = λ i line e. let none = none_at 256 i in absurd (cc) }
+
+-- ---- fences
+
+emptied_test : (page : ℕ) (line : CacheLine) (b : Bool) → (line.page == page) ≡ b → b ≡ true → without_page page (Some line) ≡ None
+emptied_test page line b test is = ap (λ (t : Bool). if t then None else Some line) (test ∙ is)
+
+emptied : (page : ℕ) (o : Option CacheLine) → is_of_page page o ≡ true → without_page page o ≡ None
+emptied page None is = refl
+emptied page (Some line) is = emptied_test page line (line.page == page) refl is
+
+left : (page : ℕ) (o : Option CacheLine) → is_of_page page o ≡ false → without_page page o ≡ o
+left page None other = refl
+left page (Some line) other = ap (λ (t : Bool). if t then None else Some line) other
+
+-- a line of another place is of another page
+other_place : (page i : ℕ) (o : Option CacheLine) → ((line : CacheLine) → o ≡ Some line → line.page % 256 ≡ i) → (i ≡ page % 256 → ⊥) → is_of_page page o ≡ false
+other_place page i None placed other = refl
+other_place page i (Some line) placed other =
+    let at : line.page % 256 ≡ i = placed line refl in
+    let differs : line.page ≡ page → ⊥ = λ same. other (sym at ∙ ap (λ (p : ℕ). p % 256) same) in grind (arith, nat_tests)
+
+map_at : (page : ℕ) (lines : List (Option CacheLine)) (i : ℕ) → get_or (map (without_page page) lines) i None ≡ without_page page (get_or lines i None)
+map_at page lines i = get_or-map (without_page page) lines i None
+
+fence_at : (lines : List (Option CacheLine)) (page i : ℕ) → IsPlaced lines → is_of_page page (line_at lines (page % 256)) ≡ true
+    → get_or (set lines (page % 256) None) i None ≡ without_page page (get_or lines i None)
+fence_at lines page i placed is = elim (set_at lines (page % 256) i None (kept_fits lines page placed.size)) [
+  | inl same ↦ same.1 ∙ sym (ap (λ (k : ℕ). without_page page (get_or lines k None)) same.0 ∙ emptied page (line_at lines (page % 256)) is)
+  | inr other ↦ other.1 ∙ sym (left page (get_or lines i None) (other_place page i (get_or lines i None) (placed.place i) other.0))
+]
+
+pub fence_empties : (lines : List (Option CacheLine)) (page : ℕ) → IsPlaced lines → is_of_page page (line_at lines (page % 256)) ≡ true
+    → set lines (page % 256) None ≡ map (without_page page) lines
+fence_empties lines page placed is =
+    ext_get_or None (set lines (page % 256) None) (map (without_page page) lines) (length-set lines (page % 256) None ∙ sym (length-map lines (without_page page)))
+    (λ i below. fence_at lines page i placed is ∙ sym (map_at page lines i))
+
+left_at : (lines : List (Option CacheLine)) (page i : ℕ) → IsPlaced lines → is_of_page page (line_at lines (page % 256)) ≡ false
+    → get_or lines i None ≡ without_page page (get_or lines i None)
+left_at lines page i placed none = elim (eqb_tells i (page % 256)) [
+  | inl same ↦ sym (left page (get_or lines i None) (ap (λ (k : ℕ). is_of_page page (get_or lines k None)) same.1 ∙ none))
+  | inr other ↦ sym (left page (get_or lines i None) (other_place page i (get_or lines i None) (placed.place i) other.1))
+]
+
+pub fence_leaves : (lines : List (Option CacheLine)) (page : ℕ) → IsPlaced lines → is_of_page page (line_at lines (page % 256)) ≡ false
+    → lines ≡ map (without_page page) lines
+fence_leaves lines page placed none =
+    ext_get_or None lines (map (without_page page) lines) (sym (length-map lines (without_page page)))
+    (λ i below. left_at lines page i placed none ∙ sym (map_at page lines i))

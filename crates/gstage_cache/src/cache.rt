@@ -1,0 +1,267 @@
+// The cache: 256 lines, one for each number of a page modulo 256.
+
+ghost use Rattle.std.specs.Prelude.{◌≡◌, ℕ, ◌+◌, ◌*◌, ◌/◌, ◌%◌, ◌^◌, ◌<◌, ◌≤◌, Some, None, IfOk, true, slice_set};
+ghost use Rattle.std.specs.Option.{ok_or};
+ghost use Rattle.sv_types.specs.SecondStage.{walk_guest, WalksApart};
+ghost use Rattle.sv_types.specs.CachedWalks.{line_permits, no_lines, LineAgrees, CacheAgrees, FilledUnder, fenced};
+ghost use Rattle.gstage_cache.specs.Lookup.{line_for, is_held, is_of_page, line_of_mapping, IsKept};
+ghost use Rattle.gstage_cache.specs.Fills.{nothing_filled, filled_further};
+
+use host_mem::HostMem;
+use std::marker::{Brand, Model};
+use std::sync::ledger::{Blank, Ledger};
+use sv_types::{Access, CacheLine, GuestFault, Steps};
+use sv39_walk::{Mapping, SecondStage, find_mapping};
+
+/// The lines of a cache.
+const LINES: u64 = 256;
+
+/// The bytes of a page.
+const PAGE_SIZE: u64 = 4096;
+
+/// The number of RAM's first page among those of guest-physical addresses.
+const RAM_PAGE: u64 = 0x8_0000;
+
+/// A cache of second-stage translations. Contracts see its lines, each held or empty.
+#[derive(Drop)]
+pub struct Cache {
+    lines: [Option<CacheLine>; 256],
+}
+
+impl Model for Cache {
+    ghost use Rattle.std.specs.Prelude.{List, Option};
+    ghost use Rattle.sv_types.specs.declared.cached.CacheLine.{CacheLine as Line};
+
+    ghost Value = { List (Option Line) };
+
+    ghost use Rattle.gstage_cache.specs.Lookup.{IsPlaced};
+
+    ghost view = { λ c. c.lines };
+
+    ghost invariant = { λ c. IsPlaced c.lines };
+}
+
+impl Cache {
+    /// A cache whose lines are empty.
+    pub fn new() -> Cache
+        ensures { result ≡ no_lines }
+    {
+        Cache { lines: [None; 256] }
+    }
+
+    /// Whether the translation of an address under an `hgatp` value is held.
+    pub fn holds(&self, hgatp: u64, gpa: u64) -> bool
+        ensures { result ≡ is_held (line_for self.now hgatp (gpa / 4096)) }
+    {
+        self.line(hgatp, gpa / PAGE_SIZE).is_some()
+    }
+
+    // The line of a page under an `hgatp` value, if it is held.
+    #[tactic(auto, unfolding(crate::specs::Lookup::line_for))]
+    fn line(&self, hgatp: u64, page: u64) -> Option<CacheLine>
+        ensures { result ≡ line_for self.now hgatp page }
+    {
+        let held = self.lines[(page % LINES) as usize];
+        match held {
+            Some(line) => {
+                if line.hgatp == hgatp && line.page == page {
+                    Some(line)
+                } else {
+                    None
+                }
+            }
+            None => None,
+        }
+    }
+
+    /// The host place of a guest-physical address under the second-stage root that `hgatp` names, as `walk_g` gives it. A
+    /// `GuestFault` with the address comes exactly where that faults.
+    ///
+    /// `hgatp` has mode 8 (Sv39x4), walks under it read the tables alone, and every line agrees with the tables.
+    pub fn walk(
+        &mut self,
+        mem: &HostMem,
+        hgatp: u64,
+        gpa: u64,
+        access: Access,
+    ) -> Result<u64, GuestFault>
+        requires second { hgatp / 2 ^ 60 ≡ 8 }
+        requires apart { WalksApart mem.now hgatp }
+        requires agrees { CacheAgrees mem.now.tables self.old }
+        ensures value { result ≡ ok_or (walk_guest mem.now hgatp gpa access) (record { gpa = gpa }) }
+        ensures agrees { CacheAgrees mem.now.tables self.new }
+        ensures filled { FilledUnder mem.now.tables hgatp self.old self.new }
+        ensures held { IfOk result (λ _. is_held (line_for self.new hgatp (gpa / 4096)) ≡ true) }
+    {
+        self.walk_on::<Brand>(mem, hgatp, gpa, access, Blank::new(1))
+    }
+
+    // `walk` with a count of its own.
+    fn walk_on<L: Ledger>(
+        &mut self,
+        mem: &HostMem,
+        hgatp: u64,
+        gpa: u64,
+        access: Access,
+        blank: Blank,
+    ) -> Result<u64, GuestFault>
+        requires name { blank.name ≡ L.name }
+        requires parts { blank.parts ≡ L.parts }
+        requires some { 0 < blank.parts }
+        requires second { hgatp / 2 ^ 60 ≡ 8 }
+        requires apart { WalksApart mem.now hgatp }
+        requires agrees { CacheAgrees mem.now.tables self.old }
+        ensures value { result ≡ ok_or (walk_guest mem.now hgatp gpa access) (record { gpa = gpa }) }
+        ensures agrees { CacheAgrees mem.now.tables self.new }
+        ensures filled { FilledUnder mem.now.tables hgatp self.old self.new }
+        ensures held { IfOk result (λ _. is_held (line_for self.new hgatp (gpa / 4096)) ≡ true) }
+    {
+        let mut steps = Steps::<L>::new(blank);
+        self.walk_counted(mem, hgatp, gpa, access, &mut steps)
+    }
+
+    /// `walk`, which counts the table words that it reads: none where the translation is held, and at most three.
+    pub fn walk_counted<L: Ledger>(
+        &mut self,
+        mem: &HostMem,
+        hgatp: u64,
+        gpa: u64,
+        access: Access,
+        steps: &mut Steps<L>,
+    ) -> Result<u64, GuestFault>
+        requires second { hgatp / 2 ^ 60 ≡ 8 }
+        requires apart { WalksApart mem.now hgatp }
+        requires agrees { CacheAgrees mem.now.tables self.old }
+        ensures value { result ≡ ok_or (walk_guest mem.now hgatp gpa access) (record { gpa = gpa }) }
+        ensures agrees { CacheAgrees mem.now.tables self.new }
+        ensures filled { FilledUnder mem.now.tables hgatp self.old self.new }
+        ensures held { IfOk result (λ _. is_held (line_for self.new hgatp (gpa / 4096)) ≡ true) }
+        ensures none { is_held (line_for self.old hgatp (gpa / 4096)) ≡ true → steps.new ≡ steps.old }
+        ensures steps { steps.new ≤ steps.old + 3 }
+    {
+        match self.line(hgatp, gpa / PAGE_SIZE) {
+            Some(line) => hit(mem, &line, gpa, access),
+            None => self.fill(mem, hgatp, gpa, access, steps),
+        }
+    }
+
+    // The walk of an address whose translation isn't held.
+    fn fill<L: Ledger>(
+        &mut self,
+        mem: &HostMem,
+        hgatp: u64,
+        gpa: u64,
+        access: Access,
+        steps: &mut Steps<L>,
+    ) -> Result<u64, GuestFault>
+        requires apart { WalksApart mem.now hgatp }
+        requires agrees { CacheAgrees mem.now.tables self.old }
+        ensures value { result ≡ ok_or (walk_guest mem.now hgatp gpa access) (record { gpa = gpa }) }
+        ensures agrees { CacheAgrees mem.now.tables self.new }
+        ensures filled { FilledUnder mem.now.tables hgatp self.old self.new }
+        ensures held { IfOk result (λ _. is_held (line_for self.new hgatp (gpa / 4096)) ≡ true) }
+        ensures steps { steps.new ≤ steps.old + 3 }
+    {
+        let Some(mapping) = find_mapping(mem, hgatp, gpa, steps) else {
+            return Err(GuestFault { gpa });
+        };
+        if mapping.permits(access) {
+            self.keep(line_of_mapping(hgatp, gpa, &mapping));
+            Ok(mapping.hpa)
+        } else {
+            Err(GuestFault { gpa })
+        }
+    }
+
+    // Keeps a line at its page's place.
+    fn keep(&mut self, line: CacheLine)
+        ensures { IsKept self.old self.new line }
+    {
+        self.lines[(line.page % LINES) as usize] = Some(line);
+    }
+
+    /// Empties the lines of a page of RAM, where pages are counted from 0, under every `hgatp` value.
+    pub fn fence(&mut self, page: u32)
+        ensures { self.new ≡ fenced page self.old }
+    {
+        let page = RAM_PAGE + u64::from(page);
+        let place = (page % LINES) as usize;
+        let held = self.lines[place];
+        if is_of_page(&held, page) {
+            self.lines[place] = None;
+        }
+    }
+
+    /// Empties all lines.
+    pub fn fence_all(&mut self)
+        ensures { self.new ≡ no_lines }
+    {
+        self.lines = empty();
+    }
+}
+
+fn empty() -> [Option<CacheLine>; 256]
+    ensures { result ≡ no_lines }
+{
+    [None; 256]
+}
+
+fn is_of_page(held: &Option<CacheLine>, page: u64) -> bool
+    ensures { result ≡ is_of_page page held.now }
+{
+    match held {
+        Some(line) => line.page == page,
+        None => false,
+    }
+}
+
+// The line that keeps where the walk of an address led.
+fn line_of_mapping(hgatp: u64, gpa: u64, mapping: &Mapping) -> CacheLine
+    ensures { result ≡ line_of_mapping hgatp gpa mapping.now }
+{
+    CacheLine {
+        hgatp,
+        page: gpa / PAGE_SIZE,
+        host: mapping.hpa - mapping.hpa % PAGE_SIZE,
+        fetch: mapping.permits(Access::Fetch),
+        load: mapping.permits(Access::Load),
+        store: mapping.permits(Access::Store),
+    }
+}
+
+fn permits(line: &CacheLine, access: Access) -> bool
+    ensures { result ≡ line_permits line.now access }
+{
+    match access {
+        Access::Fetch => line.fetch,
+        Access::Load => line.load,
+        Access::Store => line.store,
+    }
+}
+
+// What a line of the address's page answers.
+fn hit(mem: &HostMem, line: &CacheLine, gpa: u64, access: Access) -> Result<u64, GuestFault>
+    requires page { line.now.page ≡ gpa / 4096 }
+    requires agrees { LineAgrees mem.now.tables line.now }
+    ensures { result ≡ ok_or (walk_guest mem.now line.now.hgatp gpa access) (record { gpa = gpa }) }
+{
+    if permits(line, access) {
+        Ok(line.host + gpa % PAGE_SIZE)
+    } else {
+        Err(GuestFault { gpa })
+    }
+}
+
+impl SecondStage for Cache {
+    ghost serves = { λ lines r hgatp. CacheAgrees r.tables lines × WalksApart r hgatp };
+
+    ghost walked = { λ r hgatp before after. FilledUnder r.tables hgatp before after };
+
+    ghost stays = { λ r hgatp lines. nothing_filled r.tables hgatp lines };
+
+    ghost walks_on = { λ r hgatp a b c first second. filled_further r.tables hgatp a b c first second };
+
+    fn lead(&mut self, mem: &HostMem, hgatp: u64, gpa: u64, access: Access) -> Option<u64> {
+        self.walk(mem, hgatp, gpa, access).ok()
+    }
+}

@@ -1,0 +1,9 @@
+//! A cache of second-stage translations, tagged by the `hgatp` value under which they were walked.
+#![tactic(auto)]
+
+mod cache;
+mod laws;
+
+pub use cache::Cache;
+pub use laws::{law_fence_after_protection, law_walks_under_views, law_write_keeps_tables};
+pub use sv_types::GuestFault;

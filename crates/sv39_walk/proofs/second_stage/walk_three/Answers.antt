@@ -1,0 +1,17 @@
+use Rattle.std.proofs.Common.{◌+◌, ◌*◌, ◌∙◌, sym, ap}
+use Rattle.std.specs.Prelude.{Some}
+use Rattle.sv_types.specs.SecondStage.{entry_in_region, permits_guest, address_at}
+use Rattle.sv39_walk.proofs.Steps.{first_at, walk_pointer, guest_found}
+use Rattle.sv39_walk.proofs.second_stage.walk_three.Goals as goal
+
+pub returns-then-is_pointer-clause-value : goal.returns-then-is_pointer-clause-value
+returns-then-is_pointer-clause-value g c = λ access.
+    ap address_at (walk_pointer (entry_in_region c.args.mem.now) (permits_guest access) 3 2 c.args.table c.args.gpa
+    (c.args.table + 8 * c.index.result) c.host_entry-entry.result.0 c.entry_page.result (first_at 2 c.args.table c.args.gpa c.index.result c.index.ensures.value)
+    (ap Some (sym c.host_entry-entry.ensures.value)) (sym c.is_pointer.ensures ∙ c.if-is_pointer.true) c.entry_page.ensures.value) ∙ c.walk_two.ensures.value access
+
+pub returns-else-is_pointer-clause-value : goal.returns-else-is_pointer-clause-value
+returns-else-is_pointer-clause-value g c = λ access. rw c.at_leaf.ensures
+    (guest_found (entry_in_region c.args.mem.now) 3 2 c.args.table c.args.gpa (c.args.table + 8 * c.index.result) c.host_entry-entry.result access
+    (first_at 2 c.args.table c.args.gpa c.index.result c.index.ensures.value) (ap Some (sym c.host_entry-entry.ensures.value))
+    (sym c.is_pointer.ensures ∙ c.if-is_pointer.false))
