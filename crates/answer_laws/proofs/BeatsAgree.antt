@@ -54,7 +54,7 @@ beat_meets : (d : Disk) (ram : List ℕ) (f g : ℕ → Bool) → (in_ram ram (b
 unfolding disk_beat
 beat_meets d ram f g same = beat_by d ram f g (is_busy d.block) (in_ram ram (beat_gpa d.block) beat_size) (d.block.command == 1) same
 
-page_of_beat : (ram : List ℕ) (gpa n : ℕ) → length ram ≡ page_size * n → in_ram ram gpa beat_size ≡ true → page_of gpa < n
+pub page_of_beat : (ram : List ℕ) (gpa n : ℕ) → length ram ≡ page_size * n → in_ram ram gpa beat_size ≡ true → page_of gpa < n
 page_of_beat ram gpa n size inside =
     let tests : (nat_le ram_base gpa && nat_le (ram_place gpa + 64) (4096 * n)) ≡ true = ap (λ (k : ℕ). nat_le ram_base gpa && nat_le (ram_place gpa + 64) k) (sym size) ∙ inside in
     grind (arith, nat_tests)

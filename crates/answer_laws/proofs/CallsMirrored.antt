@@ -1,4 +1,6 @@
 -- Calls that change no page: SecVisor's answers go with the reference machine's.
+use Rattle.run_laws.proofs.HartsSound.{length_interrupted}
+use Rattle.attempt_laws.proofs.Stays.{length_set}
 use Rattle.std.proofs.Common.{◌≡◌, ℕ, zero, suc, ◌+◌, List, [], ◌∷◌, length, refl, sym, ◌∙◌, ap, subst, Bool, true, false, not, slice_get, slice_set}
 use Rattle.std.specs.Prelude.{Option, Some, None, if◌then◌else◌, ◌==◌, nat_le, ℤ, IsTrue}
 use Rattle.sv_types.specs.Clock.{with_timer, latest}
@@ -17,7 +19,6 @@ use Rattle.machine_model.specs.StandsFor.{Unseen, machine_of, host_hart, host_ha
 use Rattle.answer_laws.proofs.HartsMirrored.{host_in, printed_mirrors, prints_low}
 use Rattle.attempt_laws.proofs.Hosts.{hosts_get}
 use Rattle.answer_laws.proofs.Mirrored.{Mirrors, choose, decided, tested, mirrored, one_hart, hosts_in, hosts_update, framed, prints_none}
-use Rattle.run_laws.proofs.Sounds.{length_set}
 
 -- ---- one hart's answers
 
@@ -63,7 +64,7 @@ pub put_char_mirrors : (o : Unseen) (r : State) (h : ℕ) (hart : Hart) (c : Hyp
 unfolding machine_of
 put_char_mirrors o r h hart c value at =
     subst (λ (j : Journal). Mirrors o r h (record (machine_of o r) { harts = update (hosts_in o r) h (host_with 10 0); journal = j }) (put_char r h hart value))
-    (sym (printed_mirrors o.cleared value r.journal at.parts.cleared))
+    (sym (printed_mirrors o.cleared value r.journal at.right.cleared))
     (one_hart o r h hart (with_a0 hart 0) c (host_with 10 0) r.devices (printed_low value r.journal) at (mirror_a0 (length o.tables) c hart 0)
     refl refl (prints_low value r.journal))
 
@@ -133,11 +134,6 @@ hosts_interrupted t named first (c ∷ exits) [] = refl
 hosts_interrupted t named first (c ∷ exits) (x ∷ harts) =
     rw (interrupts_by t c (named first) x) (ap (◌∷◌ (host_hart t c (if named first then with_software x else x))) (hosts_interrupted t named (first + 1) exits harts))
 
-length_interrupted : (named : ℕ → Bool) (first : ℕ) (harts : List Hart) → length (interrupted named first harts) ≡ length harts
-unfolding interrupted
-length_interrupted named first [] = refl
-length_interrupted named first (x ∷ harts) = ap suc (length_interrupted named (first + 1) harts)
-
 sent_mirrors : (o : Unseen) (r : State) (h : ℕ) (hart : Hart) (c : HypervisorRegisters) (mask base : ℕ) → IsAt o r h hart c
     → Mirrors o r h (host_interrupts (host_code (machine_of o r) h success) mask base) (interrupts_sent (answer_code r h hart success) mask base)
 unfolding machine_of others_changed
@@ -146,18 +142,18 @@ sent_mirrors o r h hart c mask base at =
     let change : HostHart → HostHart = host_answered (code_word success) 0 in
     let named : ℕ → Bool = mask_names mask base in
     mirrored o r h o.exits (interrupted_hosts named 0 (update (hosts_in o r) h change)) (host_in o c next) (Interrupts mask base) (interrupted named 0 (slice_set r.harts h next))
-    r.approved r.held r.loaded r.loading r.retired r.devices r.journal (protections_of r) _ at.parts
+    r.approved r.held r.loaded r.loading r.retired r.devices r.journal (protections_of r) _ at.right
     (ap (interrupted_hosts named 0) (hosts_update (length o.tables) o.exits r.harts h c hart next change at.exits at.found (mirror_answered (length o.tables) c hart (code_word success) 0))
     ∙ hosts_interrupted (length o.tables) named 0 o.exits (slice_set r.harts h next))
     (ap (interrupted_hosts named 0) (framed o r h hart next c change at (mirror_answered (length o.tables) c hart (code_word success) 0) refl))
-    _ (at.parts.exits ∙ sym (length_set r.harts h next) ∙ sym (length_interrupted named 0 (slice_set r.harts h next))) refl refl refl (prints_none r.journal.printed)
+    _ (at.right.exits ∙ sym (length_set r.harts h next) ∙ sym (length_interrupted named 0 (slice_set r.harts h next))) refl refl refl (prints_none r.journal.printed)
 
 pub ipi_mirrors : (o : Unseen) (r : State) (h : ℕ) (hart : Hart) (c : HypervisorRegisters) (ask : Asked) → IsAt o r h hart c
     → Mirrors o r h (host_ipi (machine_of o r) h ask) (ipi_call r h hart ask)
 unfolding host_ipi ipi_call
 ipi_mirrors o r h hart c ask at =
     choose o r h (not (ask.function == 0)) _ _ _ _ (refuse_mirrors o r h hart c at)
-    (tested o r h (mask_exists (length (machine_of o r).harts) ask.a0 ask.a1) (mask_exists (length r.harts) ask.a0 ask.a1) _ _ _ _ (same_masks o r ask.a0 ask.a1 at.parts.exits)
+    (tested o r h (mask_exists (length (machine_of o r).harts) ask.a0 ask.a1) (mask_exists (length r.harts) ask.a0 ask.a1) _ _ _ _ (same_masks o r ask.a0 ask.a1 at.right.exits)
     (λ _. sent_mirrors o r h hart c ask.a0 ask.a1 at) (λ _. code_mirrors o r h hart c invalid_parameter at))
 
 pub fence_mirrors : (o : Unseen) (r : State) (h : ℕ) (hart : Hart) (c : HypervisorRegisters) (ask : Asked) → IsAt o r h hart c
@@ -165,7 +161,7 @@ pub fence_mirrors : (o : Unseen) (r : State) (h : ℕ) (hart : Hart) (c : Hyperv
 unfolding host_fence fence_call
 fence_mirrors o r h hart c ask at =
     choose o r h (not (nat_le ask.function 2)) _ _ _ _ (refuse_mirrors o r h hart c at)
-    (tested o r h (mask_exists (length (machine_of o r).harts) ask.a0 ask.a1) (mask_exists (length r.harts) ask.a0 ask.a1) _ _ _ _ (same_masks o r ask.a0 ask.a1 at.parts.exits)
+    (tested o r h (mask_exists (length (machine_of o r).harts) ask.a0 ask.a1) (mask_exists (length r.harts) ask.a0 ask.a1) _ _ _ _ (same_masks o r ask.a0 ask.a1 at.right.exits)
     (λ _. code_mirrors o r h hart c success at) (λ _. code_mirrors o r h hart c invalid_parameter at))
 
 -- ---- harts
@@ -190,11 +186,6 @@ hosts_reset t (d ∷ exits) [] (suc i) c next = refl
 hosts_reset t (d ∷ exits) (x ∷ harts) zero c next = refl
 hosts_reset t (d ∷ exits) (x ∷ harts) (suc i) c next = ap (◌∷◌ (host_hart t d x)) (hosts_reset t exits harts i c next)
 
-length_exits : (exits : List HypervisorRegisters) (h : ℕ) (c : HypervisorRegisters) → length (slice_set exits h c) ≡ length exits
-length_exits [] h c = refl
-length_exits (x ∷ exits) zero c = refl
-length_exits (x ∷ exits) (suc h) c = ap suc (length_exits exits h c)
-
 may_start : (hosts : List HostHart) (i : ℕ) (host : HostHart) → slice_get hosts i ≡ Some host → host.started ≡ false → IsTrue (is_stopped (slice_get hosts i))
 may_start hosts i host e f = subst (λ (x : Option HostHart). IsTrue (is_stopped x)) (sym e) (subst (λ (b : Bool). IsTrue (not b)) (sym f) refl)
 
@@ -216,12 +207,12 @@ start_mirrors o r h hart c ask host at there off =
     update_to hosts ask.a0 begins (host_hart t registers_at_boot new) (mirror_started t ask.a0 ask.a1 ask.a2) in
     mirrored o r h (slice_set o.exits ask.a0 registers_at_boot) (update hosts ask.a0 begins) (host_in o c next) (Starts ask.a0 (host_hart t registers_at_boot new))
     (slice_set (slice_set r.harts h next) ask.a0 new)
-    r.approved r.held r.loaded r.loading r.retired (record r.devices { clock = with_timer r.devices.clock ask.a0 latest }) r.journal (protections_of r) _ at.parts
+    r.approved r.held r.loaded r.loading r.retired (record r.devices { clock = with_timer r.devices.clock ask.a0 latest }) r.journal (protections_of r) _ at.right
     (set ∙ ap (λ (l : List HostHart). slice_set l ask.a0 (host_hart t registers_at_boot new)) (hosts_update t o.exits r.harts h c hart next change at.exits at.found (mirror_answered t c hart (code_word success) 0))
     ∙ hosts_reset t o.exits (slice_set r.harts h next) ask.a0 registers_at_boot new)
     (set ∙ ap (λ (l : List HostHart). slice_set l ask.a0 (host_hart t registers_at_boot new)) (framed o r h hart next c change at (mirror_answered t c hart (code_word success) 0) refl))
     (may_start (hosts_in o r) ask.a0 host there off)
-    (length_exits o.exits ask.a0 registers_at_boot ∙ at.parts.exits ∙ sym (length_set r.harts h next) ∙ sym (length_set (slice_set r.harts h next) ask.a0 new)) refl refl refl (prints_none r.journal.printed)
+    (length_set o.exits ask.a0 registers_at_boot ∙ at.right.exits ∙ sym (length_set r.harts h next) ∙ sym (length_set (slice_set r.harts h next) ask.a0 new)) refl refl refl (prints_none r.journal.printed)
 
 pub none_host : (t : ℕ) (exits : List HypervisorRegisters) (harts : List Hart) (i : ℕ) → length exits ≡ length harts → slice_get harts i ≡ None → slice_get (host_harts t exits harts) i ≡ None
 unfolding host_harts
@@ -235,9 +226,9 @@ started_by : (o : Unseen) (r : State) (h : ℕ) (hart : Hart) (c : HypervisorReg
 unfolding machine_of host_start start_other
 started_by o r h hart c ask None at e =
     subst (λ (y : Option HostHart). Mirrors o r h (host_start (machine_of o r) h ask y) (answer_code r h hart invalid_parameter))
-    (sym (none_host (length o.tables) o.exits r.harts ask.a0 at.parts.exits e)) (code_mirrors o r h hart c invalid_parameter at)
+    (sym (none_host (length o.tables) o.exits r.harts ask.a0 at.right.exits e)) (code_mirrors o r h hart c invalid_parameter at)
 started_by o r h hart c ask (Some other) at e =
-    let k = hosts_get (length o.tables) o.exits r.harts ask.a0 other at.parts.exits e in
+    let k = hosts_get (length o.tables) o.exits r.harts ask.a0 other at.right.exits e in
     subst (λ (y : Option HostHart). Mirrors o r h (host_start (machine_of o r) h ask y) (start_other r h hart ask (Some other))) (sym k.1.1)
     (decided o r h other.started _ _ _ _ (λ on. code_mirrors o r h hart c already at)
     (λ off. choose o r h (has_number r.rules.entries ask.a1) _ _ _ _ (start_mirrors o r h hart c ask (host_hart (length o.tables) k.0 other) at k.1.1 off)
@@ -248,9 +239,9 @@ status_by : (o : Unseen) (r : State) (h : ℕ) (hart : Hart) (c : HypervisorRegi
 unfolding host_status
 status_by o r h hart c ask None at e =
     subst (λ (y : Option HostHart). Mirrors o r h (host_status (machine_of o r) h y) (answer_code r h hart invalid_parameter))
-    (sym (none_host (length o.tables) o.exits r.harts ask.a0 at.parts.exits e)) (code_mirrors o r h hart c invalid_parameter at)
+    (sym (none_host (length o.tables) o.exits r.harts ask.a0 at.right.exits e)) (code_mirrors o r h hart c invalid_parameter at)
 status_by o r h hart c ask (Some other) at e =
-    let k = hosts_get (length o.tables) o.exits r.harts ask.a0 other at.parts.exits e in
+    let k = hosts_get (length o.tables) o.exits r.harts ask.a0 other at.right.exits e in
     subst (λ (y : Option HostHart). Mirrors o r h (host_status (machine_of o r) h y) (answer_value r h hart (if other.started then 0 else 1))) (sym k.1.1)
     (value_mirrors o r h hart c (if other.started then 0 else 1) at)
 

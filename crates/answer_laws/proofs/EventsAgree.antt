@@ -1,8 +1,9 @@
--- Beats, keys and ticks: the machine behind one stands for the state behind it, and nothing else changed.
-use Rattle.std.proofs.Common.{◌≡◌, ℕ, suc, ◌+◌, ◌*◌, ◌%◌, ◌<◌, ◌≤◌, List, [], ◌∷◌, length, map, refl, sym, ◌∙◌, ap, subst, Bool, true, false, not, ◌&&◌, arith, slice_get}
-use Rattle.std.specs.Prelude.{Some, None, option_map, if◌then◌else◌, nat_le}
+-- Beats, keys and ticks: the machine after one stands for the state after it, and nothing else changed.
+use Rattle.attempt_laws.proofs.Stays.{length_map}
+use Rattle.std.proofs.Common.{◌≡◌, ℕ, ◌+◌, ◌%◌, ◌<◌, ◌≤◌, List, length, map, refl, sym, ◌∙◌, ap, subst, Bool, true, false, not, arith, slice_get}
+use Rattle.std.specs.Prelude.{Some, None, option_map, if◌then◌else◌}
 use Rattle.std.proofs.lemmas.Bool.Decides.{nat_tests}
-use Rattle.sv_types.specs.Bytes.{overwrite, in_ram, page_of, page_size, ram_base, ram_place}
+use Rattle.sv_types.specs.Bytes.{overwrite, in_ram, page_of, ram_place}
 use Rattle.sv_types.specs.Clock.{after_tick}
 use Rattle.sv_types.specs.Console.{after_key, has_room}
 use Rattle.sv_types.specs.Regions.{IsRegion}
@@ -14,9 +15,9 @@ use Rattle.sv_types.proofs.ByteLemmas.{length_overwrite}
 use Rattle.sv_types.specs.declared.event.Note.TheVariants.{Denied}
 use Rattle.sv_types.specs.declared.event.Verdict.{Verdict}
 use Rattle.sv_types.specs.declared.event.Verdict.TheVariants.{Running}
-use Rattle.reference.specs.States.{State, Hart, Disk, Journal, protection_in, is_protected, is_approved_in, has_number}
+use Rattle.reference.specs.States.{State, Disk, Journal, protection_in, is_protected, is_approved_in, has_number}
 use Rattle.reference.specs.Counting.{count, counted, count_beat, count_key, count_tick, count_dropped, noted, count_denied}
-use Rattle.reference.specs.Disk.{disk_beat, beat_size, Beaten, Move, Idle, FromRam, IntoRam, DeniedAt, OutsideRam}
+use Rattle.reference.specs.Disk.{disk_beat, Beaten, Move, Idle, FromRam, IntoRam, DeniedAt, OutsideRam}
 use Rattle.reference.specs.Devices.{beat, key, tick, after_move, with_bytes, with_disk, hart_after_write}
 use Rattle.reference.specs.Protections.{is_free}
 use Rattle.machine_model.specs.Machine.{Machine, raised}
@@ -25,17 +26,13 @@ use Rattle.machine_model.specs.HostEvents.{beat_served, key_served, tick_served,
 use Rattle.reference.specs.Run.{happen_under, step, happen}
 use Rattle.machine_model.specs.StandsFor.{Unseen, IsRightFor, StandsFor, machine_of, protections_of, without_printed}
 use Rattle.reference.specs.Soundness.{IsSound}
-use Rattle.answer_laws.proofs.BeatsAgree.{beat_agrees, free_by, map_get}
+use Rattle.answer_laws.proofs.BeatsAgree.{beat_agrees, free_by, map_get, page_of_beat}
 use Rattle.attempt_laws.proofs.Hosts.{hosts_forget}
 use Rattle.run_laws.proofs.Sounds.{bytes_keep_load}
 use Rattle.run_laws.proofs.StepsSound.{IsFreeBeat, FreeMove, beat_page, beat_sound, counted_sound, step_goes}
 use Rattle.answer_laws.proofs.ViewsMeet.{get_numbers}
 
 -- ---- what is open stays so
-
-length_map : (f : Hart → Hart) (harts : List Hart) → length (map f harts) ≡ length harts
-length_map f [] = refl
-length_map f (x ∷ harts) = ap suc (length_map f harts)
 
 region_kept : (tables ram bytes : List ℕ) (place : ℕ) → place + length bytes ≤ length ram → IsRegion (with_ram tables ram) → IsRegion (with_ram tables (overwrite ram place bytes))
 region_kept tables ram bytes place inside p =
@@ -91,11 +88,6 @@ permits r page below free =
 in_one_page : (p n : ℕ) → p % 64 ≡ 0 → n ≤ 64 → p % 4096 + n ≤ 4096
 in_one_page p n aligned short = grind arith
 
-page_below : (ram : List ℕ) (gpa n : ℕ) → length ram ≡ page_size * n → in_ram ram gpa beat_size ≡ true → page_of gpa < n
-page_below ram gpa n size inside =
-    let tests : (nat_le ram_base gpa && nat_le (ram_place gpa + 64) (4096 * n)) ≡ true = ap (λ (k : ℕ). nat_le ram_base gpa && nat_le (ram_place gpa + 64) k) (sym size) ∙ inside in
-    grind (arith, nat_tests)
-
 fewer_inside : (ram : List ℕ) (gpa n : ℕ) → n ≤ 64 → in_ram ram gpa 64 ≡ true → in_ram ram gpa n ≡ true
 fewer_inside ram gpa n short inside = grind (arith, nat_tests)
 
@@ -104,7 +96,7 @@ unfolding machine_of
 beat_permitted o r gpa bytes s k = record {
   inside = fewer_inside r.ram gpa (length bytes) k.short k.inside;
   one_page = in_one_page (ram_place gpa) (length bytes) k.aligned k.short;
-  permitted = permits r (page_of gpa) (page_below r.ram gpa r.rules.ram_pages s.size k.inside) k.free;
+  permitted = permits r (page_of gpa) (page_of_beat r.ram gpa r.rules.ram_pages s.size k.inside) k.free;
 }
 
 moved_frame : (o : Unseen) (r : State) (f : Counts → Counts) (disk : Disk) (x : Move) → IsSound r → FreeMove r x → OnlyDisk (machine_of o r) (machine_of o (after_move (with_disk (count r f) disk) x))
@@ -204,10 +196,10 @@ raised_same : (o : Unseen) (r : State) (f : Counts → Counts) → raised (machi
 unfolding machine_of
 raised_same o r f = refl
 
--- what is known of the machine behind an event
+-- what is known of the machine after an event
 record Follows (o : Unseen) (r : State) (e : Event) (after : State) : Type 0 where
   same : event_served (machine_of o r) e ≡ machine_of o after
-  parts : IsRightFor o after
+  right : IsRightFor o after
   frame : Happens (machine_of o r) e (machine_of o after)
 
 follows : (o : Unseen) (r : State) (e : Event) → IsRightFor o r → IsSound r → IsNoTurn e → Follows o r e (happen r e)
@@ -218,15 +210,15 @@ follows o r Beat p s no_turn =
     let p2 : IsRightFor o (count r count_beat) = record { views = p.views; region = p.region; exits = p.exits; cleared = p.cleared } in
     record {
       same = ap beat_served (raised_same o r count_beat) ∙ beat_agrees o (count r count_beat) t;
-      parts = open_beat o (count r count_beat) p2 t;
+      right = open_beat o (count r count_beat) p2 t;
       frame = beat_frame o r count_beat s t;
     }
 follows o r (Key byte) p s no_turn = record {
   same = key_same o r byte;
-  parts = open_key_event o r byte p;
+  right = open_key_event o r byte p;
   frame = key_event o r byte;
 }
-follows o r (Tick n) p s no_turn = record { same = tick_same o r n; parts = open_tick_event o r n p; frame = tick_event o r n }
+follows o r (Tick n) p s no_turn = record { same = tick_same o r n; right = open_tick_event o r n p; frame = tick_event o r n }
 
 running : (r : State) (e : Event) → r.journal.verdict ≡ Running → step r e ≡ happen r e
 unfolding step happen_under
@@ -236,11 +228,11 @@ event_under : (m after : Machine) (e : Event) → m.journal.verdict ≡ Running 
 unfolding IsEvent
 event_under m after e on happens = subst (λ (v : Verdict). HappensUnder v m e after) (sym on) happens
 
-verdict_of : (o : Unseen) (r : State) → (machine_of o r).journal.verdict ≡ r.journal.verdict
+pub verdict_of : (o : Unseen) (r : State) → (machine_of o r).journal.verdict ≡ r.journal.verdict
 unfolding machine_of
 verdict_of o r = refl
 
--- a beat, a key or a tick of a machine that runs: it stands for the state behind the event, and no more was changed
+-- a beat, a key or a tick of a machine that runs: it stands for the state after the event, and no more was changed
 pub event_law : (m : Machine) (r : State) (e : Event) → StandsFor m r → r.journal.verdict ≡ Running → IsNoTurn e
     → StandsFor (event_served m e) (step r e) × IsEvent m e (event_served m e)
 event_law m r e stands on no_turn =
@@ -250,7 +242,7 @@ event_law m r e stands on no_turn =
       subst (StandsFor (event_served m e)) (sym (running r e on)) (record {
         unseen = o;
         same = same;
-        unseen_is_right = k.parts;
+        unseen_is_right = k.right;
         sound = subst IsSound (running r e on) (step_goes r e stands.sound).sound;
       }),
       event_under m (event_served m e) e (ap (λ (x : Machine). x.journal.verdict) stands.same ∙ verdict_of o r ∙ on)

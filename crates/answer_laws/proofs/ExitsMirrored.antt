@@ -109,22 +109,22 @@ views_same after p r next tables same rules views =
     (subst (λ (list : List Protection). AreViews tables r.rules.ram_pages (protection_at list)) here views))
 
 open_behind : (o : Unseen) (r : State) (h : ℕ) (after : Machine) (next : State) (tables : List ℕ) → IsRightFor o r → (k : Mirrors o r h after next) → length tables ≡ length o.tables
-    → AreViews tables r.rules.ram_pages (protection_at after.protections) → IsRightFor (record k.parts { tables = tables }) next
+    → AreViews tables r.rules.ram_pages (protection_at after.protections) → IsRightFor (record k.unseen { tables = tables }) next
 open_behind o r h after next tables p k size views = record {
-  views = views_same after k.parts r next tables k.same k.rules views;
+  views = views_same after k.unseen r next tables k.same k.rules views;
   region = region_same o.tables tables r.ram next.ram size k.ram p.region;
   exits = k.exits;
   cleared = rw k.cleared k.printed;
 }
 
--- the machine behind an answer, with its tables, stands for the state behind it
+-- the machine after an answer, with its tables, stands for the state after it
 pub stands_behind : (o : Unseen) (r : State) (h : ℕ) (after : Machine) (next : State) (tables : List ℕ) → IsRightFor o r → (k : Mirrors o r h after next) → IsSound next
     → AreTables (machine_of o r) after tables → Answered (machine_of o r) h (with_tables after tables) next
 unfolding machine_of
 stands_behind o r h after next tables p k s t = (
   record {
-    unseen = record k.parts { tables = tables };
-    same = ap (λ (x : Machine). with_tables x tables) k.same ∙ tables_same k.parts next tables (t.size ∙ sym (ap length k.tables));
+    unseen = record k.unseen { tables = tables };
+    same = ap (λ (x : Machine). with_tables x tables) k.same ∙ tables_same k.unseen next tables (t.size ∙ sym (ap length k.tables));
     unseen_is_right = open_behind o r h after next tables p k t.size t.views;
     sound = s;
   },
@@ -136,7 +136,7 @@ served_at : (o : Unseen) (r : State) (h : ℕ) (hart : Hart) (exit : Exit) (next
     → Answered (machine_of o r) h (with_tables (served_exit (machine_of o r) h exit) tables) next
 served_at o r h hart exit next tables p s found started same sound t =
     let c = hosts_get (length o.tables) o.exits r.harts h hart p.exits found in
-    let at : IsAt o r h hart c.0 = record { parts = p; sound = s; found = found; exits = c.1.0; started = started } in
+    let at : IsAt o r h hart c.0 = record { right = p; sound = s; found = found; exits = c.1.0; started = started } in
     stands_behind o r h (served_exit (machine_of o r) h exit) next tables p
     (subst (Mirrors o r h (served_exit (machine_of o r) h exit)) (sym same) (served_mirrors o r h hart c.0 exit at)) sound t
 

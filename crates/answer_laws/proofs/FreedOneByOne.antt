@@ -1,4 +1,5 @@
 -- Pages that are freed one after another, each judged when its turn comes, are those that were picked before.
+use Rattle.attempt_laws.proofs.LoadsKept.{or_first, or_second}
 use Rattle.std.proofs.Common.{◌≡◌, ℕ, zero, suc, ◌+◌, List, [], ◌∷◌, ◌++◌, filter, refl, sym, ◌∙◌, ap, subst, Bool, true, false, ◌&&◌, arith, slice_get, slice_set}
 use Rattle.std.specs.Prelude.{if◌then◌else◌, not, ◌==◌}
 use Rattle.sv_types.specs.Reference.{numbers_from}
@@ -9,8 +10,7 @@ use Rattle.machine_model.specs.HostCalls.{host_init, is_approved_one, is_modules
 use Rattle.machine_model.specs.Machine.{Machine}
 use Rattle.reference.specs.Protections.{or_free, protection_at, with_each, freed_one, freed_by}
 use Rattle.reference.specs.States.{has_number}
-use Rattle.run_laws.proofs.Lookups.{not_true, both, same_number, numbers_bounds, number_filtered, or_first, and_first}
-use Rattle.attempt_laws.proofs.LoadsKept.{right_false}
+use Rattle.run_laws.proofs.Lookups.{not_true, both, same_number, numbers_bounds, number_filtered, and_first}
 
 numbers_more : (first n : ℕ) → numbers_from first (suc n) ≡ numbers_from first n ++ (first + n) ∷ []
 numbers_more first zero = let e : first + 0 ≡ first = omega arith in rw e refl
@@ -48,7 +48,7 @@ each_elsewhere : (guard : List Protection) (pages : List ℕ) (p : Protection) (
 unfolding with_each
 each_elsewhere guard [] p page other = refl
 each_elsewhere guard (q ∷ pages) p page other =
-    each_elsewhere (slice_set guard q p) pages p page (right_false (q == page) (has_number pages page) other)
+    each_elsewhere (slice_set guard q p) pages p page (or_second (q == page) (has_number pages page) other)
     ∙ ap or_free (get_other guard q page p (λ e. both (q == page) (subst (λ (n : ℕ). (q == n) ≡ true) e (same_number q)) (or_first (q == page) (has_number pages page) other)))
 
 abbrev pub picked : (ℕ → Protection → Bool) → List Protection → ℕ → Bool

@@ -196,7 +196,7 @@ device_store_mirrors : (o : Unseen) (r : State) (h : ℕ) (hart : Hart) (c : Hyp
     (carry_out_device_store r h hart address (device_store r.devices r.journal gpa width value))
 unfolding machine_of device_store
 device_store_mirrors o r h hart c address gpa width value at =
-    let k = port_stores o.cleared r.devices r.journal (port_at gpa) width value at.parts.cleared in
+    let k = port_stores o.cleared r.devices r.journal (port_at gpa) width value at.right.cleared in
     subst (λ (x : Option DeviceStore). Mirrors o r h (host_device_store (machine_of o r) h (host_in o c hart) hart.mode address x)
     (carry_out_device_store r h hart address (port_store r.devices r.journal (port_at gpa) width value)))
     (sym k.0) (stored_by o r h hart c address (port_store r.devices r.journal (port_at gpa) width value) at k.1)

@@ -1,5 +1,5 @@
 -- The laws of attempts.
-use Rattle.std.proofs.Common.{◌≡◌, ℕ, zero, suc, ◌+◌, List, [], ◌∷◌, length, refl, sym, ◌∙◌, ap, subst, true, false, slice_get, slice_set}
+use Rattle.std.proofs.Common.{◌≡◌, ℕ, ◌+◌, length, refl, sym, ◌∙◌, ap, subst, true, false, slice_get, slice_set}
 use Rattle.std.specs.Prelude.{Option, Some, None, ◌==◌}
 use Rattle.sv_types.specs.Hardware.{Attempted, leave, with_region}
 use Rattle.sv_types.specs.HypervisorRegisters.{HypervisorRegisters, registers_at_exit}
@@ -20,7 +20,7 @@ use Rattle.attempt_laws.specs.Agree.{IsAt, AgreesBy, IsNotLoading, region_at, co
 use Rattle.answer_laws.specs.Laws.{MakesAttempt, IsQuiet, QuietLaw, ExitLaw}
 use Rattle.machine_model.specs.HardwareEvent.{attempted}
 use Rattle.attempt_laws.proofs.Hosts.{hosts_get, hosts_exit}
-use Rattle.attempt_laws.proofs.Stays.{running_host}
+use Rattle.attempt_laws.proofs.Stays.{running_host, length_set}
 use Rattle.attempt_laws.proofs.AttemptLawHolds.{attempt_law}
 use Rattle.run_laws.proofs.StepsSound.{turn_goes, counted_sound}
 
@@ -31,9 +31,9 @@ not_loading h (Some load) other = other load refl
 quiet_by : (o : Unseen) (r : State) (h : ℕ) (hart : Hart) (c : HypervisorRegisters) (a : Attempted) (x : Outcome) → IsAt o r h hart c
     → AgreesBy x o r h hart c a (turn r h) → IsQuiet x → StandsFor (after_quiet_attempt (machine_of o r) h a) (turn r h)
 quiet_by o r h hart c a (Outcome.Retired wrote) at agrees quiet =
-    record { unseen = one_attempt_more o; same = agrees.same; unseen_is_right = agrees.parts; sound = (turn_goes r h at.sound).sound }
+    record { unseen = one_attempt_more o; same = agrees.same; unseen_is_right = agrees.right; sound = (turn_goes r h at.sound).sound }
 quiet_by o r h hart c a Outcome.GuestTrap at agrees quiet =
-    record { unseen = one_attempt_more o; same = agrees.same; unseen_is_right = agrees.parts; sound = (turn_goes r h at.sound).sound }
+    record { unseen = one_attempt_more o; same = agrees.same; unseen_is_right = agrees.right; sound = (turn_goes r h at.sound).sound }
 quiet_by o r h hart c a (Outcome.Exit exit) at agrees quiet = absurd quiet
 
 same_host : (x : Option HostHart) (a b : HostHart) → x ≡ Some a → x ≡ Some b → a ≡ b
@@ -62,7 +62,7 @@ quiet_same m r h host hart o same parts sound host_is hart_is started other =
     let there : slice_get (machine_of o r).harts h ≡ Some host = subst (λ (x : Machine). slice_get x.harts h ≡ Some host) same host_is in
     let e : host ≡ host_hart (length o.tables) c.0 hart = same_host (slice_get (machine_of o r).harts h) host (host_hart (length o.tables) c.0 hart) there c.1.1 in
     subst (λ (x : Machine). IsQuiet (attempted x h host).outcome → StandsFor (after_quiet_attempt x h (attempted x h host)) (turn r h)) (sym same)
-    (quiet_at o r h hart c.0 host (record { parts = parts; sound = sound; found = hart_is; exits = c.1.0; started = started }) other e)
+    (quiet_at o r h hart c.0 host (record { right = parts; sound = sound; found = hart_is; exits = c.1.0; started = started }) other e)
 
 -- over a turn whose count was raised already
 pub quiet_turn : (m : Machine) (r : State) (h : ℕ) (host : HostHart) (hart : Hart) → MakesAttempt m r h host hart
@@ -82,11 +82,6 @@ left o r h hart c exit at =
     rw (ap (slice_set (host_harts (length o.tables) o.exits r.harts) h) (running_host (length o.tables) d hart at.started)
     ∙ hosts_exit (length o.tables) o.exits r.harts h d hart at.found) refl
 
-length_exits : (exits : List HypervisorRegisters) (h : ℕ) (c : HypervisorRegisters) → length (slice_set exits h c) ≡ length exits
-length_exits [] h c = refl
-length_exits (x ∷ exits) zero c = refl
-length_exits (x ∷ exits) (suc h) c = ap suc (length_exits exits h c)
-
 exit_by : (o : Unseen) (r : State) (h : ℕ) (hart : Hart) (c : HypervisorRegisters) (a : Attempted) (x : Outcome) (exit : Exit) → IsAt o r h hart c
     → AgreesBy x o r h hart c a (turn r h) → x ≡ Outcome.Exit exit
     → StandsFor (after_attempt (machine_of o r) h a) r × (turn r h ≡ serve_exit r h hart exit)
@@ -98,10 +93,10 @@ exit_by o r h hart c a (Outcome.Exit other) exit at agrees e =
         unseen = record o { exits = slice_set o.exits h (registers_at_exit c other); attempts = o.attempts + 1 };
         same = ap (after_attempt (machine_of o r) h) agrees.0 ∙ left o r h hart c other at;
         unseen_is_right = record {
-          views = at.parts.views;
-          region = at.parts.region;
-          exits = length_exits o.exits h (registers_at_exit c other) ∙ at.parts.exits;
-          cleared = at.parts.cleared;
+          views = at.right.views;
+          region = at.right.region;
+          exits = length_set o.exits h (registers_at_exit c other) ∙ at.right.exits;
+          cleared = at.right.cleared;
         };
         sound = at.sound;
       },
@@ -128,7 +123,7 @@ exit_same m r h host hart exit o same parts sound host_is hart_is started other 
     let there : slice_get (machine_of o r).harts h ≡ Some host = subst (λ (x : Machine). slice_get x.harts h ≡ Some host) same host_is in
     let e : host ≡ host_hart (length o.tables) c.0 hart = same_host (slice_get (machine_of o r).harts h) host (host_hart (length o.tables) c.0 hart) there c.1.1 in
     subst (λ (x : Machine). (attempted x h host).outcome ≡ Outcome.Exit exit → StandsFor (after_attempt x h (attempted x h host)) r × (turn r h ≡ serve_exit r h hart exit)) (sym same)
-    (exit_at o r h hart c.0 host exit (record { parts = parts; sound = sound; found = hart_is; exits = c.1.0; started = started }) other e)
+    (exit_at o r h hart c.0 host exit (record { right = parts; sound = sound; found = hart_is; exits = c.1.0; started = started }) other e)
 
 pub exit_turn : (m : Machine) (r : State) (h : ℕ) (host : HostHart) (hart : Hart) (exit : Exit) → MakesAttempt m r h host hart
     → (attempted m h host).outcome ≡ Outcome.Exit exit → StandsFor (after_attempt m h (attempted m h host)) r × (turn r h ≡ serve_exit r h hart exit)
@@ -138,7 +133,7 @@ exit_turn m r h host hart exit makes left_by =
 
 -- ---- over a step
 
-raised_at : (o : Unseen) (r : State) → IsRightFor o r → IsSound r → StandsFor (raised (machine_of o r) count_turn) (count r count_turn)
+pub raised_at : (o : Unseen) (r : State) → IsRightFor o r → IsSound r → StandsFor (raised (machine_of o r) count_turn) (count r count_turn)
 unfolding machine_of
 raised_at o r p s = record {
   unseen = o;

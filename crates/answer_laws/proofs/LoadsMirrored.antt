@@ -213,7 +213,7 @@ loads_at : (o : Unseen) (r : State) (h : ℕ) (hart : Hart) (load : Loading) (ta
     → Answered (machine_of o r) h (with_tables (served_load_turn (machine_of o r) h) tables) (turn r h)
 loads_at o r h hart load tables p s found started under its t =
     let c = hosts_get (length o.tables) o.exits r.harts h hart p.exits found in
-    let at : IsAt o r h hart c.0 = record { parts = p; sound = s; found = found; exits = c.1.0; started = started } in
+    let at : IsAt o r h hart c.0 = record { right = p; sound = s; found = found; exits = c.1.0; started = started } in
     stands_behind o r h (served_load_turn (machine_of o r) h) (turn r h) tables p
     (subst (Mirrors o r h (served_load_turn (machine_of o r) h)) (sym (turn_is r h hart load found started under its)) (load_turn_mirrors o r h hart c.0 load at under))
     (turn_goes r h s).sound t

@@ -1,4 +1,6 @@
 -- What every answer of SecVisor's has in common: the machine that stands for a state goes with the state, and its frame is kept.
+use Rattle.std.proofs.lemmas.List.{append-nil}
+use Rattle.attempt_laws.proofs.Stays.{length_set}
 use Rattle.std.proofs.Common.{◌≡◌, ℕ, zero, suc, ◌≤◌, List, [], ◌∷◌, ◌++◌, length, drop, map, refl, sym, ◌∙◌, ap, subst, Bool, true, false, slice_get, slice_set, arith}
 use Rattle.std.specs.Prelude.{Option, Some, option_map, if◌then◌else◌}
 use Rattle.sv_types.specs.HypervisorRegisters.{HypervisorRegisters}
@@ -11,19 +13,14 @@ use Rattle.machine_model.specs.Machine.{Machine, HostHart, HostLoad, update}
 use Rattle.machine_model.specs.StandsFor.{Unseen, IsRightFor, machine_of, host_hart, host_harts, load_kept, protections_of, without_printed}
 use Rattle.attempt_laws.specs.Agree.{IsAt}
 use Rattle.machine_model.specs.HardwareEvent.{Answers, Others, Nobody, MayChange, others_changed, hart_answered, devices_answered, journal_answered}
-use Rattle.run_laws.proofs.Sounds.{length_set}
 
 -- bytes are printed behind those that were
 pub record Adds (old new : List ℕ) : Type 0 where
   pub added : List ℕ
   pub same : new ≡ old ++ added
 
-no_more : (list : List ℕ) → list ≡ list ++ []
-no_more [] = refl
-no_more (x ∷ list) = ap (◌∷◌ x) (no_more list)
-
 pub prints_none : (printed : List ℕ) → Adds printed printed
-prints_none printed = record { added = []; same = no_more printed }
+prints_none printed = record { added = []; same = sym (append-nil printed) }
 
 pub dropped_more : (list more : List ℕ) (n : ℕ) → n ≤ length list → drop n (list ++ more) ≡ drop n list ++ more
 dropped_more list more zero small = refl
@@ -41,11 +38,11 @@ left_by_adds n old new k small = subst (λ (list : List ℕ). n ≤ length list)
 -- the machine after an answer is what the state after it makes of the same unseen parts but for a hart's exit registers, and
 -- the answer stays in its frame
 pub record Mirrors (o : Unseen) (r : State) (h : ℕ) (after : Machine) (next : State) : Type 0 where
-  pub parts : Unseen
-  pub same : after ≡ machine_of parts next
-  pub tables : parts.tables ≡ o.tables
-  pub cleared : parts.cleared ≡ o.cleared
-  pub exits : length parts.exits ≡ length next.harts
+  pub unseen : Unseen
+  pub same : after ≡ machine_of unseen next
+  pub tables : unseen.tables ≡ o.tables
+  pub cleared : unseen.cleared ≡ o.cleared
+  pub exits : length unseen.exits ≡ length next.harts
   pub printed : o.cleared ≤ length next.journal.printed
   pub ram : next.ram ≡ r.ram
   pub rules : next.rules ≡ r.rules
@@ -173,7 +170,7 @@ pub mirrored : (o : Unseen) (r : State) (h : ℕ) (exits : List HypervisorRegist
     → Adds r.journal.printed j.printed
     → Mirrors o r h (hosted o r hosts protections loaded hl retired d j) (stepped r harts approved held loaded loading retired d j)
 mirrored o r h exits hosts host others harts approved held loaded loading retired d j protections hl p e e2 may size f g time adds = record {
-  parts = record o { exits = exits };
+  unseen = record o { exits = exits };
   same = all_same o r exits hosts harts approved held loaded loading retired d j protections hl e f g;
   tables = refl;
   cleared = refl;
@@ -239,10 +236,10 @@ pub one_paged : (o : Unseen) (r : State) (h : ℕ) (hart next : Hart) (c : Hyper
 unfolding others_changed
 one_paged o r h hart next c change approved held loaded loading retired j protections hl at e same f g adds =
     mirrored o r h o.exits (update (hosts_in o r) h change) (host_hart (length o.tables) c next) Nobody (slice_set r.harts h next)
-    approved held loaded loading retired r.devices j protections hl at.parts
+    approved held loaded loading retired r.devices j protections hl at.right
     (hosts_update (length o.tables) o.exits r.harts h c hart next change at.exits at.found e)
     (framed o r h hart next c change at e same)
-    _ (at.parts.exits ∙ sym (length_set r.harts h next)) f g refl adds
+    _ (at.right.exits ∙ sym (length_set r.harts h next)) f g refl adds
 
 -- a hart, devices and the journal
 pub one_hart : (o : Unseen) (r : State) (h : ℕ) (hart next : Hart) (c : HypervisorRegisters) (change : HostHart → HostHart) (d : Devices) (j : Journal)
@@ -253,10 +250,10 @@ pub one_hart : (o : Unseen) (r : State) (h : ℕ) (hart next : Hart) (c : Hyperv
 unfolding machine_of others_changed
 one_hart o r h hart next c change d j at e same time adds =
     mirrored o r h o.exits (update (hosts_in o r) h change) (host_hart (length o.tables) c next) Nobody (slice_set r.harts h next)
-    r.approved r.held r.loaded r.loading r.retired d j (protections_of r) (option_map (load_kept r.rules r.ram) r.loading) at.parts
+    r.approved r.held r.loaded r.loading r.retired d j (protections_of r) (option_map (load_kept r.rules r.ram) r.loading) at.right
     (hosts_update (length o.tables) o.exits r.harts h c hart next change at.exits at.found e)
     (framed o r h hart next c change at e same)
-    _ (at.parts.exits ∙ sym (length_set r.harts h next)) refl refl time adds
+    _ (at.right.exits ∙ sym (length_set r.harts h next)) refl refl time adds
 
 -- no hart is changed
 same_set : {A : Type 0} (xs : List A) (h : ℕ) (x : A) → slice_get xs h ≡ Some x → xs ≡ slice_set xs h x
@@ -272,8 +269,8 @@ no_hart o r h hart c loading hl j at e adds =
     let t : ℕ = length o.tables in
     let there = host_there t o.exits r.harts h c hart at.exits at.found in
     mirrored o r h o.exits (hosts_in o r) (host_hart t c hart) Nobody r.harts
-    r.approved r.held r.loaded loading r.retired r.devices j (protections_of r) hl at.parts refl
+    r.approved r.held r.loaded loading r.retired r.devices j (protections_of r) hl at.right refl
     (same_set (hosts_in o r) h (host_hart t c hart) there
     ∙ ap (slice_set (hosts_in o r) h) (own_same t c hart hart refl)
     ∙ sym (update_sets (hosts_in o r) h (host_hart t c hart) (hart_answered (host_hart t c hart)) there))
-    _ at.parts.exits refl e refl adds
+    _ at.right.exits refl e refl adds

@@ -33,8 +33,7 @@ use Rattle.answer_laws.proofs.CallsMirrored.{mirror_answered, mirror_stayed, ref
 use Rattle.run_laws.proofs.Lookups.{not_true, both, is_there, same_number, and_both, and_first, found_id, none_there}
 use Rattle.answer_laws.proofs.Mirrored.{Mirrors, choose, decided, tested, one_hart, one_paged, prints_none}
 use Rattle.run_laws.proofs.ModulesSound.{IsGoodAddress, address_good}
-use Rattle.answer_laws.proofs.ProtectionsChange.{held_protections, unloaded_protections, retired_protections}
-use Rattle.answer_laws.proofs.ViewsMeet.{get_numbers}
+use Rattle.answer_laws.proofs.ProtectionsChange.{held_protections, unloaded_protections, retired_protections, at_page}
 
 -- ---- refusals
 
@@ -69,11 +68,6 @@ none_numbers f first (suc n) (suc i) past = none_numbers f (first + 1) n i (omeg
 
 not_approved : (r : State) (page : ℕ) → IsSound r → r.rules.ram_pages ≤ page → is_approved_in r.approved page ≡ false
 not_approved r page s past = not_true (is_approved_in r.approved page) (λ t. let below : page < r.rules.ram_pages = s.pages.inside page t in absurd (omega arith))
-
-at_page : (r : State) (page : ℕ) → page < r.rules.ram_pages → protection_at (protections_of r) page ≡ protection_in r.approved r.held page
-at_page r page below =
-    let first : 0 + page ≡ page = omega arith in
-    ap or_free (get_numbers (protection_in r.approved r.held) 0 r.rules.ram_pages page below) ∙ ap (protection_in r.approved r.held) first
 
 past_page : (r : State) (page : ℕ) → r.rules.ram_pages ≤ page → protection_at (protections_of r) page ≡ Free
 past_page r page past = ap or_free (none_numbers (protection_in r.approved r.held) 0 r.rules.ram_pages page past)

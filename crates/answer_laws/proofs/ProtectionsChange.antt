@@ -184,7 +184,7 @@ retired_protections r span s before =
 
 -- ---- the views for a list of protections
 
-at_page : (r : State) (page : ℕ) → page < r.rules.ram_pages → protection_at (protections_of r) page ≡ protection_in r.approved r.held page
+pub at_page : (r : State) (page : ℕ) → page < r.rules.ram_pages → protection_at (protections_of r) page ≡ protection_in r.approved r.held page
 at_page r page below =
     let first : 0 + page ≡ page = omega arith in
     ap or_free (get_numbers (protection_in r.approved r.held) 0 r.rules.ram_pages page below) ∙ ap (protection_in r.approved r.held) first

@@ -1,4 +1,4 @@
--- The whole turn of a machine: it stands for the state behind the turn, and no more was changed than a turn may change.
+-- The whole turn of a machine: it stands for the state after the turn, and no more was changed than a turn may change.
 use Rattle.std.proofs.Common.{◌≡◌, ℕ, List, length, refl, sym, ◌∙◌, ap, subst, Bool, true, false, slice_get}
 use Rattle.std.specs.Prelude.{Option, Some, None, option_map, if◌then◌else◌, ◌==◌}
 use Rattle.sv_types.specs.declared.event.Event.{Event}
@@ -20,10 +20,10 @@ use Rattle.machine_model.specs.StandsFor.{StandsFor, Unseen, IsRightFor, machine
 use Rattle.reference.specs.Soundness.{IsSound}
 use Rattle.reference.specs.Turn.{turn, turn_of, turn_of_started}
 use Rattle.answer_laws.proofs.CallsMirrored.{none_host}
-use Rattle.answer_laws.proofs.EventsAgree.{IsNoTurn, event_law}
+use Rattle.answer_laws.proofs.EventsAgree.{IsNoTurn, event_law, verdict_of}
 use Rattle.answer_laws.proofs.ExitsMirrored.{served_turn}
 use Rattle.attempt_laws.proofs.Hosts.{hosts_get}
-use Rattle.answer_laws.proofs.LawsHold.{quiet_turn, raised_stands, running}
+use Rattle.answer_laws.proofs.LawsHold.{quiet_turn, running, raised_at}
 use Rattle.answer_laws.proofs.LoadsMirrored.{load_turn}
 
 -- ---- the frame, with the count of turns left aside
@@ -36,7 +36,7 @@ left_raised m after h host a = record { answer = a.answer; size = a.size; may = 
 
 -- ---- the state of a turn that does nothing, of a load and of an attempt
 
--- what is known behind a turn, before its count is put in
+-- what is known after a turn, before its count is put in
 abbrev pub Turned : Machine → State → ℕ → Option HostHart → Machine → Type 0
 Turned m r h host after = StandsFor after (turn (count r count_turn) h) × TurnOf m h host after
 
@@ -144,9 +144,6 @@ harts_by : (o : Unseen) (r : State) → (machine_of o r).harts ≡ host_harts (l
 unfolding machine_of
 harts_by o r = refl
 
-stands_raised : (o : Unseen) (r : State) → IsRightFor o r → IsSound r → StandsFor (raised (machine_of o r) count_turn) (count r count_turn)
-stands_raised o r p s = raised_stands (machine_of o r) r (record { unseen = o; same = refl; unseen_is_right = p; sound = s })
-
 turned_by : (o : Unseen) (r : State) (after : Machine) (h : ℕ) (x : Option Hart) → IsRightFor o r → IsSound r → slice_get r.harts h ≡ x
     → TurnServed (raised (machine_of o r) count_turn) h (slice_get (machine_of o r).harts h) after
     → Turned (machine_of o r) r h (slice_get (machine_of o r).harts h) after
@@ -154,20 +151,16 @@ turned_by o r after h None p s e =
     let none : slice_get (machine_of o r).harts h ≡ None = ap (λ (l : List HostHart). slice_get l h) (harts_by o r) ∙ none_host (length o.tables) o.exits r.harts h p.exits e in
     subst (λ (y : Option HostHart). TurnServed (raised (machine_of o r) count_turn) h y after → Turned (machine_of o r) r h y after) (sym none)
     (λ served. (
-      subst (λ (n : Machine). StandsFor n (turn (count r count_turn) h)) (sym served) (still (machine_of o r) r h (stands_raised o r p s) (turn_none (count r count_turn) h e)),
+      subst (λ (n : Machine). StandsFor n (turn (count r count_turn) h)) (sym served) (still (machine_of o r) r h (raised_at o r p s) (turn_none (count r count_turn) h e)),
       same_frame (machine_of o r) (raised (machine_of o r) count_turn) after served (recorded_turn (machine_of o r)),
     ))
 turned_by o r after h (Some hart) p s e =
     let c = hosts_get (length o.tables) o.exits r.harts h hart p.exits e in
     let there : slice_get (machine_of o r).harts h ≡ Some (host_hart (length o.tables) c.0 hart) = ap (λ (l : List HostHart). slice_get l h) (harts_by o r) ∙ c.1.1 in
     subst (λ (y : Option HostHart). TurnServed (raised (machine_of o r) count_turn) h y after → Turned (machine_of o r) r h y after) (sym there)
-    (λ served. hart_served (machine_of o r) after r h (host_hart (length o.tables) c.0 hart) hart hart.started (stands_raised o r p s) there e refl (loading_by o r) served)
+    (λ served. hart_served (machine_of o r) after r h (host_hart (length o.tables) c.0 hart) hart hart.started (raised_at o r p s) there e refl (loading_by o r) served)
 
 -- ---- the law
-
-verdict_of : (o : Unseen) (r : State) → (machine_of o r).journal.verdict ≡ r.journal.verdict
-unfolding machine_of
-verdict_of o r = refl
 
 event_of : (m after : Machine) (h : ℕ) → m.journal.verdict ≡ Running → TurnOf m h (slice_get m.harts h) after → IsEvent m (Turn h) after
 unfolding IsEvent

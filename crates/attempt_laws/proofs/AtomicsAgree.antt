@@ -6,7 +6,6 @@ use Rattle.sv_types.specs.Effects.{amo_value}
 use Rattle.sv_types.specs.Hardware.{Attempted, with_region}
 use Rattle.sv_types.specs.HardwareMemory.{after_load_reserved, after_store_conditional, after_amo, fault_exception, implicit_read, with_reservation, retire_with, wrote, behind_write, reached}
 use Rattle.sv_types.specs.HypervisorRegisters.{HypervisorRegisters}
-use Rattle.sv_types.specs.Instructions.{instruction_of, rows}
 use Rattle.sv_types.specs.Regions.{IsWidth, host_word, write_host}
 use Rattle.sv_types.specs.Requests.{loaded_value, reserved_at, covers, after_write}
 use Rattle.sv_types.specs.SecondStage.{with_ram}
@@ -19,16 +18,16 @@ use Rattle.sv_types.specs.declared.wires.Access.TheVariants as Access
 use Rattle.sv_types.proofs.RegionLemmas.{word_in_ram, write_in_ram}
 use Rattle.sv_types.proofs.Reservations.{after_write_behind, covers_behind}
 use Rattle.reference.specs.States.{State, Hart, without_reservation}
-use Rattle.reference.specs.Devices.{hart_after_write as forgetting}
+use Rattle.reference.specs.Devices.{hart_after_write}
 use Rattle.reference.specs.Trapping.{exception}
-use Rattle.reference.specs.Requests.{carried_out, stepped_with, carried_out_writing, ram_word, write_stopped, source_of, target_of, FromRam, ToRam, carry_out_load_reserved as reserves, carry_out_store_conditional as stores_if, carry_out_amo as amos}
+use Rattle.reference.specs.Requests.{carried_out, stepped_with, carried_out_writing, ram_word, write_stopped, source_of, target_of, FromRam, ToRam, carry_out_load_reserved, carry_out_store_conditional, carry_out_amo}
 use Rattle.machine_model.specs.Served.{serve_exit, serve_access, serve_load, serve_write, serve_store, transformed}
 use Rattle.machine_model.specs.StandsFor.{Unseen}
 use Rattle.attempt_laws.specs.Agree.{IsAt, Agrees, region_at, core_at}
 use Rattle.attempt_laws.proofs.Stays.{stays, writes, CanWrite}
 use Rattle.attempt_laws.proofs.Excepts.{exception_agrees, exit_agrees}
-use Rattle.attempt_laws.proofs.LoadsAgree.{gpa_back}
-use Rattle.attempt_laws.proofs.StoresAgree.{FreeKeeps}
+use Rattle.attempt_laws.proofs.LoadsAgree.{gpa_back, unreadable_load}
+use Rattle.attempt_laws.proofs.StoresAgree.{FreeKeeps, unreadable_store}
 use Rattle.attempt_laws.proofs.PlacesAgree.{sources_agree, targets_agree}
 
 -- the transformed instruction is no plain load or store, and no implicit read
@@ -61,12 +60,6 @@ load_exit : (r : State) (h : ℕ) (hart : Hart) (address htval htinst pc : ℕ) 
 unfolding serve_exit serve_access
 load_exit r h hart address htval htinst pc word = rw word.same (load_exit_by r h hart address htval htinst pc word.effect word.atomic)
 
-unreadable_load : (r : State) (h : ℕ) (hart : Hart) (address htval pc : ℕ)
-    → exception r h hart Cause.LoadAccess address
-    ≡ serve_exit r h hart (record { interrupt = false; cause = 21; pc = pc; stval = address; htval = htval; htinst = implicit_read })
-unfolding serve_exit serve_access serve_load transformed instruction_of rows
-unreadable_load r h hart address htval pc = refl
-
 -- ---- LR
 
 reserved_behind : (t p : ℕ) → t % 4096 ≡ 0 → reserved_at (t + p) ≡ t + reserved_at p
@@ -86,14 +79,14 @@ pub lr_agrees : (o : Unseen) (r : State) (h : ℕ) (hart : Hart) (c : Hypervisor
     → IsAt o r h hart c → IsAtomicWord htinst hart → IsWidth width
     → Agrees o r h hart c
     (with_region (region_at o r) (after_load_reserved (region_at o r) (core_at o c hart) rd width (reached (region_at o r) (core_at o c hart) Access.Load address width htinst)))
-    (reserves r h hart rd address width (source_of r hart address width))
-unfolding after_load_reserved reserves
+    (carry_out_load_reserved r h hart rd address width (source_of r hart address width))
+unfolding after_load_reserved carry_out_load_reserved
 lr_agrees o r h hart c rd address width htinst at word whole =
     sources_agree o r h hart c address width htinst
-    (λ x. with_region (region_at o r) (after_load_reserved (region_at o r) (core_at o c hart) rd width x)) (reserves r h hart rd address width)
+    (λ x. with_region (region_at o r) (after_load_reserved (region_at o r) (core_at o c hart) rd width x)) (carry_out_load_reserved r h hart rd address width)
     (record {
-      ram = λ gpa. subst (λ (a : Attempted). Agrees o r h hart c a (reserves r h hart rd address width (FromRam gpa)))
-          (sym (reserves_there o r hart c rd width (ram_place gpa) at.parts.region.tables))
+      ram = λ gpa. subst (λ (a : Attempted). Agrees o r h hart c a (carry_out_load_reserved r h hart rd address width (FromRam gpa)))
+          (sym (reserves_there o r hart c rd width (ram_place gpa) at.right.region.tables))
           (stays o r h hart (stepped_with (record hart { reservation = Some (reserved_at (ram_place gpa)) }) rd (loaded_value true width (ram_word r gpa width))) c at at.started);
       device = λ gpa same. exit_agrees o r h hart c (fault_exception Access.Load address htinst (Fault.Guest gpa false)) (exception r h hart Cause.LoadAccess address) refl
           (load_exit r h hart address (gpa / 4) htinst hart.pc word);
@@ -128,12 +121,6 @@ guarded_exit : (r : State) (h : ℕ) (hart : Hart) (address gpa htinst pc : ℕ)
 unfolding serve_exit serve_access serve_write
 guarded_exit r h hart address gpa htinst pc word same inside = rw (word.explicit, gpa_back gpa address same, inside) refl
 
-unreadable_store : (r : State) (h : ℕ) (hart : Hart) (address htval pc : ℕ)
-    → exception r h hart Cause.StoreAccess address
-    ≡ serve_exit r h hart (record { interrupt = false; cause = 23; pc = pc; stval = address; htval = htval; htinst = implicit_read })
-unfolding serve_exit serve_access serve_write
-unreadable_store r h hart address htval pc = refl
-
 -- ---- SC, by whether the reservation covers the bytes
 
 sc_writes : (o : Unseen) (r : State) (hart : Hart) (c : HypervisorRegisters) (rd width value p : ℕ)
@@ -141,7 +128,7 @@ sc_writes : (o : Unseen) (r : State) (hart : Hart) (c : HypervisorRegisters) (rd
     (retire_with (with_reservation (core_at o c hart) None) rd 0 (wrote (length o.tables + p) width))
     ≡ record {
       region = with_ram o.tables (write_word r.ram p width value);
-      core = core_at o c (forgetting p width (stepped_with (without_reservation hart) rd 0));
+      core = core_at o c (hart_after_write p width (stepped_with (without_reservation hart) rd 0));
       outcome = Outcome.Retired (Some (record { hpa = length o.tables + p; width = width }));
     }
 unfolding after_write
@@ -166,8 +153,8 @@ sc_by o r h hart c rd width value p false at kept = stays o r h hart (stepped_wi
 sc_there : (o : Unseen) (r : State) (h : ℕ) (hart : Hart) (c : HypervisorRegisters) (rd address width value gpa : ℕ)
     → IsAt o r h hart c → CanWrite r (ram_place gpa) width value
     → Agrees o r h hart c (after_store_conditional (region_at o r) (core_at o c hart) rd width value (Ok (length o.tables + ram_place gpa)))
-    (stores_if r h hart rd address width value (ToRam gpa))
-unfolding after_store_conditional stores_if
+    (carry_out_store_conditional r h hart rd address width value (ToRam gpa))
+unfolding after_store_conditional carry_out_store_conditional
 sc_there o r h hart c rd address width value gpa at kept =
     rw (covers_behind (length o.tables) hart.reservation (ram_place gpa) width)
     (sc_by o r h hart c rd width value (ram_place gpa) (covers hart.reservation (ram_place gpa) width) at kept)
@@ -176,11 +163,11 @@ pub sc_agrees : (o : Unseen) (r : State) (h : ℕ) (hart : Hart) (c : Hypervisor
     → IsAt o r h hart c → IsAtomicWord htinst hart → IsWidth width → FreeKeeps r width value
     → Agrees o r h hart c
     (after_store_conditional (region_at o r) (core_at o c hart) rd width value (reached (region_at o r) (core_at o c hart) Access.Store address width htinst))
-    (stores_if r h hart rd address width value (target_of r hart address width))
-unfolding after_store_conditional stores_if
+    (carry_out_store_conditional r h hart rd address width value (target_of r hart address width))
+unfolding after_store_conditional carry_out_store_conditional
 sc_agrees o r h hart c rd address width value htinst at word whole kept =
     targets_agree o r h hart c address width htinst
-    (after_store_conditional (region_at o r) (core_at o c hart) rd width value) (stores_if r h hart rd address width value)
+    (after_store_conditional (region_at o r) (core_at o c hart) rd width value) (carry_out_store_conditional r h hart rd address width value)
     (record {
       ram = λ gpa inside free aligned. sc_there o r h hart c rd address width value gpa at (kept gpa inside free aligned);
       guarded = λ gpa inside same. exit_agrees o r h hart c (fault_exception Access.Store address htinst (Fault.Guest gpa false)) (write_stopped r h hart gpa) refl
@@ -201,7 +188,7 @@ amo_writes : (o : Unseen) (r : State) (hart : Hart) (c : HypervisorRegisters) (r
     (retire_with (behind_write (core_at o c hart) (length o.tables + p) width) rd (loaded_value true width (host_word (region_at o r) (length o.tables + p) width)) (wrote (length o.tables + p) width))
     ≡ record {
       region = with_ram o.tables (write_word r.ram p width (amo_value op width (word r.ram p width) value));
-      core = core_at o c (forgetting p width (stepped_with hart rd (loaded_value true width (word r.ram p width))));
+      core = core_at o c (hart_after_write p width (stepped_with hart rd (loaded_value true width (word r.ram p width))));
       outcome = Outcome.Retired (Some (record { hpa = length o.tables + p; width = width }));
     }
 amo_writes o r hart c rd width op value p =
@@ -214,10 +201,10 @@ amo_writes o r hart c rd width op value p =
 amo_there : (o : Unseen) (r : State) (h : ℕ) (hart : Hart) (c : HypervisorRegisters) (rd address width : ℕ) (op : AmoOp) (value gpa : ℕ)
     → IsAt o r h hart c → CanWrite r (ram_place gpa) width (amo_value op width (ram_word r gpa width) value)
     → Agrees o r h hart c (after_amo (region_at o r) (core_at o c hart) rd width op value (Ok (length o.tables + ram_place gpa)))
-    (amos r h hart rd address width op value (ToRam gpa))
-unfolding after_amo amos
+    (carry_out_amo r h hart rd address width op value (ToRam gpa))
+unfolding after_amo carry_out_amo
 amo_there o r h hart c rd address width op value gpa at kept =
-    subst (λ (a : Attempted). Agrees o r h hart c a (amos r h hart rd address width op value (ToRam gpa)))
+    subst (λ (a : Attempted). Agrees o r h hart c a (carry_out_amo r h hart rd address width op value (ToRam gpa)))
     (sym (amo_writes o r hart c rd width op value (ram_place gpa)))
     (writes o r h hart (stepped_with hart rd (loaded_value true width (ram_word r gpa width))) c (ram_place gpa) width
     (amo_value op width (ram_word r gpa width) value) at at.started kept)
@@ -226,11 +213,11 @@ pub amo_agrees : (o : Unseen) (r : State) (h : ℕ) (hart : Hart) (c : Hyperviso
     → IsAt o r h hart c → IsAtomicWord htinst hart → IsWidth width → ((v : ℕ) → FreeKeeps r width v)
     → Agrees o r h hart c
     (after_amo (region_at o r) (core_at o c hart) rd width op value (reached (region_at o r) (core_at o c hart) Access.Store address width htinst))
-    (amos r h hart rd address width op value (target_of r hart address width))
-unfolding after_amo amos
+    (carry_out_amo r h hart rd address width op value (target_of r hart address width))
+unfolding after_amo carry_out_amo
 amo_agrees o r h hart c rd address width op value htinst at word whole kept =
     targets_agree o r h hart c address width htinst
-    (after_amo (region_at o r) (core_at o c hart) rd width op value) (amos r h hart rd address width op value)
+    (after_amo (region_at o r) (core_at o c hart) rd width op value) (carry_out_amo r h hart rd address width op value)
     (record {
       ram = λ gpa inside free aligned. amo_there o r h hart c rd address width op value gpa at (kept (amo_value op width (ram_word r gpa width) value) gpa inside free aligned);
       guarded = λ gpa inside same. exit_agrees o r h hart c (fault_exception Access.Store address htinst (Fault.Guest gpa false)) (write_stopped r h hart gpa) refl

@@ -19,7 +19,7 @@ use Rattle.sv_types.proofs.GuestViews.{guest_pending}
 use Rattle.reference.specs.States.{State, Hart, Loading}
 use Rattle.reference.specs.Devices.{lines_at}
 use Rattle.reference.specs.Trapping.{Interrupted, trap}
-use Rattle.reference.specs.Turn.{turn, turn_of, turn_of_started, carry_out_instruction as instructions, carry_out_word as carries_out, act_on_pending as pends, act as attempts}
+use Rattle.reference.specs.Turn.{turn, turn_of, turn_of_started, carry_out_instruction, carry_out_word, act_on_pending, act}
 use Rattle.machine_model.specs.Served.{serve_exit, serve_trap}
 use Rattle.machine_model.specs.StandsFor.{Unseen, hregs_in, host_core}
 use Rattle.sv_types.specs.GuestView.{with_guest}
@@ -37,15 +37,15 @@ AllTold hart = (w : ℕ) (i : Instr) → instruction_of w ≡ Some i → IsTold 
 
 instruction_agrees : (o : Unseen) (r : State) (h : ℕ) (hart : Hart) (c : HypervisorRegisters) (w : ℕ) (x : Option Instr)
     → IsAt o r h hart c → ((width value : ℕ) → IsWidth width → FreeKeeps r width value) → AllTold hart → instruction_of w ≡ x
-    → Agrees o r h hart c (after_instruction (region_at o r) (core_at o c hart) (lines_at r.devices h) w x) (instructions r h hart w x)
-unfolding after_instruction instructions
+    → Agrees o r h hart c (after_instruction (region_at o r) (core_at o c hart) (lines_at r.devices h) w x) (carry_out_instruction r h hart w x)
+unfolding after_instruction carry_out_instruction
 instruction_agrees o r h hart c w None at kept told found = exception_agrees o r h hart c Cause.Illegal w at refl
 instruction_agrees o r h hart c w (Some i) at kept told found =
     effect_agrees o r h hart c w (effect_of i hart.registers hart.pc) at kept (told w i found)
 
 words_agree : (o : Unseen) (r : State) (h : ℕ) (hart : Hart) (c : HypervisorRegisters)
     → IsAt o r h hart c → ((width value : ℕ) → IsWidth width → FreeKeeps r width value) → AllTold hart → WordsAgree o r h hart c
-unfolding after_word carries_out
+unfolding after_word carry_out_word
 words_agree o r h hart c at kept told w = instruction_agrees o r h hart c w (instruction_of w) at kept told refl
 
 -- ---- interrupts
@@ -91,8 +91,8 @@ interrupt_agrees o r h hart c interrupt User at user =
 
 pending_agrees : (o : Unseen) (r : State) (h : ℕ) (hart : Hart) (c : HypervisorRegisters) (x : Option Interrupt)
     → IsAt o r h hart c → ((width value : ℕ) → IsWidth width → FreeKeeps r width value) → AllTold hart
-    → Agrees o r h hart c (after_pending (region_at o r) (core_at o c hart) (lines_at r.devices h) x) (pends r h hart x)
-unfolding after_pending pends
+    → Agrees o r h hart c (after_pending (region_at o r) (core_at o c hart) (lines_at r.devices h) x) (act_on_pending r h hart x)
+unfolding after_pending act_on_pending
 pending_agrees o r h hart c (Some interrupt) at kept told = interrupt_agrees o r h hart c interrupt hart.mode at refl
 pending_agrees o r h hart c None at kept told =
     fetch_agrees o r h hart c at (words_agree o r h hart c at kept told) (at.sound.harts h hart at.found).aligned
@@ -104,20 +104,20 @@ same_pending r h hart c User t = guest_pending (hregs_in User) c hart.supervisor
 
 pub attempt_agrees : (o : Unseen) (r : State) (h : ℕ) (hart : Hart) (c : HypervisorRegisters)
     → IsAt o r h hart c → ((width value : ℕ) → IsWidth width → FreeKeeps r width value) → AllTold hart
-    → Agrees o r h hart c (attempt (region_at o r) (core_at o c hart) (lines_at r.devices h)) (attempts r h hart)
-unfolding attempt attempts
+    → Agrees o r h hart c (attempt (region_at o r) (core_at o c hart) (lines_at r.devices h)) (act r h hart)
+unfolding attempt act
 attempt_agrees o r h hart c at kept told =
     rw (same_pending r h hart c hart.mode 0)
     (pending_agrees o r h hart c (deliverable hart.mode hart.supervisor (lines_at r.devices h)) at kept told)
 
 -- ---- turns
 
-started_turn : (r : State) (h : ℕ) (hart : Hart) (x : Option Loading) → IsNotLoading h x → turn_of_started r h hart x ≡ attempts r h hart
+started_turn : (r : State) (h : ℕ) (hart : Hart) (x : Option Loading) → IsNotLoading h x → turn_of_started r h hart x ≡ act r h hart
 unfolding turn_of_started
 started_turn r h hart None other = refl
 started_turn r h hart (Some load) other = rw other refl
 
-pub turn_is : (r : State) (h : ℕ) (hart : Hart) → slice_get r.harts h ≡ Some hart → hart.started ≡ true → IsNotLoading h r.loading → turn r h ≡ attempts r h hart
+pub turn_is : (r : State) (h : ℕ) (hart : Hart) → slice_get r.harts h ≡ Some hart → hart.started ≡ true → IsNotLoading h r.loading → turn r h ≡ act r h hart
 unfolding turn turn_of
 turn_is r h hart found started other =
     ap (turn_of r h) found ∙ ap (λ (b : Bool). if b then turn_of_started r h hart r.loading else r) started ∙ started_turn r h hart r.loading other

@@ -18,7 +18,7 @@ use Rattle.sv_types.specs.declared.wires.Mode.TheVariants.{Kernel, User}
 use Rattle.sv_types.proofs.GuestViews.{guest_accesses, reached_reads, reached_writes}
 use Rattle.reference.specs.States.{State, Hart}
 use Rattle.reference.specs.Devices.{lines_at}
-use Rattle.reference.specs.Requests.{carried_out, stepped_with, with_csr_set, csr_now, carry_out_csr as accesses, csr_asked as reached}
+use Rattle.reference.specs.Requests.{carried_out, stepped_with, with_csr_set, csr_now, carry_out_csr, csr_asked}
 use Rattle.machine_model.specs.Served.{serve_exit, serve_trap, serve_virtual, is_sret_word}
 use Rattle.reference.specs.Turn.{illegal_instruction}
 use Rattle.machine_model.specs.StandsFor.{Unseen, hregs_in}
@@ -84,8 +84,8 @@ accessed_started r h hart op operand true csr e = e
 accessed_started r h hart op operand false csr e = e
 
 accessed_ref : (r : State) (h : ℕ) (hart : Hart) (w rd : ℕ) (op : CsrOp) (operand : ℕ) (writes : Bool) (csr : Csr)
-    → accesses r h hart w rd op operand writes (Some csr) ≡ carried_out r h (stepped_with (accessed r h hart op operand writes csr) rd (csr_now r h hart csr))
-unfolding accesses
+    → carry_out_csr r h hart w rd op operand writes (Some csr) ≡ carried_out r h (stepped_with (accessed r h hart op operand writes csr) rd (csr_now r h hart csr))
+unfolding carry_out_csr
 accessed_ref r h hart w rd op operand true csr = refl
 accessed_ref r h hart w rd op operand false csr = refl
 
@@ -95,10 +95,10 @@ csr_at : (o : Unseen) (r : State) (h : ℕ) (hart : Hart) (c : HypervisorRegiste
     → IsAt o r h hart c → IsLegalSupervisor hart.supervisor → is_sret_word w ≡ false → guest_access hart.mode hart.supervisor number writes ≡ result_ok x
     → Agrees o r h hart c
     (with_region (region_at o r) (after_csr (core_at o c hart) (lines_at r.devices h) rd op operand writes (csr_or_exception w x)))
-    (accesses r h hart w rd op operand writes (result_ok x))
-unfolding after_csr accesses
+    (carry_out_csr r h hart w rd op operand writes (result_ok x))
+unfolding after_csr carry_out_csr
 csr_at o r h hart c w rd op operand number writes (Ok csr) at legal other allowed =
-    subst (λ (a : Attempted). Agrees o r h hart c a (accesses r h hart w rd op operand writes (Some csr)))
+    subst (λ (a : Attempted). Agrees o r h hart c a (carry_out_csr r h hart w rd op operand writes (Some csr)))
     (sym (reached_step o r h hart c rd op operand number writes csr at legal allowed))
     (subst (QuietTo o r h (record {
       region = region_at o r;
@@ -114,7 +114,7 @@ pub csr_agrees : (o : Unseen) (r : State) (h : ℕ) (hart : Hart) (c : Hyperviso
     → IsAt o r h hart c → IsLegalSupervisor hart.supervisor → is_sret_word w ≡ false
     → Agrees o r h hart c
     (with_region (region_at o r) (after_csr (core_at o c hart) (lines_at r.devices h) rd op operand writes (csr_reached (core_at o c hart) w number writes)))
-    (accesses r h hart w rd op operand writes (reached hart number writes))
+    (carry_out_csr r h hart w rd op operand writes (csr_asked hart number writes))
 unfolding csr_reached
 csr_agrees o r h hart c w rd op operand number writes at legal other =
     let x : Result Csr CsrFault = csr_access hart.mode (with_guest c hart.supervisor) number writes in

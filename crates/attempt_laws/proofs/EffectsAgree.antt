@@ -13,7 +13,7 @@ use Rattle.reference.specs.States.{State, Hart}
 use Rattle.reference.specs.Devices.{lines_at}
 use Rattle.reference.specs.Requests.{stepped}
 use Rattle.reference.specs.ModuleCalls.{call}
-use Rattle.reference.specs.Turn.{with_set, carry_out_kernel_only, carry_out_ecall, carry_out_effect as effects, illegal_instruction as illegal_ref, carry_out_sret as srets}
+use Rattle.reference.specs.Turn.{with_set, carry_out_kernel_only, carry_out_ecall, carry_out_effect, illegal_instruction, carry_out_sret}
 use Rattle.machine_model.specs.Served.{serve_exit, serve_trap, serve_virtual, is_sret_word}
 use Rattle.machine_model.specs.StandsFor.{Unseen, hregs_in}
 use Rattle.attempt_laws.specs.Agree.{IsAt, Agrees, region_at, core_at}
@@ -42,8 +42,8 @@ IsTold w hart _ = Unit {0}
 -- ---- instructions of the system
 
 virtual_agrees : (o : Unseen) (r : State) (h : ℕ) (hart : Hart) (c : HypervisorRegisters) (w : ℕ) → is_sret_word w ≡ false
-    → Agrees o r h hart c (with_region (region_at o r) (raise (core_at o c hart) (virtual_instruction w))) (illegal_ref r h hart w)
-virtual_agrees o r h hart c w other = exit_agrees o r h hart c (virtual_instruction w) (illegal_ref r h hart w) refl (virtual_served r h hart w hart.pc other)
+    → Agrees o r h hart c (with_region (region_at o r) (raise (core_at o c hart) (virtual_instruction w))) (illegal_instruction r h hart w)
+virtual_agrees o r h hart c w other = exit_agrees o r h hart c (virtual_instruction w) (illegal_instruction r h hart w) refl (virtual_served r h hart w hart.pc other)
 
 supervisor_agrees : (o : Unseen) (r : State) (h : ℕ) (hart : Hart) (c : HypervisorRegisters) (w : ℕ) (mode : Mode) → IsAt o r h hart c → is_sret_word w ≡ false
     → Agrees o r h hart c (with_region (region_at o r) (after_supervisor_only (core_at o c hart) w mode)) (carry_out_kernel_only r h hart w mode)
@@ -60,8 +60,8 @@ ecall_agrees o r h hart c User at = exception_agrees o r h hart c Cause.UserCall
 
 -- with VTSR set an SRET leaves too
 sret_served : (r : State) (h : ℕ) (hart : Hart) (w pc : ℕ) (mode : Mode) → hart.mode ≡ mode → is_sret_word w ≡ true
-    → srets r h hart w mode ≡ serve_exit r h hart (exit_of (virtual_instruction w) pc)
-unfolding srets serve_exit serve_trap serve_virtual
+    → carry_out_sret r h hart w mode ≡ serve_exit r h hart (exit_of (virtual_instruction w) pc)
+unfolding carry_out_sret serve_exit serve_trap serve_virtual
 sret_served r h hart w pc Kernel e same = rw (e, same) refl
 sret_served r h hart w pc User e same = ap (λ (m : Mode). serve_virtual r h hart m (exit_of (virtual_instruction w) pc)) (sym e)
 
@@ -70,19 +70,19 @@ has_vtsr Kernel = refl
 has_vtsr User = refl
 
 sret_agrees : (o : Unseen) (r : State) (h : ℕ) (hart : Hart) (c : HypervisorRegisters) (w : ℕ) (mode : Mode) → hart.mode ≡ mode → is_sret_word w ≡ true
-    → Agrees o r h hart c (with_region (region_at o r) (after_sret (core_at o c hart) w mode)) (srets r h hart w mode)
+    → Agrees o r h hart c (with_region (region_at o r) (after_sret (core_at o c hart) w mode)) (carry_out_sret r h hart w mode)
 unfolding after_sret
 sret_agrees o r h hart c w Kernel e same =
-    rw (has_vtsr hart.mode) (exit_agrees o r h hart c (virtual_instruction w) (srets r h hart w Kernel) refl (sret_served r h hart w hart.pc Kernel e same))
+    rw (has_vtsr hart.mode) (exit_agrees o r h hart c (virtual_instruction w) (carry_out_sret r h hart w Kernel) refl (sret_served r h hart w hart.pc Kernel e same))
 sret_agrees o r h hart c w User e same =
-    exit_agrees o r h hart c (virtual_instruction w) (srets r h hart w User) refl (sret_served r h hart w hart.pc User e same)
+    exit_agrees o r h hart c (virtual_instruction w) (carry_out_sret r h hart w User) refl (sret_served r h hart w hart.pc User e same)
 
 -- ---- all effects
 
 pub effect_agrees : (o : Unseen) (r : State) (h : ℕ) (hart : Hart) (c : HypervisorRegisters) (w : ℕ) (e : Effect)
     → IsAt o r h hart c → ((width value : ℕ) → IsWidth width → FreeKeeps r width value) → IsTold w hart e
-    → Agrees o r h hart c (after_effect (region_at o r) (core_at o c hart) (lines_at r.devices h) w e) (effects r h hart w e)
-unfolding after_effect effects
+    → Agrees o r h hart c (after_effect (region_at o r) (core_at o c hart) (lines_at r.devices h) w e) (carry_out_effect r h hart w e)
+unfolding after_effect carry_out_effect
 effect_agrees o r h hart c w (Effect.Set rd value next) at kept told = stays o r h hart (with_set hart rd value next) c at at.started
 effect_agrees o r h hart c w (Effect.MisalignedJump target) at kept told = exception_agrees o r h hart c Cause.InstrMisaligned target at refl
 effect_agrees o r h hart c w (Effect.Load rd address width signed) at kept told =

@@ -23,7 +23,7 @@ use Rattle.reference.specs.States.{State, Hart}
 use Rattle.reference.specs.Devices.{lines_at}
 use Rattle.reference.specs.Trapping.{exception}
 use Rattle.reference.specs.Requests.{settings_of}
-use Rattle.reference.specs.Turn.{NoWord, fetched_in, fetched_at, fetch, fetch_of, demote, act_on_fetch as fetched, carry_out_word as carries_out}
+use Rattle.reference.specs.Turn.{NoWord, fetched_in, fetched_at, fetch, fetch_of, demote, act_on_fetch, carry_out_word}
 use Rattle.machine_model.specs.Served.{serve_exit, serve_fetch}
 use Rattle.machine_model.specs.StandsFor.{Unseen}
 use Rattle.reference.specs.Soundness.{IsSound}
@@ -35,7 +35,7 @@ use Rattle.attempt_laws.proofs.LoadsAgree.{gpa_back}
 -- each word that may be fetched is carried out alike
 abbrev pub WordsAgree : Unseen → State → ℕ → Hart → HypervisorRegisters → Type 0
 WordsAgree o r h hart c =
-    (w : ℕ) → Agrees o r h hart c (after_word (region_at o r) (core_at o c hart) (lines_at r.devices h) w) (carries_out r h hart w)
+    (w : ℕ) → Agrees o r h hart c (after_word (region_at o r) (core_at o c hart) (lines_at r.devices h) w) (carry_out_word r h hart w)
 
 -- the exit of a fetch
 abbrev pub fetch_exit : (pc htval htinst : ℕ) → Exit
@@ -66,7 +66,7 @@ stray_in r h hart gpa same inside = rw (gpa_back gpa hart.pc same, inside) refl
 -- the word at a place in RAM, carried out
 word_at : (o : Unseen) (r : State) (h : ℕ) (hart : Hart) (c : HypervisorRegisters) (gpa w : ℕ) → WordsAgree o r h hart c → w ≡ word r.ram (ram_place gpa) 4
     → Agrees o r h hart c
-    (after_word (region_at o r) (core_at o c hart) (lines_at r.devices h) (host_word (region_at o r) (length o.tables + ram_place gpa) 4)) (carries_out r h hart w)
+    (after_word (region_at o r) (core_at o c hart) (lines_at r.devices h) (host_word (region_at o r) (length o.tables + ram_place gpa) 4)) (carry_out_word r h hart w)
 word_at o r h hart c gpa w words same =
     rw (word_in_ram (region_at o r) (ram_place gpa) 4, same) (words (word r.ram (ram_place gpa) 4))
 
@@ -87,8 +87,8 @@ at_place : (o : Unseen) (r : State) (h : ℕ) (hart : Hart) (c : HypervisorRegis
     → Agrees o r h hart c
     (after_fetch (region_at o r) (core_at o c hart) (lines_at r.devices h)
     (place_or_exception Access.Fetch hart.pc 0 (place_through gpa (if inside && fetches mode (is_some text) then Some (length o.tables + ram_place gpa) else None))))
-    (fetched r h hart (if inside then fetched_in r.ram mode gpa text else NoWord Cause.InstrAccess))
-unfolding after_fetch fetched fetched_in serve_fetch
+    (act_on_fetch r h hart (if inside then fetched_in r.ram mode gpa text else NoWord Cause.InstrAccess))
+unfolding after_fetch act_on_fetch fetched_in serve_fetch
 at_place o r h hart c gpa Kernel true (Some bytes) at words e same inside kept = word_at o r h hart c gpa (word bytes (place_in_page gpa) 4) words (kept bytes refl)
 at_place o r h hart c gpa Kernel true None at words e same inside kept =
     refused o r h hart c gpa Kernel (demote r h hart gpa) e (stray_in r h hart gpa same inside)
@@ -118,8 +118,8 @@ fetch_at : (o : Unseen) (r : State) (h : ℕ) (hart : Hart) (c : HypervisorRegis
     → IsAt o r h hart c → WordsAgree o r h hart c → hart.pc % 4 ≡ 0 → Keeps hart.pc d
     → Agrees o r h hart c
     (after_fetch (region_at o r) (core_at o c hart) (lines_at r.devices h) (place_or_exception Access.Fetch hart.pc 0 (under o r hart.mode Access.Fetch d)))
-    (fetched r h hart (fetched_at r.ram r.approved hart.mode d))
-unfolding fetched_at view_answer after_fetch fetched
+    (act_on_fetch r h hart (fetched_at r.ram r.approved hart.mode d))
+unfolding fetched_at view_answer after_fetch act_on_fetch
 fetch_at o r h hart c (At gpa) at words aligned fits =
     rw (fetches_permitted hart.mode r (page_of gpa), sym (access_in_ram r gpa hart.pc 4 at.sound (inr (inr (inl refl))) fits aligned))
     (at_place o r h hart c gpa hart.mode (in_ram r.ram gpa 4) (approved_bytes r.approved (page_of gpa)) at words refl fits refl
@@ -133,7 +133,7 @@ pub fetch_agrees : (o : Unseen) (r : State) (h : ℕ) (hart : Hart) (c : Hypervi
     → hart.pc % 4 ≡ 0
     → Agrees o r h hart c
     (after_fetch (region_at o r) (core_at o c hart) (lines_at r.devices h) (translated (region_at o r) (core_at o c hart) Access.Fetch hart.pc 0))
-    (fetched r h hart (fetch_of r hart))
+    (act_on_fetch r h hart (fetch_of r hart))
 unfolding fetch place
 fetch_agrees o r h hart c at words aligned =
     rw (translated_under o r h hart c Access.Fetch hart.pc 0 at)

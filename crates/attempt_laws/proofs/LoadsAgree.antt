@@ -20,7 +20,7 @@ use Rattle.attempt_laws.proofs.Everywhere.{Keeps, first_stage_keeps}
 use Rattle.reference.specs.States.{State, Hart}
 use Rattle.reference.specs.Devices.{device_load}
 use Rattle.reference.specs.Trapping.{exception}
-use Rattle.reference.specs.Requests.{carried_out, stepped_with, carry_out_device_load, FromRam, FromDevice, NoSource, source_at, load_source, source_of, settings_of, carry_out_load as loads}
+use Rattle.reference.specs.Requests.{carried_out, stepped_with, carry_out_device_load, FromRam, FromDevice, NoSource, source_at, load_source, source_of, settings_of, carry_out_load}
 use Rattle.machine_model.specs.Served.{serve_exit, serve_access, serve_load, transformed}
 use Rattle.machine_model.specs.StandsFor.{Unseen}
 use Rattle.attempt_laws.specs.Agree.{IsAt, Agrees, region_at, core_at}
@@ -39,11 +39,11 @@ pub gpa_back : (gpa va : ℕ) → gpa % 4096 ≡ va % 4096 → 4 * (gpa / 4) + v
 gpa_back gpa va same = let low : va % 4 ≡ gpa % 4 = grind arith in rw low (grind arith)
 
 -- an entry of the first stage can't be read
-unreadable_served : (r : State) (h : ℕ) (hart : Hart) (address htval pc : ℕ)
+pub unreadable_load : (r : State) (h : ℕ) (hart : Hart) (address htval pc : ℕ)
     → exception r h hart Cause.LoadAccess address
     ≡ serve_exit r h hart (record { interrupt = false; cause = 21; pc = pc; stval = address; htval = htval; htinst = implicit_read })
 unfolding serve_exit serve_access serve_load transformed instruction_of rows
-unreadable_served r h hart address htval pc = refl
+unreadable_load r h hart address htval pc = refl
 
 -- no RAM is there
 device_served : (r : State) (h : ℕ) (hart : Hart) (rd address width : ℕ) (signed : Bool) (gpa htinst pc : ℕ)
@@ -60,8 +60,8 @@ at_place : (o : Unseen) (r : State) (h : ℕ) (hart : Hart) (c : HypervisorRegis
     → Agrees o r h hart c
     (with_region (region_at o r) (after_load (region_at o r) (core_at o c hart) rd width signed
     (place_or_exception Access.Load address htinst (place_through gpa (if inside && true then Some (length o.tables + ram_place gpa) else None)))))
-    (loads r h hart rd address width signed (if inside then FromRam gpa else FromDevice gpa))
-unfolding after_load loads
+    (carry_out_load r h hart rd address width signed (if inside then FromRam gpa else FromDevice gpa))
+unfolding after_load carry_out_load
 at_place o r h hart c rd address width signed gpa htinst true at load same =
     subst (λ (v : ℕ). Agrees o r h hart c
     (with_region (region_at o r) (retire_with (core_at o c hart) rd (loaded_value signed width v) None))
@@ -78,8 +78,8 @@ pub load_at : (o : Unseen) (r : State) (h : ℕ) (hart : Hart) (c : HypervisorRe
     → Agrees o r h hart c
     (with_region (region_at o r) (after_load (region_at o r) (core_at o c hart) rd width signed
     (place_or_exception Access.Load address htinst (under o r hart.mode Access.Load d))))
-    (loads r h hart rd address width signed (source_at r.ram width d))
-unfolding source_at view_answer after_load loads
+    (carry_out_load r h hart rd address width signed (source_at r.ram width d))
+unfolding source_at view_answer after_load carry_out_load
 load_at o r h hart c rd address width signed htinst (At gpa) at load whole aligned fits =
     rw (access_in_ram r gpa address width at.sound whole fits aligned)
     (at_place o r h hart c rd address width signed gpa htinst (page_in_ram r.rules.ram_pages gpa) at load fits)
@@ -87,7 +87,7 @@ load_at o r h hart c rd address width signed htinst PageFault at load whole alig
     exception_agrees o r h hart c Cause.LoadPage address at refl
 load_at o r h hart c rd address width signed htinst (Unreadable entry) at load whole aligned fits =
     exit_agrees o r h hart c (fault_exception Access.Load address htinst (Fault.Guest entry true)) (exception r h hart Cause.LoadAccess address) refl
-    (unreadable_served r h hart address (entry / 4) hart.pc)
+    (unreadable_load r h hart address (entry / 4) hart.pc)
 
 -- ---- from the address on
 
@@ -101,9 +101,9 @@ by_alignment : (o : Unseen) (r : State) (h : ℕ) (hart : Hart) (c : HypervisorR
     (if aligned
     then place_or_exception Access.Load address htinst (under o r hart.mode Access.Load (place r.ram (settings_of hart.supervisor) hart.mode address Access.Load))
     else Err (plain_exception Cause.LoadMisaligned address))))
-    (loads r h hart rd address width signed
+    (carry_out_load r h hart rd address width signed
     (if aligned then source_at r.ram width (place r.ram (settings_of hart.supervisor) hart.mode address Access.Load) else NoSource Cause.LoadMisaligned))
-unfolding after_load loads place
+unfolding after_load carry_out_load place
 by_alignment o r h hart c rd address width signed htinst true at load whole aligned =
     load_at o r h hart c rd address width signed htinst (place r.ram (settings_of hart.supervisor) hart.mode address Access.Load) at load whole (aligned refl)
     (first_stage_keeps (entry_in_ram r.ram) (settings_of hart.supervisor) hart.mode address Access.Load)
@@ -114,7 +114,7 @@ pub load_agrees : (o : Unseen) (r : State) (h : ℕ) (hart : Hart) (c : Hypervis
     → IsAt o r h hart c → IsLoad htinst hart rd width signed → IsWidth width
     → Agrees o r h hart c
     (with_region (region_at o r) (after_load (region_at o r) (core_at o c hart) rd width signed (reached (region_at o r) (core_at o c hart) Access.Load address width htinst)))
-    (loads r h hart rd address width signed (source_of r hart address width))
+    (carry_out_load r h hart rd address width signed (source_of r hart address width))
 unfolding reached load_source
 load_agrees o r h hart c rd address width signed htinst at load whole =
     rw (translated_under o r h hart c Access.Load address htinst at)

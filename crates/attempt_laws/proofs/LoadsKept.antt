@@ -14,21 +14,21 @@ use Rattle.reference.specs.Soundness.{IsSound, IsSoundLoad}
 use Rattle.attempt_laws.proofs.StoresAgree.{FreeKeeps}
 use Rattle.attempt_laws.proofs.Under.{whole_access}
 
-pub right_false : (a b : Bool) → (a || b) ≡ false → b ≡ false
-right_false true b e = cc
-right_false false b e = e
+pub or_second : (a b : Bool) → (a || b) ≡ false → b ≡ false
+or_second true b e = cc
+or_second false b e = e
 
-left_false : (a b : Bool) → (a || b) ≡ false → a ≡ false
-left_false true b e = e
-left_false false b e = refl
+pub or_first : (a b : Bool) → (a || b) ≡ false → a ≡ false
+or_first true b e = e
+or_first false b e = refl
 
--- a number that isn't one of those from first on lies before or behind them
+-- a number that isn't one of those from first on lies before or after them
 pub elsewhere : (first n q : ℕ) → has_number (numbers_from first n) q ≡ false → (q < first) ⊎ (first + n ≤ q)
 elsewhere first zero q e = grind (arith, lt_or_le q first)
 elsewhere first (suc n) q e =
-    let here : (first == q) ≡ false = left_false (first == q) (has_number (numbers_from (first + 1) n) q) e in
+    let here : (first == q) ≡ false = or_first (first == q) (has_number (numbers_from (first + 1) n) q) e in
     let apart : (q < first) ⊎ (first < q) = grind (arith, nat_tests) in
-    elim (elsewhere (first + 1) n q (right_false (first == q) (has_number (numbers_from (first + 1) n) q) e)) [
+    elim (elsewhere (first + 1) n q (or_second (first == q) (has_number (numbers_from (first + 1) n) q) e)) [
       | inl before ↦ elim apart [ inl less ↦ inl less | inr more ↦ absurd (omega arith) ]
       | inr behind ↦ inr (omega arith)
     ]
@@ -78,5 +78,5 @@ free_keeps r width value sound whole gpa inside free aligned =
     let room : p + width ≤ length r.ram = rw sound.size fits in (
       room,
       loading_stays r r.loading p width value sound.load whole aligned room
-          (right_false (is_approved_in r.approved (page_of gpa)) (has_number r.held (page_of gpa)) free),
+          (or_second (is_approved_in r.approved (page_of gpa)) (has_number r.held (page_of gpa)) free),
     )

@@ -1,5 +1,6 @@
 -- Where loads and stores lead, once for all of them: what is left is to say what each does there.
-use Rattle.std.proofs.Common.{◌≡◌, ℕ, ◌+◌, ◌%◌, inl, length, refl, Bool, true, false, not, ◌&&◌, arith}
+use Rattle.attempt_laws.proofs.StoresAgree.{one_divides}
+use Rattle.std.proofs.Common.{◌≡◌, ℕ, ◌+◌, ◌%◌, inl, length, refl, Bool, true, false, not, ◌&&◌}
 use Rattle.std.specs.Prelude.{Some, None, if◌then◌else◌, Result, Ok, Err, ◌==◌}
 use Rattle.sv_types.specs.Bytes.{ram_place, page_of, in_ram}
 use Rattle.sv_types.specs.Hardware.{Attempted, plain_exception}
@@ -98,9 +99,6 @@ target_place : (o : Unseen) (r : State) (h : ℕ) (hart : Hart) (c : HypervisorR
 target_place o r h hart c address width htinst gpa true false hard soft agree same whole page free aligned = agree.ram gpa page free aligned
 target_place o r h hart c address width htinst gpa true true hard soft agree same whole page free aligned = agree.guarded gpa whole same
 target_place o r h hart c address width htinst gpa false guarded hard soft agree same whole page free aligned = agree.device gpa whole same
-
-one_divides : (n : ℕ) → n % 1 ≡ 0
-one_divides n = grind arith
 
 target_by : (o : Unseen) (r : State) (h : ℕ) (hart : Hart) (c : HypervisorRegisters) (address width htinst : ℕ) (d : Destination)
     (hard : Result ℕ Exception → Attempted) (soft : Target → State) → TargetsAgree o r h hart c address width htinst hard soft

@@ -1,4 +1,4 @@
--- Attempts that write no memory, and those that do: the machine behind them.
+-- Attempts that write no memory, and those that do: the machine after them.
 use Rattle.std.proofs.Common.{◌≡◌, ℕ, zero, suc, ◌+◌, ◌≤◌, List, [], ◌∷◌, length, map, refl, sym, ◌∙◌, ap, Bool, true, slice_set}
 use Rattle.std.specs.Prelude.{Option, Some, None, option_map, if◌then◌else◌, false}
 use Rattle.sv_types.specs.declared.wires.Mode.TheVariants.{Kernel}
@@ -28,12 +28,12 @@ set_running o r h hart next c at e =
     ap (slice_set (host_harts (length o.tables) o.exits r.harts) h) (running_host (length o.tables) c next e)
     ∙ hosts_set (length o.tables) o.exits r.harts h c next at.exits
 
-length_set : (harts : List Hart) (h : ℕ) (next : Hart) → length (slice_set harts h next) ≡ length harts
-length_set [] h next = refl
-length_set (x ∷ harts) zero next = refl
-length_set (x ∷ harts) (suc h) next = ap suc (length_set harts h next)
+pub length_set : {X : Type 0} (xs : List X) (i : ℕ) (x : X) → length (slice_set xs i x) ≡ length xs
+length_set [] i x = refl
+length_set (y ∷ xs) zero x = refl
+length_set (y ∷ xs) (suc i) x = ap suc (length_set xs i x)
 
-length_map : (f : Hart → Hart) (harts : List Hart) → length (map f harts) ≡ length harts
+pub length_map : (f : Hart → Hart) (harts : List Hart) → length (map f harts) ≡ length harts
 length_map f [] = refl
 length_map f (x ∷ harts) = ap suc (length_map f harts)
 
@@ -49,7 +49,7 @@ stays_same o r h hart next c at e = rw (set_running o r h hart next c at e) refl
 
 pub stays : (o : Unseen) (r : State) (h : ℕ) (hart next : Hart) (c : HypervisorRegisters) → IsAt o r h hart c → next.started ≡ true
     → QuietTo o r h (record { region = region_at o r; core = core_at o c next; outcome = Outcome.Retired None }) (carried_out r h next)
-stays o r h hart next c at e = record { same = stays_same o r h hart next c at e; parts = open_set o r h next count_retired at.parts }
+stays o r h hart next c at e = record { same = stays_same o r h hart next c at e; right = open_set o r h next count_retired at.right }
 
 traps_same : (o : Unseen) (r : State) (h : ℕ) (hart next : Hart) (c : HypervisorRegisters) → IsAt o r h hart c → next.started ≡ true
     → after_quiet_attempt (machine_of o r) h (record { region = region_at o r; core = core_at o c next; outcome = Outcome.GuestTrap })
@@ -59,7 +59,7 @@ traps_same o r h hart next c at e = rw (set_running o r h hart next c at e) refl
 
 pub traps : (o : Unseen) (r : State) (h : ℕ) (hart next : Hart) (c : HypervisorRegisters) → IsAt o r h hart c → next.started ≡ true
     → QuietTo o r h (record { region = region_at o r; core = core_at o c next; outcome = Outcome.GuestTrap }) (count (with_hart r h next) (count_trap Kernel))
-traps o r h hart next c at e = record { same = traps_same o r h hart next c at e; parts = open_set o r h next (count_trap Kernel) at.parts }
+traps o r h hart next c at e = record { same = traps_same o r h hart next c at e; right = open_set o r h next (count_trap Kernel) at.right }
 
 -- a hart that forgot already forgets nothing more
 twice_by : (place width reserved : ℕ) (b : Bool) → touches reserved place width ≡ b
@@ -126,10 +126,10 @@ pub writes : (o : Unseen) (r : State) (h : ℕ) (hart next : Hart) (c : Hypervis
 unfolding with_bytes
 writes o r h hart next c place width value at e can = record {
   same = writes_same o r h hart next c place width value at e can.1;
-  parts = record {
-    views = at.parts.views;
-    region = region_written o.tables r.ram place width value can.0 at.parts.region;
-    exits = at.parts.exits ∙ sym (length_map (hart_after_write place (length (low_bytes width value))) (slice_set r.harts h next) ∙ length_set r.harts h next);
-    cleared = at.parts.cleared;
+  right = record {
+    views = at.right.views;
+    region = region_written o.tables r.ram place width value can.0 at.right.region;
+    exits = at.right.exits ∙ sym (length_map (hart_after_write place (length (low_bytes width value))) (slice_set r.harts h next) ∙ length_set r.harts h next);
+    cleared = at.right.cleared;
   };
 }

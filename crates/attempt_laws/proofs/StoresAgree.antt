@@ -17,9 +17,9 @@ use Rattle.sv_types.proofs.RegionLemmas.{write_in_ram}
 use Rattle.sv_types.proofs.Reservations.{after_write_behind}
 use Rattle.attempt_laws.proofs.Everywhere.{Keeps, first_stage_keeps}
 use Rattle.reference.specs.States.{State, Hart, is_protected}
-use Rattle.reference.specs.Devices.{device_store, hart_after_write as forgetting}
+use Rattle.reference.specs.Devices.{device_store, hart_after_write}
 use Rattle.reference.specs.Trapping.{exception}
-use Rattle.reference.specs.Requests.{stepped, carried_out_writing, carry_out_device_store, write_stopped, ToRam, ToDevice, Guarded, NoTarget, target_at, store_target, target_of, settings_of, carry_out_store as stores}
+use Rattle.reference.specs.Requests.{stepped, carried_out_writing, carry_out_device_store, write_stopped, ToRam, ToDevice, Guarded, NoTarget, target_at, store_target, target_of, settings_of, carry_out_store}
 use Rattle.machine_model.specs.Served.{serve_exit, serve_access, serve_write, serve_store, transformed}
 use Rattle.machine_model.specs.StandsFor.{Unseen}
 use Rattle.attempt_laws.specs.Agree.{IsAt, Agrees, region_at, core_at}
@@ -34,11 +34,11 @@ pub record IsStore (htinst : ℕ) (hart : Hart) (width value : ℕ) : Type 0 whe
   pub effect : transformed htinst hart ≡ Some (Effect.Store address width value)
   pub explicit : (htinst == implicit_read) ≡ false
 
-unreadable_served : (r : State) (h : ℕ) (hart : Hart) (address htval pc : ℕ)
+pub unreadable_store : (r : State) (h : ℕ) (hart : Hart) (address htval pc : ℕ)
     → exception r h hart Cause.StoreAccess address
     ≡ serve_exit r h hart (record { interrupt = false; cause = 23; pc = pc; stval = address; htval = htval; htinst = implicit_read })
 unfolding serve_exit serve_access serve_write
-unreadable_served r h hart address htval pc = refl
+unreadable_store r h hart address htval pc = refl
 
 device_served : (r : State) (h : ℕ) (hart : Hart) (address width value gpa htinst pc : ℕ)
     → IsStore htinst hart width value → gpa % 4096 ≡ address % 4096 → in_ram r.ram gpa 1 ≡ false
@@ -62,7 +62,7 @@ written : (o : Unseen) (r : State) (hart : Hart) (c : HypervisorRegisters) (p wi
     (retire (behind_write (core_at o c hart) (length o.tables + p) width) (wrote (length o.tables + p) width))
     ≡ record {
       region = with_ram o.tables (write_word r.ram p width value);
-      core = core_at o c (forgetting p width (stepped hart));
+      core = core_at o c (hart_after_write p width (stepped hart));
       outcome = Outcome.Retired (Some (record { hpa = length o.tables + p; width = width }));
     }
 written o r hart c p width value =
@@ -75,8 +75,8 @@ at_place : (o : Unseen) (r : State) (h : ℕ) (hart : Hart) (c : HypervisorRegis
     → Agrees o r h hart c
     (after_store (region_at o r) (core_at o c hart) width value
     (place_or_exception Access.Store address htinst (place_through gpa (if inside && not guarded then Some (length o.tables + ram_place gpa) else None))))
-    (stores r h hart address width value (if inside then (if guarded then Guarded gpa else ToRam gpa) else ToDevice gpa))
-unfolding after_store stores
+    (carry_out_store r h hart address width value (if inside then (if guarded then Guarded gpa else ToRam gpa) else ToDevice gpa))
+unfolding after_store carry_out_store
 at_place o r h hart c address width value gpa htinst true false at store same whole kept =
     subst (λ (a : Attempted). Agrees o r h hart c a (carried_out_writing r h (stepped hart) (ram_place gpa) (low_bytes width value)))
     (sym (written o r hart c (ram_place gpa) width value))
@@ -89,7 +89,7 @@ at_place o r h hart c address width value gpa htinst false guarded at store same
     (carry_out_device_store r h hart address (device_store r.devices r.journal gpa width value)) refl
     (device_served r h hart address width value gpa htinst hart.pc store same whole)
 
-one_divides : (n : ℕ) → n % 1 ≡ 0
+pub one_divides : (n : ℕ) → n % 1 ≡ 0
 one_divides n = grind arith
 
 -- a write into free RAM leaves what is kept of a load
@@ -101,8 +101,8 @@ pub store_at : (o : Unseen) (r : State) (h : ℕ) (hart : Hart) (c : HypervisorR
     → IsAt o r h hart c → IsStore htinst hart width value → IsWidth width → address % width ≡ 0 → Keeps address d → FreeKeeps r width value
     → Agrees o r h hart c
     (after_store (region_at o r) (core_at o c hart) width value (place_or_exception Access.Store address htinst (under o r hart.mode Access.Store d)))
-    (stores r h hart address width value (target_at r.ram (is_protected r) width d))
-unfolding target_at view_answer after_store stores
+    (carry_out_store r h hart address width value (target_at r.ram (is_protected r) width d))
+unfolding target_at view_answer after_store carry_out_store
 store_at o r h hart c address width value htinst (At gpa) at store whole aligned fits kept =
     rw (access_in_ram r gpa address width at.sound whole fits aligned, stores_permitted (view_in hart.mode) r (page_of gpa))
     (at_place o r h hart c address width value gpa htinst (page_in_ram r.rules.ram_pages gpa) (is_protected r (page_of gpa)) at store fits
@@ -112,7 +112,7 @@ store_at o r h hart c address width value htinst PageFault at store whole aligne
     exception_agrees o r h hart c Cause.StorePage address at refl
 store_at o r h hart c address width value htinst (Unreadable entry) at store whole aligned fits kept =
     exit_agrees o r h hart c (fault_exception Access.Store address htinst (Fault.Guest entry true)) (exception r h hart Cause.StoreAccess address) refl
-    (unreadable_served r h hart address (entry / 4) hart.pc)
+    (unreadable_store r h hart address (entry / 4) hart.pc)
 
 by_alignment : (o : Unseen) (r : State) (h : ℕ) (hart : Hart) (c : HypervisorRegisters) (address width value htinst : ℕ) (aligned : Bool)
     → IsAt o r h hart c → IsStore htinst hart width value → IsWidth width → FreeKeeps r width value → (aligned ≡ true → address % width ≡ 0)
@@ -121,9 +121,9 @@ by_alignment : (o : Unseen) (r : State) (h : ℕ) (hart : Hart) (c : HypervisorR
     (if aligned
     then place_or_exception Access.Store address htinst (under o r hart.mode Access.Store (place r.ram (settings_of hart.supervisor) hart.mode address Access.Store))
     else Err (plain_exception Cause.StoreMisaligned address)))
-    (stores r h hart address width value
+    (carry_out_store r h hart address width value
     (if aligned then target_at r.ram (is_protected r) width (place r.ram (settings_of hart.supervisor) hart.mode address Access.Store) else NoTarget Cause.StoreMisaligned))
-unfolding after_store stores place
+unfolding after_store carry_out_store place
 by_alignment o r h hart c address width value htinst true at store whole kept aligned =
     store_at o r h hart c address width value htinst (place r.ram (settings_of hart.supervisor) hart.mode address Access.Store) at store whole (aligned refl)
     (first_stage_keeps (entry_in_ram r.ram) (settings_of hart.supervisor) hart.mode address Access.Store) kept
@@ -134,7 +134,7 @@ pub store_agrees : (o : Unseen) (r : State) (h : ℕ) (hart : Hart) (c : Hypervi
     → IsAt o r h hart c → IsStore htinst hart width value → IsWidth width → FreeKeeps r width value
     → Agrees o r h hart c
     (after_store (region_at o r) (core_at o c hart) width value (reached (region_at o r) (core_at o c hart) Access.Store address width htinst))
-    (stores r h hart address width value (target_of r hart address width))
+    (carry_out_store r h hart address width value (target_of r hart address width))
 unfolding reached store_target
 store_agrees o r h hart c address width value htinst at store whole kept =
     rw (translated_under o r h hart c Access.Store address htinst at)

@@ -46,7 +46,7 @@ pub translated_under : (o : Unseen) (r : State) (h : ℕ) (hart : Hart) (c : Hyp
 unfolding translated
 translated_under o r h hart c access va htinst at =
     ap (λ (m : Mode). place_or_exception access va htinst (two_stages (region_at o r) (hregs_in hart.mode).hgatp (settings_of hart.supervisor) m va access)) (same_mode hart.mode)
-    ∙ ap (place_or_exception access va htinst) (stages_in o r hart.mode (settings_of hart.supervisor) hart.mode va access at.parts at.sound)
+    ∙ ap (place_or_exception access va htinst) (stages_in o r hart.mode (settings_of hart.supervisor) hart.mode va access at.right at.sound)
 
 -- ---- aligned accesses stay in their page
 

@@ -16,7 +16,7 @@ use Rattle.machine_model.specs.Served.{serve_exit}
 
 -- hart h of a state that a machine stands for, and the registers that its exits write
 pub record IsAt (o : Unseen) (r : State) (h : ℕ) (hart : Hart) (c : HypervisorRegisters) : Type 0 where
-  pub parts : IsRightFor o r
+  pub right : IsRightFor o r
   pub sound : IsSound r
   pub found : slice_get r.harts h ≡ Some hart
   pub exits : slice_get o.exits h ≡ Some c
@@ -35,7 +35,7 @@ one_attempt_more o = record o { attempts = o.attempts + 1 }
 -- the machine after an attempt stands for a state
 pub record QuietTo (o : Unseen) (r : State) (h : ℕ) (a : Attempted) (next : State) : Type 0 where
   pub same : after_quiet_attempt (machine_of o r) h a ≡ machine_of (one_attempt_more o) next
-  pub parts : IsRightFor (one_attempt_more o) next
+  pub right : IsRightFor (one_attempt_more o) next
 
 -- without an exit the machine after the attempt stands for `next`; with one it is as before but for the registers that the
 -- exit wrote, and `next` is what SecVisor's answer makes

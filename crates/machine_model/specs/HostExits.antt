@@ -36,7 +36,7 @@ unfoldable pub served_by : Machine → ℕ → Exit → Option HostHart → Mach
 served_by m h exit None = m
 served_by m h exit (Some host) = host_exit m h host host.core.hregs.mode exit
 
--- what the machine is behind SecVisor's answer to an exit of hart h, but for the tables
+-- what the machine is after SecVisor's answer to an exit of hart h, but for the tables
 unfoldable pub served_exit : Machine → ℕ → Exit → Machine
 served_exit m h exit = served_by m h exit (slice_get m.harts h)
 

@@ -52,7 +52,7 @@ host_at_return hart = record hart {
 unfoldable pub host_demoted : HostHart → HostHart
 host_demoted hart = record hart { core = record hart.core { hregs = hregs_in User; reservation = None } }
 
--- it goes on behind its instruction
+-- it goes on after its instruction
 unfoldable pub host_passed : HostHart → HostHart
 host_passed hart = record hart { core = record hart.core { pc = next_pc hart.core.pc; reservation = None } }
 

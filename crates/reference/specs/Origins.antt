@@ -63,7 +63,7 @@ abbrev pub Ascends : List SavedModule → Type 0
 Ascends [] = Unit {0}
 Ascends (m ∷ modules) = AllAbove m.id modules × Ascends modules
 
--- the kernel's text behind a step was so before it, with the same bytes
+-- the kernel's text after a step was so before it, with the same bytes
 pub record TextStays (before after : Ownership) : Type 0 where
   pub rules : after.rules ≡ before.rules
   pub text : after.text ≡ before.text

@@ -1,4 +1,4 @@
--- Soundness behind calls from kernel mode, one lemma for each call.
+-- Soundness after calls from kernel mode, one lemma for each call.
 use Rattle.std.proofs.Common.{◌≡◌, ℕ, zero, suc, ◌+◌, ◌%◌, ◌^◌, List, length, refl, sym, subst, true, false, not, slice_get, slice_set, ℤ}
 use Rattle.std.specs.Prelude.{Option, Some, None, if◌then◌else◌, is_some, ◌==◌, nat_le}
 use Rattle.sv_types.specs.Clock.{with_timer, latest}
@@ -24,7 +24,7 @@ use Rattle.run_laws.proofs.Sounds.{Goes, goes_set, goes_harts, goes_on, choose_g
 
 -- ---- answers
 
--- the hart goes on behind its call
+-- the hart goes on after its call
 answer_goes : (r : State) (h : ℕ) (hart : Hart) (registers : List ℕ) (d : Devices) (j : Journal) → IsSound r → IsSoundHart hart → IsSoundDisk d.disk
     → Goes r (record r { harts = slice_set r.harts h (record hart { registers = registers; pc = (hart.pc + 4) % 2 ^ 64; reservation = None }); devices = d; journal = j })
 answer_goes r h hart registers d j s k disk =

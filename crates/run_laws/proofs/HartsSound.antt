@@ -1,4 +1,4 @@
--- Sound harts behind what a turn sets in one.
+-- Sound harts after what a turn sets in one.
 use Rattle.std.proofs.Common.{◌≡◌, ℕ, zero, suc, ◌+◌, ◌-◌, ◌%◌, ◌^◌, ◌<◌, ◌≤◌, List, [], ◌∷◌, ◌++◌, length, refl, ap, subst, Bool, true, false, ◌&&◌, ◌||◌, arith, lit<, bit_and}
 use Rattle.std.specs.Prelude.{Option, None, if◌then◌else◌, ◌==◌, IsTrue}
 use Rattle.std.proofs.lemmas.Bool.{eqb-true}
@@ -36,7 +36,7 @@ pub at_pc : (hart : Hart) (registers : List ℕ) (pc : ℕ) (reservation : Optio
     → IsSoundHart (record hart { registers = registers; pc = pc; reservation = reservation })
 at_pc hart registers pc reservation k aligned small = record { aligned = aligned; small = small; legal = k.legal; stopped = k.stopped }
 
--- behind its instruction
+-- after its instruction
 pub goes_behind : (hart : Hart) (registers : List ℕ) (reservation : Option ℕ) → IsSoundHart hart
     → IsSoundHart (record hart { registers = registers; pc = next_pc hart.pc; reservation = reservation })
 goes_behind hart registers reservation k = at_pc hart registers (next_pc hart.pc) reservation k (next_aligned hart.pc k.aligned) (word_below (hart.pc + 4))

@@ -1,9 +1,10 @@
--- What is found among approved pages and loaded modules behind a change of their lists.
-use Rattle.std.proofs.Common.{◌≡◌, ℕ, zero, suc, ◌+◌, ◌<◌, ◌≤◌, ◌⊎◌, inl, inr, List, [], ◌∷◌, ◌++◌, filter, refl, sym, ◌∙◌, ap, subst, Bool, true, false, not, ◌&&◌, ◌||◌, arith, slice_get}
+-- What is found among approved pages and loaded modules after a change of their lists.
+use Rattle.attempt_laws.proofs.LoadsKept.{or_first, or_second}
+use Rattle.std.proofs.Common.{◌≡◌, ℕ, zero, suc, ◌+◌, ◌<◌, ◌≤◌, ◌⊎◌, inl, inr, List, [], ◌∷◌, ◌++◌, filter, refl, sym, ◌∙◌, ap, subst, Bool, true, false, not, ◌&&◌, ◌||◌, arith, slice_get, length, length-take, take, drop, min}
 use Rattle.std.specs.Prelude.{Option, Some, None, if◌then◌else◌, is_some, ◌==◌, nat_lt}
 use Rattle.std.proofs.lemmas.Bool.{eqb-true}
 use Rattle.std.proofs.lemmas.Bool.Decides.{nat_tests}
-use Rattle.sv_types.specs.Bytes.{page_bytes}
+use Rattle.sv_types.specs.Bytes.{page_bytes, part}
 use Rattle.sv_types.specs.Reference.{ApprovedPage, numbers_from, approved_pages, approved_bytes}
 use Rattle.sv_types.specs.declared.saved.SavedModule.{SavedModule}
 use Rattle.reference.specs.Origins.{AllAbove, Ascends}
@@ -31,10 +32,6 @@ and_first false b e = e
 pub and_second : (a b : Bool) → (a && b) ≡ true → b ≡ true
 and_second true b e = e
 and_second false b e = cc
-
-pub or_first : (a b : Bool) → (a || b) ≡ false → a ≡ false
-or_first true b e = e
-or_first false b e = refl
 
 pub not_false : (b : Bool) → not b ≡ true → b ≡ false
 not_false true e = cc
@@ -82,10 +79,6 @@ number_filtered f [] n = refl
 number_filtered f (x ∷ xs) n = filtered_by f x n xs (x == n) (f x) refl refl (number_filtered f xs n)
 
 -- ---- protections
-
-pub or_second : (a b : Bool) → (a || b) ≡ false → b ≡ false
-or_second true b e = cc
-or_second false b e = e
 
 -- a page that isn't protected is neither approved nor held
 pub unprotected : (r : State) (page : ℕ) → is_protected r page ≡ false → is_approved_in r.approved page ≡ false
@@ -273,3 +266,6 @@ all_found (n ∷ modules) zero m up e =
 all_found (n ∷ modules) (suc i) m up e =
     let less : n.id < m.id = above_at n.id modules i m up.0 e in
     let other : (n.id == m.id) ≡ false = grind (arith, nat_tests) in rw other (all_found modules i m up.1 e)
+
+pub part_short : (xs : List ℕ) (at n : ℕ) → length (part xs at n) ≤ n
+part_short xs at n = let e : length (take n (drop at xs)) ≡ min n (length (drop at xs)) = length-take n (drop at xs) in rw e (omega arith)

@@ -1,5 +1,6 @@
--- Soundness behind the steps that change which pages are whose: a load begun, gone on, approved or refused, an unload, and the
+-- Soundness after the steps that change which pages are whose: a load begun, gone on, approved or refused, an unload, and the
 -- kernel's init text retired.
+use Rattle.attempt_laws.proofs.LoadsKept.{or_first, or_second}
 use Rattle.std.proofs.Common.{◌≡◌, ℕ, suc, ◌+◌, ◌*◌, ◌/◌, ◌%◌, ◌<◌, ◌≤◌, ◌⊎◌, inl, inr, List, [], ◌∷◌, ◌++◌, length, refl, sym, ◌∙◌, ap, subst, Bool, true, false, not, ◌&&◌, arith, slice_get}
 use Rattle.std.specs.Prelude.{Option, Some, None, if◌then◌else◌, is_some, ◌==◌, nat_le}
 use Rattle.std.specs.List.{list_any}
@@ -16,8 +17,7 @@ use Rattle.reference.specs.Loads.{is_good}
 use Rattle.reference.specs.ModuleCalls.{good_address, init_text, span_pages}
 use Rattle.reference.specs.Origins.{OwnsPages, IsOwned, IsPageOf, IsMeasured, ownership, is_kernel_text, is_init}
 use Rattle.reference.specs.Soundness.{IsSound, IsSoundLoad, HoldsModule, KeepsText}
-use Rattle.run_laws.proofs.Lookups.{unprotected, not_true, both, and_both, and_first, and_second, or_first, not_false, is_there, same_number, numbers_bounds, number_filtered, approved_front, approved_without, found_with, found_without, ascends_with, ascends_without}
-use Rattle.attempt_laws.proofs.LoadsKept.{right_false}
+use Rattle.run_laws.proofs.Lookups.{unprotected, not_true, both, and_both, and_first, and_second, not_false, is_there, same_number, numbers_bounds, number_filtered, approved_front, approved_without, found_with, found_without, ascends_with, ascends_without}
 use Rattle.run_laws.proofs.Sounds.{Goes, text_stays}
 
 -- ---- a load begins, and goes on
@@ -46,7 +46,7 @@ goes_load r held loading s load = record {
 
 none_of : (test : ℕ → Bool) (xs : List ℕ) (page : ℕ) → list_any test xs ≡ false → has_number xs page ≡ true → test page ≡ false
 none_of test [] page e there = cc
-none_of test (x ∷ xs) page e there = none_by test x xs page (x == page) refl e there (none_of test xs page (right_false (test x) (list_any test xs) e))
+none_of test (x ∷ xs) page e there = none_by test x xs page (x == page) refl e there (none_of test xs page (or_second (test x) (list_any test xs) e))
   where
     none_by : (test : ℕ → Bool) (x : ℕ) (xs : List ℕ) (page : ℕ) (b : Bool) → (x == page) ≡ b → list_any test (x ∷ xs) ≡ false → has_number (x ∷ xs) page ≡ true
         → (has_number xs page ≡ true → test page ≡ false) → test page ≡ false

@@ -1,4 +1,4 @@
--- Soundness behind traps, loads, stores and register accesses.
+-- Soundness after traps, loads, stores and register accesses.
 use Rattle.std.proofs.Common.{◌≡◌, ℕ, ◌+◌, ◌*◌, ◌/◌, ◌%◌, ◌^◌, ◌≤◌, inl, inr, List, length, refl, sym, ◌∙◌, ap, subst, Bool, true, false, ◌&&◌, ◌||◌, arith}
 use Rattle.std.specs.Prelude.{Option, Some, None, option_map, if◌then◌else◌, ◌==◌, nat_le, nat_lt}
 use Rattle.std.proofs.lemmas.Bool.{eqb-true}
@@ -25,7 +25,7 @@ use Rattle.reference.specs.Counting.{counted, count_trap, count_return, count_re
 use Rattle.sv_types.specs.declared.saved.BlockState.{BlockState}
 use Rattle.reference.specs.Disk.{BlockRegister, block_register, block_stored, unless_busy, is_busy, can_begin, block_ended, beat_size, disk_load, disk_store, Sector, Address, Count, Command, Status, sector_size}
 use Rattle.reference.specs.Devices.{DeviceLoad, DeviceStore, Port, ConsoleAt, DiskAt, Nowhere, port_at, device_load_of, port_load, port_store, device_load, device_store}
-use Rattle.reference.specs.Requests.{carried_out, carried_out_writing, settings_of, Source, NoSource, FromRam, FromDevice, Target, NoTarget, Guarded, ToRam, ToDevice, target_at, store_target, target_of, ram_word, carry_out_device_load, carry_out_load as loads_ref, carry_out_load_reserved, carry_out_device_store, carry_out_store as stores_ref, write_stopped, carry_out_store_conditional, carry_out_amo, carry_out_csr, csr_now, with_csr_set}
+use Rattle.reference.specs.Requests.{carried_out, carried_out_writing, settings_of, Source, NoSource, FromRam, FromDevice, Target, NoTarget, Guarded, ToRam, ToDevice, target_at, store_target, target_of, ram_word, carry_out_device_load, carry_out_load, carry_out_load_reserved, carry_out_device_store, carry_out_store, write_stopped, carry_out_store_conditional, carry_out_amo, carry_out_csr, csr_now, with_csr_set}
 use Rattle.reference.specs.Trapping.{trap_from, exception, returned_from_trap, hart_at_trap, hart_at_return, may_enter}
 use Rattle.reference.specs.Soundness.{IsSound, IsSoundHart, IsSoundDisk}
 use Rattle.attempt_laws.proofs.Everywhere.{Keeps, first_stage_keeps}
@@ -54,7 +54,7 @@ return_goes r h hart s k on =
 
 -- ---- a retired instruction
 
--- the hart goes on behind its instruction
+-- the hart goes on after its instruction
 pub retire_goes : (r : State) (h : ℕ) (hart : Hart) (registers : List ℕ) (reservation : Option ℕ) → IsSound r → IsSoundHart hart
     → Goes r (carried_out r h (record hart { registers = registers; pc = (hart.pc + 4) % 2 ^ 64; reservation = reservation }))
 retire_goes r h hart registers reservation s k =
@@ -156,8 +156,8 @@ device_load_goes r h hart rd address width signed (Some l) s k disk =
     l.devices (counted count_retired r.journal) s (goes_behind hart _ None k) (disk l refl)
 
 pub load_goes : (r : State) (h : ℕ) (hart : Hart) (rd address width : ℕ) (signed : Bool) (x : Source) → IsSound r → IsSoundHart hart
-    → Goes r (loads_ref r h hart rd address width signed x)
-unfolding loads_ref
+    → Goes r (carry_out_load r h hart rd address width signed x)
+unfolding carry_out_load
 load_goes r h hart rd address width signed (NoSource cause) s k = exception_goes r h hart cause address s k
 load_goes r h hart rd address width signed (FromRam gpa) s k =
     retire_goes r h hart (set_register hart.registers rd (loaded_value signed width (ram_word r gpa width))) hart.reservation s k
@@ -260,8 +260,8 @@ device_store_goes r h hart address (Some d) s k disk =
     (goes_behind hart hart.registers None k) (disk d refl)
 
 pub store_goes : (r : State) (h : ℕ) (hart : Hart) (address width value : ℕ) (x : Target) → IsSound r → IsSoundHart hart → IsWidth width → FreeTarget r width x
-    → Goes r (stores_ref r h hart address width value x)
-unfolding stores_ref
+    → Goes r (carry_out_store r h hart address width value x)
+unfolding carry_out_store
 store_goes r h hart address width value (NoTarget cause) s k whole free = exception_goes r h hart cause address s k
 store_goes r h hart address width value (Guarded gpa) s k whole free = guarded_goes r h hart gpa s
 store_goes r h hart address width value (ToRam gpa) s k whole free = written_goes r h hart hart.registers hart.reservation gpa width value s k whole free

@@ -1,4 +1,4 @@
--- What every step of the reference machine has in common: soundness behind harts that are set, and behind bytes that are
+-- What every step of the reference machine has in common: soundness after harts that are set, and after bytes that are
 -- written into a free page.
 use Rattle.std.proofs.Common.{sym, ◌≡◌, ℕ, zero, suc, ◌+◌, ◌*◌, ◌/◌, ◌%◌, ◌<◌, ◌≤◌, ◌⊎◌, inl, inr, List, [], ◌∷◌, length, map, refl, ◌∙◌, ap, subst, Bool, true, false, slice_get, slice_set, arith}
 use Rattle.std.specs.Prelude.{Option, Some, None, option_map, if◌then◌else◌}
@@ -15,7 +15,7 @@ use Rattle.machine_model.specs.StandsFor.{load_kept}
 use Rattle.reference.specs.Soundness.{IsSound, IsSoundHart, IsSoundDisk, IsSoundLoad}
 use Rattle.run_laws.proofs.Lookups.{not_true, both}
 use Rattle.attempt_laws.proofs.LoadsKept.{elsewhere, rule_kept}
-use Rattle.attempt_laws.proofs.Stays.{KeepsLoad}
+use Rattle.attempt_laws.proofs.Stays.{KeepsLoad, length_set, length_map}
 
 -- what a step keeps: soundness, and the kernel's text
 pub record Goes (r next : State) : Type 0 where
@@ -77,11 +77,6 @@ get_set (x ∷ harts) zero (suc k) y z e = inr e
 get_set (x ∷ harts) (suc h) zero y z e = inr e
 get_set (x ∷ harts) (suc h) (suc k) y z e = get_set harts h k y z e
 
-pub length_set : (harts : List Hart) (h : ℕ) (next : Hart) → length (slice_set harts h next) ≡ length harts
-length_set [] h next = refl
-length_set (x ∷ harts) zero next = refl
-length_set (x ∷ harts) (suc h) next = ap suc (length_set harts h next)
-
 pub are_set : (harts : List Hart) (h : ℕ) (next : Hart) → AreSound harts → IsSoundHart next → AreSound (slice_set harts h next)
 are_set harts h next all sound k hart e = elim (get_set harts h k next hart e) [
   | inl same ↦ subst IsSoundHart same sound
@@ -104,10 +99,6 @@ get_map : (f : Hart → Hart) (harts : List Hart) (k : ℕ) (z : Hart) → slice
 get_map f [] k z e = cc
 get_map f (x ∷ harts) zero z e = (x, (refl, cc))
 get_map f (x ∷ harts) (suc k) z e = get_map f harts k z e
-
-length_map : (f : Hart → Hart) (harts : List Hart) → length (map f harts) ≡ length harts
-length_map f [] = refl
-length_map f (x ∷ harts) = ap suc (length_map f harts)
 
 forgot_sound : (place width : ℕ) (hart : Hart) → IsSoundHart hart → IsSoundHart (hart_after_write place width hart)
 forgot_sound place width hart s = record { aligned = s.aligned; small = s.small; legal = s.legal; stopped = s.stopped }

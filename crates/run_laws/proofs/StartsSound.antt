@@ -1,5 +1,5 @@
 -- A start is sound.
-use Rattle.std.proofs.Common.{◌≡◌, ℕ, zero, suc, ◌+◌, ◌-◌, ◌*◌, ◌/◌, ◌%◌, ◌^◌, ◌<◌, ◌≤◌, inl, inr, List, [], ◌∷◌, ◌++◌, length, replicate, map, flat_map, fold, take, drop, min, refl, sym, ◌∙◌, ap, subst, Bool, true, false, not, ◌&&◌, ◌||◌, arith, lit<, slice_get, length-append, length-take}
+use Rattle.std.proofs.Common.{◌≡◌, ℕ, zero, suc, ◌+◌, ◌-◌, ◌*◌, ◌/◌, ◌%◌, ◌^◌, ◌<◌, ◌≤◌, inl, inr, List, [], ◌∷◌, ◌++◌, length, replicate, map, flat_map, fold, refl, sym, ◌∙◌, ap, subst, Bool, true, false, not, ◌&&◌, ◌||◌, arith, lit<, slice_get, length-append}
 use Rattle.std.specs.Prelude.{Some, None, if◌then◌else◌, is_some, ◌==◌, nat_le, nat_lt, IsTrue}
 use Rattle.std.specs.List.{list_any}
 use Rattle.std.proofs.lemmas.Bool.{eqb-true}
@@ -20,7 +20,7 @@ use Rattle.reference.specs.Origins.{ownership, is_kernel_text}
 use Rattle.reference.specs.Start.{start, harts_at_boot, flat_rules, AreWords}
 use Rattle.reference.specs.Soundness.{IsSound, IsSoundHart}
 use Rattle.run_laws.proofs.HartsSound.{begin_sound, stopped_sound, entry_aligned}
-use Rattle.run_laws.proofs.Lookups.{and_first, and_second, and_both, is_there, numbers_bounds, number_filtered, approved_alone}
+use Rattle.run_laws.proofs.Lookups.{and_first, and_second, and_both, is_there, numbers_bounds, number_filtered, approved_alone, part_short}
 use Rattle.run_laws.proofs.Sounds.{AreSound}
 
 -- what is known of a start
@@ -177,9 +177,6 @@ unfolding kernel_refusal
 accepted_segments file ram_pages none =
     (both_passed (flat_map (segment_checks (length file) ram_pages) (loaded_headers file)) (image_checks (loaded_headers file))
     (both_passed (header_checks file) (flat_map (segment_checks (length file) ram_pages) (loaded_headers file) ++ image_checks (loaded_headers file)) none).1).0
-
-part_short : (xs : List ℕ) (at n : ℕ) → length (part xs at n) ≤ n
-part_short xs at n = let e : length (take n (drop at xs)) ≡ min n (length (drop at xs)) = length-take n (drop at xs) in rw e (omega arith)
 
 segment_fits : (file ram : List ℕ) (ram_pages : ℕ) (h : ProgramHeader) → IsGoodSegment ram_pages h → length ram ≡ page_size * ram_pages
     → length (with_segment ram (loaded_segment file h)) ≡ page_size * ram_pages

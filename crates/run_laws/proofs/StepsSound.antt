@@ -1,5 +1,5 @@
 -- Each event keeps a sound state sound, and so does a run.
-use Rattle.std.proofs.Common.{◌≡◌, ℕ, ◌+◌, ◌*◌, ◌/◌, ◌%◌, ◌^◌, ◌<◌, ◌≤◌, List, [], ◌∷◌, length, take, drop, refl, Bool, true, false, not, arith, min, slice_get, length-take}
+use Rattle.std.proofs.Common.{◌≡◌, ℕ, ◌+◌, ◌*◌, ◌/◌, ◌%◌, ◌^◌, ◌<◌, ◌≤◌, List, [], ◌∷◌, length, refl, Bool, true, false, not, arith, slice_get}
 use Rattle.std.specs.Prelude.{Option, Some, None, if◌then◌else◌, ◌==◌}
 use Rattle.std.proofs.lemmas.Bool.Decides.{nat_tests}
 use Rattle.sv_types.specs.Bytes.{part, in_ram, page_of, ram_place}
@@ -35,7 +35,7 @@ use Rattle.attempt_laws.proofs.AllTold.{all_told}
 use Rattle.attempt_laws.proofs.EffectsAgree.{IsTold}
 use Rattle.run_laws.proofs.CallsSound.{call_goes, load_step_goes}
 use Rattle.run_laws.proofs.HartsSound.{at_pc, demoted_sound, GoesRight, effects_right}
-use Rattle.run_laws.proofs.Lookups.{unprotected, unheld, not_false}
+use Rattle.run_laws.proofs.Lookups.{unprotected, unheld, not_false, part_short}
 use Rattle.run_laws.proofs.RequestsSound.{exception_goes, trap_goes, return_goes, retire_goes, load_goes, load_reserved_goes, store_goes, store_conditional_goes, amo_goes, target_free, csr_goes}
 use Rattle.run_laws.proofs.Sounds.{Goes, InFreePage, goes_set, goes_beside, goes_bytes, goes_on, choose_goes, decide_goes, text_stays}
 
@@ -163,9 +163,6 @@ block_sound : (d : Disk) (last : Bool) → d.block.gpa % beat_size ≡ 0
 block_sound d true aligned busy = aligned
 block_sound d false aligned busy = aligned
 
-short : (xs : List ℕ) (at n : ℕ) → length (part xs at n) ≤ n
-short xs at n = let e : length (take n (drop at xs)) ≡ min n (length (drop at xs)) = length-take n (drop at xs) in rw e (omega arith)
-
 beat_last : (p n : ℕ) → p % 64 ≡ 0 → n ≤ 64 → p + n ≤ 4096 * (p / 4096 + 1)
 beat_last p n aligned small = grind arith
 
@@ -197,7 +194,7 @@ memory_sound r d true aligned inside free = record {
   disk = block_sound d (beat_size * (d.block.done + 1) == sector_size * d.block.count) aligned;
   move = record {
     aligned = place_aligned d.block.gpa d.block.done aligned;
-    short = short d.bytes (beat_place d.block) beat_size;
+    short = part_short d.bytes (beat_place d.block) beat_size;
     inside = inside;
     free = free;
   };
