@@ -1,14 +1,14 @@
 -- A beat of the machine's is the reference machine's: it asks DMA bits where the reference asks protections.
 use Rattle.std.proofs.Common.{◌≡◌, ℕ, zero, suc, ◌+◌, ◌*◌, ◌<◌, List, [], ◌∷◌, length, map, refl, sym, ◌∙◌, ap, Bool, true, false, not, ◌&&◌, ◌||◌, arith, slice_get}
-use Rattle.std.specs.Prelude.{Some, option_map, if◌then◌else◌, nat_le, ◌==◌}
+use Rattle.std.specs.Prelude.{Option, Some, unwrap_or, option_map, if◌then◌else◌, nat_le, ◌==◌}
 use Rattle.std.proofs.lemmas.Bool.Decides.{nat_tests}
 use Rattle.sv_types.specs.Bytes.{part, overwrite, in_ram, ram_base, ram_place, page_of, page_size}
 use Rattle.sv_types.specs.declared.wires.Protection.{Protection}
 use Rattle.reference.specs.States.{State, Disk, protection_in, protection_by, is_protected, is_approved_in, has_number}
-use Rattle.reference.specs.Disk.{disk_beat, to_memory, to_disk, block_after_beat, beat_place, Move, Idle, FromRam, IntoRam, DeniedAt, OutsideRam, beat_gpa, beat_size, is_busy, transfer_ended}
+use Rattle.reference.specs.Disk.{disk_beat, is_writable, to_memory, to_disk, block_after_beat, beat_place, Move, Idle, FromRam, IntoRam, DeniedAt, OutsideRam, beat_gpa, beat_size, is_busy, transfer_ended}
 use Rattle.reference.specs.Devices.{beat, after_beaten, after_move, with_bytes}
 use Rattle.reference.specs.Protections.{is_free}
-use Rattle.machine_model.specs.HostEvents.{beat_served, after_host_beaten, after_host_move, or_false}
+use Rattle.machine_model.specs.HostEvents.{beat_served, after_host_beaten, after_host_move}
 use Rattle.machine_model.specs.StandsFor.{Unseen, machine_of, protections_of}
 use Rattle.reference.specs.Soundness.{IsSound}
 use Rattle.attempt_laws.proofs.Hosts.{hosts_forget}
@@ -30,11 +30,11 @@ map_get f [] i = refl
 map_get f (x ∷ xs) zero = refl
 map_get f (x ∷ xs) (suc i) = map_get f xs i
 
-bit_of : (r : State) (page : ℕ) → page < r.rules.ram_pages → or_false (slice_get (map is_free (protections_of r)) page) ≡ not (is_protected r page)
+bit_of : (r : State) (page : ℕ) → page < r.rules.ram_pages → is_writable (map is_free (protections_of r)) page ≡ not (is_protected r page)
 unfolding protection_in is_protected
 bit_of r page below =
     let first : 0 + page ≡ page = omega arith in
-    ap or_false (map_get is_free (protections_of r) page ∙ ap (option_map is_free) (get_numbers (protection_in r.approved r.held) 0 r.rules.ram_pages page below
+    ap (λ (bit : Option Bool). unwrap_or bit false) (map_get is_free (protections_of r) page ∙ ap (option_map is_free) (get_numbers (protection_in r.approved r.held) 0 r.rules.ram_pages page below
     ∙ ap (λ (k : ℕ). Some (protection_in r.approved r.held k)) first))
     ∙ free_by (is_approved_in r.approved page) (has_number r.held page)
 
@@ -60,9 +60,9 @@ page_of_beat ram gpa n size inside =
     grind (arith, nat_tests)
 
 same_beat : (r : State) → IsSound r
-    → disk_beat r.devices.disk r.ram (λ page. or_false (slice_get (map is_free (protections_of r)) page)) ≡ disk_beat r.devices.disk r.ram (λ page. not (is_protected r page))
+    → disk_beat r.devices.disk r.ram (is_writable (map is_free (protections_of r))) ≡ disk_beat r.devices.disk r.ram (λ page. not (is_protected r page))
 same_beat r sound =
-    beat_meets r.devices.disk r.ram (λ page. or_false (slice_get (map is_free (protections_of r)) page)) (λ page. not (is_protected r page))
+    beat_meets r.devices.disk r.ram (is_writable (map is_free (protections_of r))) (λ page. not (is_protected r page))
     (λ inside. bit_of r (page_of (beat_gpa r.devices.disk.block)) (page_of_beat r.ram (beat_gpa r.devices.disk.block) r.rules.ram_pages sound.size inside))
 
 -- ---- what moves

@@ -1,14 +1,10 @@
 -- What a device may do to memory: one bit for each page of RAM says whether it may be written. This project's own.
-use Rattle.std.specs.Prelude.{ℕ, Bool, false, List, length, if◌then◌else◌, slice_get, unwrap_or, Result, Ok, Err}
+use Rattle.std.specs.Prelude.{ℕ, Bool, List, length, if◌then◌else◌, Result, Ok, Err}
 use Rattle.sv_types.specs.Bytes.{in_ram, page_of, overwrite, part, ram_place}
 use Rattle.sv_types.specs.Regions.{Region}
-use Rattle.reference.specs.Disk.{Move}
+use Rattle.reference.specs.Disk.{Move, is_writable}
 use Rattle.dma_guard.specs.declared.DmaRefused.{DmaRefused}
 use Rattle.dma_guard.specs.declared.port.Beaten.{Beaten}
-
--- a page past the end may not be written
-abbrev pub is_writable : List Bool → ℕ → Bool
-is_writable bits page = unwrap_or (slice_get bits page) false
 
 -- what a device is answered that writes n bytes at a guest-physical address, all in one page's span
 unfoldable pub write_answer : List ℕ → List Bool → (gpa n : ℕ) → Result (Unit {0}) DmaRefused

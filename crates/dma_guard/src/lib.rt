@@ -4,7 +4,8 @@
 ghost use Rattle.std.specs.Prelude.{◌≡◌, ◌+◌, ◌<◌, ◌≤◌, ◌%◌, length, replicate, slice_set, IfOk, IsTrue, true};
 ghost use Rattle.sv_types.specs.Bytes.{page_size, in_ram, ram_base, ram_place};
 ghost use Rattle.sv_types.specs.Regions.{IsRegion};
-ghost use Rattle.dma_guard.specs.Transfers.{is_writable, write_answer, after_write, read_answer, after_read};
+ghost use Rattle.reference.specs.Disk.{is_writable};
+ghost use Rattle.dma_guard.specs.Transfers.{write_answer, after_write, read_answer, after_read};
 
 mod port;
 

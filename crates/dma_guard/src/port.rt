@@ -1,8 +1,8 @@
 // What a block device is to the machine.
 ghost use Rattle.std.specs.Prelude.{◌≡◌, is_some, unwrap_or};
 ghost use Rattle.reference.specs.States.{Disk};
-ghost use Rattle.reference.specs.Disk.{disk_load, disk_store, disk_beat, disk_line};
-ghost use Rattle.dma_guard.specs.Transfers.{is_writable, told, after_move};
+ghost use Rattle.reference.specs.Disk.{is_writable, disk_load, disk_store, disk_beat, disk_line};
+ghost use Rattle.dma_guard.specs.Transfers.{told, after_move};
 
 use crate::DmaGuard;
 use host_mem::HostMem;

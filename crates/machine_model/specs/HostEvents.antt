@@ -1,5 +1,5 @@
 -- Beats, keys and time, as functions of the machine. This project's own: a beat asks the devices' bits of pages.
-use Rattle.std.specs.Prelude.{ℕ, ◌+◌, Bool, false, map, length, slice_get, if◌then◌else◌, Option, Some, None}
+use Rattle.std.specs.Prelude.{ℕ, ◌+◌, map, length, if◌then◌else◌}
 use Rattle.sv_types.specs.Bytes.{overwrite, ram_place}
 use Rattle.sv_types.specs.Clock.{after_tick}
 use Rattle.sv_types.specs.Console.{after_key, has_room}
@@ -8,14 +8,10 @@ use Rattle.sv_types.specs.declared.event.Event.TheVariants.{Turn, Beat, Key, Tic
 use Rattle.sv_types.specs.declared.event.Note.TheVariants.{Denied}
 use Rattle.reference.specs.States.{Disk}
 use Rattle.reference.specs.Counting.{counted, noted, count_denied, count_dropped, count_beat, count_key, count_tick}
-use Rattle.reference.specs.Disk.{disk_beat, Beaten, Move, Idle, FromRam, IntoRam, DeniedAt, OutsideRam}
+use Rattle.reference.specs.Disk.{disk_beat, is_writable, Beaten, Move, Idle, FromRam, IntoRam, DeniedAt, OutsideRam}
 use Rattle.machine_model.specs.Machine.{Machine, forgets, raised}
 
 -- ---- a beat
-
-abbrev pub or_false : Option Bool → Bool
-or_false None = false
-or_false (Some b) = b
 
 abbrev pub with_host_disk : Machine → Disk → Machine
 with_host_disk m disk = record m { devices = record m.devices { disk = disk } }
@@ -34,7 +30,7 @@ abbrev pub after_host_beaten : Machine → Beaten → Machine
 after_host_beaten m b = after_host_move (with_host_disk m b.disk) b.move
 
 unfoldable pub beat_served : Machine → Machine
-beat_served m = after_host_beaten m (disk_beat m.devices.disk m.region.ram (λ page. or_false (slice_get m.dma page)))
+beat_served m = after_host_beaten m (disk_beat m.devices.disk m.region.ram (is_writable m.dma))
 
 -- ---- keys and time
 

@@ -1,6 +1,6 @@
 -- The block device: its registers and its beats, with one definition each for a load, a store, a beat and the line.
 -- This project's own. It knows no machine: a beat is told RAM and which pages may be written.
-use Rattle.std.specs.Prelude.{ℕ, ◌+◌, ◌*◌, ◌%◌, ◌^◌, Bool, not, ◌&&◌, ◌||◌, List, length, ◌==◌, if◌then◌else◌, nat_le, nat_lt, Option, Some, None, option_map}
+use Rattle.std.specs.Prelude.{ℕ, ◌+◌, ◌*◌, ◌%◌, ◌^◌, Bool, false, not, ◌&&◌, ◌||◌, List, length, ◌==◌, if◌then◌else◌, nat_le, nat_lt, Option, Some, None, option_map, slice_get, unwrap_or}
 use Rattle.sv_types.specs.Bytes.{part, overwrite, in_ram, ram_place, page_of}
 use Rattle.sv_types.specs.declared.saved.BlockState.{BlockState}
 use Rattle.reference.specs.States.{Disk}
@@ -162,3 +162,7 @@ disk_beat d ram may_write =
     else if not (in_ram ram (beat_gpa d.block) beat_size) then transfer_ended d out_of_range OutsideRam
     else if d.block.command == disk_to_memory then to_memory d may_write
     else to_disk d ram
+
+-- whether a device may write a page, by one bit a page; one past the end may not be written
+abbrev pub is_writable : List Bool → ℕ → Bool
+is_writable bits page = unwrap_or (slice_get bits page) false
