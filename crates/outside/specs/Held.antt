@@ -1,5 +1,6 @@
 -- Files in memory: names with their bytes, of which the first of a name counts.
-use Rattle.std.specs.Prelude.{◌<◌, ℕ, List, Bool, true, false, find, map, option_map, Option, Some, None, Vec}
+use Rattle.std.specs.Prelude.{◌+◌, ◌-◌, ◌^◌, ◌<◌, ◌==◌, ℕ, min, List, Bool, true, false, find, map, option_map, Option, Some, None, Vec}
+use Rattle.std.specs.List.{list_any}
 use Rattle.std.specs.Str.{bytes_eq}
 use Rattle.std.specs.declared.alloc.Global.{Global}
 use Rattle.outside.specs.declared.FileRefusal.{FileRefusal}
@@ -28,10 +29,21 @@ abbrev pub memory_state : List File → ℕ → ℕ → FilesState
 memory_state files read_faults save_faults = record {
   tells = true;
   held = held_in files;
-  permits = λ name. true;
+  permits = λ names. true;
+  permits_save = λ name bytes. true;
   read_faults = read_faults;
   save_faults = save_faults;
 }
+
+-- ---- which calls fail
+
+-- the number of the call behind so many calls, where numbers end at the highest
+abbrev pub call_number : ℕ → ℕ
+call_number calls = min (calls + 1) (2 ^ 64 - 1)
+
+-- the call behind so many calls is one of those that are to fail
+abbrev pub is_to_fail : List ℕ → ℕ → Bool
+is_to_fail failing calls = list_any (λ number. number == call_number calls) failing
 
 -- more bytes than the limit, or want of memory
 abbrev pub IsTooLongOrMemory : ℕ → ℕ → FileRefusal → Type 0
@@ -49,7 +61,8 @@ abbrev pub real_state : ℕ → ℕ → FilesState
 real_state read_faults save_faults = record {
   tells = false;
   held = λ name. None;
-  permits = λ name. true;
+  permits = λ names. true;
+  permits_save = λ name bytes. true;
   read_faults = read_faults;
   save_faults = save_faults;
 }

@@ -1,5 +1,6 @@
--- What files and a sink mean to the program: what they hold and took, where they tell it, and how often they failed.
-use Rattle.std.specs.Prelude.{◌≡◌, ◌≢◌, ◌<◌, ◌≤◌, ℕ, List, [], ◌++◌, length, Bool, IsTrue, Option, Some, None, Result, Ok, Err, Vec}
+-- What files and a sink mean to the program: what they hold and took, where they tell it, what may be asked of them, and
+-- how often they failed.
+use Rattle.std.specs.Prelude.{◌≡◌, ◌≢◌, ◌<◌, ◌≤◌, ℕ, List, [], ◌∷◌, ◌++◌, length, Bool, IsTrue, Option, Some, None, Result, Ok, Err, Vec}
 use Rattle.std.specs.declared.alloc.Global.{Global}
 use Rattle.outside.specs.declared.FileRefusal.{FileRefusal}
 use Rattle.outside.specs.declared.FileRefusal.TheVariants.{Absent, Failed, TooLong, Memory}
@@ -11,19 +12,26 @@ pub record FilesState : Type 0 where
   pub tells : Bool
   -- what each name holds
   pub held : List ℕ → Option (List ℕ)
-  -- the names that may be asked for
-  pub permits : List ℕ → Bool
+  -- the names that may be asked for from now on, one after another
+  pub permits : List (List ℕ) → Bool
+  -- the name and the bytes that may be saved
+  pub permits_save : List ℕ → List ℕ → Bool
   -- how often a read failed, and how often a save
   pub read_faults : ℕ
   pub save_faults : ℕ
 
--- the files after an answer to a read: only a failure changes them, and that raises the count of reads alone
-abbrev pub ReadLeaves : FilesState → FilesState → Result (Vec ℕ Global) FileRefusal → Type 0
-ReadLeaves old new (Ok bytes) = new ≡ old
-ReadLeaves old new (Err Absent) = new ≡ old
-ReadLeaves old new (Err TooLong) = new ≡ old
-ReadLeaves old new (Err Memory) = new ≡ old
-ReadLeaves old new (Err Failed) = (old.read_faults < new.read_faults) × (new ≡ record old { read_faults = new.read_faults })
+-- the files once a name was asked for: what was permitted behind that name is permitted now
+abbrev pub after_asking : List ℕ → FilesState → FilesState
+after_asking name files = record files { permits = λ names. files.permits (name ∷ names) }
+
+-- the files after an answer to a read: a failure raises the count of reads alone
+abbrev pub ReadLeaves : FilesState → FilesState → List ℕ → Result (Vec ℕ Global) FileRefusal → Type 0
+ReadLeaves old new name (Ok bytes) = new ≡ after_asking name old
+ReadLeaves old new name (Err Absent) = new ≡ after_asking name old
+ReadLeaves old new name (Err TooLong) = new ≡ after_asking name old
+ReadLeaves old new name (Err Memory) = new ≡ after_asking name old
+ReadLeaves old new name (Err Failed) =
+    (old.read_faults < new.read_faults) × (new ≡ record (after_asking name old) { read_faults = new.read_faults })
 
 -- what an answer to a read says of the name's bytes
 abbrev pub ReadTells : FilesState → List ℕ → ℕ → Result (Vec ℕ Global) FileRefusal → Type 0

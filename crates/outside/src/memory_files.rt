@@ -1,8 +1,10 @@
 // Files in memory.
-ghost use Rattle.std.specs.Prelude.{◌≡◌, ◌≢◌, ◌<◌, ◌-◌, ◌^◌, ℕ, List, Option, IfOk, IfSome, IfErr, MatchOption, AllPairs, IsTrue, ◌≤◌, Some, length};
+ghost use Rattle.std.specs.Prelude.{◌≡◌, ◌≢◌, ◌<◌, ◌-◌, ◌^◌, ℕ, List, Option, ◌+◌, ◌↔◌, IfOk, OnOk, OnErr, IsErr, IsErrOf, IfSome, IfErr, MatchOption, AllPairs, IsTrue, ◌≤◌, Some, length};
 ghost use Rattle.std.specs.Option.{option_copied};
-ghost use Rattle.outside.specs.Held.{contents, held_in, memory_state, IsTooLongOrMemory};
+ghost use Rattle.outside.specs.Outside.{ReadTells, ReadLeaves};
+ghost use Rattle.outside.specs.Held.{contents, held_in, memory_state, call_number, is_to_fail, IsTooLongOrMemory};
 
+use crate::calls::{call_number, is_to_fail};
 use crate::{FileRefusal, Files, SaveFailed};
 use std::alloc::{AllocError, Global};
 use sv_types::Name;
@@ -12,6 +14,7 @@ use sv_types::Name;
 pub struct MemFiles {
     files: Vec<(Name, Vec<u8>)>,
     spare: Vec<Vec<u8>>,
+    room: usize,
     failing_reads: Vec<u64>,
     failing_saves: Vec<u64>,
     reads: u64,
@@ -21,7 +24,7 @@ pub struct MemFiles {
 }
 
 impl MemFiles {
-    /// Files that hold these names, with room for `saves` saves of `room` bytes each. The reads and saves of the given
+    /// Files that hold these names, with room for `saves` saves of `room` bytes in all. The reads and saves of the given
     /// numbers, counted from 1, fail; so does a save beyond the room, or under a text that is no `Name`.
     pub fn new(
         alloc: Global,
@@ -35,10 +38,14 @@ impl MemFiles {
         ensures held { IfOk result (λ f. contents f.files.items ≡ contents held.now) }
         ensures reads { IfOk result (λ f. f.read_faults ≡ 0) }
         ensures saves { IfOk result (λ f. f.save_faults ≡ 0) }
+        ensures failing_reads { IfOk result (λ f. (f.failing_reads.items ≡ failing_reads.now) × (f.reads ≡ 0)) }
+        ensures failing_saves { IfOk result (λ f. (f.failing_saves.items ≡ failing_saves.now) × (f.saves ≡ 0)) }
+        ensures room { IfOk result (λ f. f.room ≡ room) }
     {
         Ok(MemFiles {
             files: copied_files(alloc, held, saves)?,
             spare: spare_rooms(alloc, saves, room)?,
+            room,
             failing_reads: failing_reads.to_vec(alloc)?,
             failing_saves: failing_saves.to_vec(alloc)?,
             reads: 0,
@@ -85,9 +92,19 @@ fn spare_rooms(alloc: Global, saves: usize, room: usize) -> Result<Vec<Vec<u8>>,
 impl Files for MemFiles {
     ghost state = { λ f. memory_state f.files.items f.read_faults f.save_faults };
 
-    fn read(&mut self, alloc: Global, name: &str, limit: usize) -> Result<Vec<u8>, FileRefusal> {
-        self.reads = self.reads.saturating_add(1);
-        if self.failing_reads.contains(&self.reads) {
+    fn read(&mut self, alloc: Global, name: &str, limit: usize) -> Result<Vec<u8>, FileRefusal>
+        requires count { self.old.read_faults < 2 ^ 64 - 1 }
+        ensures tells { ReadTells (memory_state self.old.files.items self.old.read_faults self.old.save_faults) name.now limit result }
+        ensures leaves { ReadLeaves (memory_state self.old.files.items self.old.read_faults self.old.save_faults) (memory_state self.new.files.items self.new.read_faults self.new.save_faults) name.now result }
+        // A read fails exactly where its number is listed.
+        ensures fails { IsErrOf result FileRefusal.Failed ↔ IsTrue (is_to_fail self.old.failing_reads.items self.old.reads) }
+        ensures counted { self.new.reads ≡ call_number self.old.reads }
+        ensures failing { (self.new.failing_reads ≡ self.old.failing_reads) × (self.new.failing_saves ≡ self.old.failing_saves) }
+        ensures room { (self.new.room ≡ self.old.room) × (self.new.saves ≡ self.old.saves) }
+    {
+        let is_to_fail = is_to_fail(&self.failing_reads, self.reads);
+        self.reads = call_number(self.reads);
+        if is_to_fail {
             self.read_faults += 1;
             return Err(FileRefusal::Failed);
         }
@@ -97,13 +114,33 @@ impl Files for MemFiles {
         }
     }
 
-    fn save(&mut self, name: &str, bytes: &[u8]) -> Result<(), SaveFailed> {
-        self.saves = self.saves.saturating_add(1);
-        let is_to_fail = self.failing_saves.contains(&self.saves);
-        if is_to_fail || !put(&mut self.files, &mut self.spare, name, bytes) {
+    fn save(&mut self, name: &str, bytes: &[u8]) -> Result<(), SaveFailed>
+        requires count { self.old.save_faults < 2 ^ 64 - 1 }
+        ensures saved { OnOk result (held_in self.new.files.items name.now ≡ Some bytes.now) }
+        ensures others { (other : List ℕ) → other ≢ name.now → held_in self.new.files.items other ≡ held_in self.old.files.items other }
+        ensures fault { OnErr result (self.old.save_faults < self.new.save_faults) }
+        ensures no_fault { OnOk result (self.new.save_faults ≡ self.old.save_faults) }
+        ensures read_faults { self.new.read_faults ≡ self.old.read_faults }
+        // A save fails where its number is listed, and where the room that is left is exceeded.
+        ensures listed { IsTrue (is_to_fail self.old.failing_saves.items self.old.saves) → IsErr result }
+        ensures exceeded { self.old.room < length bytes.now → IsErr result }
+        ensures counted { self.new.saves ≡ call_number self.old.saves }
+        ensures failing { (self.new.failing_reads ≡ self.old.failing_reads) × (self.new.failing_saves ≡ self.old.failing_saves) }
+        // The room is that of all saves together.
+        ensures room { OnOk result (self.new.room + length bytes.now ≡ self.old.room) }
+        ensures kept_room { OnErr result (self.new.room ≡ self.old.room) }
+        ensures reads { self.new.reads ≡ self.old.reads }
+    {
+        let is_to_fail = is_to_fail(&self.failing_saves, self.saves);
+        self.saves = call_number(self.saves);
+        if is_to_fail
+            || self.room < bytes.len()
+            || !put(&mut self.files, &mut self.spare, name, bytes)
+        {
             self.save_faults += 1;
             return Err(SaveFailed);
         }
+        self.room -= bytes.len();
         Ok(())
     }
 }

@@ -1,8 +1,9 @@
 // A sink in memory.
-ghost use Rattle.std.specs.Prelude.{◌≡◌, ◌<◌, Some, [], IfOk, true};
+ghost use Rattle.std.specs.Prelude.{◌≡◌, ◌<◌, ◌≤◌, ◌+◌, ◌-◌, ◌^◌, ◌++◌, take, OnOk, OnErr, ◌↔◌, ◌⊎◌, min, Some, [], IfOk, IsErr, IsTrue, length, vec_len, vec_capacity, true};
 ghost use Rattle.outside.specs.Outside.{SinkState};
-ghost use Rattle.outside.specs.Held.{memory_sink};
+ghost use Rattle.outside.specs.Held.{memory_sink, call_number, is_to_fail};
 
+use crate::calls::{call_number, is_to_fail};
 use crate::{Failed, Sink};
 use std::alloc::{AllocError, Global};
 
@@ -16,6 +17,8 @@ pub struct MemSink {
     writes: u64,
     faults: u64,
     ghost some: { 0 < piece },
+    ghost within: { vec_len bytes ≤ room },
+    ghost reserved: { room ≤ vec_capacity bytes },
 }
 
 impl MemSink {
@@ -28,7 +31,9 @@ impl MemSink {
         failing: &[u64],
     ) -> Result<MemSink, AllocError>
         requires { 0 < piece }
-        ensures { IfOk result (λ s. memory_sink s.bytes.items s.faults ≡ memory_sink [] 0) }
+        ensures taken { IfOk result (λ s. memory_sink s.bytes.items s.faults ≡ memory_sink [] 0) }
+        ensures limits { IfOk result (λ s. (s.room ≡ room) × (s.piece ≡ piece)) }
+        ensures failing { IfOk result (λ s. (s.failing.items ≡ failing.now) × (s.writes ≡ 0)) }
     {
         Ok(MemSink {
             bytes: Vec::with_capacity(alloc, room)?,
@@ -51,14 +56,31 @@ impl MemSink {
 impl Sink for MemSink {
     ghost state = { λ s. memory_sink s.bytes.items s.faults };
 
-    fn write(&mut self, piece: &[u8]) -> Result<usize, Failed> {
-        self.writes = self.writes.saturating_add(1);
+    fn write(&mut self, piece: &[u8]) -> Result<usize, Failed>
+        requires count { self.old.faults < 2 ^ 64 - 1 }
+        ensures took { IfOk result (λ n. self.new.bytes.items ≡ self.old.bytes.items ++ take n piece.now) }
+        ensures within { IfOk result (λ n. n ≤ length piece.now) }
+        ensures progress { IfOk result (λ n. 0 < length piece.now → 0 < n) }
+        ensures no_fault { OnOk result (self.new.faults ≡ self.old.faults) }
+        ensures failed { OnErr result ((self.new.bytes.items ≡ self.old.bytes.items) × (self.old.faults < self.new.faults)) }
+        // Of a piece the first bytes are taken, as many as a write takes.
+        ensures count { IfOk result (λ n. n ≡ min (length piece.now) self.old.piece) }
+        // A write fails exactly where its number is listed, or the room is exceeded.
+        ensures fails { IsErr result ↔ (IsTrue (is_to_fail self.old.failing.items self.old.writes)
+            ⊎ (self.old.room < vec_len self.old.bytes + min (length piece.now) self.old.piece)) }
+        ensures counted { self.new.writes ≡ call_number self.old.writes }
+        ensures limits { (self.new.room ≡ self.old.room) × (self.new.piece ≡ self.old.piece) }
+        ensures failing { self.new.failing ≡ self.old.failing }
+    {
+        let is_to_fail = is_to_fail(&self.failing, self.writes);
+        self.writes = call_number(self.writes);
         let count = piece.len().min(self.piece);
-        let is_to_fail = self.failing.contains(&self.writes)
-            || self.room - self.room.min(self.bytes.len()) < count;
-        if is_to_fail || self.bytes.extend_from_slice(&piece[..count]).is_err() {
+        if is_to_fail || self.room - self.bytes.len() < count {
             self.faults += 1;
             return Err(Failed);
+        }
+        if self.bytes.extend_from_slice(&piece[..count]).is_err() {
+            unreachable!();
         }
         Ok(count)
     }

@@ -4,10 +4,12 @@ ghost use Rattle.outside.specs.Held.{real_state, real_sink};
 
 use crate::{Failed, FileRefusal, Files, SaveFailed, Sink};
 use std::alloc::Global;
-use std::io::Write;
+use std::fs::File;
+use std::io::{ErrorKind, Read, Write};
 use std::{fs, io};
 
-/// The files of the operating system. A file that is missing is a fault.
+/// The files of the operating system. A file that is missing is a fault; of one that is too long, or never ends, one byte
+/// more than the limit is read.
 #[derive(Drop)]
 pub struct RealFiles<R: std::rt::Files + AllocGlobal + Drop> {
     rt: R,
@@ -30,8 +32,8 @@ impl<R: std::rt::Files + AllocGlobal + Drop> RealFiles<R> {
 impl<R: std::rt::Files + AllocGlobal + Drop> Files for RealFiles<R> {
     ghost state = { λ f. real_state f.read_faults f.save_faults };
 
-    fn read(&mut self, _alloc: Global, name: &str, limit: usize) -> Result<Vec<u8>, FileRefusal> {
-        match fs::read(&self.rt, name) {
+    fn read(&mut self, alloc: Global, name: &str, limit: usize) -> Result<Vec<u8>, FileRefusal> {
+        match first_bytes(&self.rt, alloc, name, limit) {
             Ok(bytes) => {
                 if bytes.len() > limit {
                     Err(FileRefusal::TooLong)
@@ -39,9 +41,13 @@ impl<R: std::rt::Files + AllocGlobal + Drop> Files for RealFiles<R> {
                     Ok(bytes)
                 }
             }
-            Err(_) => {
-                self.read_faults += 1;
-                Err(FileRefusal::Failed)
+            Err(error) => {
+                if error.kind() == ErrorKind::OutOfMemory {
+                    Err(FileRefusal::Memory)
+                } else {
+                    self.read_faults += 1;
+                    Err(FileRefusal::Failed)
+                }
             }
         }
     }
@@ -55,6 +61,19 @@ impl<R: std::rt::Files + AllocGlobal + Drop> Files for RealFiles<R> {
             }
         }
     }
+}
+
+// The first bytes of a file, at most one more than the limit.
+fn first_bytes<R: std::rt::Files>(
+    rt: &R,
+    alloc: Global,
+    name: &str,
+    limit: usize,
+) -> io::Result<Vec<u8>> {
+    let mut bytes = Vec::new(alloc);
+    let most = (limit as u64).saturating_add(1);
+    File::open(rt, name)?.take(most).read_to_end(&mut bytes)?;
+    Ok(bytes)
 }
 
 /// Standard output.

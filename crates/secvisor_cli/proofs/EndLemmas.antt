@@ -1,7 +1,9 @@
 -- The end of a run: the rest of the console, and the report.
-use Rattle.std.proofs.Common.{◌≡◌, ℕ, List, [], ◌++◌, ◌<◌, refl, sym, ◌∙◌, ap, subst, append_assoc, inl, inr, Result, Ok, Err}
+use Rattle.std.proofs.Common.{◌≡◌, ℕ, List, [], ◌++◌, ◌<◌, length, refl, sym, ◌∙◌, ap, subst, append_assoc, inl, inr, Result, Ok, Err, IsErrOf, IsTrue}
 use Rattle.std.proofs.lemmas.List.{append-nil}
 use Rattle.sv_types.specs.declared.event.Event.{Event}
+use Rattle.sv_types.specs.declared.event.Verdict.{Verdict}
+use Rattle.sv_types.specs.declared.event.Verdict.TheVariants.{Running, Shutdown, Stopped}
 use Rattle.sv_types.specs.declared.status.Status.{Status}
 use Rattle.sv_types.specs.Reference.{State}
 use Rattle.sv_types.specs.Run.{run, with_printed}
@@ -10,8 +12,10 @@ use Rattle.sv_types.proofs.RunLemmas.{run-with_printed, run-append}
 use Rattle.outside.specs.Outside.{SinkState, after_taking, TookPrefix, BreaksOff}
 use Rattle.outside.proofs.SinkLemmas.{after_taking-append, prefix_behind, prefix_of_front, prefix_same, breaks_behind}
 use Rattle.secvisor_cli.specs.declared.trouble.Trouble.{Trouble}
+use Rattle.secvisor_cli.specs.declared.trouble.Trouble.TheVariants.{Memory}
 use Rattle.secvisor_cli.specs.Console.{HasRun, RunBroke}
-use Rattle.secvisor_cli.specs.Answers.{Writes, Reaches}
+use Rattle.secvisor_cli.specs.Answers.{Writes, Reaches, is_answer}
+use Rattle.secvisor_cli.proofs.Standing.{stands_printed, stands_verdict, stands_output}
 
 -- ---- the rest of the console, and then the report
 
@@ -55,52 +59,65 @@ output-front start done left events split =
 
 pub broke_prefix : (start : State) (events : List Event) (m : State) (old new : SinkState) → RunBroke start events m old new → TookPrefix old new (output (run start events))
 broke_prefix start events m old new b =
-    let printed : b.cleared ++ m.printed ≡ (run start b.done).printed = ap (λ (r : State). r.printed) b.state in
+    let here : State = run start b.done in
+    let printed : b.cleared ++ m.printed ≡ here.printed = stands_printed m here b.cleared b.stands in
     prefix_same old new _ _ (output-front start b.done b.left events b.split)
-    (prefix_of_front old new (run start b.done).printed _ (prefix_same old new _ _ printed b.broke.prefix))
+    (prefix_of_front old new here.printed _ (prefix_same old new _ _ printed (prefix_behind old (after_taking old b.cleared) new b.cleared m.printed refl b.broke.prefix)))
 
-pub broke_reaches : (start : State) (events : List Event) (m : State) (old new : SinkState) → RunBroke start events m old new → Reaches start events m old new
-broke_reaches start events m old new b = record {
+pub broke_reaches : (wanting : Type 0) (start : State) (events : List Event) (m : State) (old new : SinkState) → (wanting → ⊥) → RunBroke start events m old new → Reaches wanting start events m old new
+broke_reaches wanting start events m old new never b = record {
   done = b.done;
   left = b.left;
   split = b.split;
   cleared = b.cleared;
-  state = b.state;
-  whole = inr (b.full, b.broke);
+  stands = b.stands;
+  rest = inr (b.full, b.broke);
+  quiet = λ w. absurd (never w);
 }
 
 -- ---- a whole run
 
-pub ran_reaches : (start : State) (events : List Event) (m : State) (old mid new : SinkState) → HasRun start events m old mid → Reaches start events m old new
-ran_reaches start events m old mid new ran = record {
+pub ran_reaches : (start : State) (events : List Event) (m : State) (old mid new : SinkState) (result : Result Status Trouble) → HasRun start events m old mid → length m.printed < 4096 →
+    TookPrefix mid new (output m) → (IsErrOf result Memory → new ≡ mid) → Reaches (IsErrOf result Memory) start events m old new
+ran_reaches start events m old mid new result ran room prefix quiet = record {
   done = events;
   left = [];
   split = append-nil events;
   cleared = ran.cleared;
-  state = ran.state;
-  whole = inl refl;
+  stands = ran.stands;
+  rest = inl (refl, room, subst (λ (k : SinkState). TookPrefix k new (output m)) ran.taken prefix);
+  quiet = λ w. quiet w ∙ ran.taken;
 }
-
-ran_output : (start m : State) (events : List Event) (cleared : List ℕ) → with_printed cleared m ≡ run start events → cleared ++ output m ≡ output (run start events)
-ran_output start m events cleared is = sym (append_assoc cleared m.printed (line_feed ++ report_lines m.verdict m.counts)) ∙ ap output is
 
 pub ran_writes : (start m : State) (events : List Event) (old mid new : SinkState) (result : Result Status Trouble) → HasRun start events m old mid →
     Writes (run_status m.verdict) (output m) mid new result → Writes (run_status (run start events).verdict) (output (run start events)) old new result
-ran_writes start m events old mid new (Ok s) ran w = record {
-  status = w.status ∙ ap (λ (r : State). run_status r.verdict) ran.state;
-  proper = w.proper;
-  whole =
-      w.whole ∙ ap (λ (k : SinkState). after_taking k (output m)) ran.taken ∙ after_taking-append old ran.cleared (output m)
-      ∙ ap (λ (b : List ℕ). after_taking old b) (ran_output start m events ran.cleared ran.state);
-  prefix = prefix_same old new _ _ (ran_output start m events ran.cleared ran.state) (prefix_behind old mid new ran.cleared (output m) ran.taken w.prefix);
-  write = λ e. absurd (cc e);
-  memory = λ e. absurd (cc e);
-}
-ran_writes start m events old mid new (Err e) ran w = record {
-  status = tt;
-  proper = tt;
-  whole = tt;
-  prefix = prefix_same old new _ _ (ran_output start m events ran.cleared ran.state) (prefix_behind old mid new ran.cleared (output m) ran.taken w.prefix);
-  write = λ is. subst (λ (n : ℕ). n < new.faults) (ap (λ (k : SinkState). k.faults) ran.taken) (w.write is);
-  memory = λ is. w.memory is ∙ ap (λ (k : SinkState). k.faults) ran.taken;
-}
+ran_writes start m events old mid new (Ok s) ran w =
+    let last : State = run start events in
+    let all : ran.cleared ++ output m ≡ output last = stands_output m last ran.cleared ran.stands in
+    record {
+      status = w.status ∙ ap run_status (stands_verdict m last ran.cleared ran.stands);
+      proper = w.proper;
+      whole =
+          w.whole ∙ ap (λ (k : SinkState). after_taking k (output m)) ran.taken ∙ after_taking-append old ran.cleared (output m)
+          ∙ ap (λ (b : List ℕ). after_taking old b) all;
+      prefix = prefix_same old new _ _ all (prefix_behind old mid new ran.cleared (output m) ran.taken w.prefix);
+      write = λ e. absurd (cc e);
+      memory = λ e. absurd (cc e);
+    }
+ran_writes start m events old mid new (Err e) ran w =
+    let last : State = run start events in
+    let all : ran.cleared ++ output m ≡ output last = stands_output m last ran.cleared ran.stands in
+    record {
+      status = tt;
+      proper = tt;
+      whole = tt;
+      prefix = prefix_same old new _ _ all (prefix_behind old mid new ran.cleared (output m) ran.taken w.prefix);
+      write = λ is. subst (λ (n : ℕ). n < new.faults) (ap (λ (k : SinkState). k.faults) ran.taken) (w.write is);
+      memory = λ is. w.memory is ∙ ap (λ (k : SinkState). k.faults) ran.taken;
+    }
+
+-- the status of a run is neither a write fault nor want of memory
+pub run_is_answer : (v : Verdict) → IsTrue (is_answer (run_status v))
+run_is_answer Running = refl
+run_is_answer Shutdown = refl
+run_is_answer (Stopped rule hart turn) = refl

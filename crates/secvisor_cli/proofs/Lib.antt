@@ -1,5 +1,7 @@
+pub mod WordLemmas
+pub mod Standing
 pub mod ConsoleLemmas
 pub mod EndLemmas
-pub mod AskedLemmas
+pub mod PlanLemmas
+pub mod ReadyLemmas
 pub mod TopLemmas
-pub mod WordLemmas

@@ -1,10 +1,13 @@
 -- The words of the command line.
-use Rattle.std.proofs.Common.{◌≡◌, ℕ, ◌≤◌, ◌||◌, Bool, true, false, List, [], ◌∷◌, map, refl, sym, ◌∙◌, ap, arith, Option, Some, None, ◌<◌, length, get_or, string_bytes, String, Global, codes, if◌then◌else◌}
+use Rattle.std.proofs.Common.{◌≡◌, ℕ, ◌≤◌, ◌||◌, Bool, true, false, List, [], ◌∷◌, map, refl, sym, ◌∙◌, ap, arith, Option, Some, None, Err, ◌<◌, length, get_or, string_bytes, String, Global, if◌then◌else◌}
 use Rattle.std.proofs.lemmas.List.{get_or-map}
 use Rattle.std.specs.List.{list_any}
 use Rattle.std.proofs.lemmas.Bool.Decides.{nat_tests}
 use Rattle.sv_types.specs.Numbers.{number_within, digest_of}
-use Rattle.secvisor_cli.specs.CommandLine.{word_at, has_dash, is_flat, judged, flat_words, flat_judged, flat_file, most_events, OutOfRange, NoCommand}
+use Rattle.secvisor_cli.specs.declared.refusal.Word.{Word}
+use Rattle.secvisor_cli.specs.declared.refusal.Refusal.{Refusal}
+use Rattle.secvisor_cli.specs.declared.refusal.Refusal.TheVariants.{OutOfRange, NoCommand}
+use Rattle.secvisor_cli.specs.CommandLine.{word_at, has_dash, is_flat, judged, flat_words, flat_judged, flat_file, most_events}
 
 pub list_any_map : {A B : Type 0} (p : B → Bool) (f : A → B) (xs : List A) → list_any p (map f xs) ≡ list_any (λ x. p (f x)) xs
 list_any_map p f [] = refl
@@ -16,11 +19,11 @@ word_is words i w lt is = ap (λ (v : String Global). string_bytes v) is ∙ sym
 
 -- the first word that is out of its range is the measure
 pub judged_measure : (words : List (String Global)) → list_any (λ (w : String Global). has_dash (string_bytes w)) words ≡ false → is_flat (map string_bytes words) ≡ true →
-    digest_of (word_at (map string_bytes words) 2) ≡ None → judged (map string_bytes words) ≡ OutOfRange (codes "MEASURE")
+    digest_of (word_at (map string_bytes words) 2) ≡ None → judged (map string_bytes words) ≡ Err (OutOfRange Word.Measure)
 unfolding judged flat_words
 judged_measure words no_dash flat none =
     let bytes : List (List ℕ) = map string_bytes words in
     let dash : list_any has_dash bytes ≡ false = list_any_map has_dash (λ (w : String Global). string_bytes w) words ∙ no_dash in
-    ap (λ b. if b then NoCommand else if is_flat bytes then flat_judged bytes else NoCommand) dash
-    ∙ ap (λ b. if b then flat_judged bytes else NoCommand) flat
+    ap (λ b. if b then Err NoCommand else if is_flat bytes then flat_judged bytes else Err NoCommand) dash
+    ∙ ap (λ b. if b then flat_judged bytes else Err NoCommand) flat
     ∙ ap (λ (d : Option (List ℕ)). flat_words (flat_file bytes) d (number_within 0 most_events (word_at bytes 3))) none

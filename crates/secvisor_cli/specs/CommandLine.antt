@@ -1,15 +1,14 @@
--- The words of a command line: which command they are of, and the first one that is out of its range. This project's
--- own.
-use Rattle.std.specs.Prelude.{ℕ, ◌^◌, Bool, false, ◌&&◌, List, [], ◌∷◌, length, ◌==◌, if◌then◌else◌, Option, Some, None, codes, slice_index_or}
+-- The words of a command line: what they ask for, or the first one that is out of its range. This project's own.
+use Rattle.std.specs.Prelude.{ℕ, ◌^◌, Bool, false, ◌&&◌, List, [], ◌∷◌, length, ◌==◌, if◌then◌else◌, Option, Some, None, Result, Ok, Err, codes, slice_index_or}
 use Rattle.std.specs.List.{list_any}
 use Rattle.std.specs.Str.{bytes_eq}
 use Rattle.sv_types.specs.Numbers.{number_within, digest_of}
+use Rattle.secvisor_cli.specs.declared.refusal.Word.{Word}
+use Rattle.secvisor_cli.specs.declared.refusal.Refusal.{Refusal}
+use Rattle.secvisor_cli.specs.declared.refusal.Refusal.TheVariants.{NoCommand, OutOfRange}
 
-pub data Judged : Type 0 where
-  NoCommand : Judged
-  -- the name of the first word that is out of its range
-  OutOfRange : (name : List ℕ) → Judged
-  Flat : (file wanted : List ℕ) → (events : ℕ) → Judged
+pub data Command : Type 0 where
+  Flat : (file wanted : List ℕ) → (events : ℕ) → Command
 
 -- a word begins with a dash
 abbrev pub has_dash : List ℕ → Bool
@@ -28,19 +27,19 @@ most_events = 2 ^ 32
 abbrev pub flat_file : List (List ℕ) → List ℕ
 flat_file words = word_at words 1
 
-unfoldable pub flat_words : List ℕ → Option (List ℕ) → Option ℕ → Judged
-flat_words file None events = OutOfRange (codes "MEASURE")
-flat_words file (Some wanted) None = OutOfRange (codes "EVENTS")
-flat_words file (Some wanted) (Some events) = Flat file wanted events
+unfoldable pub flat_words : List ℕ → Option (List ℕ) → Option ℕ → Result Command Refusal
+flat_words file None events = Err (OutOfRange Word.Measure)
+flat_words file (Some wanted) None = Err (OutOfRange Word.Events)
+flat_words file (Some wanted) (Some events) = Ok (Flat file wanted events)
 
 abbrev pub is_flat : List (List ℕ) → Bool
 is_flat words = length words == 4 && bytes_eq (word_at words 0) (codes "flat")
 
 -- the ranges are judged from left to right
-abbrev pub flat_judged : List (List ℕ) → Judged
+abbrev pub flat_judged : List (List ℕ) → Result Command Refusal
 flat_judged words = flat_words (flat_file words) (digest_of (word_at words 2)) (number_within 0 most_events (word_at words 3))
 
 -- ---- all commands
 
-unfoldable pub judged : List (List ℕ) → Judged
-judged words = if list_any has_dash words then NoCommand else if is_flat words then flat_judged words else NoCommand
+unfoldable pub judged : List (List ℕ) → Result Command Refusal
+judged words = if list_any has_dash words then Err NoCommand else if is_flat words then flat_judged words else Err NoCommand

@@ -2,19 +2,20 @@
 use Rattle.std.specs.Prelude.{◌≡◌, ℕ, List, ◌++◌, length}
 use Rattle.sv_types.specs.declared.event.Event.{Event}
 use Rattle.sv_types.specs.Reference.{State}
-use Rattle.sv_types.specs.Run.{run, with_printed}
+use Rattle.sv_types.specs.Run.{run}
 use Rattle.outside.specs.Outside.{SinkState, after_taking, BreaksOff}
+use Rattle.secvisor_cli.specs.Standing.{Stands, TakesAway}
 
 -- the sink took these bytes of the console, and the rest stands in the machine
 pub record Flushed (before after : State) (old new : SinkState) : Type 0 where
   pub cleared : List ℕ
-  pub state : with_printed cleared after ≡ before
+  pub away : TakesAway before cleared after
   pub taken : new ≡ after_taking old cleared
 
 -- the machine stands where the run is after these events, but for console bytes that the sink took
 pub record HasRun (start : State) (done : List Event) (machine : State) (old new : SinkState) : Type 0 where
   pub cleared : List ℕ
-  pub state : with_printed cleared machine ≡ run start done
+  pub stands : Stands machine cleared (run start done)
   pub taken : new ≡ after_taking old cleared
 
 -- the machine stands where the run is after some of these events, and a write failed while 4,096 console bytes stood
@@ -23,6 +24,6 @@ pub record RunBroke (start : State) (events : List Event) (machine : State) (old
   pub left : List Event
   pub split : done ++ left ≡ events
   pub cleared : List ℕ
-  pub state : with_printed cleared machine ≡ run start done
+  pub stands : Stands machine cleared (run start done)
   pub full : length machine.printed ≡ 4096
-  pub broke : BreaksOff old new (cleared ++ machine.printed)
+  pub broke : BreaksOff (after_taking old cleared) new machine.printed

@@ -1,5 +1,9 @@
+pub mod Refusals
 pub mod CommandLine
-pub mod Start
-pub mod Answers
 pub mod Words
+pub mod Plans
+pub mod Reading
+pub mod Standing
+pub mod Answers
+pub mod Ready
 pub mod Console

@@ -1,12 +1,17 @@
--- What reading the words answers.
-use Rattle.std.specs.Prelude.{◌≡◌, ℕ, List, Result, Ok, Err, codes}
-use Rattle.secvisor_cli.specs.CommandLine.{judged, flat_file, NoCommand, OutOfRange, Flat}
-use Rattle.secvisor_cli.specs.declared.words.FlatWords.{FlatWords}
-use Rattle.secvisor_cli.specs.declared.words.UsageFault.{UsageFault}
+-- What judging the words answers.
+use Rattle.std.specs.Prelude.{◌≡◌, ◌≤◌, ◌^◌, ℕ, List, Result, Ok, Err}
+use Rattle.secvisor_cli.specs.declared.refusal.Refusal.{Refusal}
+use Rattle.secvisor_cli.specs.declared.words.Command.{Command as Asked}
+use Rattle.secvisor_cli.specs.declared.words.Command.TheVariants as asked
+use Rattle.secvisor_cli.specs.CommandLine.{Command, Flat, judged}
 
--- the words are judged so
-abbrev pub AreJudged : List (List ℕ) → Result FlatWords UsageFault → Type 0
-AreJudged words (Ok flat) = judged words ≡ Flat (flat_file words) flat.wanted flat.events
-AreJudged words (Err UsageFault.NoCommand) = judged words ≡ NoCommand
-AreJudged words (Err UsageFault.Measure) = judged words ≡ OutOfRange (codes "MEASURE")
-AreJudged words (Err UsageFault.Events) = judged words ≡ OutOfRange (codes "EVENTS")
+-- the values of the words
+abbrev pub command_of : Asked → Command
+command_of (asked.Flat flat) = Flat flat.file.now flat.wanted flat.events
+
+abbrev pub AreJudged : List (List ℕ) → Result Asked Refusal → Type 0
+AreJudged words (Ok command) = judged words ≡ Ok (command_of command)
+AreJudged words (Err refusal) = judged words ≡ Err refusal
+
+abbrev pub IsInRange : Asked → Type 0
+IsInRange (asked.Flat flat) = flat.events ≤ 2 ^ 32

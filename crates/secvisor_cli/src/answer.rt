@@ -1,24 +1,29 @@
 // The answer to the words.
-ghost use Rattle.std.specs.Prelude.{◌≡◌, ◌<◌, ◌≤◌, ◌-◌, ◌^◌, ◌%◌, ◌⊎◌, ℕ, List, Option, [], length, map, string_bytes, IsTrue, false};
+ghost use Rattle.std.specs.Prelude.{◌≡◌, ◌<◌, ◌≤◌, ◌-◌, ◌^◌, ◌⊎◌, ℕ, List, Option, [], map, string_bytes, None, IsTrue, IsErrOf, false};
+ghost use Rattle.std.specs.Result.{is_ok};
 ghost use Rattle.sv_types.specs.Output.{output, run_status};
 ghost use Rattle.sv_types.specs.Run.{CountsAtMost, run};
-ghost use Rattle.secvisor_cli.specs.Start.{turns, RunFrom, Held, measure_judged, flat_file_judged, asked_of, is_whole_pages, measure_line};
-ghost use Rattle.secvisor_cli.specs.CommandLine.{judged, flat_file};
-ghost use Rattle.secvisor_cli.specs.Answers.{Writes, Answers, usage_text, Accounts, Reaches, Headline, is_answer, is_command};
+ghost use Rattle.sv_types.specs.Schedule.{first_events};
+ghost use Rattle.secvisor_cli.specs.Refusals.{refusal_line, refusal_status, takes_memory};
+ghost use Rattle.secvisor_cli.specs.CommandLine.{judged};
+ghost use Rattle.secvisor_cli.specs.Plans.{RunFrom, plan_of};
+ghost use Rattle.secvisor_cli.specs.Reading.{MayFollow, IsNamed};
+ghost use Rattle.secvisor_cli.specs.Ready.{Prepares, IsFresh};
+ghost use Rattle.secvisor_cli.specs.Answers.{outside, Writes, Answers, Performs, Reaches, Headline, settled};
 
-use crate::report::{measure_line, report};
+use crate::flat::prepare_flat;
+use crate::ready::{Ready, Stop};
+use crate::refusal::Refusal;
+use crate::report::report;
 use crate::run::run;
 use crate::trouble::Trouble;
-use crate::words::{FlatWords, UsageFault, judge};
-use machine::{BootRefusal, Machine, Verdict};
-use outside::{FileRefusal, Files, Sink, write_all};
+use crate::words::{Command, judge};
+use machine::{Machine, Verdict};
+use outside::{Files, Sink, write_all};
+use script::Script;
 use std::alloc::Global;
 use std::thread::Threads;
 use sv_types::Status;
-
-const MOST_FLAT_BYTES: usize = 65536;
-
-const PAGE_BYTES: usize = 4096;
 
 /// What a run leaves behind: the machine, where one was booted.
 #[derive(Drop)]
@@ -26,7 +31,8 @@ pub struct Bench {
     pub machine: Option<Machine>,
 }
 
-/// Does all that the program does: judges the words, reads the file that they name, runs it, and writes the report.
+/// Does all that the program does: judges the words, reads the files that they name, runs the machine, and writes the
+/// report.
 pub fn secvisor<R: Threads + Sync, F: Files, O: Sink>(
     rt: &R,
     alloc: Global,
@@ -35,41 +41,47 @@ pub fn secvisor<R: Threads + Sync, F: Files, O: Sink>(
     out: &mut O,
     bench: &mut Bench,
 ) -> Status
-    // Nothing but the file in the words may be asked for.
-    requires permitted { IsTrue ((F.state files.old).permits (flat_file (map string_bytes words.now))) }
+    // Nothing but what the words name may be asked for, in its order, and each name once.
+    requires permitted { MayFollow (plan_of (judged (map string_bytes words.now))) (F.state files.old) }
     requires is_open { IsTrue (O.state out.old).is_open }
     requires reads { (F.state files.old).read_faults < 2 ^ 64 - 1 }
     requires saves { (F.state files.old).save_faults < 2 ^ 64 - 1 }
     requires writes { (O.state out.old).faults < 2 ^ 64 - 1 }
 
     // For every file, words and number of events the report, the status and the machine are the reference machine's.
-    ensures headline { let words = map string_bytes words.now in
-        Headline (judged words) (flat_file words) (F.state files.old) (F.state files.new) (O.state out.old) (O.state out.new)
-        bench.old.machine bench.new.machine result }
+    ensures headline { Headline (plan_of (judged (map string_bytes words.now)))
+        (outside (F.state files.old) (O.state out.old) bench.old.machine)
+        (outside (F.state files.new) (O.state out.new) bench.new.machine) result }
 
-    // A read fault is answered only where the files tell that no such name is held, or where the count of reads rose.
+    // A read fault is answered only where the files tell that a name of the words isn't held, or the count of reads rose.
     ensures read_fault { result ≡ Status.ReadFault →
-        (IsTrue (F.state files.old).tells × ((F.state files.old).held (flat_file (map string_bytes words.now)) ≡ None))
+        (IsTrue (F.state files.old).tells × ((name : List ℕ) × IsNamed (plan_of (judged (map string_bytes words.now))) name × ((F.state files.old).held name ≡ None)))
         ⊎ ((F.state files.old).read_faults < (F.state files.new).read_faults) }
 
     // The counts of faults never fall, and words that are refused read no file.
     ensures reads { (F.state files.old).read_faults ≤ (F.state files.new).read_faults }
     ensures writes { (O.state out.old).faults ≤ (O.state out.new).faults }
-    ensures unread { is_command (judged (map string_bytes words.now)) ≡ false → F.state files.new ≡ F.state files.old }
+    ensures unread { is_ok (judged (map string_bytes words.now)) ≡ false → F.state files.new ≡ F.state files.old }
 
     // Nothing is saved, and no name changes.
     ensures held { (F.state files.new).held ≡ (F.state files.old).held }
     ensures saves { (F.state files.new).save_faults ≡ (F.state files.old).save_faults }
 {
-    match answer_words(rt, alloc, words, files, out, bench) {
+    settled(answer(rt, alloc, words, files, out, bench))
+}
+
+fn settled(answer: Result<Status, Trouble>) -> Status
+    ensures { result ≡ settled answer }
+{
+    match answer {
         Ok(status) => status,
         Err(Trouble::Write) => Status::WriteFault,
         Err(Trouble::Memory) => Status::Memory,
     }
 }
 
-// The words, judged, and what they ask for.
-fn answer_words<R: Threads + Sync, F: Files, O: Sink>(
+// What the words ask for is made ready and run, or refused.
+fn answer<R: Threads + Sync, F: Files, O: Sink>(
     rt: &R,
     alloc: Global,
     words: &[String],
@@ -77,149 +89,69 @@ fn answer_words<R: Threads + Sync, F: Files, O: Sink>(
     out: &mut O,
     bench: &mut Bench,
 ) -> Result<Status, Trouble>
-    requires permitted { IsTrue ((F.state files.old).permits (flat_file (map string_bytes words.now))) }
+    requires permitted { MayFollow (plan_of (judged (map string_bytes words.now))) (F.state files.old) }
     requires is_open { IsTrue (O.state out.old).is_open }
     requires reads { (F.state files.old).read_faults < 2 ^ 64 - 1 }
     requires writes { (O.state out.old).faults < 2 ^ 64 - 1 }
-    ensures accounts { let words = map string_bytes words.now in
-        Accounts (asked_of (judged words)) (flat_file words) (F.state files.old) (F.state files.new) (O.state out.old) (O.state out.new)
-        bench.old.machine bench.new.machine result }
-    ensures unread { is_command (judged (map string_bytes words.now)) ≡ false → F.state files.new ≡ F.state files.old }
+    ensures { Performs (plan_of (judged (map string_bytes words.now)))
+        (outside (F.state files.old) (O.state out.old) bench.old.machine)
+        (outside (F.state files.new) (O.state out.new) bench.new.machine) result }
+{
+    match prepare(rt, alloc, words, files) {
+        Ok(ready) => run_on_bench(alloc, ready, out, bench),
+        Err(Stop::Refused(refusal)) => refuse(alloc, &refusal, out),
+        Err(Stop::Memory) => Err(Trouble::Memory),
+    }
+}
+
+// The words, judged, and the files that they name.
+#[tactic(auto, unfolding(crate::specs::Plans::plan_of))]
+fn prepare<R: Threads + Sync, F: Files>(
+    rt: &R,
+    alloc: Global,
+    words: &[String],
+    files: &mut F,
+) -> Result<Ready, Stop>
+    requires permitted { MayFollow (plan_of (judged (map string_bytes words.now))) (F.state files.old) }
+    requires reads { (F.state files.old).read_faults < 2 ^ 64 - 1 }
+    ensures { Prepares (plan_of (judged (map string_bytes words.now))) (F.state files.old) (F.state files.new) result }
 {
     match judge(words) {
-        Ok(flat) => {
-            let file = &words[1];
-            answer_flat(rt, alloc, file.as_str(), flat, files, out, bench)
-        }
-        Err(fault) => refuse_usage(fault, out),
+        Ok(Command::Flat(flat)) => prepare_flat(rt, alloc, &flat, files),
+        Err(refusal) => Err(Stop::Refused(refusal)),
     }
 }
 
-#[tactic(auto, unfolding(crate::specs::Start::usage_line))]
-fn refuse_usage<O: Sink>(fault: UsageFault, out: &mut O) -> Result<Status, Trouble>
+// The line of a refusal, and its status.
+fn refuse<O: Sink>(alloc: Global, refusal: &Refusal, out: &mut O) -> Result<Status, Trouble>
     requires is_open { IsTrue (O.state out.old).is_open }
     requires count { (O.state out.old).faults < 2 ^ 64 - 1 }
-    ensures { Writes Status.Usage (usage_text fault) (O.state out.old) (O.state out.new) result }
+    ensures writes { Writes (refusal_status refusal.now) (refusal_line refusal.now) (O.state out.old) (O.state out.new) result }
+    ensures wants { IsErrOf result Trouble.Memory → IsTrue (takes_memory refusal.now) }
 {
-    match fault {
-        UsageFault::NoCommand => refuse(out, Status::Usage, b"usage\n"),
-        UsageFault::Measure => refuse(out, Status::Usage, b"usage MEASURE\n"),
-        UsageFault::Events => refuse(out, Status::Usage, b"usage EVENTS\n"),
-    }
-}
-
-// The file that the words name.
-fn answer_flat<R: Threads + Sync, F: Files, O: Sink>(
-    rt: &R,
-    alloc: Global,
-    name: &str,
-    flat: FlatWords,
-    files: &mut F,
-    out: &mut O,
-    bench: &mut Bench,
-) -> Result<Status, Trouble>
-    requires permitted { IsTrue ((F.state files.old).permits name.now) }
-    requires is_open { IsTrue (O.state out.old).is_open }
-    requires reads { (F.state files.old).read_faults < 2 ^ 64 - 1 }
-    requires writes { (O.state out.old).faults < 2 ^ 64 - 1 }
-    requires events { flat.events ≤ 2 ^ 32 }
-    ensures { Accounts (λ found. flat_file_judged found flat.wanted (turns flat.events)) name.now (F.state files.old) (F.state files.new)
-        (O.state out.old) (O.state out.new) bench.old.machine bench.new.machine result }
-{
-    match files.read(alloc, name, MOST_FLAT_BYTES) {
-        Ok(bytes) => answer_bytes(rt, alloc, &bytes, flat, out, bench),
-        Err(FileRefusal::Absent) => refuse(out, Status::ReadFault, b"read fault flat\n"),
-        Err(FileRefusal::Failed) => refuse(out, Status::ReadFault, b"read fault flat\n"),
-        Err(FileRefusal::TooLong) => refuse(out, Status::Refused, b"refused flat 0\n"),
-        Err(FileRefusal::Memory) => Err(Trouble::Memory),
-    }
-}
-
-// The bytes of the file.
-fn answer_bytes<R: Threads + Sync, O: Sink>(
-    rt: &R,
-    alloc: Global,
-    bytes: &[u8],
-    flat: FlatWords,
-    out: &mut O,
-    bench: &mut Bench,
-) -> Result<Status, Trouble>
-    requires is_open { IsTrue (O.state out.old).is_open }
-    requires count { (O.state out.old).faults < 2 ^ 64 - 1 }
-    requires events { flat.events ≤ 2 ^ 32 }
-    requires size { length bytes.now ≤ 65536 }
-    ensures { Answers (flat_file_judged (Held bytes.now) flat.wanted (turns flat.events)) (O.state out.old) (O.state out.new)
-        bench.old.machine bench.new.machine result }
-{
-    if is_whole_pages(bytes) {
-        boot_and_run(rt, alloc, bytes, flat, out, bench)
-    } else {
-        refuse(out, Status::Refused, b"refused flat 1\n")
-    }
-}
-
-fn is_whole_pages(bytes: &[u8]) -> bool
-    ensures value { result ≡ is_whole_pages bytes.now }
-    ensures whole { IsTrue result → length bytes.now % 4096 ≡ 0 }
-{
-    bytes.len() > 0 && bytes.len() % PAGE_BYTES == 0
-}
-
-// Whole pages: measured, booted, run.
-fn boot_and_run<R: Threads + Sync, O: Sink>(
-    rt: &R,
-    alloc: Global,
-    pages: &[u8],
-    flat: FlatWords,
-    out: &mut O,
-    bench: &mut Bench,
-) -> Result<Status, Trouble>
-    requires is_open { IsTrue (O.state out.old).is_open }
-    requires count { (O.state out.old).faults < 2 ^ 64 - 1 }
-    requires events { flat.events ≤ 2 ^ 32 }
-    requires whole { length pages.now % 4096 ≡ 0 }
-    requires size { length pages.now ≤ 65536 }
-    ensures { Answers (measure_judged pages.now flat.wanted (turns flat.events)) (O.state out.old) (O.state out.new)
-        bench.old.machine bench.new.machine result }
-{
-    match Machine::flat(rt, alloc, pages, flat.wanted) {
-        Ok(machine) => run_on_bench(alloc, machine, flat.events, out, bench),
-        Err(BootRefusal::Measure { found, wanted }) => refuse_measure(alloc, &found, &wanted, out),
-        Err(BootRefusal::Entry { entry: _ }) => unreachable!(),
-        Err(BootRefusal::Memory) => Err(Trouble::Memory),
-    }
-}
-
-fn refuse_measure<O: Sink>(
-    alloc: Global,
-    found: &[u8; 32],
-    wanted: &[u8; 32],
-    out: &mut O,
-) -> Result<Status, Trouble>
-    requires is_open { IsTrue (O.state out.old).is_open }
-    requires count { (O.state out.old).faults < 2 ^ 64 - 1 }
-    ensures { Writes Status.Refused (measure_line found.now wanted.now) (O.state out.old) (O.state out.new) result }
-{
-    let line = measure_line(alloc, found, wanted)?;
-    refuse(out, Status::Refused, line.as_str().as_bytes())
+    refusal.write_line(alloc, out)?;
+    Ok(refusal.status())
 }
 
 // The machine is run, and stands on the bench from then on.
 fn run_on_bench<O: Sink>(
     alloc: Global,
-    mut machine: Machine,
-    events: u64,
+    ready: Ready,
     out: &mut O,
     bench: &mut Bench,
 ) -> Result<Status, Trouble>
     requires is_open { IsTrue (O.state out.old).is_open }
     requires count { (O.state out.old).faults < 2 ^ 64 - 1 }
-    requires events { events ≤ 2 ^ 32 }
-    requires counts { CountsAtMost 0 machine.counts }
-    requires console { machine.printed ≡ [] }
-    ensures { Answers (RunFrom machine (turns events)) (O.state out.old) (O.state out.new) bench.old.machine bench.new.machine result }
+    requires fresh { IsFresh ready }
+    ensures { Answers (RunFrom ready.machine (first_events ready.events ready.script)) (O.state out.old) (O.state out.new)
+        bench.old.machine bench.new.machine result }
 {
-    let result = run_and_report(alloc, &mut machine, events, out);
+    let Ready {
+        mut machine,
+        script,
+        events,
+    } = ready;
+    let result = run_and_report(alloc, &mut machine, script, events, out);
     bench.machine = Some(machine);
     result
 }
@@ -228,6 +160,7 @@ fn run_on_bench<O: Sink>(
 fn run_and_report<O: Sink>(
     alloc: Global,
     machine: &mut Machine,
+    script: Script,
     events: u64,
     out: &mut O,
 ) -> Result<Status, Trouble>
@@ -236,19 +169,20 @@ fn run_and_report<O: Sink>(
     requires events { events ≤ 2 ^ 32 }
     requires counts { CountsAtMost 0 machine.old.counts }
     requires console { machine.old.printed ≡ [] }
-    ensures writes { let last = run machine.old (turns events) in
+    ensures writes { let last = run machine.old (first_events events script) in
         Writes (run_status last.verdict) (output last) (O.state out.old) (O.state out.new) result }
-    ensures machine { Reaches machine.old (turns events) machine.new (O.state out.old) (O.state out.new) }
+    ensures machine { Reaches (IsErrOf result Trouble.Memory) machine.old (first_events events script) machine.new (O.state out.old) (O.state out.new) }
 {
-    run(machine, events, out)?;
+    run(machine, script, events, out)?;
     finish(alloc, machine, out)
 }
 
-// The rest of the console, and the report.
+// The rest of the console, and the report. Where memory is wanting, nothing is written.
 fn finish<O: Sink>(alloc: Global, machine: &Machine, out: &mut O) -> Result<Status, Trouble>
     requires is_open { IsTrue (O.state out.old).is_open }
     requires count { (O.state out.old).faults < 2 ^ 64 - 1 }
-    ensures { Writes (run_status machine.now.verdict) (output machine.now) (O.state out.old) (O.state out.new) result }
+    ensures writes { Writes (run_status machine.now.verdict) (output machine.now) (O.state out.old) (O.state out.new) result }
+    ensures quiet { IsErrOf result Trouble.Memory → O.state out.new ≡ O.state out.old }
 {
     let text = report(alloc, machine.verdict(), &machine.counts())?;
     write_all(out, machine.printed())?;
@@ -268,15 +202,4 @@ fn status_of(verdict: Verdict) -> Status
             turn: _,
         } => Status::Stopped,
     }
-}
-
-// One line, and a status.
-fn refuse<O: Sink>(out: &mut O, status: Status, line: &[u8]) -> Result<Status, Trouble>
-    requires is_open { IsTrue (O.state out.old).is_open }
-    requires count { (O.state out.old).faults < 2 ^ 64 - 1 }
-    requires proper { IsTrue (is_answer status) }
-    ensures { Writes status line.now (O.state out.old) (O.state out.new) result }
-{
-    write_all(out, line)?;
-    Ok(status)
 }

@@ -2,6 +2,10 @@
 #![tactic(auto)]
 
 mod answer;
+mod flat;
+mod parts;
+mod ready;
+mod refusal;
 mod report;
 mod run;
 mod trouble;

@@ -1,13 +1,12 @@
-// The lines of a report, and the line of a boot that is refused by the measure.
+// The lines of a report.
 ghost use Rattle.std.specs.Prelude.{◌≡◌, ◌<◌, ◌++◌, OnOk, IfOk, string_bytes};
 ghost use Rattle.std.specs.Char.{digit_char};
-ghost use Rattle.sv_types.specs.Output.{hexadecimal, hexadecimal_bytes, address_text, word_text, notes_line, events_line, retired_line, denied_line, rule_name, rule_places, stop_head, verdict_line, report_lines, line_feed};
-ghost use Rattle.secvisor_cli.specs.Start.{measure_line};
+ghost use Rattle.sv_types.specs.Output.{hexadecimal, address_text, word_text, notes_line, events_line, retired_line, denied_line, rule_name, rule_places, stop_head, verdict_line, report_lines, line_feed};
 
 use machine::{Counts, Rule, Verdict};
 use std::alloc::{AllocError, Global};
 
-fn hexadecimal_digit(d: u8) -> char
+pub fn hexadecimal_digit(d: u8) -> char
     requires { d < 16 }
     ensures { result ≡ digit_char d }
 {
@@ -30,7 +29,7 @@ fn push_hexadecimal(text: &mut String, digits: u8, value: u64) -> Result<(), All
 }
 
 #[tactic(auto, unfolding(sv_types::specs::Output::address_text))]
-fn push_address(text: &mut String, value: u64) -> Result<(), AllocError>
+pub fn push_address(text: &mut String, value: u64) -> Result<(), AllocError>
     ensures { OnOk result (string_bytes text.new ≡ string_bytes text.old ++ address_text value) }
 {
     text.push_str("0x")?;
@@ -174,28 +173,5 @@ pub fn report(alloc: Global, verdict: Verdict, counts: &Counts) -> Result<String
     text.push_str(retired_line(alloc, counts)?.as_str())?;
     text.push_str(denied_line(alloc, counts)?.as_str())?;
     push_verdict(alloc, &mut text, verdict)?;
-    Ok(text)
-}
-
-fn push_digest(text: &mut String, digest: &[u8]) -> Result<(), AllocError>
-    ensures { OnOk result (string_bytes text.new ≡ string_bytes text.old ++ hexadecimal_bytes digest.now) }
-{
-    for b in digest {
-        text.push(hexadecimal_digit(*b / 16))?;
-        text.push(hexadecimal_digit(*b % 16))?;
-    }
-    Ok(())
-}
-
-/// The line of a boot that is refused by the measure.
-#[tactic(auto, unfolding(crate::specs::Start::measure_line))]
-pub fn measure_line(alloc: Global, found: &[u8], wanted: &[u8]) -> Result<String, AllocError>
-    ensures { IfOk result (λ t. string_bytes t ≡ measure_line found.now wanted.now) }
-{
-    let mut text = String::from_str(alloc, "refused measure found ")?;
-    push_digest(&mut text, found)?;
-    text.push_str(" wanted ")?;
-    push_digest(&mut text, wanted)?;
-    text.push_str("\n")?;
     Ok(text)
 }

@@ -1,16 +1,18 @@
 // A machine's run, with its console.
 ghost use Rattle.std.specs.Prelude.{◌≡◌, ◌<◌, ◌≤◌, ◌-◌, ◌^◌, [], length, IsTrue, OnOk, OnErr};
 ghost use Rattle.sv_types.specs.Run.{CountsAtMost};
-ghost use Rattle.secvisor_cli.specs.Start.{turns};
+ghost use Rattle.sv_types.specs.Schedule.{first_events};
 ghost use Rattle.outside.specs.Outside.{BreaksOff};
 ghost use Rattle.secvisor_cli.specs.Console.{Flushed, HasRun, RunBroke};
 
-use machine::{Event, Machine};
+use machine::{Machine, Verdict};
 use outside::{Failed, Sink, write_all};
+use script::Script;
 
 const CONSOLE_ROOM: usize = 4096;
 
 /// Writes the console's bytes where 4,096 of them stand.
+#[tactic(auto, unfolding(crate::specs::Standing::TakesAway))]
 fn flush_full<O: Sink>(machine: &mut Machine, out: &mut O) -> Result<(), Failed>
     requires is_open { IsTrue (O.state out.old).is_open }
     requires count { (O.state out.old).faults < 2 ^ 64 - 1 }
@@ -28,18 +30,31 @@ fn flush_full<O: Sink>(machine: &mut Machine, out: &mut O) -> Result<(), Failed>
     Ok(())
 }
 
-/// Runs a fresh machine for a number of turns. Where a write fails it stands after some of them.
-pub fn run<O: Sink>(machine: &mut Machine, events: u64, out: &mut O) -> Result<(), Failed>
+/// Runs a fresh machine over the first events of a script, up to its verdict. Where a write fails it stands after some of
+/// them.
+pub fn run<O: Sink>(
+    machine: &mut Machine,
+    mut script: Script,
+    events: u64,
+    out: &mut O,
+) -> Result<(), Failed>
     requires is_open { IsTrue (O.state out.old).is_open }
     requires count { (O.state out.old).faults < 2 ^ 64 - 1 }
     requires events { events ≤ 2 ^ 32 }
     requires counts { CountsAtMost 0 machine.old.counts }
     requires console { machine.old.printed ≡ [] }
-    ensures all { OnOk result (HasRun machine.old (turns events) machine.new (O.state out.old) (O.state out.new)) }
-    ensures some { OnErr result (RunBroke machine.old (turns events) machine.new (O.state out.old) (O.state out.new)) }
+    ensures all { OnOk result (HasRun machine.old (first_events events script) machine.new (O.state out.old) (O.state out.new)) }
+    ensures room { OnOk result (length machine.new.printed < 4096) }
+    ensures some { OnErr result (RunBroke machine.old (first_events events script) machine.new (O.state out.old) (O.state out.new)) }
 {
-    'turns: for i in 0..events {
-        machine.step(Event::Turn(0));
+    'events: for i in 0..events {
+        if machine.verdict() != Verdict::Running {
+            return Ok(());
+        }
+        let Some(event) = script.next() else {
+            return Ok(());
+        };
+        machine.step(event);
         flush_full(machine, out)?;
     }
     Ok(())

@@ -1,49 +1,52 @@
 // The words of the command line.
-ghost use Rattle.std.specs.Prelude.{◌≡◌, ◌≤◌, ◌^◌, map, length, IfOk, OnOk, IsTrue, string_bytes};
+ghost use Rattle.std.specs.Prelude.{◌≡◌, ◌≤◌, ◌^◌, map, length, IfOk, IsTrue, string_bytes};
 ghost use Rattle.std.specs.List.{list_any};
 ghost use Rattle.sv_types.specs.Numbers.{digest_of};
 ghost use Rattle.secvisor_cli.specs.CommandLine.{has_dash, is_flat};
-ghost use Rattle.secvisor_cli.specs.Words.{AreJudged};
+ghost use Rattle.secvisor_cli.specs.Words.{AreJudged, IsInRange};
 
+use crate::refusal::{Refusal, Word};
 use text_numbers::number_within;
 
 const MOST_EVENTS: u64 = 1 << 32;
 
-/// What the words of `flat` ask for, beside the file's name: the measure that is wanted, and the number of events.
-#[derive(Clone, Copy, Debug, PartialEq, Eq, Drop)]
-pub struct FlatWords {
+/// What the words ask for.
+#[derive(Drop)]
+pub enum Command<'a> {
+    Flat(Flat<'a>),
+}
+
+/// `flat FILE MEASURE EVENTS`: the file's name, the measure that is wanted, and the number of events.
+#[derive(Drop)]
+pub struct Flat<'a> {
+    pub file: &'a str,
     pub wanted: [u8; 32],
     pub events: u64,
 }
 
-/// Why words are refused.
-#[derive(Clone, Copy, Debug, PartialEq, Eq, Drop)]
-pub enum UsageFault {
-    /// They are of no command.
-    NoCommand,
-    /// The measure isn't 64 hexadecimal digits.
-    Measure,
-    /// The number of events isn't one from 0 to 2^32.
-    Events,
-}
-
 /// Judges the words, from left to right.
 #[tactic(auto, using(crate::proofs::WordLemmas::list_any_map), unfolding(crate::specs::CommandLine::judged, crate::specs::CommandLine::flat_words))]
-pub fn judge(words: &[String]) -> Result<FlatWords, UsageFault>
+pub fn judge(words: &[String]) -> Result<Command<'_>, Refusal>
     ensures judged { AreJudged (map string_bytes words.now) result }
-    ensures events { IfOk result (λ flat. flat.events ≤ 2 ^ 32) }
-    ensures file { OnOk result (length words.now ≡ 4) }
+    ensures range { IfOk result IsInRange }
 {
     if !is_flat(words) || any_has_dash(words) {
-        return Err(UsageFault::NoCommand);
+        return Err(Refusal::NoCommand);
     }
     let Some(wanted) = digest_of(words[2].as_str()) else {
-        return Err(UsageFault::Measure);
+        return Err(Refusal::OutOfRange {
+            word: Word::Measure,
+        });
     };
     let Some(events) = number_within(words[3].as_str().as_bytes(), 0, MOST_EVENTS) else {
-        return Err(UsageFault::Events);
+        return Err(Refusal::OutOfRange { word: Word::Events });
     };
-    Ok(FlatWords { wanted, events })
+    let file = words[1].as_str();
+    Ok(Command::Flat(Flat {
+        file,
+        wanted,
+        events,
+    }))
 }
 
 /// The words are four, and the first is the command's name.

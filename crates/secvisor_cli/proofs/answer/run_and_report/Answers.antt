@@ -15,10 +15,10 @@ returns-in_err-run-clause-writes g c =
     }
 
 pub returns-in_err-run-clause-machine : goal.returns-in_err-run-clause-machine
-returns-in_err-run-clause-machine g c = broke_reaches c.args.machine.now _ c.run.new.machine _ _ c.in_err-run.ensures.some
+returns-in_err-run-clause-machine g c = broke_reaches _ c.args.machine.now _ c.run.new.machine _ _ (search rules) c.in_err-run.ensures.some
 
 pub returns-clause-writes : goal.returns-clause-writes
-returns-clause-writes g c = ran_writes c.args.machine.now c.run.new.machine _ _ _ _ _ c.in_ok-run.ensures.all c.finish.ensures
+returns-clause-writes g c = ran_writes c.args.machine.now c.run.new.machine _ _ _ _ _ c.in_ok-run.ensures.all c.finish.ensures.writes
 
 pub returns-clause-machine : goal.returns-clause-machine
-returns-clause-machine g c = ran_reaches c.args.machine.now _ c.run.new.machine _ _ _ c.in_ok-run.ensures.all
+returns-clause-machine g c = ran_reaches c.args.machine.now _ c.run.new.machine _ _ _ _ c.in_ok-run.ensures.all c.in_ok-run.ensures.room c.finish.ensures.writes.prefix c.finish.ensures.quiet

@@ -1,12 +1,12 @@
-use Rattle.std.proofs.Common.{◌<◌, length}
+use Rattle.std.proofs.Common.{◌<◌, ◌-◌, length}
 use Rattle.sv_types.specs.Run.{CountsAtMost}
-use Rattle.secvisor_cli.specs.Start.{turns}
-use Rattle.secvisor_cli.specs.Console.{HasRun}
+use Rattle.sv_types.specs.Schedule.{first_events}
+use Rattle.secvisor_cli.proofs.ConsoleLemmas.{RunsOn}
 use Rattle.secvisor_cli.proofs.run.run.Given as goal
 
-abbrev pub invariant-turns : goal.invariant-turns
-invariant-turns g l = record {
-  ran : HasRun l.initial.machine (turns l.i) l.machine (g.O.Sink.state l.initial.out) (g.O.Sink.state l.out);
+abbrev pub invariant-events : goal.invariant-events
+invariant-events g l = record {
+  on : RunsOn l.initial.machine (first_events l.events l.initial.script) (l.events - l.i) l.script l.machine (g.O.Sink.state l.initial.out) (g.O.Sink.state l.out);
   counts : CountsAtMost l.i l.machine.counts;
   room : length l.machine.printed < 4096;
 }

@@ -1,0 +1,70 @@
+// Files and a sink in memory: what is kept, and which calls fail.
+use super::*;
+use std::alloc::{AllocError, Global};
+use std::test::Fail;
+use sv_types::Name;
+
+fn image(alloc: Global) -> Result<(Name, Vec<u8>), AllocError> {
+    match Name::new("image") {
+        Some(name) => Ok((name, Vec::from_array(alloc, [1u8, 2, 3])?)),
+        None => Err(AllocError),
+    }
+}
+
+#[test]
+fn saved_bytes_are_held(rt: HostRuntime) -> Result<(), Fail> {
+    let alloc = rt.alloc();
+    let held = [image(alloc)?];
+    let mut files = MemFiles::new(alloc, &held, 3, 5, &[2], &[2])?;
+    assert!(rt; files.bytes("disk").is_none());
+    assert!(rt; files.save("disk", b"abc").is_ok());
+    assert!(rt;
+        files.save("disk", b"").is_err(),
+        "the second save is listed"
+    );
+    assert!(rt;
+        files.save("disk", b"def").is_err(),
+        "three bytes more than the room"
+    );
+    assert!(rt; files.save("image", b"de").is_ok());
+    for (name, bytes) in [("disk", b"abc".as_slice()), ("image", b"de")] {
+        match files.bytes(name) {
+            Some(held) => assert!(rt; held == bytes, "{name}"),
+            None => assert!(rt; false, "{name}"),
+        }
+    }
+    Ok(())
+}
+
+#[test]
+fn listed_reads_fail(rt: HostRuntime) -> Result<(), Fail> {
+    let alloc = rt.alloc();
+    let held = [image(alloc)?];
+    let mut files = MemFiles::new(alloc, &held, 0, 0, &[2], &[])?;
+    let answers = [
+        ("image", 3, None),
+        ("image", 3, Some(FileRefusal::Failed)),
+        ("image", 2, Some(FileRefusal::TooLong)),
+        ("disk", 3, Some(FileRefusal::Absent)),
+    ];
+    for (name, limit, wanted) in answers {
+        assert_eq!(rt;
+            files.read(alloc, name, limit).err(),
+            wanted,
+            "{name} {limit}"
+        );
+    }
+    Ok(())
+}
+
+#[test]
+fn listed_writes_fail(rt: HostRuntime) -> Result<(), Fail> {
+    let mut out = MemSink::new(rt.alloc(), 5, 2, &[2])?;
+    let answers = [Ok(2), Err(Failed), Ok(2), Err(Failed)];
+    for wanted in answers {
+        assert_eq!(rt; out.write(b"abc"), wanted);
+    }
+    assert_eq!(rt; out.write(b"x"), Ok(1));
+    assert!(rt; out.taken() == b"ababx".as_slice());
+    Ok(())
+}

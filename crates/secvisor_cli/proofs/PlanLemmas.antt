@@ -1,0 +1,102 @@
+-- Files that are asked fact a plan says, whatever the plan.
+use Rattle.std.proofs.Common.{◌≡◌, ◌≢◌, ℕ, ◌<◌, ◌≤◌, List, [], ◌∷◌, Bool, true, false, IsTrue, refl, sym, ◌∙◌, ap, subst, arith, inl, inr, ◌⊎◌, Option, Some, None}
+use Rattle.sv_types.specs.declared.status.Status.{Status}
+use Rattle.outside.specs.Outside.{FilesState, after_asking}
+use Rattle.secvisor_cli.specs.declared.refusal.Part.{Part}
+use Rattle.secvisor_cli.specs.declared.refusal.Refusal.{Refusal}
+use Rattle.secvisor_cli.specs.Plans.{Due, Refuse, RunFrom, Plan, End, Read, Found, Faulty, Missing, Longer, Held, found_plan, read_part, status_due}
+use Rattle.secvisor_cli.specs.Reading.{MayFollow, FoundAs, Follows, IsNamed}
+
+-- ---- one read
+
+-- what a read leaves alone
+pub record Keeps (old new : FilesState) : Type 0 where
+  pub tells : new.tells ≡ old.tells
+  pub held : new.held ≡ old.held
+  pub reads : old.read_faults ≤ new.read_faults
+  pub saves : new.save_faults ≡ old.save_faults
+
+keeps_asked : (old new : FilesState) (name : List ℕ) → new ≡ after_asking name old → Keeps old new
+keeps_asked old new name is =
+    let same : new.read_faults ≡ old.read_faults = ap (λ (f : FilesState). f.read_faults) is in
+    record {
+      tells = ap (λ (f : FilesState). f.tells) is;
+      held = ap (λ (f : FilesState). f.held) is;
+      reads = omega arith;
+      saves = ap (λ (f : FilesState). f.save_faults) is;
+    }
+
+keeps_found : (old new : FilesState) (name : List ℕ) (limit : ℕ) (found : Found) → FoundAs old new name limit found → Keeps old new
+keeps_found old new name limit Faulty it =
+    let rose = it.0 in
+    record {
+      tells = ap (λ (f : FilesState). f.tells) it.1;
+      held = ap (λ (f : FilesState). f.held) it.1;
+      reads = omega arith;
+      saves = ap (λ (f : FilesState). f.save_faults) it.1;
+    }
+keeps_found old new name limit Missing it = keeps_asked old new name it.2
+keeps_found old new name limit Longer it = keeps_asked old new name it.1
+keeps_found old new name limit (Held bytes) it = keeps_asked old new name it.2
+
+keeps_both : (old mid new : FilesState) → Keeps old mid → Keeps mid new → Keeps old new
+keeps_both old mid new a b =
+    let first = a.reads in
+    let second = b.reads in
+    record {
+      tells = b.tells ∙ a.tells;
+      held = b.held ∙ a.held;
+      reads = omega arith;
+      saves = b.saves ∙ a.saves;
+    }
+
+keeps_same : (old new : FilesState) → new ≡ old → Keeps old new
+keeps_same old new is =
+    let same : new.read_faults ≡ old.read_faults = ap (λ (f : FilesState). f.read_faults) is in
+    record {
+      tells = ap (λ (f : FilesState). f.tells) is;
+      held = ap (λ (f : FilesState). f.held) is;
+      reads = omega arith;
+      saves = ap (λ (f : FilesState). f.save_faults) is;
+    }
+
+-- ---- a whole plan
+
+-- no name changes, nothing is saved, and the count of reads no falls
+pub follows_keeps : (plan : Plan) (old new : FilesState) (reached : Option Due) → Follows plan old new reached → Keeps old new
+follows_keeps (End due) old new reached it = keeps_same old new it.1
+follows_keeps (Read name limit next) old new reached (inl wanting) = keeps_asked old new name wanting.1
+follows_keeps (Read name limit next) old new reached (inr it) =
+    keeps_both old it.1 new (keeps_found old it.1 name limit it.0 it.2) (follows_keeps (next it.0) it.1 new reached it.3)
+
+-- the plan says read fault only where a read found no file
+abbrev pub HasFoundFaults : Plan → Type 0
+HasFoundFaults (End due) = status_due due ≢ Status.ReadFault
+HasFoundFaults (Read name limit next) = HasFoundFaults (next Longer) × ((bytes : List ℕ) → HasFoundFaults (next (Held bytes)))
+
+-- a name of the plan isn't held, and the files tell it; or the count of reads rose
+abbrev pub HasFault : Plan → FilesState → FilesState → Type 0
+HasFault plan old new =
+    (IsTrue old.tells × ((name : List ℕ) × IsNamed plan name × (old.held name ≡ None))) ⊎ (old.read_faults < new.read_faults)
+
+fault_behind : (name : List ℕ) (limit : ℕ) (next : Found → Plan) (old now new : FilesState) (found : Found) → Keeps old now → HasFault (next found) now new → HasFault (Read name limit next) old new
+fault_behind name limit next old now new found k (inl missing) =
+    inl (subst (λ (b : Bool). IsTrue b) k.tells missing.0, (missing.1.0, inr (found, missing.1.1), ap (λ (f : List ℕ → Option (List ℕ)). f missing.1.0) (sym k.held) ∙ missing.1.2))
+fault_behind name limit next old now new found k (inr rose) = let before = k.reads in inr (omega arith)
+
+fault_by : (name : List ℕ) (limit : ℕ) (next : Found → Plan) (old now new : FilesState) (due : Due) (found : Found) → FoundAs old now name limit found → HasFoundFaults (Read name limit next) →
+    Keeps now new → (HasFoundFaults (next found) → HasFault (next found) now new) → HasFault (Read name limit next) old new
+fault_by name limit next old now new due Faulty fact never k more = let rose = fact.0 in let after = k.reads in inr (omega arith)
+fault_by name limit next old now new due Missing fact never k more = inl (fact.0, (name, inl refl, fact.1))
+fault_by name limit next old now new due Longer fact never k more = fault_behind name limit next old now new Longer (keeps_found old now name limit Longer fact) (more never.0)
+fault_by name limit next old now new due (Held bytes) fact never k more =
+    fault_behind name limit next old now new (Held bytes) (keeps_found old now name limit (Held bytes) fact) (more (never.1 bytes))
+
+due_same : (a b : Due) → Some a ≡ Some b → a ≡ b
+due_same a b is = cc is
+
+pub read_fault : (plan : Plan) (old new : FilesState) (due : Due) → HasFoundFaults plan → Follows plan old new (Some due) → status_due due ≡ Status.ReadFault → HasFault plan old new
+read_fault (End it) old new due never follows is = absurd (never (ap status_due (sym (due_same due it follows.0)) ∙ is))
+read_fault (Read name limit next) old new due never (inl wanting) is = absurd (cc wanting.0)
+read_fault (Read name limit next) old new due never (inr it) is =
+    fault_by name limit next old it.1 new due it.0 it.2 never (follows_keeps (next it.0) it.1 new (Some due) it.3) (λ h. read_fault (next it.0) it.1 new due h it.3 is)

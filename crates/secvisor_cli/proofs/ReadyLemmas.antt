@@ -1,0 +1,125 @@
+-- What is made ready, by the plan's shape.
+use Rattle.std.proofs.Common.{◌≡◌, ◌≢◌, ℕ, ◌≤◌, List, [], length, true, false, IsTrue, refl, sym, ◌∙◌, ap, subst, arith, rules, inl, inr, Option, Some, None, Result, Ok, Err, IsErrAnd, if◌then◌else◌}
+use Rattle.std.specs.Str.{bytes_eq}
+use Rattle.std.proofs.lemmas.Slice.Eq.{bytes_eq-Decides}
+use Rattle.sv_types.specs.declared.event.Event.{Event}
+use Rattle.sv_types.specs.Reference.{State}
+use Rattle.sv_types.specs.Run.{CountsAtMost}
+use Rattle.sv_types.specs.Measure.{measure}
+use Rattle.sv_types.specs.Boot.{flat_start, boot_state, no_counts}
+use Rattle.outside.specs.Outside.{FilesState, after_asking}
+use Rattle.machine.specs.declared.boot.BootRefusal.{BootRefusal}
+use Rattle.machine.specs.Boot.{RefusesFlat}
+use Rattle.secvisor_cli.specs.declared.refusal.Part.{Part}
+use Rattle.secvisor_cli.specs.declared.refusal.Refusal.{Refusal}
+use Rattle.secvisor_cli.specs.declared.refusal.Refusal.TheVariants.{ReadFault, File, Measure}
+use Rattle.secvisor_cli.specs.declared.ready.Ready.{Ready}
+use Rattle.secvisor_cli.specs.declared.ready.Stop.{Stop}
+use Rattle.secvisor_cli.specs.declared.ready.Stop.TheVariants.{Refused, Memory}
+use Rattle.secvisor_cli.specs.Plans.{Due, Refuse, RunFrom, Plan, End, Read, Found, Faulty, Missing, Longer, Held, found_plan, read_part, measure_judged, pages_judged, is_whole_pages}
+use Rattle.secvisor_cli.specs.Reading.{FoundAs, Follows}
+use Rattle.secvisor_cli.specs.Ready.{unread, PartRead, stop_of, IsReady, Prepares}
+
+-- ---- any plan
+
+-- an error that is handed on
+pub err_by : {T E : Type 0} (result : Result T E) (e : E) (P : Result T E → Type 0) → IsErrAnd result (λ x. x ≡ e) → P (Err e) → P result
+err_by (Ok x) e P is p = absurd is
+err_by (Err x) e P is p = subst (λ y. P (Err y)) (sym is) p
+
+pub end_ready : (due : Due) (files : FilesState) (result : Result Ready Stop) → IsReady due result → Prepares (End due) files files result
+end_ready due files result ready = record { reached = Some due; follows = (refl, refl); ready = ready }
+
+pub read_ready : (part : Part) (name : List ℕ) (limit : ℕ) (next : List ℕ → Plan) (old now new : FilesState) (bytes : List ℕ) (result : Result Ready Stop) →
+    FoundAs old now name limit (Held bytes) → Prepares (next bytes) now new result → Prepares (read_part part name limit next) old new result
+unfolding found_plan
+read_ready part name limit next old now new bytes result fact p = record { reached = p.reached; follows = inr (Held bytes, now, fact, p.follows); ready = p.ready }
+
+refusal_same : (a b : Refusal) → Some a ≡ Some b → b ≡ a
+refusal_same a b is = cc is
+
+not_refused : (r : Refusal) → None ≡ Some r → ⊥
+not_refused r is = cc is
+
+unread_ready : (part : Part) (name : List ℕ) (limit : ℕ) (next : List ℕ → Plan) (old new : FilesState) (refusal : Refusal) (found : Found) →
+    FoundAs old new name limit found → unread part found ≡ Some refusal → Prepares (read_part part name limit next) old new (Err (Refused refusal))
+unfolding found_plan
+unread_ready part name limit next old new refusal Faulty fact is = record {
+  reached = Some (Refuse (ReadFault part));
+  follows = inr (Faulty, new, fact, (refl, refl));
+  ready = refusal_same _ _ is;
+}
+unread_ready part name limit next old new refusal Missing fact is = record {
+  reached = Some (Refuse (ReadFault part));
+  follows = inr (Missing, new, fact, (refl, refl));
+  ready = refusal_same _ _ is;
+}
+unread_ready part name limit next old new refusal Longer fact is = record {
+  reached = Some (Refuse (File part 0));
+  follows = inr (Longer, new, fact, (refl, refl));
+  ready = refusal_same _ _ is;
+}
+unread_ready part name limit next old new refusal (Held bytes) fact is = absurd (not_refused refusal is)
+
+pub stopped_ready : (part : Part) (name : List ℕ) (limit : ℕ) (next : List ℕ → Plan) (old new : FilesState) (stop : Stop) →
+    PartRead part name limit old new (Err stop) → Prepares (read_part part name limit next) old new (Err stop)
+stopped_ready part name limit next old new (Refused refusal) it = unread_ready part name limit next old new refusal it.0 it.1 it.2
+stopped_ready part name limit next old new Memory it = record { reached = None; follows = inl (refl, it); ready = refl }
+
+-- ---- flat
+
+bytes_eq-same : (xs : List ℕ) → bytes_eq xs xs ≡ true
+bytes_eq-same xs = search (rules, bytes_eq-Decides)
+
+bytes_eq-other : (xs ys : List ℕ) → xs ≢ ys → bytes_eq xs ys ≡ false
+bytes_eq-other xs ys other = search (rules, bytes_eq-Decides)
+
+measured_run : (pages wanted : List ℕ) (events : List Event) → measure pages ≡ wanted → measure_judged pages wanted events ≡ RunFrom (flat_start pages) events
+unfolding measure_judged
+measured_run pages wanted events same =
+    ap (λ b. if b then RunFrom (flat_start pages) events else Refuse (Measure (measure pages) wanted))
+    (ap (λ (w : List ℕ). bytes_eq (measure pages) w) (sym same) ∙ bytes_eq-same (measure pages))
+
+measured_other : (pages wanted : List ℕ) (events : List Event) → measure pages ≢ wanted → measure_judged pages wanted events ≡ Refuse (Measure (measure pages) wanted)
+unfolding measure_judged
+measured_other pages wanted events other =
+    ap (λ b. if b then RunFrom (flat_start pages) events else Refuse (Measure (measure pages) wanted)) (bytes_eq-other (measure pages) wanted other)
+
+-- a booted machine that has made no event
+pub fresh_flat : (pages : List ℕ) (m : State) → m ≡ flat_start pages → CountsAtMost 0 m.counts × (m.printed ≡ [])
+unfolding flat_start boot_state
+fresh_flat pages m is =
+    let none : CountsAtMost 0 no_counts = record { turns = omega arith; beats = omega arith; keys = omega arith; ticks = omega arith; retired = omega arith } in
+    (subst (λ c. CountsAtMost 0 c) (sym (ap (λ (r : State). r.counts) is)) none, ap (λ (r : State). r.printed) is)
+
+pub booted_ready : (pages wanted : List ℕ) (events : List Event) (result : Result Ready Stop) → measure pages ≡ wanted → IsReady (RunFrom (flat_start pages) events) result →
+    IsReady (measure_judged pages wanted events) result
+booted_ready pages wanted events result same ready = subst (λ (d : Due). IsReady d result) (sym (measured_run pages wanted events same)) ready
+
+-- the boot is refused, or memory was wanting
+boot_wants : (pages wanted : List ℕ) (events : List Event) → IsReady (measure_judged pages wanted events) (Err Memory)
+unfolding measure_judged
+boot_wants pages wanted events =
+    elim (bytes_eq (measure pages) wanted) as (λ b. IsReady (if b then RunFrom (flat_start pages) events else Refuse (Measure (measure pages) wanted)) (Err Memory)) [
+      | true ↦ refl
+      | false ↦ refl
+    ]
+
+pub stopped_boot : (pages wanted : List ℕ) (events : List Event) (boot : BootRefusal) → RefusesFlat pages wanted boot → IsReady (measure_judged pages wanted events) (Err (stop_of boot))
+stopped_boot pages wanted events (BootRefusal.Measure found asked) it =
+    let other : measure pages ≢ wanted = λ is. it.2 (it.0 ∙ is) in
+    subst (λ (d : Due). IsReady d (Err (Refused (Refusal.Measure found asked)))) (sym (measured_other pages wanted events other))
+    (ap (λ (f : List ℕ). Refusal.Measure f asked) it.0 ∙ ap (λ (w : List ℕ). Refusal.Measure (measure pages) w) it.1)
+stopped_boot pages wanted events (BootRefusal.Entry entry) it = absurd it
+stopped_boot pages wanted events BootRefusal.Memory it = boot_wants pages wanted events
+
+pub pages_ready : (bytes wanted : List ℕ) (events : List Event) (result : Result Ready Stop) → is_whole_pages bytes ≡ true → IsReady (measure_judged bytes wanted events) result →
+    IsReady (pages_judged bytes wanted events) result
+unfolding pages_judged
+pages_ready bytes wanted events result whole ready =
+    subst (λ b. IsReady (if b then measure_judged bytes wanted events else Refuse (File Part.Flat 1)) result) (sym whole) ready
+
+pub part_of_pages : (bytes wanted : List ℕ) (events : List Event) → is_whole_pages bytes ≡ false → IsReady (pages_judged bytes wanted events) (Err (Refused (File Part.Flat 1)))
+unfolding pages_judged
+part_of_pages bytes wanted events part =
+    subst (λ b. IsReady (if b then measure_judged bytes wanted events else Refuse (File Part.Flat 1)) (Err (Refused (File Part.Flat 1)))) (sym part) refl

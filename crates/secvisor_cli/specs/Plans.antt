@@ -1,0 +1,89 @@
+-- What is asked, as a plan: which files are read, under which names, in which order, and what is due by what is found in
+-- them. This project's own.
+use Rattle.std.specs.Prelude.{◌≡◌, ◌<◌, ◌≤◌, ◌⊎◌, ℕ, ◌%◌, ◌*◌, List, [], ◌∷◌, length, Bool, ◌&&◌, ◌==◌, nat_lt, if◌then◌else◌, IsTrue, Option, Some, None, Result, Ok, Err}
+use Rattle.std.specs.Str.{bytes_eq}
+use Rattle.sv_types.specs.declared.event.Event.{Event}
+use Rattle.sv_types.specs.declared.status.Status.{Status}
+use Rattle.sv_types.specs.Bytes.{page_size}
+use Rattle.sv_types.specs.Boot.{flat_start, flat_ram_pages}
+use Rattle.sv_types.specs.Measure.{measure}
+use Rattle.sv_types.specs.Output.{output, run_status}
+use Rattle.sv_types.specs.Reference.{State}
+use Rattle.sv_types.specs.Run.{run}
+use Rattle.sv_types.specs.Schedule.{Schedule, first_events}
+use Rattle.outside.specs.Outside.{FilesState, after_asking}
+use Rattle.secvisor_cli.specs.declared.refusal.Part.{Part}
+use Rattle.secvisor_cli.specs.declared.refusal.Refusal.{Refusal}
+use Rattle.secvisor_cli.specs.declared.refusal.Refusal.TheVariants.{ReadFault, File, Measure}
+use Rattle.secvisor_cli.specs.Refusals.{refusal_line, refusal_status}
+use Rattle.secvisor_cli.specs.CommandLine.{Command, Flat}
+
+-- ---- what is due
+
+pub data Due : Type 0 where
+  Refuse : Refusal → Due
+  RunFrom : (start : State) → (events : List Event) → Due
+
+-- all bytes that are due, and the status
+abbrev pub bytes_due : Due → List ℕ
+bytes_due (Refuse refusal) = refusal_line refusal
+bytes_due (RunFrom start events) = output (run start events)
+
+abbrev pub status_due : Due → Status
+status_due (Refuse refusal) = refusal_status refusal
+status_due (RunFrom start events) = run_status (run start events).verdict
+
+-- ---- plans
+
+-- what reading a name gave
+pub data Found : Type 0 where
+  -- the read failed
+  Faulty : Found
+  -- no such name is held
+  Missing : Found
+  -- more bytes than the limit
+  Longer : Found
+  Held : (bytes : List ℕ) → Found
+
+pub data Plan : Type 0 where
+  End : Due → Plan
+  -- at most so many bytes are read under a name, once, and what is found decides how it goes on
+  Read : (name : List ℕ) → (limit : ℕ) → (next : Found → Plan) → Plan
+
+-- a part that is not read is refused, and else its bytes decide
+unfoldable pub found_plan : Part → (List ℕ → Plan) → Found → Plan
+found_plan part next Faulty = End (Refuse (ReadFault part))
+found_plan part next Missing = End (Refuse (ReadFault part))
+found_plan part next Longer = End (Refuse (File part 0))
+found_plan part next (Held bytes) = next bytes
+
+abbrev pub read_part : Part → (name : List ℕ) → (limit : ℕ) → (List ℕ → Plan) → Plan
+read_part part name limit next = Read name limit (found_plan part next)
+
+-- ---- flat
+
+-- the pages are measured before anything runs
+unfoldable pub measure_judged : List ℕ → List ℕ → List Event → Due
+measure_judged pages wanted events =
+    if bytes_eq (measure pages) wanted then RunFrom (flat_start pages) events else Refuse (Measure (measure pages) wanted)
+
+-- whole pages, at least one
+abbrev pub is_whole_pages : List ℕ → Bool
+is_whole_pages bytes = nat_lt 0 (length bytes) && length bytes % page_size == 0
+
+unfoldable pub pages_judged : List ℕ → List ℕ → List Event → Due
+pages_judged bytes wanted events = if is_whole_pages bytes then measure_judged bytes wanted events else Refuse (File Part.Flat 1)
+
+-- turns of the one hart
+abbrev pub flat_events : ℕ → List Event
+flat_events events = first_events events (Schedule.Rounds 1 0)
+
+unfoldable pub flat_plan : (file wanted : List ℕ) → (events : ℕ) → Plan
+flat_plan file wanted events =
+    read_part Part.Flat file (page_size * flat_ram_pages) (λ bytes. End (pages_judged bytes wanted (flat_events events)))
+
+-- ---- all commands
+
+unfoldable pub plan_of : Result Command Refusal → Plan
+plan_of (Err refusal) = End (Refuse refusal)
+plan_of (Ok (Flat file wanted events)) = flat_plan file wanted events

@@ -1,0 +1,31 @@
+-- Files that are asked as a plan says: each name once, in the plan's order, and no other one.
+use Rattle.std.specs.Prelude.{◌≡◌, ◌<◌, ◌≤◌, ◌⊎◌, ℕ, List, [], ◌∷◌, length, IsTrue, Option, Some, None}
+use Rattle.outside.specs.Outside.{FilesState, after_asking}
+use Rattle.secvisor_cli.specs.Plans.{Due, Plan, End, Read, Found, Faulty, Missing, Longer, Held}
+
+-- the plan's names may be asked for, one after another, whatever is found
+abbrev pub MayFollow : Plan → FilesState → Type 0
+MayFollow (End due) files = Unit {0}
+MayFollow (Read name limit next) files = IsTrue (files.permits (name ∷ [])) × ((found : Found) → MayFollow (next found) (after_asking name files))
+
+-- what was found under a name. It is what the files hold, where they tell it; a failure comes only where the count rose
+abbrev pub FoundAs : FilesState → FilesState → List ℕ → ℕ → Found → Type 0
+FoundAs old new name limit Faulty =
+    (old.read_faults < new.read_faults) × (new ≡ record (after_asking name old) { read_faults = new.read_faults })
+FoundAs old new name limit Missing = IsTrue old.tells × (old.held name ≡ None) × (new ≡ after_asking name old)
+FoundAs old new name limit Longer =
+    ((bytes : List ℕ) × (limit < length bytes) × (IsTrue old.tells → old.held name ≡ Some bytes)) × (new ≡ after_asking name old)
+FoundAs old new name limit (Held bytes) =
+    (length bytes ≤ limit) × (IsTrue old.tells → old.held name ≡ Some bytes) × (new ≡ after_asking name old)
+
+-- The files were asked as the plan says, up to what is due at its end. It is none where memory was wanting for a read.
+abbrev pub Follows : Plan → FilesState → FilesState → Option Due → Type 0
+Follows (End due) old new reached = (reached ≡ Some due) × (new ≡ old)
+Follows (Read name limit next) old new reached =
+    ((reached ≡ None) × (new ≡ after_asking name old))
+    ⊎ ((found : Found) × (now : FilesState) × FoundAs old now name limit found × Follows (next found) now new reached)
+
+-- the plan may ask for this name
+abbrev pub IsNamed : Plan → List ℕ → Type 0
+IsNamed (End due) name = ⊥
+IsNamed (Read asked limit next) name = (asked ≡ name) ⊎ ((found : Found) × IsNamed (next found) name)

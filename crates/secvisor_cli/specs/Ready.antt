@@ -1,0 +1,60 @@
+-- What is made ready of a command, before anything is written.
+use Rattle.std.specs.Prelude.{◌≡◌, ◌≤◌, ◌^◌, ℕ, List, [], map, IsTrue, Option, Some, None, Result, Ok, Err, IsErrOf, Vec}
+use Rattle.std.specs.declared.alloc.Global.{Global}
+use Rattle.sv_types.specs.Run.{CountsAtMost}
+use Rattle.sv_types.specs.Schedule.{first_events}
+use Rattle.outside.specs.Outside.{FilesState, after_asking}
+use Rattle.machine.specs.declared.boot.BootRefusal.{BootRefusal}
+use Rattle.secvisor_cli.specs.declared.refusal.Part.{Part}
+use Rattle.secvisor_cli.specs.declared.refusal.Refusal.{Refusal}
+use Rattle.secvisor_cli.specs.declared.refusal.Refusal.TheVariants.{ReadFault, File}
+use Rattle.secvisor_cli.specs.declared.ready.Ready.{Ready}
+use Rattle.secvisor_cli.specs.declared.ready.Stop.{Stop}
+use Rattle.secvisor_cli.specs.declared.ready.Stop.TheVariants.{Refused, Memory}
+use Rattle.secvisor_cli.specs.declared.words.Command as asked
+use Rattle.secvisor_cli.specs.CommandLine.{Command, Flat, judged}
+use Rattle.secvisor_cli.specs.Plans.{Due, Refuse, RunFrom, Plan, Found, Faulty, Missing, Longer, Held}
+use Rattle.secvisor_cli.specs.Reading.{Follows, FoundAs}
+use Rattle.secvisor_cli.specs.Answers.{may_want}
+
+-- the refusal of a part that isn't read
+abbrev pub unread : Part → Found → Option Refusal
+unread part Faulty = Some (ReadFault part)
+unread part Missing = Some (ReadFault part)
+unread part Longer = Some (File part 0)
+unread part (Held bytes) = None
+
+-- a part was read, once
+abbrev pub PartRead : Part → List ℕ → ℕ → FilesState → FilesState → Result (Vec ℕ Global) Stop → Type 0
+PartRead part name limit old new (Ok bytes) = FoundAs old new name limit (Held bytes.items)
+PartRead part name limit old new (Err (Refused refusal)) = (found : Found) × FoundAs old new name limit found × (unread part found ≡ Some refusal)
+PartRead part name limit old new (Err Memory) = new ≡ after_asking name old
+
+-- a boot that is refused
+abbrev pub stop_of : BootRefusal → Stop
+stop_of (BootRefusal.Measure found wanted) = Refused (Refusal.Measure found wanted)
+stop_of (BootRefusal.Entry entry) = Refused (Refusal.Entry entry)
+stop_of BootRefusal.Memory = Memory
+
+-- a machine that has made no event, and the events that it is to make
+pub record IsFresh (ready : Ready) : Type 0 where
+  pub events : ready.events ≤ 2 ^ 32
+  pub counts : CountsAtMost 0 ready.machine.counts
+  pub console : ready.machine.printed ≡ []
+
+-- what is due is ready, or refused, or memory was wanting
+abbrev pub IsReady : Due → Result Ready Stop → Type 0
+IsReady (RunFrom start events) (Ok ready) = (ready.machine ≡ start) × (first_events ready.events ready.script ≡ events) × IsFresh ready
+IsReady (Refuse refusal) (Ok ready) = ⊥
+IsReady (Refuse refusal) (Err (Refused given)) = given ≡ refusal
+IsReady (RunFrom start events) (Err (Refused given)) = ⊥
+IsReady due (Err Memory) = IsTrue (may_want due)
+
+abbrev pub IsReadyWhere : Option Due → Result Ready Stop → Type 0
+IsReadyWhere None result = IsErrOf result Memory
+IsReadyWhere (Some due) result = IsReady due result
+
+pub record Prepares (plan : Plan) (old new : FilesState) (result : Result Ready Stop) : Type 0 where
+  pub reached : Option Due
+  pub follows : Follows plan old new reached
+  pub ready : IsReadyWhere reached result

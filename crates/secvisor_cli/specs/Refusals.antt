@@ -1,0 +1,42 @@
+-- The line and the status of a refusal. This project's own.
+use Rattle.std.specs.Prelude.{ℕ, List, ◌++◌, Bool, true, false, codes}
+use Rattle.std.specs.Fmt.{decimal}
+use Rattle.sv_types.specs.Output.{line_feed, hexadecimal_bytes, address_text}
+use Rattle.sv_types.specs.declared.status.Status.{Status}
+use Rattle.secvisor_cli.specs.declared.refusal.Part.{Part}
+use Rattle.secvisor_cli.specs.declared.refusal.Word.{Word}
+use Rattle.secvisor_cli.specs.declared.refusal.Refusal.{Refusal}
+use Rattle.secvisor_cli.specs.declared.refusal.Refusal.TheVariants.{NoCommand, OutOfRange, ReadFault, File, Measure, Entry}
+
+abbrev pub part_name : Part → List ℕ
+part_name Part.Flat = codes "flat"
+
+abbrev pub word_name : Word → List ℕ
+word_name Word.Measure = codes "MEASURE"
+word_name Word.Events = codes "EVENTS"
+
+unfoldable pub refusal_line : Refusal → List ℕ
+refusal_line NoCommand = codes "usage" ++ line_feed
+refusal_line (OutOfRange word) = codes "usage " ++ (word_name word ++ line_feed)
+refusal_line (ReadFault part) = codes "read fault " ++ (part_name part ++ line_feed)
+refusal_line (File part number) = codes "refused " ++ (part_name part ++ (codes " " ++ (decimal number ++ line_feed)))
+refusal_line (Measure found wanted) =
+    codes "refused measure found " ++ hexadecimal_bytes found ++ codes " wanted " ++ hexadecimal_bytes wanted ++ line_feed
+refusal_line (Entry entry) = codes "refused entry " ++ address_text entry ++ line_feed
+
+abbrev pub refusal_status : Refusal → Status
+refusal_status NoCommand = Status.Usage
+refusal_status (OutOfRange word) = Status.Usage
+refusal_status (ReadFault part) = Status.ReadFault
+refusal_status (File part number) = Status.Refused
+refusal_status (Measure found wanted) = Status.Refused
+refusal_status (Entry entry) = Status.Refused
+
+-- memory may be asked for on the way to a refusal. Words are refused without
+abbrev pub takes_memory : Refusal → Bool
+takes_memory NoCommand = false
+takes_memory (OutOfRange word) = false
+takes_memory (ReadFault part) = true
+takes_memory (File part number) = true
+takes_memory (Measure found wanted) = true
+takes_memory (Entry entry) = true

@@ -1,0 +1,65 @@
+// The command `flat`.
+ghost use Rattle.std.specs.Prelude.{◌≡◌, ◌<◌, ◌≤◌, ◌-◌, ◌^◌, ◌%◌, IsTrue, length, true, false, OnOk, IfErr};
+ghost use Rattle.secvisor_cli.specs.Plans.{flat_plan, flat_events, is_whole_pages, measure_judged};
+ghost use Rattle.secvisor_cli.specs.Reading.{MayFollow};
+ghost use Rattle.secvisor_cli.specs.Ready.{IsReady, Prepares};
+
+use crate::parts::read_part;
+use crate::ready::{Ready, Stop};
+use crate::refusal::{Part, Refusal};
+use crate::words::Flat;
+use machine::Machine;
+use outside::Files;
+use script::rounds;
+use std::alloc::Global;
+use std::thread::Threads;
+
+const MOST_FLAT_BYTES: usize = 65536;
+
+const PAGE_BYTES: usize = 4096;
+
+/// Reads the pages, judges and measures them, and boots a machine.
+pub fn prepare_flat<F: Files>(alloc: Global, flat: &Flat<'_>, files: &mut F) -> Result<Ready, Stop>
+    requires permitted { MayFollow (flat_plan flat.now.file.now flat.now.wanted flat.now.events) (F.state files.old) }
+    requires reads { (F.state files.old).read_faults < 2 ^ 64 - 1 }
+    requires events { flat.now.events ≤ 2 ^ 32 }
+    ensures { Prepares (flat_plan flat.now.file.now flat.now.wanted flat.now.events) (F.state files.old) (F.state files.new) result }
+{
+    let bytes = read_part(alloc, files, Part::Flat, flat.file, MOST_FLAT_BYTES)?;
+    if !is_whole_pages(&bytes) {
+        return Err(Stop::Refused(Refusal::File {
+            part: Part::Flat,
+            number: 1,
+        }));
+    }
+    boot(rt, alloc, &bytes, flat.wanted, flat.events)
+}
+
+fn is_whole_pages(bytes: &[u8]) -> bool
+    ensures value { result ≡ is_whole_pages bytes.now }
+    ensures whole { IsTrue result → length bytes.now % 4096 ≡ 0 }
+{
+    bytes.len() > 0 && bytes.len() % PAGE_BYTES == 0
+}
+
+// Measured pages, booted; each event is a turn of the one hart.
+fn boot<R: Threads + Sync>(
+    rt: &R,
+    alloc: Global,
+    pages: &[u8],
+    wanted: [u8; 32],
+    events: u64,
+) -> Result<Ready, Stop>
+    requires whole { length pages.now % 4096 ≡ 0 }
+    requires size { length pages.now ≤ 65536 }
+    requires events { events ≤ 2 ^ 32 }
+    ensures { IsReady (measure_judged pages.now wanted (flat_events events)) result }
+{
+    let machine = Machine::flat(rt, alloc, pages, wanted)?;
+    let script = rounds(1);
+    Ok(Ready {
+        machine,
+        script,
+        events,
+    })
+}

@@ -1,0 +1,167 @@
+// Why a command isn't carried out.
+ghost use Rattle.std.specs.Prelude.{◌≡◌, ◌<◌, ◌-◌, ◌^◌, ◌++◌, IsTrue, IsErrOf, OnOk, IfOk, string_bytes};
+ghost use Rattle.outside.specs.Outside.{after_taking, BreaksOff};
+ghost use Rattle.sv_types.specs.Output.{hexadecimal_bytes};
+ghost use Rattle.secvisor_cli.specs.Refusals.{part_name, refusal_line, refusal_status, takes_memory};
+
+use crate::report::{hexadecimal_digit, push_address};
+use crate::trouble::Trouble;
+use outside::{Sink, write_all};
+use std::alloc::{AllocError, Global};
+use sv_types::Status;
+
+/// A file by what it is for.
+#[derive(Clone, Copy, Debug, PartialEq, Eq, Drop)]
+pub enum Part {
+    Flat,
+}
+
+/// A word by its name.
+#[derive(Clone, Copy, Debug, PartialEq, Eq, Drop)]
+pub enum Word {
+    Measure,
+    Events,
+}
+
+/// Why a command isn't carried out.
+#[derive(Clone, Copy, Debug, PartialEq, Eq, Drop)]
+pub enum Refusal {
+    /// The words are of no command.
+    NoCommand,
+    /// The first word that is out of its range.
+    OutOfRange { word: Word },
+    /// A read failed, or the file isn't held.
+    ReadFault { part: Part },
+    /// A file is refused by a number, by 0 where it is longer than its limit.
+    File { part: Part, number: u64 },
+    /// The text measures to another digest than the one that is wanted.
+    Measure { found: [u8; 32], wanted: [u8; 32] },
+    /// The machine would begin at an address that isn't permitted.
+    Entry { entry: u64 },
+}
+
+impl Part {
+    fn name(self) -> &'static str
+        ensures { result.now ≡ part_name self }
+    {
+        match self {
+            Part::Flat => "flat",
+        }
+    }
+}
+
+impl Word {
+    // The whole line, so that words are refused without memory.
+    #[tactic(auto, unfolding(crate::specs::Refusals::refusal_line))]
+    fn line(self) -> &'static str
+        ensures { result.now ≡ refusal_line (Refusal.OutOfRange self) }
+    {
+        match self {
+            Word::Measure => "usage MEASURE\n",
+            Word::Events => "usage EVENTS\n",
+        }
+    }
+}
+
+impl Refusal {
+    pub fn status(&self) -> Status
+        ensures { result ≡ refusal_status self.now }
+    {
+        match self {
+            Refusal::NoCommand | Refusal::OutOfRange { word: _ } => Status::Usage,
+            Refusal::ReadFault { part: _ } => Status::ReadFault,
+            Refusal::File { part: _, number: _ }
+            | Refusal::Measure {
+                found: _,
+                wanted: _,
+            }
+            | Refusal::Entry { entry: _ } => Status::Refused,
+        }
+    }
+
+    /// Writes the line. Words are refused without asking for memory.
+    pub fn write_line<O: Sink>(&self, alloc: Global, out: &mut O) -> Result<(), Trouble>
+        requires is_open { IsTrue (O.state out.old).is_open }
+        requires count { (O.state out.old).faults < 2 ^ 64 - 1 }
+        ensures whole { OnOk result (O.state out.new ≡ after_taking (O.state out.old) (refusal_line self.now)) }
+        ensures failed { IsErrOf result Trouble.Write → BreaksOff (O.state out.old) (O.state out.new) (refusal_line self.now) }
+        ensures wants { IsErrOf result Trouble.Memory → IsTrue (takes_memory self.now) }
+        ensures quiet { IsErrOf result Trouble.Memory → O.state out.new ≡ O.state out.old }
+    {
+        match self {
+            Refusal::NoCommand => Ok(write_all(out, usage_line().as_bytes())?),
+            Refusal::OutOfRange { word } => Ok(write_all(out, word.line().as_bytes())?),
+            Refusal::ReadFault { part } => {
+                let line = read_fault_line(alloc, *part)?;
+                Ok(write_all(out, line.as_str().as_bytes())?)
+            }
+            Refusal::File { part, number } => {
+                let line = file_line(alloc, *part, *number)?;
+                Ok(write_all(out, line.as_str().as_bytes())?)
+            }
+            Refusal::Measure { found, wanted } => {
+                let line = measure_line(alloc, found, wanted)?;
+                Ok(write_all(out, line.as_str().as_bytes())?)
+            }
+            Refusal::Entry { entry } => {
+                let line = entry_line(alloc, *entry)?;
+                Ok(write_all(out, line.as_str().as_bytes())?)
+            }
+        }
+    }
+}
+
+#[tactic(auto, unfolding(crate::specs::Refusals::refusal_line))]
+fn usage_line() -> &'static str
+    ensures { result.now ≡ refusal_line Refusal.NoCommand }
+{
+    "usage\n"
+}
+
+#[tactic(auto, unfolding(crate::specs::Refusals::refusal_line))]
+fn read_fault_line(alloc: Global, part: Part) -> Result<String, AllocError>
+    ensures { IfOk result (λ t. string_bytes t ≡ refusal_line (Refusal.ReadFault part)) }
+{
+    let name = part.name();
+    format!(in alloc; "read fault {name}\n")
+}
+
+#[tactic(auto, unfolding(crate::specs::Refusals::refusal_line))]
+fn file_line(alloc: Global, part: Part, number: u64) -> Result<String, AllocError>
+    ensures { IfOk result (λ t. string_bytes t ≡ refusal_line (Refusal.File part number)) }
+{
+    let name = part.name();
+    format!(in alloc; "refused {name} {number}\n")
+}
+
+fn push_digest(text: &mut String, digest: &[u8]) -> Result<(), AllocError>
+    ensures { OnOk result (string_bytes text.new ≡ string_bytes text.old ++ hexadecimal_bytes digest.now) }
+{
+    for b in digest {
+        text.push(hexadecimal_digit(*b / 16))?;
+        text.push(hexadecimal_digit(*b % 16))?;
+    }
+    Ok(())
+}
+
+#[tactic(auto, unfolding(crate::specs::Refusals::refusal_line))]
+fn measure_line(alloc: Global, found: &[u8], wanted: &[u8]) -> Result<String, AllocError>
+    ensures { IfOk result (λ t. string_bytes t ≡ refusal_line (Refusal.Measure found.now wanted.now)) }
+{
+    let mut text = String::from_str(alloc, "refused measure found ")?;
+    push_digest(&mut text, found)?;
+    text.push_str(" wanted ")?;
+    push_digest(&mut text, wanted)?;
+    text.push_str("\n")?;
+    Ok(text)
+}
+
+#[tactic(auto, unfolding(crate::specs::Refusals::refusal_line))]
+fn entry_line(alloc: Global, entry: u64) -> Result<String, AllocError>
+    ensures { IfOk result (λ t. string_bytes t ≡ refusal_line (Refusal.Entry entry)) }
+{
+    let mut text = String::from_str(alloc, "refused entry ")?;
+    push_address(&mut text, entry)?;
+    text.push_str("\n")?;
+    Ok(text)
+}
