@@ -99,6 +99,7 @@ impl Files for MemFiles {
         // A read fails exactly where its number is listed.
         ensures fails { IsErrOf result FileRefusal.Failed ↔ IsTrue (is_to_fail self.old.failing_reads.items self.old.reads) }
         ensures counted { self.new.reads ≡ call_number self.old.reads }
+        ensures faults { self.new.read_faults ≤ self.old.read_faults + 1 }
         ensures failing { (self.new.failing_reads ≡ self.old.failing_reads) × (self.new.failing_saves ≡ self.old.failing_saves) }
         ensures room { (self.new.room ≡ self.old.room) × (self.new.saves ≡ self.old.saves) }
     {
@@ -118,7 +119,7 @@ impl Files for MemFiles {
         requires count { self.old.save_faults < 2 ^ 64 - 1 }
         ensures saved { OnOk result (held_in self.new.files.items name.now ≡ Some bytes.now) }
         ensures others { (other : List ℕ) → other ≢ name.now → held_in self.new.files.items other ≡ held_in self.old.files.items other }
-        ensures fault { OnErr result (self.old.save_faults < self.new.save_faults) }
+        ensures fault { OnErr result (self.new.save_faults ≡ self.old.save_faults + 1) }
         ensures no_fault { OnOk result (self.new.save_faults ≡ self.old.save_faults) }
         ensures read_faults { self.new.read_faults ≡ self.old.read_faults }
         // A save fails where its number is listed, and where the room that is left is exceeded.

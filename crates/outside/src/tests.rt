@@ -41,30 +41,33 @@ fn listed_reads_fail(rt: HostRuntime) -> Result<(), Fail> {
     let alloc = rt.alloc();
     let held = [image(alloc)?];
     let mut files = MemFiles::new(alloc, &held, 0, 0, &[2], &[])?;
-    let answers = [
-        ("image", 3, None),
-        ("image", 3, Some(FileRefusal::Failed)),
-        ("image", 2, Some(FileRefusal::TooLong)),
-        ("disk", 3, Some(FileRefusal::Absent)),
-    ];
-    for (name, limit, wanted) in answers {
-        assert_eq!(rt;
-            files.read(alloc, name, limit).err(),
-            wanted,
-            "{name} {limit}"
-        );
-    }
+    let first = files.read(alloc, "image", 3).err();
+    let second = files.read(alloc, "image", 3).err();
+    let third = files.read(alloc, "image", 2).err();
+    let fourth = files.read(alloc, "disk", 3).err();
+    assert_eq!(rt; first, None);
+    assert_eq!(rt; second, Some(FileRefusal::Failed));
+    assert_eq!(rt; third, Some(FileRefusal::TooLong));
+    assert_eq!(rt; fourth, Some(FileRefusal::Absent));
     Ok(())
 }
 
 #[test]
 fn listed_writes_fail(rt: HostRuntime) -> Result<(), Fail> {
     let mut out = MemSink::new(rt.alloc(), 5, 2, &[2])?;
-    let answers = [Ok(2), Err(Failed), Ok(2), Err(Failed)];
-    for wanted in answers {
-        assert_eq!(rt; out.write(b"abc"), wanted);
-    }
-    assert_eq!(rt; out.write(b"x"), Ok(1));
-    assert!(rt; out.taken() == b"ababx".as_slice());
+    assert_eq!(rt; out.write(b"abc"), Ok(2));
+    assert_eq!(rt;
+        out.write(b"abc"),
+        Err(Failed),
+        "the second write is listed"
+    );
+    assert_eq!(rt; out.write(b"cd"), Ok(2));
+    assert_eq!(rt;
+        out.write(b"ef"),
+        Err(Failed),
+        "one byte more than the room"
+    );
+    assert_eq!(rt; out.write(b"e"), Ok(1));
+    assert!(rt; out.taken() == b"abcde".as_slice());
     Ok(())
 }

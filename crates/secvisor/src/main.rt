@@ -2,18 +2,44 @@
 #![tactic(auto)]
 
 use outside::{RealFiles, StdSink};
-use secvisor_cli::{Bench, secvisor};
+use secvisor_cli::{Bench, Status, secvisor};
+use std::alloc::AllocError;
+use std::env;
+use std::io::ErrorKind;
 use std::process::ExitCode;
-use std::{env, io};
 
-fn main(rt: HostRuntime) -> io::Result<ExitCode> {
-    let mut words = Vec::new(rt.alloc());
-    for word in env::args(&rt)?.skip(1) {
-        words.push(word)?;
-    }
-    let mut files = RealFiles::new(rt.clone()?);
-    let mut out = StdSink::new(rt.clone()?);
+// Every end has its status, want of memory before the program is called too.
+fn main(rt: HostRuntime) -> ExitCode {
+    let Ok(words) = words(&rt) else {
+        return ExitCode::from(Status::Memory.number());
+    };
+    let Ok(reading) = rt.clone() else {
+        return ExitCode::from(Status::Memory.number());
+    };
+    let Ok(printing) = rt.clone() else {
+        return ExitCode::from(Status::Memory.number());
+    };
+    let mut files = RealFiles::new(reading);
+    let mut out = StdSink::new(printing);
     let mut bench = Bench { machine: None };
     let status = secvisor(&rt, rt.alloc(), &words, &mut files, &mut out, &mut bench);
-    Ok(ExitCode::from(status.number()))
+    ExitCode::from(status.number())
+}
+
+// The words behind the program's name. Where one is no UTF-8 text they are none, which are of no command.
+fn words(rt: &HostRuntime) -> Result<Vec<String>, AllocError> {
+    let mut words = Vec::new(rt.alloc());
+    match env::args(rt) {
+        Ok(all) => {
+            for word in all.skip(1) {
+                words.push(word)?;
+            }
+        }
+        Err(error) => {
+            if error.kind() == ErrorKind::OutOfMemory {
+                return Err(AllocError);
+            }
+        }
+    }
+    Ok(words)
 }

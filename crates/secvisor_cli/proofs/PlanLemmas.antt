@@ -100,3 +100,9 @@ read_fault (End it) old new due never follows is = absurd (never (ap status_due 
 read_fault (Read name limit next) old new due never (inl wanting) is = absurd (cc wanting.0)
 read_fault (Read name limit next) old new due never (inr it) is =
     fault_by name limit next old it.1 new due it.0 it.2 never (follows_keeps (next it.0) it.1 new (Some due) it.3) (λ h. read_fault (next it.0) it.1 new due h it.3 is)
+
+-- ---- files of which any name may be asked for
+
+pub may_follow : (plan : Plan) (files : FilesState) → ((names : List (List ℕ)) → IsTrue (files.permits names)) → MayFollow plan files
+may_follow (End due) files all = tt
+may_follow (Read name limit next) files all = (all (name ∷ []), λ found. may_follow (next found) (after_asking name files) (λ names. all (name ∷ names)))

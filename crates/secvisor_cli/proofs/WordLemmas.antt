@@ -4,6 +4,9 @@ use Rattle.std.proofs.lemmas.List.{get_or-map}
 use Rattle.std.specs.List.{list_any}
 use Rattle.std.proofs.lemmas.Bool.Decides.{nat_tests}
 use Rattle.sv_types.specs.Numbers.{number_within, digest_of}
+use Rattle.secvisor_cli.specs.declared.words.Command.{Command as Asked}
+use Rattle.secvisor_cli.specs.declared.words.Command.TheVariants as asked
+use Rattle.secvisor_cli.specs.declared.words.Flat.{Flat as FlatWords}
 use Rattle.secvisor_cli.specs.declared.refusal.Word.{Word}
 use Rattle.secvisor_cli.specs.declared.refusal.Refusal.{Refusal}
 use Rattle.secvisor_cli.specs.declared.refusal.Refusal.TheVariants.{OutOfRange, NoCommand}
@@ -27,3 +30,6 @@ judged_measure words no_dash flat none =
     ap (λ b. if b then Err NoCommand else if is_flat bytes then flat_judged bytes else Err NoCommand) dash
     ∙ ap (λ b. if b then flat_judged bytes else Err NoCommand) flat
     ∙ ap (λ (d : Option (List ℕ)). flat_words (flat_file bytes) d (number_within 0 most_events (word_at bytes 3))) none
+
+pub flat_is : (command : Asked) → (flat : FlatWords) × (command ≡ asked.Flat flat)
+flat_is (asked.Flat flat) = (flat, refl)

@@ -1,11 +1,12 @@
 // The answer to the words.
-ghost use Rattle.std.specs.Prelude.{◌≡◌, ◌<◌, ◌≤◌, ◌-◌, ◌^◌, ◌⊎◌, ℕ, List, Option, [], map, string_bytes, None, IsTrue, IsErrOf, false};
+ghost use Rattle.std.specs.Prelude.{◌≡◌, ◌<◌, ◌≤◌, ◌-◌, ◌^◌, ◌⊎◌, ℕ, List, Option, [], map, string_bytes, Ok, IsTrue, IsErrOf, false};
 ghost use Rattle.std.specs.Result.{is_ok};
 ghost use Rattle.sv_types.specs.Output.{output, run_status};
 ghost use Rattle.sv_types.specs.Run.{CountsAtMost, run};
 ghost use Rattle.sv_types.specs.Schedule.{first_events};
 ghost use Rattle.secvisor_cli.specs.Refusals.{refusal_line, refusal_status, takes_memory};
 ghost use Rattle.secvisor_cli.specs.CommandLine.{judged};
+ghost use Rattle.secvisor_cli.specs.Words.{command_of, IsInRange};
 ghost use Rattle.secvisor_cli.specs.Plans.{RunFrom, plan_of};
 ghost use Rattle.secvisor_cli.specs.Reading.{MayFollow, IsNamed};
 ghost use Rattle.secvisor_cli.specs.Ready.{Prepares, IsFresh};
@@ -105,7 +106,6 @@ fn answer<R: Threads + Sync, F: Files, O: Sink>(
 }
 
 // The words, judged, and the files that they name.
-#[tactic(auto, unfolding(crate::specs::Plans::plan_of))]
 fn prepare<R: Threads + Sync, F: Files>(
     rt: &R,
     alloc: Global,
@@ -117,8 +117,25 @@ fn prepare<R: Threads + Sync, F: Files>(
     ensures { Prepares (plan_of (judged (map string_bytes words.now))) (F.state files.old) (F.state files.new) result }
 {
     match judge(words) {
-        Ok(Command::Flat(flat)) => prepare_flat(rt, alloc, &flat, files),
+        Ok(command) => prepare_command(rt, alloc, &command, files),
         Err(refusal) => Err(Stop::Refused(refusal)),
+    }
+}
+
+#[tactic(auto, unfolding(crate::specs::Plans::plan_of))]
+fn prepare_command<R: Threads + Sync, F: Files>(
+    rt: &R,
+    alloc: Global,
+    command: &Command<'_>,
+    files: &mut F,
+) -> Result<Ready, Stop>
+    requires permitted { MayFollow (plan_of (Ok (command_of command.now))) (F.state files.old) }
+    requires reads { (F.state files.old).read_faults < 2 ^ 64 - 1 }
+    requires range { IsInRange command.now }
+    ensures { Prepares (plan_of (Ok (command_of command.now))) (F.state files.old) (F.state files.new) result }
+{
+    match command {
+        Command::Flat(flat) => prepare_flat(rt, alloc, flat, files),
     }
 }
 

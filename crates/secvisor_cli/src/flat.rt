@@ -19,7 +19,12 @@ const MOST_FLAT_BYTES: usize = 65536;
 const PAGE_BYTES: usize = 4096;
 
 /// Reads the pages, judges and measures them, and boots a machine.
-pub fn prepare_flat<F: Files>(alloc: Global, flat: &Flat<'_>, files: &mut F) -> Result<Ready, Stop>
+pub fn prepare_flat<R: Threads + Sync, F: Files>(
+    rt: &R,
+    alloc: Global,
+    flat: &Flat<'_>,
+    files: &mut F,
+) -> Result<Ready, Stop>
     requires permitted { MayFollow (flat_plan flat.now.file.now flat.now.wanted flat.now.events) (F.state files.old) }
     requires reads { (F.state files.old).read_faults < 2 ^ 64 - 1 }
     requires events { flat.now.events ≤ 2 ^ 32 }

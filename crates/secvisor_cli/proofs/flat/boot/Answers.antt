@@ -6,12 +6,12 @@ use Rattle.secvisor_cli.proofs.ReadyLemmas.{err_by, booted_ready, stopped_boot, 
 use Rattle.secvisor_cli.proofs.flat.boot.Goals as goal
 
 pub returns-in_err-machine : goal.returns-in_err-machine
-returns-in_err-machine c =
+returns-in_err-machine g c =
     err_by _ (stop_of c.in_err-machine.field-0.0) (λ r. IsReady (measure_judged c.args.pages.now c.args.wanted (flat_events c.args.events)) r) c.from_residual.ensures.1
     (stopped_boot _ _ _ c.in_err-machine.field-0.0 c.in_err-machine.ensures.refused)
 
 pub returns : goal.returns
-returns c =
+returns g c =
     let fresh = fresh_flat c.args.pages.now c.in_ok-machine.machine c.in_ok-machine.ensures.start in
     let it : IsFresh (record { machine = c.in_ok-machine.machine; script = c.rounds-script.result; events = c.args.events }) = record { events = c.requires.events; counts = fresh.0; console = fresh.1 } in
     let events : first_events c.args.events c.rounds-script.result ≡ flat_events c.args.events = ap (λ (s : Schedule). first_events c.args.events s) c.rounds-script.ensures in
