@@ -7,7 +7,7 @@ use Rattle.std.proofs.Math.ListN.{get_or-map}
 use Rattle.sv_types.specs.Regions.{Region}
 use Rattle.sv_types.specs.Translation.{Destination, At, PageFault, Unreadable}
 use Rattle.sv_types.specs.SecondStage.{walk_guest, address_at, entry_in_region, entry_in_tables, guest_destination, permits_guest, WalksApart}
-use Rattle.sv_types.specs.CachedWalks.{line_permits, line_leads, line_at, LineAgrees, CacheAgrees, FilledUnder, no_lines, without_page}
+use Rattle.sv_types.specs.CachedWalks.{UnderViews, line_permits, line_leads, line_at, LineAgrees, CacheAgrees, FilledUnder, no_lines, without_page}
 use Rattle.sv_types.specs.declared.cached.CacheLine.{CacheLine}
 use Rattle.sv_types.specs.declared.wires.Access.{Access}
 use Rattle.sv_types.specs.declared.wires.Access.TheVariants.{Fetch, Load, Store}
@@ -169,6 +169,13 @@ none_at : (n i : ℕ) → get_or (replicate {A = Option CacheLine} n None) i Non
 none_at zero i = refl
 none_at (suc n) zero = refl
 none_at (suc n) (suc i) = none_at n i
+
+-- so a cache without lines agrees with every table, and its lines are of the views
+pub none_agrees : (tables : List ℕ) → CacheAgrees tables no_lines
+none_agrees tables = record { held = λ i line e. let none = none_at 256 i in absurd (cc) }
+
+pub none_under_views : UnderViews no_lines
+none_under_views = record { root = λ i line e. let none = none_at 256 i in absurd (cc) }
 
 pub none_placed : IsPlaced no_lines
 none_placed = record { size = refl; place = λ i line e. let none = none_at 256 i in absurd (cc) }

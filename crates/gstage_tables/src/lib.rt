@@ -107,6 +107,3 @@ fn fill(mem: &mut HostMem, ram_pages: u64, count: u64)
         put(mem, k, first_word(ram_pages, k));
     }
 }
-
-#[cfg(test)]
-mod tests;

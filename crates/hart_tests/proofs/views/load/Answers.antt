@@ -2,7 +2,7 @@ use Rattle.std.proofs.Common.{ℕ, subst, sym}
 use Rattle.sv_types.specs.SecondStage.{WalksInside, all_free, view_hgatp}
 use Rattle.sv_types.specs.declared.wires.View.TheVariants.{Kernel}
 use Rattle.sv_types.proofs.Views.{view_walks_inside}
-use Rattle.gstage_tables.proofs.tests.load.Goals as goal
+use Rattle.hart_tests.proofs.views.load.Goals as goal
 
 pub translate-requires-clause-inside : goal.translate-requires-clause-inside
 translate-requires-clause-inside g c =

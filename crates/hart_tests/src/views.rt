@@ -2,10 +2,11 @@
 
 ghost use Rattle.std.specs.Prelude.{◌≡◌, ◌⊎◌, ◌/◌, ◌^◌};
 
-use super::*;
+use gstage_tables::Trees;
+use host_mem::HostMem;
 use std::alloc::{AllocError, Global};
 use std::process::Abort;
-use sv_types::{Access, Mode};
+use sv_types::{Access, Mode, Protection, View};
 use sv39_walk::{Fault, Place, Regime, translate, walk_g};
 
 const RAM_PAGES: usize = 16;

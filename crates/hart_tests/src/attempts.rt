@@ -1,0 +1,437 @@
+// Attempts on 16 pages of RAM behind two trees of tables, with page 0 approved.
+
+ghost use Rattle.std.specs.Prelude.{◌≡◌, ◌⊎◌, ◌%◌, ◌*◌, ◌/◌, ◌^◌, length, IfOk};
+ghost use Rattle.sv_types.specs.SecondStage.{AreViews, protect, all_free, view_hgatp};
+ghost use Rattle.sv_types.specs.declared.wires.Protection.TheVariants.{Approved};
+ghost use Rattle.sv_types.specs.declared.wires.View.TheVariants.{Kernel, User};
+ghost use Rattle.hart.specs.Conditions.{KeepsMode};
+ghost use Rattle.gstage_tables.specs.Layout.{table_size};
+
+use gstage_cache::Cache;
+use gstage_tables::Trees;
+use hart::{Cpu, Hart, Outcome, Wrote, attempt};
+use host_mem::HostMem;
+use std::alloc::{AllocError, Global};
+use std::process::Abort;
+use sv_types::{Access, Exit, GuestFault, HRegs, Lines, Mode, Protection};
+
+const PAGES: usize = 16;
+
+// Kernel mode fetches from page 0, which is approved, and user mode from page 4, which isn't.
+const KERNEL_PC: u64 = 0x8000_0000;
+
+const USER_PC: u64 = 0x8000_4000;
+
+const QUIET: Lines = Lines {
+    time: 0,
+    external: false,
+    timer: false,
+};
+
+const TIMER: Lines = Lines {
+    time: 0,
+    external: false,
+    timer: true,
+};
+
+// Both views, in which page 0 is approved.
+fn draw_views(mem: &mut HostMem)
+    requires tables { length mem.old.tables ≡ table_size 16 }
+    requires ram { length mem.old.ram ≡ 4096 * 16 }
+    ensures views { AreViews mem.new.tables 16 (protect all_free 0 Approved) }
+    ensures ram { length mem.new.ram ≡ 4096 * 16 }
+{
+    let mut trees = Trees::new(mem);
+    trees.set(mem, 0, Protection::Approved);
+}
+
+// RAM with these words at their places, under both views.
+fn region(rt: &impl Abort, alloc: Global, words: &[(usize, u64)]) -> Result<HostMem, AllocError>
+    ensures views { IfOk result (λ m. AreViews m.tables 16 (protect all_free 0 Approved)) }
+    ensures ram { IfOk result (λ m. length m.ram ≡ 4096 * 16) }
+{
+    let mut mem = HostMem::new(alloc, Trees::table_bytes(PAGES), PAGES)?;
+    for (place, word) in words {
+        assert!(rt; *place < 0x1_0000);
+        let at = mem.table_bytes() + *place;
+        assert!(rt; at.is_multiple_of(8) && at + 8 <= mem.table_bytes() + 4096 * mem.ram_pages());
+        mem.write(at, 8, *word);
+    }
+    assert!(rt; mem.ram_pages() == PAGES);
+    assert!(rt; mem.table_bytes() == Trees::table_bytes(PAGES));
+    draw_views(&mut mem);
+    Ok(mem)
+}
+
+fn hypervisor_registers(mode: Mode) -> HRegs
+    ensures mode { KeepsMode result }
+    ensures second { result.hgatp / 2 ^ 60 ≡ 8 }
+    ensures root { (result.hgatp ≡ view_hgatp Kernel) ⊎ (result.hgatp ≡ view_hgatp User) }
+{
+    match mode {
+        Mode::Kernel => HRegs {
+            mode,
+            hgatp: 0x8000_1000_0000_0000,
+            hedeleg: 0xB1FF,
+            hideleg: 0x444,
+            vtsr: true,
+        },
+        Mode::User => HRegs {
+            mode,
+            hgatp: 0x8000_2000_0000_0004,
+            hedeleg: 0,
+            hideleg: 0,
+            vtsr: true,
+        },
+    }
+}
+
+// One attempt of a hart in a mode, on a region of its own that holds these words.
+fn attempt_once(
+    rt: &impl Abort,
+    alloc: Global,
+    words: &[(usize, u64)],
+    hart: &mut Hart,
+    mode: Mode,
+    lines: &Lines,
+) -> Result<Outcome, AllocError>
+    requires { hart.old.pc % 4 ≡ 0 }
+{
+    let mut mem = region(rt, alloc, words)?;
+    let regs = hypervisor_registers(mode);
+    let mut cache = Cache::new();
+    Ok(attempt(hart, &regs, &mut cache, &mut mem, lines))
+}
+
+// A hart whose x1 is an address and whose x2 is 7, with a reservation at place 0x2000 of RAM and every interrupt enabled.
+fn hart_with(address: u64) -> Hart {
+    let mut hart = Hart::at_boot(0);
+    let regs = hypervisor_registers(Mode::Kernel);
+    hart.regs.set(1, address);
+    hart.regs.set(2, 7);
+    let _tvec = hart.csrs.write(&regs, 0x105, 0x8000_0100);
+    let _enabled = hart.csrs.write(&regs, 0x104, 0x222);
+    hart.reservation = Some(0xE000);
+    hart
+}
+
+fn exit(cause: u64, pc: u64, stval: u64, htval: u64, htinst: u32) -> Outcome {
+    Outcome::Exit(Exit {
+        interrupt: false,
+        cause,
+        pc,
+        stval,
+        htval,
+        htinst,
+    })
+}
+
+fn wrote(hpa: u64, width: u8) -> Outcome {
+    Outcome::Retired {
+        wrote: Some(Wrote { hpa, width }),
+    }
+}
+
+const DONE: Outcome = Outcome::Retired { wrote: None };
+
+// Where the tables end: ten pages and a level-0 table of each tree.
+const TABLES: u64 = 0xC000;
+
+// Each row: the mode, the instruction, x1, and what comes of it: the outcome, x3, and whether the reservation stands.
+#[test]
+fn each_instruction_has_its_outcome(rt: HostRuntime) -> Result<(), AllocError> {
+    const K: Mode = Mode::Kernel;
+    const U: Mode = Mode::User;
+    const LOADED: u64 = 0x1122_3344_5566_7780;
+    for (mode, word, address, want, x3, stands) in [
+        // addi
+        (K, 0x0050_0193, 0, DONE, 5, true),
+        // lb, ld
+        (
+            K,
+            0x0000_8183,
+            0x8000_2000,
+            DONE,
+            0xFFFF_FFFF_FFFF_FF80,
+            true,
+        ),
+        (K, 0x0000_B183, 0x8000_2000, DONE, LOADED, true),
+        (K, 0x0000_B183, 0x8000_2001, Outcome::GuestTrap, 0, false),
+        (
+            K,
+            0x0000_B183,
+            0x200_0000_0000,
+            exit(21, KERNEL_PC, 0x200_0000_0000, 0x80_0000_0000, 0x3183),
+            0,
+            true,
+        ),
+        // sd
+        (
+            K,
+            0x0020_B023,
+            0x8000_3000,
+            wrote(TABLES + 0x3000, 8),
+            0,
+            true,
+        ),
+        (
+            K,
+            0x0020_B023,
+            0x8000_2000,
+            wrote(TABLES + 0x2000, 8),
+            0,
+            false,
+        ),
+        (
+            K,
+            0x0020_B023,
+            0x8000_0008,
+            exit(23, KERNEL_PC, 0x8000_0008, 0x2000_0002, 0x0020_3023),
+            0,
+            true,
+        ),
+        (
+            U,
+            0x0020_B023,
+            0x8000_0001,
+            exit(6, USER_PC, 0x8000_0001, 0, 0),
+            0,
+            true,
+        ),
+        // lr.d, sc.d
+        (K, 0x1000_B1AF, 0x8000_2000, DONE, LOADED, true),
+        (
+            K,
+            0x1820_B1AF,
+            0x8000_2000,
+            wrote(TABLES + 0x2000, 8),
+            0,
+            false,
+        ),
+        (K, 0x1820_B1AF, 0x8000_3000, DONE, 1, false),
+        (
+            K,
+            0x1820_B1AF,
+            0x8000_0008,
+            exit(23, KERNEL_PC, 0x8000_0008, 0x2000_0002, 0x1820_31AF),
+            0,
+            true,
+        ),
+        // amoadd.d, amoadd.w
+        (
+            K,
+            0x0020_B1AF,
+            0x8000_2000,
+            wrote(TABLES + 0x2000, 8),
+            LOADED,
+            false,
+        ),
+        (
+            K,
+            0x0020_A1AF,
+            0x1000_0000,
+            exit(23, KERNEL_PC, 0x1000_0000, 0x400_0000, 0x0020_21AF),
+            0,
+            true,
+        ),
+        // csrrs of sstatus, csrrw of time
+        (K, 0x1000_21F3, 0, DONE, 0x2_0000_0000, true),
+        (
+            U,
+            0x1000_21F3,
+            0,
+            exit(22, USER_PC, 0x1000_21F3, 0, 0),
+            0,
+            true,
+        ),
+        (K, 0xC010_91F3, 0, Outcome::GuestTrap, 0, false),
+        // ecall, ebreak
+        (K, 0x0000_0073, 0, exit(10, KERNEL_PC, 0, 0, 0), 0, true),
+        (U, 0x0000_0073, 0, exit(8, USER_PC, 0, 0, 0), 0, true),
+        (K, 0x0010_0073, 0, Outcome::GuestTrap, 0, false),
+        (U, 0x0010_0073, 0, exit(3, USER_PC, USER_PC, 0, 0), 0, true),
+        // wfi, sret, sfence.vma, fence, hlv.b, jalr, no instruction
+        (K, 0x1050_0073, 0, DONE, 0, true),
+        (
+            U,
+            0x1050_0073,
+            0,
+            exit(22, USER_PC, 0x1050_0073, 0, 0),
+            0,
+            true,
+        ),
+        (
+            K,
+            0x1020_0073,
+            0,
+            exit(22, KERNEL_PC, 0x1020_0073, 0, 0),
+            0,
+            true,
+        ),
+        (
+            U,
+            0x1200_0073,
+            0,
+            exit(22, USER_PC, 0x1200_0073, 0, 0),
+            0,
+            true,
+        ),
+        (K, 0x0FF0_000F, 0, DONE, 0, true),
+        (
+            K,
+            0x6000_C1F3,
+            0,
+            exit(22, KERNEL_PC, 0x6000_C1F3, 0, 0),
+            0,
+            true,
+        ),
+        (
+            U,
+            0x0000_81E7,
+            0x8000_0002,
+            exit(0, USER_PC, 0x8000_0002, 0, 0),
+            0,
+            true,
+        ),
+        (U, 0, 0, exit(2, USER_PC, 0, 0, 0), 0, true),
+    ] {
+        let mut hart = hart_with(address);
+        hart.pc = if mode == K { KERNEL_PC } else { USER_PC };
+        let words = [(0, word), (0x4000, word), (0x2000, LOADED)];
+        let found = attempt_once(&rt, rt.alloc(), &words, &mut hart, mode, &QUIET)?;
+        assert_eq!(rt; found, want, "of {word:x}");
+        assert_eq!(rt; hart.regs.get(3), x3, "x3 of {word:x}");
+        assert_eq!(rt;
+            hart.reservation.is_some(),
+            stands,
+            "reservation of {word:x}"
+        );
+    }
+    Ok(())
+}
+
+// An interrupt goes to the guest in kernel mode where SIE is set; a fetch asks the mode's view; a first stage whose root
+// lies outside RAM is an implicit fault.
+#[test]
+fn interrupts_come_before_fetches(rt: HostRuntime) -> Result<(), AllocError> {
+    const K: Mode = Mode::Kernel;
+    const U: Mode = Mode::User;
+    let timer = Outcome::Exit(Exit {
+        interrupt: true,
+        cause: 6,
+        pc: USER_PC,
+        stval: 0,
+        htval: 0,
+        htinst: 0,
+    });
+    for (mode, page, status, satp, lines, want) in [
+        (K, 0, 0, 0, TIMER, DONE),
+        (K, 0, 2, 0, TIMER, Outcome::GuestTrap),
+        (K, 1, 2, 0, TIMER, Outcome::GuestTrap),
+        (U, 4, 0, 0, TIMER, timer),
+        (
+            K,
+            1,
+            2,
+            0,
+            QUIET,
+            exit(20, 0x8000_1000, 0x8000_1000, 0x2000_0400, 0),
+        ),
+        (
+            U,
+            0,
+            2,
+            0,
+            QUIET,
+            exit(20, 0x8000_0000, 0x8000_0000, 0x2000_0000, 0),
+        ),
+        (
+            U,
+            4,
+            0,
+            0x8000_0000_0010_0000,
+            QUIET,
+            exit(20, USER_PC, USER_PC, 0x4000_0004, 0x3000),
+        ),
+    ] {
+        let mut hart = hart_with(0);
+        let regs = hypervisor_registers(K);
+        let _status = hart.csrs.write(&regs, 0x100, status);
+        let _satp = hart.csrs.write(&regs, 0x180, satp);
+        hart.pc = KERNEL_PC + 0x1000 * page % 0x1_0000;
+        let words = [(0, 0x0050_0193), (0x4000, 0x0050_0193)];
+        let found = attempt_once(&rt, rt.alloc(), &words, &mut hart, mode, &lines)?;
+        assert_eq!(rt; found, want, "on page {page}");
+    }
+    Ok(())
+}
+
+// The root of a first stage in page 1 maps page 0 for the fetches; the entries behind its entry 0 are each refused but
+// the last.
+#[test]
+fn loads_through_sv39_fault_by_the_entry(rt: HostRuntime) -> Result<(), AllocError> {
+    let words = [
+        (0, 0x0000_B183),
+        (0x1010, 0x2000_004B),
+        (0x1000, 0x2000_0801),
+        (0x2000, 0x2000_04CF),
+        (0x2008, 0x2000_0C01),
+        (0x3000, 0x0040_0000_2000_00CF),
+        (0x3008, 0x2000_008F),
+        (0x3010, 0x2000_00CF),
+    ];
+    for (address, want) in [
+        (0x40_0000_0000, Outcome::GuestTrap),
+        (0, Outcome::GuestTrap),
+        (0x20_0000, Outcome::GuestTrap),
+        (0x20_1000, Outcome::GuestTrap),
+        (0x20_2000, DONE),
+    ] {
+        let mut hart = hart_with(address);
+        let regs = hypervisor_registers(Mode::Kernel);
+        let _satp = hart.csrs.write(&regs, 0x180, 0x8000_0000_0008_0001);
+        hart.pc = KERNEL_PC;
+        let found = attempt_once(&rt, rt.alloc(), &words, &mut hart, Mode::Kernel, &QUIET)?;
+        assert_eq!(rt; found, want, "at {address:x}");
+        if found == Outcome::GuestTrap {
+            assert_eq!(rt;
+                (hart.csrs.vscause, hart.csrs.vstval),
+                (13, address),
+                "at {address:x}"
+            );
+            assert_eq!(rt; hart.pc, 0x8000_0100);
+        }
+    }
+    Ok(())
+}
+
+// An attempt keeps the translation of its fetch, so that the next walk of this page reads no table word.
+#[test]
+fn an_attempt_fills_the_cache(rt: HostRuntime) -> Result<(), AllocError> {
+    let mut mem = region(&rt, rt.alloc(), &[(0, 0x0050_0193)])?;
+    let regs = hypervisor_registers(Mode::Kernel);
+    let mut cache = Cache::new();
+    let mut cpu = Cpu::new();
+    let mut hart = hart_with(0);
+    hart.pc = KERNEL_PC;
+    assert!(rt; !cache.holds(regs.hgatp, KERNEL_PC));
+    assert_eq!(rt;
+        cpu.attempt(&mut hart, &regs, &mut cache, &mut mem, &QUIET),
+        DONE
+    );
+    assert_eq!(rt; cpu.count(), 1);
+    assert!(rt; cache.holds(regs.hgatp, KERNEL_PC));
+    assert!(rt; !cache.holds(0x8000_2000_0000_0004, KERNEL_PC));
+    assert_eq!(rt;
+        cache.walk(&mem, regs.hgatp, KERNEL_PC, Access::Fetch),
+        Ok(TABLES)
+    );
+    assert_eq!(rt;
+        cache.walk(&mem, regs.hgatp, KERNEL_PC, Access::Store),
+        Err(GuestFault { gpa: KERNEL_PC })
+    );
+    cache.fence(0);
+    assert!(rt; !cache.holds(regs.hgatp, KERNEL_PC));
+    cache.fence_all();
+    Ok(())
+}
