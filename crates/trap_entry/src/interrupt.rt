@@ -35,6 +35,9 @@ fn is_taken(csrs: &Csrs, regs: &HRegs, lines: &Lines, interrupt: Interrupt) -> b
 pub fn pending(csrs: &Csrs, regs: &HRegs, lines: &Lines) -> Option<Interrupt>
     ensures { result ≡ pending regs.now csrs.now lines.now }
 {
+    if csrs.hip(lines) & csrs.hie == 0 {
+        return None;
+    }
     if is_taken(csrs, regs, lines, Interrupt::External) {
         Some(Interrupt::External)
     } else if is_taken(csrs, regs, lines, Interrupt::Software) {
