@@ -145,7 +145,8 @@ impl Cache {
         }
     }
 
-    // The walk of an address whose translation isn't held.
+    // The walk of an address whose translation isn't held, kept out of the way of those that are.
+    #[inline(never)]
     fn fill<L: Ledger>(
         &mut self,
         mem: &HostMem,
