@@ -1,7 +1,7 @@
 // The reading of a kernel.
 
 ghost use Rattle.std.specs.Prelude.{◌≡◌, ◌+◌, ◌≤◌, None, length, flat_map, map, IfOk, OnOk, IfErr};
-ghost use Rattle.sv_types.specs.Kernel.{first_refusal, segment_checks, loaded_headers, loaded_segment, header_entry, kernel_refusal, kernel_segments};
+ghost use Rattle.sv_types.specs.Kernel.{first_refusal, header_checks, segment_checks, loaded_headers, loaded_segment, header_entry, kernel_refusal, kernel_segments};
 ghost use Rattle.elf64_load.specs.Images.{segment_of, segments_of};
 ghost use Rattle.elf64_load.specs.Refusals.{IsRefusalOf};
 ghost use Rattle.elf64_load.specs.declared.read.ElfRefusal.TheVariants.{Memory};
@@ -53,6 +53,7 @@ fn judged_headers(
     ensures headers { IfOk result (λ headers. headers.items ≡ loaded_headers file.now) }
     ensures inside { IfOk result (λ headers. first_refusal (flat_map (segment_checks (length file.now) ram_pages) headers.items) ≡ None) }
     ensures header { OnOk result (64 ≤ length file.now) }
+    ensures no_header_fault { OnOk result (first_refusal (header_checks file.now) ≡ None) }
     ensures accepted { OnOk result (kernel_refusal file.now ram_pages ≡ None) }
     ensures refused { IfErr result (IsRefusalOf file.now ram_pages) }
 {
@@ -105,7 +106,7 @@ fn loaded_segments<'a>(
 }
 
 /// Reads a kernel's file for a machine of `ram_pages` pages of RAM. A file with faults is refused for the first of them,
-/// and any file for want of memory. The image's bytes stay in the file.
+/// and for want of memory where no check of the header refuses it. The image's bytes stay in the file.
 pub fn read_kernel(
     alloc: Global,
     bytes: &[u8],

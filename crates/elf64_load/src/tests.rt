@@ -328,3 +328,27 @@ fn a_linkers_file(rt: HostRuntime) -> Result<(), Fail> {
     assert!(rt; text.starts_with(&code));
     Ok(())
 }
+
+#[test]
+fn refusals_name_their_number(rt: HostRuntime) -> Result<(), Fail> {
+    let refusal = ElfRefusal::Number(9);
+    let text = format!(in rt.alloc(); "{refusal}")?;
+    assert!(rt; text.as_str() == "fault 9 of the image");
+    Ok(())
+}
+
+// An image of 64 MiB, half of it text.
+#[test]
+fn reads_the_largest_image(rt: HostRuntime) -> Result<(), Fail> {
+    let fields = [
+        (152, 8, 0x0200_0000),
+        (160, 8, 0x0200_0000),
+        (192, 8, 0x8300_0000),
+        (200, 8, 0x8300_0000),
+    ];
+    let mut file = changed(rt.alloc(), &fields, IMAGE_BYTES)?;
+    file.resize(64 << 20, 0)?;
+    let image = read_kernel(rt.alloc(), &file, 65_536)?;
+    assert_eq!(rt; image.text(rt.alloc())?.len(), 0x0200_0000);
+    Ok(())
+}

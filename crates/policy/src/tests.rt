@@ -230,3 +230,11 @@ fn one_site_too_many(rt: HostRuntime) -> Result<(), Fail> {
     }
     Ok(())
 }
+
+#[test]
+fn refusals_name_their_number(rt: HostRuntime) -> Result<(), Fail> {
+    let refusal = PolicyRefusal::Number(7);
+    let text = format!(in rt.alloc(); "{refusal}")?;
+    assert!(rt; text.as_str() == "policy refused by number 7");
+    Ok(())
+}

@@ -1,6 +1,6 @@
 // The reading of a policy's text.
 
-ghost use Rattle.std.specs.Prelude.{◌≡◌, IfOk, IfErr, true};
+ghost use Rattle.std.specs.Prelude.{◌≡◌, IfOk, OnOk, IfErr, IsErrOf, IsUtf8, true};
 ghost use Rattle.sv_types.specs.Policies.{rules_of, rules_within};
 ghost use Rattle.toml.specs.View.{table_view};
 ghost use Rattle.policy.specs.Refusals.{Refuses, judged_map};
@@ -111,6 +111,8 @@ fn read_table(alloc: Global, table: &Table) -> Result<Policy, PolicyRefusal>
 fn table(alloc: Global, bytes: &[u8]) -> Result<Table, PolicyRefusal>
     ensures ok { IfOk result (λ table. spec.table_of_text bytes.now ≡ Ok (table_view table)) }
     ensures refused { IfErr result (Refuses (spec.table_of_text bytes.now)) }
+    ensures text { OnOk result (IsUtf8 bytes.now) }
+    ensures memory { IsErrOf result PolicyRefusal.Memory → IsUtf8 bytes.now }
 {
     let text = match str::from_utf8(bytes) {
         Ok(text) => text,
@@ -129,11 +131,12 @@ fn table(alloc: Global, bytes: &[u8]) -> Result<Table, PolicyRefusal>
 }
 
 /// Reads a policy's text. `Ok` exactly for the texts within the format, and else the first refusal in its order, but
-/// for want of memory. A policy that is read is within the limits.
+/// for want of memory, which comes only where the bytes are UTF-8. A policy that is read is within the limits.
 pub fn read(alloc: Global, bytes: &[u8]) -> Result<Policy, PolicyRefusal>
     ensures ok { IfOk result (λ policy. spec.rules_of_text bytes.now ≡ Ok (rules_of policy)) }
     ensures within { IfOk result (λ policy. rules_within (rules_of policy) ≡ true) }
     ensures refused { IfErr result (Refuses (spec.rules_of_text bytes.now)) }
+    ensures memory { IsErrOf result PolicyRefusal.Memory → IsUtf8 bytes.now }
 {
     let table = table(alloc, bytes)?;
     read_table(alloc, &table)

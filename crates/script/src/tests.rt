@@ -170,3 +170,11 @@ fn events_of_schedules(rt: HostRuntime) -> Result<(), Fail> {
     }
     Ok(())
 }
+
+#[test]
+fn refusals_name_their_line(rt: HostRuntime) -> Result<(), Fail> {
+    let refusal = ScriptRefusal::Line { line: 3 };
+    let text = format!(in rt.alloc(); "{refusal}")?;
+    assert!(rt; text.as_str() == "line 3 is of no form");
+    Ok(())
+}

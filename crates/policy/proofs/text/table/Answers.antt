@@ -12,3 +12,9 @@ pub returns-in-Ok-table_from_str-clause-ok : goal.returns-in-Ok-table_from_str-c
 returns-in-Ok-table_from_str-clause-ok c =
     let read : parse_document c.args.bytes.now ≡ Some (table_view c.in-Ok-table_from_str.table) = rw (← c.in-Ok.ensures.cases.0) c.in-Ok-table_from_str.ensures.ok in
     table_of_valid c.args.bytes.now c.in-Ok.ensures.cases.1 ∙ ap (λ o. ok_or o not_toml) read
+
+pub returns-in-Ok-table_from_str-clause-text : goal.returns-in-Ok-table_from_str-clause-text
+returns-in-Ok-table_from_str-clause-text c = c.in-Ok.ensures.cases.1
+
+pub returns-then-is_memory-clause-memory : goal.returns-then-is_memory-clause-memory
+returns-then-is_memory-clause-memory c = λ _. c.in-Ok.ensures.cases.1
