@@ -1,10 +1,8 @@
 -- Files that are asked fact a plan says, whatever the plan.
-use Rattle.std.proofs.Common.{◌≡◌, ◌≢◌, ℕ, ◌<◌, ◌≤◌, List, [], ◌∷◌, Bool, true, false, IsTrue, refl, sym, ◌∙◌, ap, subst, arith, inl, inr, ◌⊎◌, Option, Some, None}
+use Rattle.std.proofs.Common.{◌≡◌, ◌≢◌, ℕ, ◌<◌, ◌≤◌, List, [], ◌∷◌, Bool, IsTrue, refl, sym, ◌∙◌, ap, subst, arith, inl, inr, ◌⊎◌, Option, Some, None}
 use Rattle.sv_types.specs.declared.status.Status.{Status}
 use Rattle.outside.specs.Outside.{FilesState, after_asking}
-use Rattle.secvisor_cli.specs.declared.refusal.Part.{Part}
-use Rattle.secvisor_cli.specs.declared.refusal.Refusal.{Refusal}
-use Rattle.secvisor_cli.specs.Plans.{Due, Refuse, RunFrom, Plan, End, Read, Found, Faulty, Missing, Longer, Held, found_plan, read_part, status_due}
+use Rattle.secvisor_cli.specs.Plans.{Due, Plan, End, Read, Found, Faulty, Missing, Longer, Held, status_due}
 use Rattle.secvisor_cli.specs.Reading.{MayFollow, FoundAs, Follows, IsNamed}
 
 -- ---- one read

@@ -1,5 +1,5 @@
 -- What is made ready, by the plan's shape.
-use Rattle.std.proofs.Common.{◌≡◌, ◌≢◌, ℕ, ◌≤◌, List, [], length, true, false, IsTrue, refl, sym, ◌∙◌, ap, subst, arith, rules, inl, inr, Option, Some, None, Result, Ok, Err, IsErrAnd, if◌then◌else◌}
+use Rattle.std.proofs.Common.{◌≡◌, ◌≢◌, ℕ, List, [], true, false, refl, sym, ◌∙◌, ap, subst, arith, rules, inl, inr, Some, None, Result, Ok, Err, IsErrAnd, if◌then◌else◌}
 use Rattle.std.specs.Str.{bytes_eq}
 use Rattle.std.proofs.lemmas.Slice.Eq.{bytes_eq-Decides}
 use Rattle.sv_types.specs.declared.event.Event.{Event}
@@ -7,7 +7,7 @@ use Rattle.sv_types.specs.Reference.{State}
 use Rattle.sv_types.specs.Run.{CountsAtMost}
 use Rattle.sv_types.specs.Measure.{measure}
 use Rattle.sv_types.specs.Boot.{flat_start, boot_state, no_counts}
-use Rattle.outside.specs.Outside.{FilesState, after_asking}
+use Rattle.outside.specs.Outside.{FilesState}
 use Rattle.machine.specs.declared.boot.BootRefusal.{BootRefusal}
 use Rattle.machine.specs.Boot.{RefusesFlat}
 use Rattle.secvisor_cli.specs.declared.refusal.Part.{Part}
@@ -16,8 +16,8 @@ use Rattle.secvisor_cli.specs.declared.refusal.Refusal.TheVariants.{ReadFault, F
 use Rattle.secvisor_cli.specs.declared.ready.Ready.{Ready}
 use Rattle.secvisor_cli.specs.declared.ready.Stop.{Stop}
 use Rattle.secvisor_cli.specs.declared.ready.Stop.TheVariants.{Refused, Memory}
-use Rattle.secvisor_cli.specs.Plans.{Due, Refuse, RunFrom, Plan, End, Read, Found, Faulty, Missing, Longer, Held, found_plan, read_part, measure_judged, pages_judged, is_whole_pages}
-use Rattle.secvisor_cli.specs.Reading.{FoundAs, Follows}
+use Rattle.secvisor_cli.specs.Plans.{Due, Refuse, RunFrom, Plan, End, Found, Faulty, Missing, Longer, Held, found_plan, read_part, measure_judged, pages_judged, is_whole_pages}
+use Rattle.secvisor_cli.specs.Reading.{FoundAs}
 use Rattle.secvisor_cli.specs.Ready.{unread, PartRead, stop_of, IsReady, Prepares}
 
 -- ---- any plan

@@ -1,7 +1,6 @@
 -- What follows where a machine stands for a state. The other proofs use no more of it than this.
 use Rattle.std.proofs.Common.{◌≡◌, ◌≤◌, ◌+◌, ℕ, List, [], ◌++◌, length, refl, sym, ◌∙◌, ap, subst, append_assoc}
 use Rattle.sv_types.specs.declared.event.Event.{Event}
-use Rattle.sv_types.specs.declared.event.Verdict.{Verdict}
 use Rattle.sv_types.specs.Reference.{State}
 use Rattle.sv_types.specs.Run.{step, with_printed, CountsAtMost}
 use Rattle.sv_types.specs.Output.{output, report_lines, line_feed}

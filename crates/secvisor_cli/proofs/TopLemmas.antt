@@ -1,5 +1,5 @@
 -- From what is ready to what is answered, and from the answer with its trouble to the status.
-use Rattle.std.proofs.Common.{◌≡◌, ◌≢◌, ℕ, ◌<◌, ◌≤◌, ◌*◌, List, length, Bool, true, false, IsTrue, nat_lt, refl, sym, ◌∙◌, ap, subst, arith, inl, inr, ◌⊎◌, Option, Some, None, Result, Ok, Err, IsErrOf, if◌then◌else◌}
+use Rattle.std.proofs.Common.{◌≡◌, ◌≢◌, ℕ, ◌≤◌, List, Bool, true, false, IsTrue, refl, sym, ap, subst, arith, inl, inr, ◌⊎◌, Option, Some, None, Result, Ok, Err, IsErrOf, if◌then◌else◌}
 use Rattle.std.specs.Result.{is_ok}
 use Rattle.std.specs.List.{list_any}
 use Rattle.std.specs.Str.{bytes_eq}
@@ -17,7 +17,7 @@ use Rattle.outside.specs.Outside.{FilesState, SinkState}
 use Rattle.outside.proofs.SinkLemmas.{prefix_none}
 use Rattle.secvisor_cli.specs.declared.refusal.Refusal.{Refusal}
 use Rattle.secvisor_cli.specs.declared.refusal.Part.{Part}
-use Rattle.secvisor_cli.specs.declared.refusal.Refusal.TheVariants.{NoCommand, OutOfRange, ReadFault, File, Measure, Entry}
+use Rattle.secvisor_cli.specs.declared.refusal.Refusal.TheVariants.{NoCommand, File, Measure}
 use Rattle.secvisor_cli.specs.declared.ready.Ready.{Ready}
 use Rattle.secvisor_cli.specs.declared.ready.Stop.{Stop}
 use Rattle.secvisor_cli.specs.declared.ready.Stop.TheVariants.{Refused}
@@ -26,11 +26,11 @@ use Rattle.secvisor_cli.specs.declared.trouble.Trouble.{Trouble}
 use Rattle.secvisor_cli.specs.declared.trouble.Trouble.TheVariants.{Write, Memory}
 use Rattle.secvisor_cli.specs.Refusals.{refusal_line, refusal_status, takes_memory}
 use Rattle.sv_types.specs.Numbers.{number_within, digest_of}
-use Rattle.secvisor_cli.specs.CommandLine.{Command, Flat, has_dash, word_at, most_events, flat_file, flat_words, is_flat, judged}
-use Rattle.secvisor_cli.specs.Plans.{Due, Refuse, RunFrom, Plan, End, Read, Held, Longer, bytes_due, status_due, found_plan, flat_plan, plan_of, measure_judged, pages_judged, is_whole_pages, flat_events}
+use Rattle.secvisor_cli.specs.CommandLine.{Command, has_dash, word_at, most_events, flat_file, flat_words, is_flat, judged}
+use Rattle.secvisor_cli.specs.Plans.{Due, Refuse, RunFrom, Plan, bytes_due, status_due, found_plan, flat_plan, plan_of, measure_judged, pages_judged, is_whole_pages, flat_events}
 use Rattle.secvisor_cli.specs.Reading.{Follows}
 use Rattle.secvisor_cli.specs.Ready.{IsReady, IsReadyWhere, IsFresh, Prepares}
-use Rattle.secvisor_cli.specs.Answers.{Outside, outside, Writes, Answers, AnswersReached, Performs, Meets, MeetsReached, Headline, BenchAfter, Reaches, is_answer, may_want, settled}
+use Rattle.secvisor_cli.specs.Answers.{Outside, outside, Writes, Answers, AnswersReached, Performs, Meets, MeetsReached, Headline, BenchAfter, is_answer, may_want, settled}
 use Rattle.secvisor_cli.proofs.PlanLemmas.{HasFoundFaults, HasFault, read_fault}
 
 -- ---- want of memory

@@ -1,14 +1,12 @@
 -- The words of the command line.
-use Rattle.std.proofs.Common.{◌≡◌, ℕ, ◌≤◌, ◌||◌, Bool, true, false, List, [], ◌∷◌, map, refl, sym, ◌∙◌, ap, arith, Option, Some, None, Err, ◌<◌, length, get_or, string_bytes, String, Global, if◌then◌else◌}
+use Rattle.std.proofs.Common.{◌≡◌, ℕ, ◌||◌, Bool, true, false, List, [], ◌∷◌, map, refl, sym, ◌∙◌, ap, Option, None, Err, ◌<◌, length, get_or, string_bytes, String, Global, if◌then◌else◌}
 use Rattle.std.proofs.lemmas.List.{get_or-map}
 use Rattle.std.specs.List.{list_any}
-use Rattle.std.proofs.lemmas.Bool.Decides.{nat_tests}
 use Rattle.sv_types.specs.Numbers.{number_within, digest_of}
 use Rattle.secvisor_cli.specs.declared.words.Command.{Command as Asked}
 use Rattle.secvisor_cli.specs.declared.words.Command.TheVariants as asked
 use Rattle.secvisor_cli.specs.declared.words.Flat.{Flat as FlatWords}
 use Rattle.secvisor_cli.specs.declared.refusal.Word.{Word}
-use Rattle.secvisor_cli.specs.declared.refusal.Refusal.{Refusal}
 use Rattle.secvisor_cli.specs.declared.refusal.Refusal.TheVariants.{OutOfRange, NoCommand}
 use Rattle.secvisor_cli.specs.CommandLine.{word_at, has_dash, is_flat, judged, flat_words, flat_judged, flat_file, most_events}
 

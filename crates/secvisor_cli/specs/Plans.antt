@@ -1,6 +1,6 @@
 -- What is asked, as a plan: which files are read, under which names, in which order, and what is due by what is found in
 -- them. This project's own.
-use Rattle.std.specs.Prelude.{◌≡◌, ◌<◌, ◌≤◌, ◌⊎◌, ℕ, ◌%◌, ◌*◌, List, [], ◌∷◌, length, Bool, ◌&&◌, ◌==◌, nat_lt, if◌then◌else◌, IsTrue, Option, Some, None, Result, Ok, Err}
+use Rattle.std.specs.Prelude.{ℕ, ◌%◌, ◌*◌, List, length, Bool, ◌&&◌, ◌==◌, nat_lt, if◌then◌else◌, Result, Ok, Err}
 use Rattle.std.specs.Str.{bytes_eq}
 use Rattle.sv_types.specs.declared.event.Event.{Event}
 use Rattle.sv_types.specs.declared.status.Status.{Status}
@@ -11,7 +11,6 @@ use Rattle.sv_types.specs.Output.{output, run_status}
 use Rattle.sv_types.specs.Reference.{State}
 use Rattle.sv_types.specs.Run.{run}
 use Rattle.sv_types.specs.Schedule.{Schedule, first_events}
-use Rattle.outside.specs.Outside.{FilesState, after_asking}
 use Rattle.secvisor_cli.specs.declared.refusal.Part.{Part}
 use Rattle.secvisor_cli.specs.declared.refusal.Refusal.{Refusal}
 use Rattle.secvisor_cli.specs.declared.refusal.Refusal.TheVariants.{ReadFault, File, Measure}

@@ -1,5 +1,5 @@
 -- What is made ready of a command, before anything is written.
-use Rattle.std.specs.Prelude.{◌≡◌, ◌≤◌, ◌^◌, ℕ, List, [], map, IsTrue, Option, Some, None, Result, Ok, Err, IsErrOf, Vec}
+use Rattle.std.specs.Prelude.{◌≡◌, ◌≤◌, ◌^◌, ℕ, List, [], IsTrue, Option, Some, None, Result, Ok, Err, IsErrOf, Vec}
 use Rattle.std.specs.declared.alloc.Global.{Global}
 use Rattle.sv_types.specs.Run.{CountsAtMost}
 use Rattle.sv_types.specs.Schedule.{first_events}
@@ -11,8 +11,6 @@ use Rattle.secvisor_cli.specs.declared.refusal.Refusal.TheVariants.{ReadFault, F
 use Rattle.secvisor_cli.specs.declared.ready.Ready.{Ready}
 use Rattle.secvisor_cli.specs.declared.ready.Stop.{Stop}
 use Rattle.secvisor_cli.specs.declared.ready.Stop.TheVariants.{Refused, Memory}
-use Rattle.secvisor_cli.specs.declared.words.Command as asked
-use Rattle.secvisor_cli.specs.CommandLine.{Command, Flat, judged}
 use Rattle.secvisor_cli.specs.Plans.{Due, Refuse, RunFrom, Plan, Found, Faulty, Missing, Longer, Held}
 use Rattle.secvisor_cli.specs.Reading.{Follows, FoundAs}
 use Rattle.secvisor_cli.specs.Answers.{may_want}

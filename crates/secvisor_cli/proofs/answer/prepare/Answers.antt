@@ -1,4 +1,4 @@
-use Rattle.std.proofs.Common.{◌≡◌, subst, sym, Result, refl, Err}
+use Rattle.std.proofs.Common.{subst, sym, Result, refl, Err}
 use Rattle.secvisor_cli.specs.declared.refusal.Refusal.{Refusal}
 use Rattle.secvisor_cli.specs.declared.ready.Stop.TheVariants.{Refused}
 use Rattle.secvisor_cli.specs.CommandLine.{Command}

@@ -1,4 +1,3 @@
-use Rattle.std.proofs.Common.{◌≡◌}
 use Rattle.secvisor_cli.specs.Plans.{plan_of}
 use Rattle.secvisor_cli.proofs.WordLemmas.{flat_is}
 use Rattle.secvisor_cli.proofs.answer.prepare_command.Goals as goal

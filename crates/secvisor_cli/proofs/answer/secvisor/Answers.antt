@@ -1,8 +1,5 @@
-use Rattle.std.proofs.Common.{◌≡◌, ◌∙◌, sym, map, string_bytes}
-use Rattle.sv_types.specs.declared.status.Status.{Status}
+use Rattle.std.proofs.Common.{◌∙◌, sym, map, string_bytes}
 use Rattle.secvisor_cli.specs.CommandLine.{judged}
-use Rattle.secvisor_cli.specs.Plans.{plan_of}
-use Rattle.secvisor_cli.specs.Answers.{Headline}
 use Rattle.secvisor_cli.proofs.PlanLemmas.{follows_keeps}
 use Rattle.secvisor_cli.proofs.TopLemmas.{headline, headline_fault, headline_writes, unread}
 use Rattle.secvisor_cli.proofs.answer.secvisor.Goals as goal

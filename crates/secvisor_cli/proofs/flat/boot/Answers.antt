@@ -1,4 +1,4 @@
-use Rattle.std.proofs.Common.{◌≡◌, Ok, refl, ap, List, ℕ}
+use Rattle.std.proofs.Common.{◌≡◌, Ok, ap}
 use Rattle.sv_types.specs.Schedule.{Schedule, first_events}
 use Rattle.secvisor_cli.specs.Plans.{flat_events, measure_judged}
 use Rattle.secvisor_cli.specs.Ready.{IsReady, IsFresh, stop_of}
