@@ -5,6 +5,7 @@ ghost use Rattle.sv_types.specs.Kernel.{is_text_of, filled_part, text_page, text
 ghost use Rattle.elf64_load.specs.Images.{segment_of, segments_of, text_owner};
 
 use crate::checks::{PAGE_BYTES, RAM_BASE};
+use elf64_sections::push_zeros;
 use std::alloc::{AllocError, Global};
 
 /// The most pages of guest RAM.
@@ -138,11 +139,4 @@ fn push_filled_page(text: &mut Vec<u8>, page: usize, segment: &Segment) -> Resul
     let filled = filled_part(page, segment);
     text.extend_from_slice(filled)?;
     push_zeros(text, PAGE_BYTES as usize - filled.len())
-}
-
-fn push_zeros(text: &mut Vec<u8>, count: usize) -> Result<(), AllocError>
-    requires { count ≤ 4096 }
-    ensures { OnOk result (text.new.items ≡ text.old.items ++ replicate count 0) }
-{
-    text.resize(text.len() + count, 0)
 }

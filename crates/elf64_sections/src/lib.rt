@@ -11,6 +11,7 @@ pub use fields::{byte, double, half, word};
 pub use header::file_refusal;
 pub use names::name_at;
 pub use sections::{
-    SECTION_HEADER_BYTES, SectionHeader, part, part_in_file, section_headers, sections_in_file,
+    SECTION_HEADER_BYTES, SectionHeader, part, part_in_file, push_zeros, section_headers,
+    sections_in_file,
 };
 pub use tables::{SYMBOL_BYTES, Symbol, SymbolTables, symbol_at, symbol_count, symbol_tables};

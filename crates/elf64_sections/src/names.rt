@@ -1,6 +1,6 @@
 // Names of symbols.
 
-ghost use Rattle.std.specs.Prelude.{◌≡◌, ◌≤◌, ◌==◌, Some, None, if◌then◌else◌, length, take, position, option_map};
+ghost use Rattle.std.specs.Prelude.{◌≡◌, ◌≤◌, ◌==◌, Some, None, if◌then◌else◌, ◌<◌, IfSome, length, take, position, option_map};
 ghost use Rattle.std.specs.Str.{is_utf8};
 ghost use Rattle.elf64_sections.specs.Sections as spec;
 
@@ -17,7 +17,8 @@ fn zero_byte(bytes: &[u8]) -> Option<usize>
 }
 
 fn text_of(bytes: &[u8]) -> Option<&str>
-    ensures { option_map (λ name. name.now) result ≡ (if is_utf8 bytes.now then Some bytes.now else None) }
+    ensures text { option_map (λ name. name.now) result ≡ (if is_utf8 bytes.now then Some bytes.now else None) }
+    ensures same { IfSome result (λ name. name.now ≡ bytes.now) }
 {
     match str::from_utf8(bytes) {
         Ok(text) => Some(text),
@@ -26,7 +27,9 @@ fn text_of(bytes: &[u8]) -> Option<&str>
 }
 
 fn name_in(bytes: &[u8]) -> Option<&str>
-    ensures { option_map (λ name. name.now) result ≡ spec.name_of bytes.now }
+    ensures name { option_map (λ name. name.now) result ≡ spec.name_of bytes.now }
+    ensures some { IfSome result (λ name. 0 < length name.now) }
+    ensures most { IfSome result (λ name. length name.now ≤ 64) }
 {
     let most = bytes.len().min(MOST_NAME_BYTES);
     let Some(length) = zero_byte(&bytes[..most]) else {
@@ -41,7 +44,9 @@ fn name_in(bytes: &[u8]) -> Option<&str>
 /// The name that begins at `at`: 1 to 64 bytes of UTF-8 text with a zero byte behind them. None where no such name does.
 #[tactic(auto, unfolding(crate::specs::Sections::name_at))]
 pub fn name_at(strings: &[u8], at: u32) -> Option<&str>
-    ensures { option_map (λ name. name.now) result ≡ spec.name_at strings.now at }
+    ensures name { option_map (λ name. name.now) result ≡ spec.name_at strings.now at }
+    ensures some { IfSome result (λ name. 0 < length name.now) }
+    ensures most { IfSome result (λ name. length name.now ≤ 64) }
 {
     name_in(&strings[strings.len().min(at as usize)..])
 }

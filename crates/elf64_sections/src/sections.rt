@@ -1,6 +1,6 @@
 // The headers of sections.
 
-ghost use Rattle.std.specs.Prelude.{◌≡◌, ◌+◌, ◌*◌, ◌≤◌, length, IfOk};
+ghost use Rattle.std.specs.Prelude.{◌≡◌, ◌+◌, ◌*◌, ◌≤◌, ◌++◌, length, replicate, IfOk, OnOk};
 ghost use Rattle.elf64_sections.specs.Sections as spec;
 ghost use Rattle.sv_types.specs.Bytes.{part};
 
@@ -79,4 +79,12 @@ pub fn part<'a>(file: &'a [u8], section: &SectionHeader) -> &'a [u8]
 {
     let start = section.offset as usize;
     &file[start..start + section.size as usize]
+}
+
+/// Puts zeros behind the bytes. Fails where memory is wanting.
+pub fn push_zeros(bytes: &mut Vec<u8>, count: usize) -> Result<(), AllocError>
+    requires { count ≤ 4096 }
+    ensures { OnOk result (bytes.new.items ≡ bytes.old.items ++ replicate count 0) }
+{
+    bytes.resize(bytes.len() + count, 0)
 }

@@ -1,0 +1,80 @@
+-- Lists that grow by one step.
+use Rattle.std.proofs.Common.{◌≡◌, ℕ, suc, ◌+◌, ◌-◌, ◌<◌, ◌≤◌, Bool, true, false, cond, ◌≢◌, ◌%◌, ◌&&◌, ◌||◌, List, [], ◌∷◌, ◌++◌, length, drop, get_or, Option, Some, refl, ap, sym, ◌∙◌, arith, append_assoc}
+use Rattle.std.specs.Prelude.{◌==◌, nat_le, if◌then◌else◌, find}
+use Rattle.std.specs.BTreeMap.{insert_entry}
+use Rattle.std.specs.Ordering.{nat_cmp}
+use Rattle.std.proofs.lemmas.Bool.{and_parts, eqb-false}
+use Rattle.std.proofs.lemmas.Bool.Decides.{nat_tests}
+use Rattle.std.specs.List.{position_from}
+use Rattle.std.specs.Str.{bytes_eq}
+use Rattle.std.proofs.lemmas.List.{append-nil, drop_more}
+use Rattle.sv_types.specs.declared.policy.Export.{Export}
+use Rattle.sv_types.specs.declared.module.Site.{Site}
+use Rattle.elf64_reloc.specs.Layouts.{padding, placed_sections}
+use Rattle.elf64_reloc.specs.Modules.{ordered_from, each_judged, is_high_at, sites_of}
+use Rattle.elf64_reloc.specs.Objects.{Object}
+use Rattle.elf64_reloc.specs.Symbols.{export_base}
+use Rattle.elf64_reloc.specs.Relocations.{all_relocations, kept, kept_at, relocation_at, relocations_from}
+use Rattle.elf64_reloc.specs.declared.layout.PlacedSection.{PlacedSection}
+use Rattle.elf64_reloc.specs.declared.relocations.Relocation.{Relocation}
+
+relocations_more : (home : PlacedSection) (bytes : List ℕ) (i n m : ℕ) → n ≡ suc m → relocations_from home bytes i n ≡ kept_at home bytes i ++ relocations_from home bytes (i + 1) m
+relocations_more home bytes i n m more = rw more refl
+
+-- one relocation more
+pub relocation_pushed : (home : PlacedSection) (bytes : List ℕ) (i n m : ℕ) (r : Relocation) (before after : List Relocation) → n ≡ suc m
+    → r ≡ relocation_at home bytes i → after ≡ before ++ kept r
+    → after ++ relocations_from home bytes (i + 1) m ≡ before ++ relocations_from home bytes i n
+relocation_pushed home bytes i n m r before after more is pushed =
+    ap (λ (rs : List Relocation). rs ++ relocations_from home bytes (i + 1) m) (pushed ∙ ap (λ (q : Relocation). before ++ kept q) is)
+    ∙ append_assoc before (kept_at home bytes i) (relocations_from home bytes (i + 1) m)
+    ∙ ap (λ (rs : List Relocation). before ++ rs) (sym (relocations_more home bytes i n m more))
+
+pub none_left : (home : PlacedSection) (bytes : List ℕ) (i n : ℕ) (rs : List Relocation) → n ≡ 0 → rs ≡ rs ++ relocations_from home bytes i n
+none_left home bytes i n rs none = rw none (sym (append-nil rs))
+
+-- one export more in front
+pub base_before : (exports : List Export) (name key : List ℕ) (i j v : ℕ) (e : Export) (before after : Option ℕ) → i ≡ j + 1 → j < length exports
+    → e ≡ get_or exports j e → key ≡ e.name → v ≡ 3 + j
+    → before ≡ position_from (λ x. bytes_eq x.name name) (3 + i) (drop i exports) → after ≡ cond (bytes_eq key name) (Some v) before
+    → after ≡ position_from (λ x. bytes_eq x.name name) (3 + j) (drop j exports)
+base_before exports name key i j v e before after next within is named numbered so_far now =
+    let test : Export → Bool = λ (x : Export). bytes_eq x.name name in
+    let front : drop j exports ≡ e ∷ drop (j + 1) exports = drop_more exports j e within ∙ ap (λ (x : Export). x ∷ drop (j + 1) exports) (sym is) in
+    let behind : 3 + j + 1 ≡ 3 + i = omega arith in
+    let rest : before ≡ position_from test (3 + j + 1) (drop (j + 1) exports) =
+    so_far ∙ ap (λ (k : ℕ). position_from test k (drop i exports)) (sym behind) ∙ ap (λ (k : ℕ). position_from test (3 + j + 1) (drop k exports)) next in
+    now
+    ∙ ap (λ (k : List ℕ). cond (bytes_eq k name) (Some v) before) named
+    ∙ ap (λ (k : ℕ). cond (bytes_eq e.name name) (Some k) before) numbered
+    ∙ ap (λ (o : Option ℕ). cond (bytes_eq e.name name) (Some (3 + j)) o) rest
+    ∙ ap (λ (xs : List Export). position_from test (3 + j) xs) (sym front)
+
+-- one field more in the order of the places
+pub order_more : (entries new : List (ℕ × Site)) (sites : List Site) (i : ℕ) (d : Site) → i < length sites
+    → new ≡ insert_entry nat_cmp entries (get_or sites i d).offset (get_or sites i d)
+    → ordered_from new (drop (i + 1) sites) ≡ ordered_from entries (drop i sites)
+order_more entries new sites i d within now =
+    ap (λ (es : List (ℕ × Site)). ordered_from es (drop (i + 1) sites)) now
+    ∙ ap (λ (l : List Site). ordered_from entries l) (sym (drop_more sites i d within))
+
+-- zeros in front of a section are at most a page
+small : (b : Bool) (a x : ℕ) → (a == 0) ≡ b → (b || (nat_le a 4096 && 4096 % a == 0)) ≡ true → (if b then 0 else x % a) ≤ 4096
+small true a x e good = omega arith
+small false a x e good =
+    let some : a ≢ 0 = eqb-false a 0 e in
+    let most = and_parts (nat_le a 4096) (4096 % a == 0) good in
+    grind (arith, nat_tests)
+
+pub padding_small : (end a : ℕ) → (a == 0 || (nat_le a 4096 && 4096 % a == 0)) ≡ true → padding end a ≤ 4096
+padding_small end a good = small (a == 0) a (a - end % a) refl good
+
+-- what relocations are judged by, from the tables
+pub judging_same : (o : Object) (exports : List Export) (placed : List PlacedSection) (rs : List Relocation) (bases : List ℕ → Option ℕ) (highs : ℕ → Option Relocation)
+    → placed ≡ placed_sections o.sections → rs ≡ all_relocations o.file placed o.sections
+    → ((name : List ℕ) → bases name ≡ export_base exports name) → ((place : ℕ) → highs place ≡ find (is_high_at place) rs)
+    → each_judged (record { names = record { tables = o.tables; placed = placed; base_of = bases }; high_at = highs }) [] rs ≡ sites_of exports o
+judging_same o exports placed rs bases highs at all names first =
+    let named : bases ≡ (λ name. export_base exports name) = λ i name. names name i in
+    let found : highs ≡ (λ place. find (is_high_at place) rs) = λ i place. first place i in
+    rw (named, found, all, at) refl

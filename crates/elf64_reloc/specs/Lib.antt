@@ -1,0 +1,11 @@
+pub mod Bases
+pub mod JudgingViews
+pub mod Layouts
+pub mod Modules
+pub mod ModuleViews
+pub mod NameKeys
+pub mod Objects
+pub mod Refusals
+pub mod Relocations
+pub mod Symbols
+pub mod Views

@@ -1,0 +1,36 @@
+-- Objects: relocatable files. ELF-64 Object File Format, "Sections"; RISC-V ELF psABI, "File Header".
+use Rattle.std.specs.Prelude.{ℕ, Bool, ◌||◌, List, ◌==◌, if◌then◌else◌, Option, Some, None, Ok, Err}
+use Rattle.std.specs.List.{list_all}
+use Rattle.sv_types.specs.Kernel.{first_refusal, file_checks}
+use Rattle.elf64_sections.specs.Sections.{Tables, sections_in_file, sections_of, part_in_file, tables_of}
+use Rattle.elf64_sections.specs.declared.sections.SectionHeader.{SectionHeader}
+use Rattle.elf64_reloc.specs.Refusals.{Judged, numbered}
+
+-- a file with its sections, its symbols and their names
+pub record Object : Type 0 where
+  pub file : List ℕ
+  pub sections : List SectionHeader
+  pub tables : Tables
+
+-- a section of no kind, or of zeros that don't stand in the file
+abbrev pub is_without_bytes : SectionHeader → Bool
+is_without_bytes s = s.kind == 0 || s.kind == 8
+
+abbrev pub is_good_part : List ℕ → SectionHeader → Bool
+is_good_part file s = is_without_bytes s || part_in_file file s
+
+abbrev pub object_with : List ℕ → List SectionHeader → Option Tables → Judged Object
+object_with file sections None = Err (numbered 10)
+object_with file sections (Some tables) = Ok (record { file = file; sections = sections; tables = tables })
+
+abbrev pub object_of : List ℕ → List SectionHeader → Judged Object
+object_of file sections =
+    if list_all (is_good_part file) sections then object_with file sections (tables_of file sections) else Err (numbered 9)
+
+abbrev pub object_behind : Option ℕ → List ℕ → Judged Object
+object_behind (Some number) file = Err (numbered number)
+object_behind None file = if sections_in_file file then object_of file (sections_of file) else Err (numbered 8)
+
+-- a relocatable file is of kind 1
+unfoldable pub object_judged : List ℕ → Judged Object
+object_judged file = object_behind (first_refusal (file_checks 1 file)) file

@@ -1,0 +1,158 @@
+// Where the sections of an object lie.
+
+ghost use Rattle.std.specs.Prelude.{◌≡◌, IfOk};
+ghost use Rattle.std.specs.List.{list_all};
+ghost use Rattle.elf64_reloc.specs.Layouts as spec;
+
+use elf64_sections::SectionHeader;
+use std::alloc::{AllocError, Global};
+use sv_types::has_bit;
+
+/// The kind of a section that the program gives.
+const PROGRAM: u32 = 1;
+
+/// The flags of a section with memory, and of one with instructions.
+const ALLOCATED: u8 = 1;
+
+const EXECUTABLE: u8 = 2;
+
+/// The bytes of a page, and the largest alignment.
+pub(crate) const PAGE_BYTES: u64 = 4096;
+
+/// What a section belongs to.
+#[derive(Clone, Copy, Debug, PartialEq, Eq, Drop)]
+pub enum Space {
+    Text,
+    Data,
+    Elsewhere,
+}
+
+/// A section with its place in its space, and its bytes.
+#[derive(Clone, Copy, Drop)]
+pub struct PlacedSection {
+    pub space: Space,
+    pub place: u64,
+    pub size: u64,
+}
+
+/// The bytes behind the text and the data so far.
+#[derive(Clone, Copy, Drop)]
+pub struct Ends {
+    pub text: u64,
+    pub data_end: u64,
+}
+
+/// All sections with their places, and the bytes of the text.
+#[derive(Drop)]
+pub(crate) struct Layout {
+    pub(crate) sections: Vec<PlacedSection>,
+    pub(crate) text_size: u64,
+}
+
+fn is_good_alignment(section: &SectionHeader) -> bool
+    ensures { result ≡ spec.is_good_alignment section.now }
+{
+    section.alignment == 0
+        || (section.alignment <= PAGE_BYTES && PAGE_BYTES % section.alignment == 0)
+}
+
+/// Whether each section's alignment is a power of two up to 4,096.
+pub(crate) fn are_good_alignments(sections: &[SectionHeader]) -> bool
+    ensures { result ≡ list_all spec.is_good_alignment sections.now }
+{
+    sections.iter().all(|section| is_good_alignment(section))
+}
+
+/// Which space a section belongs to.
+pub(crate) fn space_of(section: &SectionHeader) -> Space
+    ensures { result ≡ spec.space_of section.now }
+{
+    if !has_bit(section.flags, ALLOCATED) {
+        return Space::Elsewhere;
+    }
+    if section.kind == PROGRAM && has_bit(section.flags, EXECUTABLE) {
+        Space::Text
+    } else {
+        Space::Data
+    }
+}
+
+/// The bytes up to the next multiple of an alignment.
+pub(crate) fn padding(end: u64, alignment: u64) -> u64
+    ensures { result ≡ spec.padding end alignment }
+{
+    if alignment == 0 {
+        return 0;
+    }
+    (alignment - end % alignment) % alignment
+}
+
+fn aligned(end: u64, alignment: u64) -> u64
+    ensures { result ≡ spec.aligned end alignment }
+{
+    end.wrapping_add(padding(end, alignment))
+}
+
+fn place_behind(ends: Ends, space: Space, section: &SectionHeader) -> u64
+    ensures { result ≡ spec.place_behind ends space section.now }
+{
+    match space {
+        Space::Text => aligned(ends.text, section.alignment),
+        Space::Data => aligned(ends.data_end, section.alignment),
+        Space::Elsewhere => 0,
+    }
+}
+
+fn ends_with(ends: Ends, space: Space, end: u64) -> Ends
+    ensures { result ≡ spec.ends_with ends space end }
+{
+    match space {
+        Space::Text => Ends { text: end, ..ends },
+        Space::Data => Ends {
+            data_end: end,
+            ..ends
+        },
+        Space::Elsewhere => ends,
+    }
+}
+
+#[tactic(auto, unfolding(crate::specs::Layouts::placed_behind))]
+fn placed_behind(ends: Ends, section: &SectionHeader) -> PlacedSection
+    ensures { result ≡ spec.placed_behind ends section.now }
+{
+    let space = space_of(section);
+    PlacedSection {
+        space,
+        place: place_behind(ends, space, section),
+        size: section.size,
+    }
+}
+
+#[tactic(auto, unfolding(crate::specs::Layouts::ends_behind))]
+fn ends_behind(ends: Ends, section: &SectionHeader) -> Ends
+    ensures { result ≡ spec.ends_behind ends section.now }
+{
+    let space = space_of(section);
+    let end = place_behind(ends, space, section).wrapping_add(section.size);
+    ends_with(ends, space, end)
+}
+
+/// The layout of the sections. Fails where memory is wanting.
+pub(crate) fn lay_out(alloc: Global, sections: &[SectionHeader]) -> Result<Layout, AllocError>
+    ensures sections { IfOk result (λ layout. layout.sections.items ≡ spec.placed_sections sections.now) }
+    ensures size { IfOk result (λ layout. layout.text_size ≡ spec.text_size sections.now) }
+{
+    let mut ends = Ends {
+        text: 0,
+        data_end: 0,
+    };
+    let mut placed = Vec::new(alloc);
+    'sections: for section in sections {
+        placed.push(placed_behind(ends, section))?;
+        ends = ends_behind(ends, section);
+    }
+    Ok(Layout {
+        sections: placed,
+        text_size: ends.text,
+    })
+}

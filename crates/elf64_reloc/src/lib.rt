@@ -1,0 +1,20 @@
+//! Module objects: relocatable ELF-64 files of RISC-V. Which names they want, their text as it is measured, and the fields
+//! of it that a relocation changes.
+#![tactic(auto)]
+
+mod layout;
+mod names;
+mod object;
+mod order;
+mod read;
+mod refusal;
+mod relocations;
+mod sites;
+mod symbols;
+#[cfg(test)]
+mod tests;
+mod text;
+
+pub use names::undefined_names;
+pub use read::{ModuleImage, read_module};
+pub use refusal::RelocRefusal;

@@ -1,0 +1,76 @@
+// The sections and symbols of an object.
+
+ghost use Rattle.std.specs.Prelude.{◌≡◌, Ok, IsTrue, IfOk, IfErr};
+ghost use Rattle.std.specs.List.{list_all};
+ghost use Rattle.elf64_reloc.specs.Objects as spec;
+ghost use Rattle.elf64_reloc.specs.Refusals.{Refuses};
+ghost use Rattle.elf64_reloc.specs.Views.{object_view};
+
+use crate::refusal::{RelocRefusal, numbered};
+use elf64_sections::{
+    SectionHeader, SymbolTables, file_refusal, part_in_file, section_headers, sections_in_file,
+    symbol_tables,
+};
+use std::alloc::Global;
+
+/// The kind of a relocatable file.
+const RELOCATABLE_FILE: u16 = 1;
+
+/// The kinds of sections whose bytes don't stand in the file.
+const NONE: u32 = 0;
+
+const ZEROS: u32 = 8;
+
+/// An object's file, the headers of its sections, and its symbols.
+#[derive(Drop)]
+pub(crate) struct Object<'a> {
+    pub(crate) file: &'a [u8],
+    pub(crate) sections: Vec<SectionHeader>,
+    pub(crate) tables: SymbolTables<'a>,
+}
+
+fn is_good_part(file: &[u8], section: &SectionHeader) -> bool
+    ensures { result ≡ spec.is_good_part file.now section.now }
+{
+    section.kind == NONE || section.kind == ZEROS || part_in_file(file, section)
+}
+
+fn are_good_parts(file: &[u8], sections: &[SectionHeader]) -> bool
+    ensures { result ≡ list_all (spec.is_good_part file.now) sections.now }
+{
+    sections.iter().all(|section| is_good_part(file, section))
+}
+
+fn object_of<'a>(file: &'a [u8], sections: Vec<SectionHeader>) -> Result<Object<'a>, RelocRefusal>
+    ensures ok { IfOk result (λ object. spec.object_of file.now sections.items ≡ Ok (object_view object)) }
+    ensures parts { IfOk result (λ object. IsTrue (list_all (spec.is_good_part object.file.now) object.sections.items)) }
+    ensures refused { IfErr result (Refuses (spec.object_of file.now sections.items)) }
+{
+    if !are_good_parts(file, &sections) {
+        return Err(numbered(9));
+    }
+    match symbol_tables(file, &sections) {
+        Some(tables) => Ok(Object {
+            file,
+            sections,
+            tables,
+        }),
+        None => Err(numbered(10)),
+    }
+}
+
+/// The object in a file, or its first fault of 1 to 10.
+#[tactic(auto, unfolding(crate::specs::Objects::object_judged))]
+pub(crate) fn read_object(alloc: Global, file: &[u8]) -> Result<Object<'_>, RelocRefusal>
+    ensures ok { IfOk result (λ object. spec.object_judged file.now ≡ Ok (object_view object)) }
+    ensures parts { IfOk result (λ object. IsTrue (list_all (spec.is_good_part object.file.now) object.sections.items)) }
+    ensures refused { IfErr result (Refuses (spec.object_judged file.now)) }
+{
+    if let Some(number) = file_refusal(file, RELOCATABLE_FILE) {
+        return Err(numbered(number));
+    }
+    if !sections_in_file(file) {
+        return Err(numbered(8));
+    }
+    object_of(file, section_headers(alloc, file)?)
+}

@@ -1,0 +1,142 @@
+// The reading of a module's object.
+
+ghost use Rattle.std.specs.Prelude.{◌≡◌, ◌≤◌, [], Ok, IsTrue, length, IfOk, IfErr};
+ghost use Rattle.std.specs.BTreeMap.{get};
+ghost use Rattle.std.specs.Ordering.{nat_cmp};
+ghost use Rattle.std.specs.List.{list_all};
+ghost use Rattle.elf64_reloc.specs.Layouts.{is_good_alignment, placed_sections, text_size};
+ghost use Rattle.elf64_reloc.specs.Modules as spec;
+ghost use Rattle.elf64_reloc.specs.ModuleViews.{module_view};
+ghost use Rattle.elf64_reloc.specs.Objects.{is_good_part};
+ghost use Rattle.elf64_reloc.specs.Refusals.{Refuses};
+ghost use Rattle.elf64_reloc.specs.Views.{names_view, object_view};
+
+use crate::layout::{PAGE_BYTES, PlacedSection, are_good_alignments, lay_out};
+use crate::object::{Object, read_object};
+use crate::order::{fields_overlap, ordered_sites};
+use crate::refusal::{RelocRefusal, numbered};
+use crate::relocations::{Relocation, all_relocations};
+use crate::sites::{Judging, all_fields, high_parts};
+use crate::symbols::{Names, export_bases};
+use crate::text::text_of;
+use std::alloc::Global;
+use std::collections::BTreeMap;
+use sv_types::{Export, Site};
+
+/// The most fields of a module, and the most pages of its text.
+const MOST_SITES: usize = 65536;
+
+const MOST_PAGES: u64 = 1024;
+
+/// A module: its text in whole pages, and the fields of it that relocations change, in the order of their places.
+#[derive(Drop)]
+pub struct ModuleImage {
+    pub text: Vec<u8>,
+    pub sites: Vec<Site>,
+}
+
+fn fields_by<'a, 'n>(
+    alloc: Global,
+    names: &Names<'a, 'n>,
+    highs: &'a BTreeMap<u64, Relocation>,
+    relocations: &[Relocation],
+) -> Result<Vec<Site>, RelocRefusal>
+    ensures ok { IfOk result (λ sites. spec.each_judged (record { names = names_view names.now; high_at = get nat_cmp highs.now }) [] relocations.now ≡ Ok sites.items) }
+    ensures refused { IfErr result (Refuses (spec.each_judged (record { names = names_view names.now; high_at = get nat_cmp highs.now }) [] relocations.now)) }
+{
+    let judging = Judging {
+        names: *names,
+        highs,
+    };
+    all_fields(alloc, &judging, relocations)
+}
+
+// The fields of all relocations, or the first fault of 11 to 15.
+fn sites_of(
+    alloc: Global,
+    object: &Object,
+    placed: &[PlacedSection],
+    exports: &[Export],
+) -> Result<Vec<Site>, RelocRefusal>
+    requires few { length exports.now ≤ 4096 }
+    requires parts { IsTrue (list_all (is_good_part object.now.file.now) object.now.sections.items) }
+    requires placed { placed.now ≡ placed_sections object.now.sections.items }
+    ensures ok { IfOk result (λ sites. spec.sites_of exports.now (object_view object.now) ≡ Ok sites.items) }
+    ensures refused { IfErr result (Refuses (spec.sites_of exports.now (object_view object.now))) }
+{
+    let relocations = all_relocations(alloc, object.file, placed, &object.sections)?;
+    let highs = high_parts(alloc, &relocations)?;
+    let bases = export_bases(alloc, exports)?;
+    let tables = object.tables;
+    let names = Names {
+        tables,
+        placed,
+        bases: &bases,
+    };
+    fields_by(alloc, &names, &highs, &relocations)
+}
+
+// The module of good fields, or the first fault of 16 to 18.
+fn module_with(
+    alloc: Global,
+    object: &Object,
+    size: u64,
+    sites: &[Site],
+) -> Result<ModuleImage, RelocRefusal>
+    requires parts { IsTrue (list_all (is_good_part object.now.file.now) object.now.sections.items) }
+    requires alignments { IsTrue (list_all is_good_alignment object.now.sections.items) }
+    requires size { size ≡ text_size object.now.sections.items }
+    ensures ok { IfOk result (λ image. spec.module_with (object_view object.now) sites.now ≡ Ok (module_view image)) }
+    ensures refused { IfErr result (Refuses (spec.module_with (object_view object.now) sites.now)) }
+{
+    if sites.len() > MOST_SITES || size > PAGE_BYTES * MOST_PAGES {
+        return Err(numbered(16));
+    }
+    let ordered = ordered_sites(alloc, sites)?;
+    if fields_overlap(sites, &ordered) {
+        return Err(numbered(17));
+    }
+    if size == 0 {
+        return Err(numbered(18));
+    }
+    let text = text_of(alloc, object)?;
+    Ok(ModuleImage {
+        text,
+        sites: ordered,
+    })
+}
+
+fn module_of(
+    alloc: Global,
+    object: &Object,
+    exports: &[Export],
+) -> Result<ModuleImage, RelocRefusal>
+    requires few { length exports.now ≤ 4096 }
+    requires parts { IsTrue (list_all (is_good_part object.now.file.now) object.now.sections.items) }
+    ensures ok { IfOk result (λ image. spec.module_of exports.now (object_view object.now) ≡ Ok (module_view image)) }
+    ensures refused { IfErr result (Refuses (spec.module_of exports.now (object_view object.now))) }
+{
+    if !are_good_alignments(&object.sections) {
+        return Err(numbered(11));
+    }
+    let layout = lay_out(alloc, &object.sections)?;
+    let sites = sites_of(alloc, object, &layout.sections, exports)?;
+    module_with(alloc, object, layout.text_size, &sites)
+}
+
+/// Reads a module's object: its text and the fields that relocations change, for a kernel with these exports, of which
+/// there are at most 4,096. Refuses an object for its first fault of 1 to 18, and for want of memory. The time is linear in
+/// the file's relocations, but for looking names up and for sorting.
+#[tactic(auto, unfolding(crate::specs::Modules::module_judged))]
+pub fn read_module(
+    alloc: Global,
+    bytes: &[u8],
+    exports: &[Export],
+) -> Result<ModuleImage, RelocRefusal>
+    requires { length exports.now ≤ 4096 }
+    ensures module { IfOk result (λ image. spec.module_judged bytes.now exports.now ≡ Ok (module_view image)) }
+    ensures refused { IfErr result (Refuses (spec.module_judged bytes.now exports.now)) }
+{
+    let object = read_object(alloc, bytes)?;
+    module_of(alloc, &object, exports)
+}

@@ -1,0 +1,116 @@
+// What symbols stand for.
+
+ghost use Rattle.std.specs.Prelude.{◌≡◌, ◌≤◌, ◌<◌, ℕ, List, length, if◌then◌else◌, Some, IfOk, OnOk, option_map};
+ghost use Rattle.std.specs.Str.{bytes_eq};
+ghost use Rattle.elf64_reloc.specs.Symbols as spec;
+ghost use Rattle.elf64_reloc.specs.Bases.{found};
+ghost use Rattle.elf64_reloc.specs.Views.{names_view};
+
+use crate::layout::{PlacedSection, Space};
+use elf64_sections::{Symbol, SymbolTables, name_at, symbol_at, symbol_count};
+use std::alloc::{AllocError, Global};
+use std::collections::BTreeMap;
+use sv_types::Export;
+
+/// The number of the section of an absolute symbol, and the first of the reserved numbers.
+const ABSOLUTE: u16 = 0xFFF1;
+
+const FIRST_RESERVED: u16 = 0xFF00;
+
+/// The base of the first export.
+const FIRST_EXPORT: usize = 3;
+
+/// What a symbol stands for: the number of a base (0 text, 1 data, 2 none, and from 3 on exports) and the value on top.
+#[derive(Clone, Copy, Drop)]
+pub struct Target {
+    pub base: u16,
+    pub value: u64,
+}
+
+/// What symbols are looked up in.
+#[derive(Clone, Copy, Drop)]
+pub(crate) struct Names<'a, 'n> {
+    pub(crate) tables: SymbolTables<'a>,
+    pub(crate) placed: &'a [PlacedSection],
+    pub(crate) bases: &'a BTreeMap<&'n str, u16>,
+}
+
+/// The base of each export by its name: the first one's where two have one name. Fails where memory is wanting.
+pub(crate) fn export_bases<'a>(
+    alloc: Global,
+    exports: &'a [Export],
+) -> Result<BTreeMap<&'a str, u16>, AllocError>
+    requires { length exports.now ≤ 4096 }
+    ensures { IfOk result (λ bases. (name : List ℕ) → found bases name ≡ spec.export_base exports.now name) }
+{
+    let mut bases = BTreeMap::new(alloc);
+    'exports: for i in (0..exports.len()).rev() {
+        bases.insert(exports[i].name.text(), (FIRST_EXPORT + i) as u16)?;
+    }
+    Ok(bases)
+}
+
+fn wanted_target(bases: &BTreeMap<&str, u16>, name: Option<&str>) -> Option<Target>
+    ensures { result ≡ spec.wanted_target (found bases.now) (option_map (λ n. n.now) name.entry) }
+{
+    match name {
+        Some(name) => match bases.get(name) {
+            Some(base) => Some(Target {
+                base: *base,
+                value: 0,
+            }),
+            None => None,
+        },
+        None => None,
+    }
+}
+
+fn section_target(placed: Option<&PlacedSection>, value: u64) -> Option<Target>
+    ensures { result ≡ spec.section_target (option_map (λ p. p.now) placed.entry) value }
+{
+    match placed {
+        Some(section) => match section.space {
+            Space::Text => Some(Target {
+                base: 0,
+                value: value.wrapping_add(section.place),
+            }),
+            Space::Data => Some(Target {
+                base: 1,
+                value: value.wrapping_add(section.place),
+            }),
+            Space::Elsewhere => None,
+        },
+        None => None,
+    }
+}
+
+#[tactic(auto, unfolding(crate::specs::Symbols::target_of))]
+fn target_of(names: &Names, symbol: &Symbol) -> Option<Target>
+    ensures { result ≡ spec.target_of (names_view names.now) symbol.now }
+{
+    if symbol.section == 0 {
+        return wanted_target(names.bases, name_at(names.tables.strings, symbol.name));
+    }
+    if symbol.section == ABSOLUTE {
+        return Some(Target {
+            base: 2,
+            value: symbol.value,
+        });
+    }
+    if symbol.section >= FIRST_RESERVED {
+        return None;
+    }
+    section_target(names.placed.get(symbol.section as usize), symbol.value)
+}
+
+/// What the symbol of a number stands for. None where there is no such symbol, or it stands for nothing that a relocation
+/// may use.
+#[tactic(auto, unfolding(crate::specs::Symbols::symbol_target))]
+pub(crate) fn symbol_target(names: &Names, symbol: u32) -> Option<Target>
+    ensures { result ≡ spec.symbol_target (names_view names.now) symbol }
+{
+    if symbol as usize >= symbol_count(names.tables.symbols) {
+        return None;
+    }
+    target_of(names, &symbol_at(names.tables.symbols, symbol as usize))
+}
