@@ -40,9 +40,6 @@ stopped : (o : Unseen) (r : State) (h : ℕ) (hart : Hart) (c : HypervisorRegist
 unfolding machine_of
 stopped o r h hart c j at adds = no_hart o r h hart c r.loading _ j at refl adds
 
-counted_trap : (c : ℕ) (mode : Mode) (j : Journal) → without_printed c (counted (count_trap mode) j) ≡ counted (count_trap mode) (without_printed c j)
-counted_trap c mode j = refl
-
 pub mirror_trap : (t : ℕ) (c : HypervisorRegisters) (hart : Hart) (interrupt : Bool) (cause tval : ℕ)
     → host_at_trap interrupt cause tval (host_hart t c hart) ≡ host_hart t c (hart_at_trap hart hart.mode interrupt cause tval)
 unfolding host_at_trap hart_at_trap registers_at_trap supervisor_at_trap
@@ -222,10 +219,6 @@ write_stop_mirrors : (o : Unseen) (r : State) (h : ℕ) (hart : Hart) (c : Hyper
     → Mirrors o r h (host_write_stopped (machine_of o r) h (host_in o c hart) gpa) (write_stopped r h hart gpa)
 unfolding machine_of
 write_stop_mirrors o r h hart c gpa at = stopped o r h hart c (machine_ended (Stopped (Write hart.pc gpa) h r.journal.counts.turns) r.journal) at (prints_none r.journal.printed)
-
-same_transformed : (t : ℕ) (c : HypervisorRegisters) (hart : Hart) (htinst : ℕ) → host_transformed htinst (host_hart t c hart) ≡ transformed htinst hart
-unfolding host_transformed transformed
-same_transformed t c hart htinst = refl
 
 write_mirrors : (o : Unseen) (r : State) (h : ℕ) (hart : Hart) (c : HypervisorRegisters) (exit : Exit) → IsAt o r h hart c
     → Mirrors o r h (host_write (machine_of o r) h (host_in o c hart) hart.mode exit) (serve_write r h hart exit)

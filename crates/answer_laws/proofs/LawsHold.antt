@@ -39,10 +39,6 @@ quiet_by o r h hart c a (Outcome.Exit exit) at agrees quiet = absurd quiet
 same_host : (x : Option HostHart) (a b : HostHart) → x ≡ Some a → x ≡ Some b → a ≡ b
 same_host x a b e f = cc
 
-lines_same : (o : Unseen) (r : State) → (machine_of o r).devices ≡ r.devices
-unfolding machine_of
-lines_same o r = refl
-
 quiet_at : (o : Unseen) (r : State) (h : ℕ) (hart : Hart) (c : HypervisorRegisters) (host : HostHart) → IsAt o r h hart c → IsNotLoading h r.loading
     → host ≡ host_hart (length o.tables) c hart → IsQuiet (attempted (machine_of o r) h host).outcome
     → StandsFor (after_quiet_attempt (machine_of o r) h (attempted (machine_of o r) h host)) (turn r h)

@@ -186,10 +186,6 @@ page_masked text n (site ∷ sites) room all =
 
 -- ---- judging, page by page
 
-same_value : (exports : List Export) (bases : Bases) (n : ℕ) (site : Site) → site_value exports bases (moved_site n site) ≡ site_value exports bases site
-unfolding site_value
-same_value exports bases n site = refl
-
 same_right : (exports : List Export) (bases : Bases) (text : List ℕ) (n : ℕ) (site : Site) → LiesIn (length text) site → (site.offset / 4096 == n) ≡ true
     → field_right exports bases (page_bytes text n) (moved_site n site) ≡ field_right exports bases text site
 unfolding field_right site_value

@@ -32,9 +32,6 @@ refused code = (2 ^ 64 - code) ∷ 0 ∷ 0x80000004 ∷ []
 abbrev pub given : (value : ℕ) → List ℕ
 given value = 0 ∷ value ∷ 0x80000004 ∷ []
 
-abbrev pub two_started : State → State
-two_started r = record r { harts = hart_of r 0 ∷ started_hart 1 0x80000100 0 ∷ [] }
-
 pub record CallRows : Type 0 where
   -- ---- legacy: they change a0 alone
   pub set_timer : answer (called 0 9 5 77 0 0) ≡ 0 ∷ 77 ∷ 0x80000004 ∷ []

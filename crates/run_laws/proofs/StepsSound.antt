@@ -282,14 +282,9 @@ pub step_goes : (r : State) (e : Event) → IsSound r → Goes r (step r e)
 unfolding step
 step_goes r e s = under_goes r.journal.verdict r e s
 
-pub step_sound : (r : State) (e : Event) → IsSound r → IsSound (step r e)
-step_sound r e s = (step_goes r e s).sound
-
 -- and each run
 pub run_goes : (r : State) (events : List Event) → IsSound r → Goes r (run r events)
 run_goes r [] s = nothing_goes r s
 run_goes r (e ∷ events) s =
     let first = step_goes r e s in goes_on r (step r e) (run (step r e) events) first (run_goes (step r e) events first.sound)
 
-pub run_sound : (r : State) (events : List Event) → IsSound r → IsSound (run r events)
-run_sound r events s = (run_goes r events s).sound
