@@ -1,0 +1,162 @@
+// What SecVisor's answers make of one hart.
+
+ghost use Rattle.std.specs.Prelude.{◌≡◌, ◌<◌, ◌%◌, true, false, OnOk, OnErr, IfErr};
+ghost use Rattle.sv_types.specs.Policies.{Rules};
+ghost use Rattle.sv_types.specs.Traps.{trap_target};
+ghost use Rattle.sv_types.specs.declared.wires.Mode.{Mode as Privilege};
+ghost use Rattle.sv_types.specs.declared.wires.Mode.TheVariants.{Kernel};
+ghost use Rattle.reference.specs.Trapping.{may_enter};
+ghost use Rattle.machine_model.specs.HostHarts.{host_at_trap, host_at_return, host_demoted, host_passed, host_with, host_answered, host_stayed, host_stopped, host_started};
+ghost use Rattle.hart_answers.specs.Hosts.{host_of};
+
+use crate::side::{Forbidden, Side};
+use csr_file::Csrs;
+use hart::Hart;
+use page_guard::{Entries, Guard};
+use rv64_exec::Regs;
+use sv_types::Mode;
+use trap_entry::{into_guest, return_to_guest, target};
+
+/// A trap of the guest: whether it is an interrupt, the cause as `scause` has it without its bit 63, and the value that
+/// `stval` takes.
+#[derive(Clone, Copy, Debug, PartialEq, Eq, Drop)]
+pub struct Trap {
+    pub interrupt: bool,
+    pub cause: u64,
+    pub tval: u64,
+}
+
+/// The hart comes to its guest's trap handler, on the kernel's side. From user mode only a permitted target is entered, and
+/// else the target is the answer, and hart and side stay as they were.
+pub fn take_trap(
+    hart: &mut Hart,
+    side: &mut Side,
+    guard: &Guard,
+    entries: &Entries,
+    trap: Trap,
+) -> Result<(), Forbidden>
+    requires { hart.old.pc % 4 ≡ 0 }
+    ensures permitted { (rules : Rules) → rules.entries ≡ entries.now → OnOk result (may_enter rules side.old (trap_target hart.old.csrs.vstvec trap.interrupt trap.cause) ≡ true) }
+    ensures forbidden { (rules : Rules) → rules.entries ≡ entries.now → OnErr result (may_enter rules side.old (trap_target hart.old.csrs.vstvec trap.interrupt trap.cause) ≡ false) }
+    ensures hart { OnOk result (host_of hart.new side.new ≡ host_at_trap trap.interrupt trap.cause trap.tval (host_of hart.old side.old)) }
+    ensures kept { OnErr result (host_of hart.new side.new ≡ host_of hart.old side.old) }
+    ensures target { IfErr result (λ forbidden. forbidden.target ≡ trap_target hart.old.csrs.vstvec trap.interrupt trap.cause) }
+    ensures id { hart.new.id ≡ hart.old.id }
+{
+    let from = side.mode();
+    let target = target(&hart.csrs, trap.interrupt, trap.cause);
+    side.enter(guard, entries, target)?;
+    enter_handler(hart, from, trap);
+    Ok(())
+}
+
+// The hart in its trap handler, which it came to from a mode.
+#[tactic(auto, unfolding(machine_model::specs::HostHarts::host_at_trap))]
+fn enter_handler(hart: &mut Hart, from: Mode, trap: Trap)
+    requires { hart.old.pc % 4 ≡ 0 }
+    ensures hart { host_of hart.new Kernel ≡ host_at_trap trap.interrupt trap.cause trap.tval (host_of hart.old from) }
+    ensures id { hart.new.id ≡ hart.old.id }
+{
+    hart.pc = into_guest(
+        &mut hart.csrs,
+        from,
+        trap.interrupt,
+        trap.cause,
+        trap.tval,
+        hart.pc,
+    );
+    hart.reservation = None;
+}
+
+/// The hart returns from its trap, as its own registers say: in kernel mode SecVisor carries SRET out.
+#[tactic(auto, unfolding(machine_model::specs::HostHarts::host_at_return))]
+pub fn return_from_trap(hart: &mut Hart, side: &mut Side, guard: &Guard)
+    requires { side.old ≡ Kernel }
+    ensures hart { host_of hart.new side.new ≡ host_at_return (host_of hart.old side.old) }
+    ensures id { hart.new.id ≡ hart.old.id }
+{
+    let (pc, to) = return_to_guest(&mut hart.csrs);
+    hart.pc = pc;
+    hart.reservation = None;
+    if to == Mode::User {
+        side.leave(guard);
+    }
+}
+
+/// The hart leaves kernel mode, and stays at its instruction.
+#[tactic(auto, unfolding(machine_model::specs::HostHarts::host_demoted))]
+pub fn demote(hart: &mut Hart, side: &mut Side, guard: &Guard)
+    ensures hart { host_of hart.new side.new ≡ host_demoted (host_of hart.old side.old) }
+    ensures id { hart.new.id ≡ hart.old.id }
+{
+    side.demote(guard);
+    hart.reservation = None;
+}
+
+/// The hart goes on after its instruction.
+#[tactic(auto, unfolding(machine_model::specs::HostHarts::host_passed))]
+pub fn pass(hart: &mut Hart)
+    ensures hart { (mode : Privilege) → host_of hart.new mode ≡ host_passed (host_of hart.old mode) }
+    ensures id { hart.new.id ≡ hart.old.id }
+{
+    hart.pc = hart.pc.wrapping_add(4);
+    hart.reservation = None;
+}
+
+/// The hart goes on after its instruction with one register set.
+#[tactic(auto, unfolding(machine_model::specs::HostHarts::host_with, machine_model::specs::HostHarts::host_passed))]
+pub fn set(hart: &mut Hart, rd: u8, value: u64)
+    requires { rd < 32 }
+    ensures hart { (mode : Privilege) → host_of hart.new mode ≡ host_with rd value (host_of hart.old mode) }
+    ensures id { hart.new.id ≡ hart.old.id }
+{
+    hart.regs.set(rd, value);
+    pass(hart);
+}
+
+/// The hart goes on after its call with a0 and a1 set.
+#[tactic(auto, unfolding(machine_model::specs::HostHarts::host_answered, machine_model::specs::HostHarts::host_passed))]
+pub fn answer(hart: &mut Hart, a0: u64, a1: u64)
+    ensures hart { (mode : Privilege) → host_of hart.new mode ≡ host_answered a0 a1 (host_of hart.old mode) }
+    ensures id { hart.new.id ≡ hart.old.id }
+{
+    hart.regs.set(10, a0);
+    hart.regs.set(11, a1);
+    pass(hart);
+}
+
+/// The hart stays at its instruction.
+#[tactic(auto, unfolding(machine_model::specs::HostHarts::host_stayed))]
+pub fn stay(hart: &mut Hart)
+    ensures hart { (mode : Privilege) → host_of hart.new mode ≡ host_stayed (host_of hart.old mode) }
+    ensures id { hart.new.id ≡ hart.old.id }
+{
+    hart.reservation = None;
+}
+
+/// The hart stops at its instruction.
+#[tactic(auto, unfolding(machine_model::specs::HostHarts::host_stopped))]
+pub fn stop(hart: &mut Hart)
+    ensures hart { (mode : Privilege) → host_of hart.new mode ≡ host_stopped (host_of hart.old mode) }
+    ensures id { hart.new.id ≡ hart.old.id }
+{
+    hart.reservation = None;
+    hart.started = false;
+}
+
+/// Whatever it was, the hart begins in kernel mode at an address, with its number in a0, a value in a1, and all other
+/// registers as at boot.
+#[tactic(auto, unfolding(machine_model::specs::HostHarts::host_started, reference::specs::Calls::hart_at))]
+pub fn start(hart: &mut Hart, side: &mut Side, guard: &Guard, which: u8, pc: u64, opaque: u64)
+    ensures hart { host_of hart.new side.new ≡ host_started which pc opaque (host_of hart.old side.old) }
+    ensures id { hart.new.id ≡ hart.old.id }
+{
+    *side = Side::at_boot(guard);
+    hart.regs = Regs::new();
+    hart.regs.set(10, u64::from(which));
+    hart.regs.set(11, opaque);
+    hart.pc = pc;
+    hart.csrs = Csrs::at_boot();
+    hart.reservation = None;
+    hart.started = true;
+}

@@ -1,0 +1,12 @@
+//! What SecVisor's answers make of one hart and of the side that it is on.
+#![tactic(auto)]
+
+mod answers;
+mod side;
+#[cfg(test)]
+mod tests;
+
+pub use answers::{
+    Trap, answer, demote, pass, return_from_trap, set, start, stay, stop, take_trap,
+};
+pub use side::{Forbidden, Side};

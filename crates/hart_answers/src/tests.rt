@@ -1,0 +1,70 @@
+// One hart through all answers, on guarded memory.
+use super::{
+    Forbidden, Side, Trap, answer, demote, pass, return_from_trap, set, start, stay, stop,
+    take_trap,
+};
+use gstage_tables::Trees;
+use hart::Hart;
+use host_mem::HostMem;
+use page_guard::{Entries, Guard};
+use std::test::Fail;
+use sv_types::Mode;
+
+const STVEC: u16 = 0x105;
+
+const CALL: Trap = Trap {
+    interrupt: false,
+    cause: 8,
+    tval: 0,
+};
+
+#[test]
+fn a_hart_through_all_answers(rt: HostRuntime) -> Result<(), Fail> {
+    let size = Trees::table_bytes(16);
+    let mut mem = HostMem::new(rt.alloc(), size, 16)?;
+    assert_eq!(rt; mem.table_bytes(), size);
+    assert_eq!(rt; mem.ram_pages(), 16);
+    let guard = Guard::new(rt.alloc(), &mut mem)?;
+    let entries = Entries::new(rt.alloc(), &[0x8000_0104])?;
+    let mut side = Side::at_boot(&guard);
+    let mut hart = Hart::at_boot(1);
+    start(&mut hart, &mut side, &guard, 1, 0x8000_0000, 7);
+    assert_eq!(rt;
+        (hart.regs.get(10), hart.regs.get(11), hart.started),
+        (1, 7, true)
+    );
+    let kernel = side.registers();
+    pass(&mut hart);
+    set(&mut hart, 5, 9);
+    answer(&mut hart, 2, 3);
+    stay(&mut hart);
+    assert_eq!(rt;
+        (hart.regs.get(5), hart.regs.get(10), hart.regs.get(11)),
+        (9, 2, 3)
+    );
+    demote(&mut hart, &mut side, &guard);
+    assert_eq!(rt; (side.mode(), hart.pc), (Mode::User, 0x8000_000C));
+    for (stvec, want) in [
+        (
+            0x8000_0100,
+            Err(Forbidden {
+                target: 0x8000_0100,
+            }),
+        ),
+        (0x8000_0104, Ok(())),
+    ] {
+        assert_eq!(rt; hart.csrs.write(&kernel, STVEC, stvec), Ok(()));
+        assert!(rt; hart.pc.is_multiple_of(4));
+        assert_eq!(rt;
+            take_trap(&mut hart, &mut side, &guard, &entries, CALL),
+            want
+        );
+    }
+    assert_eq!(rt; (hart.pc, hart.csrs.vscause), (0x8000_0104, 8));
+    assert!(rt; side.mode() == Mode::Kernel);
+    return_from_trap(&mut hart, &mut side, &guard);
+    assert_eq!(rt; (side.mode(), hart.pc), (Mode::User, 0x8000_000C));
+    stop(&mut hart);
+    assert!(rt; !hart.started);
+    Ok(())
+}
