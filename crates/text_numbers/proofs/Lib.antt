@@ -1,0 +1,3 @@
+pub mod HexadecimalRead
+pub mod HexadecimalPrinted
+pub mod AddressesBack

@@ -1,0 +1,42 @@
+// Addresses as text.
+
+ghost use Rattle.std.specs.Prelude.{◌≡◌};
+ghost use Rattle.std.specs.List.{list_all};
+ghost use Rattle.std.specs.Char.{is_ascii_hexdigit};
+ghost use Rattle.text_numbers.specs.Addresses as spec;
+
+/// The most hexadecimal digits that an address has.
+const MOST_HEXADECIMAL_DIGITS: usize = 16;
+
+fn has_hexadecimal_digits_alone(text: &[u8]) -> bool
+    ensures { result ≡ list_all is_ascii_hexdigit text.now }
+{
+    text.iter().all(|c| c.is_ascii_hexdigit())
+}
+
+fn is_hexadecimal(text: &[u8]) -> bool
+    ensures { result ≡ spec.is_hexadecimal text.now }
+{
+    1 <= text.len() && text.len() <= MOST_HEXADECIMAL_DIGITS && has_hexadecimal_digits_alone(text)
+}
+
+fn hexadecimal_number(digits: &str) -> Option<u64>
+    ensures { result ≡ spec.hexadecimal_number digits.now }
+{
+    if !is_hexadecimal(digits.as_bytes()) {
+        return None;
+    }
+    u64::from_str_radix(digits, 16).ok()
+}
+
+/// The address that a text writes by `0x` and 1 to 16 hexadecimal digits of either case. None where the text is another
+/// one.
+#[tactic(auto, unfolding(crate::specs::Addresses::address_of))]
+pub fn address_of(text: &str) -> Option<u64>
+    ensures { result ≡ spec.address_of text.now }
+{
+    match text.strip_prefix("0x") {
+        Some(digits) => hexadecimal_number(digits),
+        None => None,
+    }
+}
