@@ -1,0 +1,310 @@
+// What the machine records.
+
+ghost use Rattle.std.specs.Prelude.{◌≡◌, ◌<◌, ◌-◌, ◌^◌, [], length, IfOk};
+ghost use Rattle.sv_types.specs.Boot.{no_counts};
+ghost use Rattle.sv_types.specs.declared.event.Note.TheVariants.{Demote, Denied, Load, Unload, Retire};
+ghost use Rattle.sv_types.specs.declared.event.Verdict.TheVariants.{Running, Shutdown, Stopped};
+ghost use Rattle.reference.specs.Counting.{counted, count_turn, count_beat, count_key, count_tick, count_retired, count_trap, count_return, count_demote, count_denied, count_dropped, count_load, count_unload, noted, printed_low, machine_ended};
+ghost use Rattle.reference.specs.ModuleCalls.{count_answer};
+
+use std::alloc::{AllocError, Global};
+use std::marker::Model;
+use sv_types::{Counts, Mode, Note, Rule, Verdict};
+
+const MOST_NOTES: usize = 4096;
+
+const PRINTED_ROOM: usize = 4096;
+
+/// Printed bytes, the first 4,096 notes, counts and the verdict. Contracts see them.
+///
+/// Each call that counts has the condition that its counts are below the end of their type.
+#[derive(Drop)]
+pub struct Journal {
+    printed: Vec<u8>,
+    notes: Vec<Note>,
+    counts: Counts,
+    verdict: Verdict,
+}
+
+impl Model for Journal {
+    ghost use Rattle.reference.specs.States.{Journal as Records};
+
+    ghost Value = { Records };
+
+    ghost use Rattle.journal_records.specs.Journals.{journal_of, HasRoom};
+
+    ghost view = { journal_of };
+
+    ghost invariant = { HasRoom };
+}
+
+impl Journal {
+    /// Nothing is recorded, and the machine runs. There is room for all that is kept later.
+    pub fn new(alloc: Global) -> Result<Journal, AllocError>
+        ensures { IfOk result (λ j. j ≡ record { printed = []; notes = []; counts = no_counts; verdict = Running }) }
+    {
+        let printed = Vec::with_capacity(alloc, PRINTED_ROOM)?;
+        let notes = Vec::with_capacity(alloc, MOST_NOTES)?;
+        Ok(Journal {
+            printed,
+            notes,
+            counts: no_counts(),
+            verdict: Verdict::Running,
+        })
+    }
+
+    /// The bytes that were printed and not cleared.
+    pub fn printed(&self) -> &[u8]
+        ensures { result.now ≡ self.now.printed }
+    {
+        &self.printed
+    }
+
+    /// Takes the printed bytes away.
+    pub fn clear_printed(&mut self)
+        ensures { self.new ≡ record self.old { printed = [] } }
+    {
+        self.printed.clear();
+    }
+
+    /// The first 4,096 notes.
+    pub fn notes(&self) -> &[Note]
+        ensures { result.now ≡ self.now.notes }
+    {
+        &self.notes
+    }
+
+    pub fn counts(&self) -> Counts
+        ensures { result ≡ self.now.counts }
+    {
+        self.counts
+    }
+
+    pub fn verdict(&self) -> Verdict
+        ensures { result ≡ self.now.verdict }
+    {
+        self.verdict
+    }
+
+    /// Prints the low byte of a value.
+    pub fn print(&mut self, value: u64)
+        requires { length self.old.printed < 4096 }
+        ensures { self.new ≡ printed_low value self.old }
+    {
+        self.printed.push_reserved((value % 256) as u8);
+    }
+
+    /// The guest shut down.
+    pub fn shut_down(&mut self)
+        ensures { self.new ≡ machine_ended Shutdown self.old }
+    {
+        self.verdict = Verdict::Shutdown;
+    }
+
+    /// A hart broke a rule in the turn that was counted last.
+    pub fn stop(&mut self, hart: u8, rule: Rule)
+        ensures { self.new ≡ machine_ended (Stopped rule hart self.old.counts.turns) self.old }
+    {
+        self.verdict = Verdict::Stopped {
+            rule,
+            hart,
+            turn: self.counts.turns,
+        };
+    }
+
+    pub fn count_turn(&mut self)
+        requires { self.old.counts.turns < 2 ^ 64 - 1 }
+        ensures { self.new ≡ counted count_turn self.old }
+    {
+        self.counts.turns += 1;
+    }
+
+    pub fn count_beat(&mut self)
+        requires { self.old.counts.beats < 2 ^ 64 - 1 }
+        ensures { self.new ≡ counted count_beat self.old }
+    {
+        self.counts.beats += 1;
+    }
+
+    pub fn count_key(&mut self)
+        requires { self.old.counts.keys < 2 ^ 64 - 1 }
+        ensures { self.new ≡ counted count_key self.old }
+    {
+        self.counts.keys += 1;
+    }
+
+    pub fn count_tick(&mut self)
+        requires { self.old.counts.ticks < 2 ^ 64 - 1 }
+        ensures { self.new ≡ counted count_tick self.old }
+    {
+        self.counts.ticks += 1;
+    }
+
+    /// An instruction that was carried out.
+    pub fn count_retired(&mut self)
+        requires { self.old.counts.retired < 2 ^ 64 - 1 }
+        ensures { self.new ≡ counted count_retired self.old }
+    {
+        self.counts.retired += 1;
+    }
+
+    /// A trap of the guest; one from user mode enters the kernel.
+    pub fn count_trap(&mut self, from: Mode)
+        requires traps { self.old.counts.traps < 2 ^ 64 - 1 }
+        requires enters { self.old.counts.enters < 2 ^ 64 - 1 }
+        ensures { self.new ≡ counted (count_trap from) self.old }
+    {
+        self.counts.traps += 1;
+        if from == Mode::User {
+            self.counts.enters += 1;
+        }
+    }
+
+    /// A return from a trap; one to user mode leaves the kernel.
+    pub fn count_return(&mut self, to: Mode)
+        requires retired { self.old.counts.retired < 2 ^ 64 - 1 }
+        requires leaves { self.old.counts.leaves < 2 ^ 64 - 1 }
+        ensures { self.new ≡ counted (count_return to) self.old }
+    {
+        self.counts.retired += 1;
+        if to == Mode::User {
+            self.counts.leaves += 1;
+        }
+    }
+
+    /// A byte of input that found no room.
+    pub fn count_dropped(&mut self)
+        requires { self.old.counts.dropped < 2 ^ 64 - 1 }
+        ensures { self.new ≡ counted count_dropped self.old }
+    {
+        self.counts.dropped += 1;
+    }
+
+    /// A module that was loaded.
+    pub fn count_load(&mut self)
+        requires { self.old.counts.loads < 2 ^ 64 - 1 }
+        ensures { self.new ≡ counted count_load self.old }
+    {
+        self.counts.loads += 1;
+    }
+
+    /// A module that was unloaded.
+    pub fn count_unload(&mut self)
+        requires { self.old.counts.unloads < 2 ^ 64 - 1 }
+        ensures { self.new ≡ counted count_unload self.old }
+    {
+        self.counts.unloads += 1;
+    }
+
+    /// A hart left kernel mode, since the instruction at its pc isn't approved.
+    pub fn demote(&mut self, hart: u8, pc: u64, gpa: u64)
+        requires demotes { self.old.counts.demotes < 2 ^ 64 - 1 }
+        requires notes { self.old.counts.notes < 2 ^ 64 - 1 }
+        ensures { self.new ≡ noted (Demote hart self.old.counts.turns pc gpa) (counted count_demote self.old) }
+    {
+        let turn = self.counts.turns;
+        self.counts.demotes += 1;
+        self.note(Note::Demote {
+            hart,
+            turn,
+            pc,
+            gpa,
+        });
+    }
+
+    /// The block device was kept from writing into a protected page.
+    pub fn deny(&mut self, gpa: u64)
+        requires denied { self.old.counts.denied < 2 ^ 64 - 1 }
+        requires notes { self.old.counts.notes < 2 ^ 64 - 1 }
+        ensures { self.new ≡ noted (Denied gpa) (counted count_denied self.old) }
+    {
+        self.counts.denied += 1;
+        self.note(Note::Denied { gpa });
+    }
+
+    /// The answer to a call that loads a module; a negative code is a refusal.
+    pub fn answer_load(&mut self, hart: u8, id: u64, code: i64)
+        requires refused { self.old.counts.refused < 2 ^ 64 - 1 }
+        requires notes { self.old.counts.notes < 2 ^ 64 - 1 }
+        ensures { self.new ≡ noted (Load hart self.old.counts.turns id code) (counted (count_answer code) self.old) }
+    {
+        let turn = self.counts.turns;
+        self.count_answer(code);
+        self.note(Note::Load {
+            hart,
+            turn,
+            id,
+            code,
+        });
+    }
+
+    /// The answer to a call that unloads a module.
+    pub fn answer_unload(&mut self, hart: u8, id: u64, code: i64)
+        requires refused { self.old.counts.refused < 2 ^ 64 - 1 }
+        requires notes { self.old.counts.notes < 2 ^ 64 - 1 }
+        ensures { self.new ≡ noted (Unload hart self.old.counts.turns id code) (counted (count_answer code) self.old) }
+    {
+        let turn = self.counts.turns;
+        self.count_answer(code);
+        self.note(Note::Unload {
+            hart,
+            turn,
+            id,
+            code,
+        });
+    }
+
+    /// The answer to a call that frees the kernel's init text.
+    pub fn answer_retire(&mut self, hart: u8, code: i64)
+        requires refused { self.old.counts.refused < 2 ^ 64 - 1 }
+        requires notes { self.old.counts.notes < 2 ^ 64 - 1 }
+        ensures { self.new ≡ noted (Retire hart self.old.counts.turns code) (counted (count_answer code) self.old) }
+    {
+        let turn = self.counts.turns;
+        self.count_answer(code);
+        self.note(Note::Retire { hart, turn, code });
+    }
+
+    // A negative code is a refusal.
+    fn count_answer(&mut self, code: i64)
+        requires { self.old.counts.refused < 2 ^ 64 - 1 }
+        ensures { self.new ≡ counted (count_answer code) self.old }
+    {
+        if code < 0 {
+            self.counts.refused += 1;
+        }
+    }
+
+    #[tactic(auto, using(crate::proofs::Notes::notes_full, crate::proofs::Notes::notes_room))]
+    fn note(&mut self, note: Note)
+        requires { self.old.counts.notes < 2 ^ 64 - 1 }
+        ensures { self.new ≡ noted note self.old }
+    {
+        if self.notes.len() < MOST_NOTES {
+            self.notes.push_reserved(note);
+        }
+        self.counts.notes += 1;
+    }
+}
+
+fn no_counts() -> Counts
+    ensures { result ≡ no_counts }
+{
+    Counts {
+        turns: 0,
+        beats: 0,
+        keys: 0,
+        ticks: 0,
+        retired: 0,
+        traps: 0,
+        enters: 0,
+        leaves: 0,
+        demotes: 0,
+        denied: 0,
+        dropped: 0,
+        loads: 0,
+        unloads: 0,
+        refused: 0,
+        notes: 0,
+    }
+}
