@@ -287,4 +287,3 @@ pub run_goes : (r : State) (events : List Event) → IsSound r → Goes r (run r
 run_goes r [] s = nothing_goes r s
 run_goes r (e ∷ events) s =
     let first = step_goes r e s in goes_on r (step r e) (run (step r e) events) first (run_goes (step r e) events first.sound)
-
