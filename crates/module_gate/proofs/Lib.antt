@@ -1,0 +1,3 @@
+pub mod BeginCodes
+pub mod Lists
+pub mod ModuleRules

@@ -1,0 +1,72 @@
+-- What the gate records, a load under way, and the pages that a module takes. This project's own.
+use Rattle.std.specs.Prelude.{◌≡◌, ℕ, ◌*◌, ◌%◌, ◌&&◌, Bool, true, false, List, [], ◌==◌, Some, slice_get}
+use Rattle.std.specs.List.{list_all}
+use Rattle.sv_types.specs.Bytes.{page_size, page_of, in_ram}
+use Rattle.sv_types.specs.Policies.{Rules}
+use Rattle.sv_types.specs.Reference.{numbers_from}
+use Rattle.sv_types.specs.declared.module.Span.{Span}
+use Rattle.sv_types.specs.declared.saved.SavedModule.{SavedModule}
+use Rattle.sv_types.specs.declared.wires.Protection.{Protection}
+use Rattle.sv_types.specs.declared.wires.Protection.TheVariants.{Approved}
+use Rattle.reference.specs.Protections.{is_free, protection_at}
+use Rattle.reference.specs.States.{pages_in_rule, find_module}
+use Rattle.machine_model.specs.Machine.{HostLoad}
+use Rattle.page_guard.specs.Guarded.{IsInRam, AllAre}
+
+-- the loaded modules, ascending by id, whether a load is under way, and whether the init pages are retired
+pub record Records : Type 0 where
+  pub loaded : List SavedModule
+  pub loading : Bool
+  pub retired : Bool
+
+-- a load under way, with the number of its module's pages
+pub record PageTurns : Type 0 where
+  pub about : SavedModule
+  pub pages : ℕ
+  pub left : ℕ
+  pub digests : List (List ℕ)
+  pub right : Bool
+
+-- as the machine records it for a hart
+abbrev pub host_load : ℕ → PageTurns → HostLoad
+host_load hart load = record { hart = hart; about = load.about; left = load.left; digests = load.digests; right = load.right }
+
+-- the most pages of a module
+abbrev pub most_module_pages : ℕ
+most_module_pages = 1024
+
+-- so many pages from an address on
+abbrev pub pages_at : ℕ → ℕ → Span
+pages_at gpa pages = record { first = page_of gpa; count = pages }
+
+abbrev pub load_span : PageTurns → Span
+load_span load = pages_at load.about.gpa load.pages
+
+-- the pages of a loaded module, as many as the policy says
+abbrev pub module_span : Rules → SavedModule → Span
+module_span rules about = pages_at about.gpa (pages_in_rule (slice_get rules.modules about.id))
+
+-- a module, by the arguments of its load
+abbrev pub asked : (id gpa va data_va : ℕ) → SavedModule
+asked id gpa va data_va = record { id = id; gpa = gpa; va = va; data_va = data_va }
+
+-- no module is loaded, and none was
+abbrev pub no_modules : Records
+no_modules = record { loaded = []; loading = false; retired = false }
+
+-- the addresses are multiples of a page's bytes, and the pages are in RAM
+abbrev pub is_place : List ℕ → (gpa va pages : ℕ) → Bool
+is_place ram gpa va pages = gpa % page_size == 0 && va % page_size == 0 && in_ram ram gpa (page_size * pages)
+
+-- and all of them are free
+unfoldable pub is_good_place : List ℕ → List Protection → SavedModule → ℕ → Bool
+is_good_place ram guard about pages = is_place ram about.gpa about.va pages && list_all (λ page. is_free (protection_at guard page)) (numbers_from (page_of about.gpa) pages)
+
+-- nothing was counted yet
+abbrev pub begun : SavedModule → ℕ → PageTurns
+begun about pages = record { about = about; pages = pages; left = pages; digests = []; right = true }
+
+-- the pages of each loaded module are in RAM, and approved
+pub record AreApproved (rules : Rules) (guard : List Protection) (loaded : List SavedModule) : Type 0 where
+  pub inside : (id : ℕ) (about : SavedModule) → find_module loaded id ≡ Some about → IsInRam guard (module_span rules about)
+  pub approved : (id : ℕ) (about : SavedModule) → find_module loaded id ≡ Some about → AllAre guard (module_span rules about) Approved

@@ -1,0 +1,5 @@
+pub mod Ascending
+pub mod Codes
+pub mod Gates
+pub mod InsideGate
+pub mod InsideLoad

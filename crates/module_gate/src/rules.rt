@@ -1,0 +1,57 @@
+// What the policy says of a module, and the pages that a module takes.
+
+ghost use Rattle.std.specs.Prelude.{◌≡◌, ◌*◌, ◌<◌, ◌≤◌, ◌^◌, option_map, slice_get, length};
+ghost use Rattle.sv_types.specs.Bytes.{page_of};
+ghost use Rattle.sv_types.specs.Policies.{rules_of, module_rule};
+ghost use Rattle.module_gate.specs.Gates.{pages_at, is_place, module_span};
+
+use host_mem::HostMem;
+use sv_types::{ModulePolicy, Policy, SavedModule, Span};
+
+/// The bytes of a page.
+const PAGE_BYTES: u64 = 4096;
+
+/// Where guest RAM begins.
+const RAM_BASE: u64 = 0x8000_0000;
+
+/// The policy's rule of a module.
+pub fn rule_of(policy: &Policy, id: u64) -> Option<&ModulePolicy>
+    ensures { option_map (λ m. module_rule m.now) result ≡ slice_get (rules_of policy.now).modules id }
+{
+    policy.modules.get(id as usize)
+}
+
+/// So many pages from a guest-physical address on.
+pub fn pages_at(gpa: u64, count: u32) -> Span
+    requires { page_of gpa < 2 ^ 32 }
+    ensures { result ≡ pages_at gpa count }
+{
+    Span {
+        first: (gpa.saturating_sub(RAM_BASE) / PAGE_BYTES) as u32,
+        count,
+    }
+}
+
+/// Whether both addresses are multiples of a page's bytes, and so many pages from the first on are in RAM.
+pub fn is_place(mem: &HostMem, gpa: u64, va: u64, count: u32) -> bool
+    ensures { result ≡ is_place mem.now.ram gpa va count }
+{
+    let ram_bytes = PAGE_BYTES * mem.ram_pages() as u64;
+    gpa % PAGE_BYTES == 0
+        && va % PAGE_BYTES == 0
+        && gpa >= RAM_BASE
+        && PAGE_BYTES * count as u64 <= ram_bytes
+        && gpa - RAM_BASE <= ram_bytes - PAGE_BYTES * count as u64
+}
+
+/// The pages of a loaded module, as many as the policy says.
+pub fn module_pages(policy: &Policy, about: &SavedModule) -> Span
+    requires { page_of about.now.gpa < 2 ^ 32 }
+    ensures { result ≡ module_span (rules_of policy.now) about.now }
+{
+    let count = match rule_of(policy, about.id) {
+        Some(rule) => rule.pages,
+        None => 0,
+    };
+    pages_at(about.gpa, count)
+}
