@@ -1,5 +1,4 @@
 pub mod Tables
-pub mod Digits
 pub mod Lists
 pub mod Lengths
 pub mod Texts

@@ -1,11 +1,11 @@
 -- Values of a policy's table, each by its kind.
--- TOML 1.0; hexadecimal digits are those of ISO/IEC 646 (ASCII); the limits are this project's own.
-use Rattle.std.specs.Prelude.{ℕ, suc, ◌+◌, ◌*◌, ℤ, pos, negsuc, Bool, true, false, ◌&&◌, ◌||◌, not, nat_le, List, [], ◌∷◌, ◌++◌, length, take, drop, codes, if◌then◌else◌, ok_or, Ok, Err}
-use Rattle.std.specs.List.{list_any, list_all}
+-- TOML 1.0; the limits are this project's own.
+use Rattle.std.specs.Prelude.{ℕ, suc, ℤ, pos, negsuc, Bool, true, false, ◌&&◌, ◌||◌, not, nat_le, List, [], ◌∷◌, ◌++◌, length, if◌then◌else◌, ok_or, Ok, Err}
+use Rattle.std.specs.List.{list_any}
 use Rattle.std.specs.Str.{bytes_eq}
-use Rattle.std.specs.Char.{is_ascii_hexdigit, digit_value}
 use Rattle.toml.specs.Data.{Data, Items, no_items, item, Members, no_members, member, get_member, as_integer, as_str, as_array, as_table}
 use Rattle.sv_types.specs.Numbers.{digest_of}
+use Rattle.text_numbers.specs.Addresses as addresses
 use Rattle.policy.specs.Refusals.{Judged, ◌>>=◌, missing_key, unknown_key, wrong_kind, bad_hexadecimal, beyond_limit}
 
 abbrev pub required : List ℕ → Members → Judged Data
@@ -45,24 +45,8 @@ name_within name = nat_le 1 (length name) && nat_le (length name) 64
 abbrev pub name_of : Data → Judged (List ℕ)
 name_of d = text_of d >>= λ text. limited (name_within text) text
 
--- the number that hexadecimal digits write, onto the digits before them
-abbrev pub hexadecimal_value : ℕ → List ℕ → ℕ
-hexadecimal_value before [] = before
-hexadecimal_value before (digit ∷ digits) = hexadecimal_value (16 * before + digit_value digit) digits
-
--- 1 to 16 hexadecimal digits of either case
-abbrev pub is_hexadecimal : List ℕ → Bool
-is_hexadecimal digits = nat_le 1 (length digits) && nat_le (length digits) 16 && list_all is_ascii_hexdigit digits
-
-abbrev pub hexadecimal_number : List ℕ → Judged ℕ
-hexadecimal_number digits = if is_hexadecimal digits then Ok (hexadecimal_value 0 digits) else Err bad_hexadecimal
-
--- hexadecimal digits behind `0x`
-abbrev pub address_number : List ℕ → Judged ℕ
-address_number text = if bytes_eq (take 2 text) (codes "0x") then hexadecimal_number (drop 2 text) else Err bad_hexadecimal
-
 abbrev pub address_of : Data → Judged ℕ
-address_of d = text_of d >>= address_number
+address_of d = text_of d >>= λ text. ok_or (addresses.address_of text) bad_hexadecimal
 
 -- a digest's bytes
 abbrev pub measure_of : Data → Judged (List ℕ)

@@ -9,6 +9,7 @@ ghost use Rattle.policy.specs.Text as spec;
 
 use crate::refusal::{BEYOND_LIMIT, PolicyRefusal, REPEATED_NAME, WRONG_KIND};
 use crate::values::{address, items, name};
+use policy_limits::{MOST_ENTRIES, MOST_EXPORTS};
 use std::alloc::Global;
 use std::collections::BTreeSet;
 use sv_types::Export;
@@ -42,7 +43,7 @@ pub fn entries(alloc: Global, value: &Value) -> Result<Vec<u64>, PolicyRefusal>
     ensures refused { IfErr result (Refuses (spec.entries_of (view value.now))) }
 {
     let items = items(value)?;
-    if items.len() < 1 || items.len() > 64 {
+    if items.len() < 1 || items.len() > MOST_ENTRIES {
         return Err(BEYOND_LIMIT);
     }
     each_entry(alloc, items)
@@ -103,7 +104,7 @@ fn some_exports(alloc: Global, value: &Value) -> Result<Vec<Export>, PolicyRefus
     ensures refused { IfErr result (Refuses (spec.some_exports_of (view value.now))) }
 {
     let items = items(value)?;
-    if items.len() > 4096 {
+    if items.len() > MOST_EXPORTS {
         return Err(BEYOND_LIMIT);
     }
     each_export(alloc, items)

@@ -9,7 +9,7 @@ ghost use Rattle.policy.specs.Text as spec;
 use crate::refusal::{BEYOND_LIMIT, PolicyRefusal, REPEATED_NAME};
 use crate::sites::{Bounds, sites};
 use crate::values::{items, measure, members, name, natural, required, with_known};
-use policy_limits::is_module;
+use policy_limits::{MOST_MODULE_PAGES, MOST_MODULES, is_module};
 use std::alloc::Global;
 use sv_types::{ModulePolicy, Name};
 use toml::{Table, Value};
@@ -19,7 +19,7 @@ fn module_pages(value: &Value) -> Result<u32, PolicyRefusal>
     ensures within { IfOk result (λ pages. pages ≤ 1024) }
 {
     let pages = natural(value)?;
-    if pages < 1 || pages > 1024 {
+    if pages < 1 || pages > u64::from(MOST_MODULE_PAGES) {
         return Err(BEYOND_LIMIT);
     }
     Ok(pages as u32)
@@ -143,7 +143,7 @@ fn some_modules(
     ensures refused { IfErr result (Refuses (spec.some_modules_of exports (view value.now))) }
 {
     let items = items(value)?;
-    if items.len() > 64 {
+    if items.len() > MOST_MODULES {
         return Err(BEYOND_LIMIT);
     }
     each_module(alloc, exports, items)

@@ -1,8 +1,6 @@
 // The printing of a policy's text.
 
-ghost use Rattle.std.specs.Prelude.{◌≡◌, ◌<◌, IfOk, OnOk, Some, true, map, string_bytes, ◌++◌};
-ghost use Rattle.std.specs.Char.{digit_char};
-ghost use Rattle.sv_types.specs.Output.{hexadecimal};
+ghost use Rattle.std.specs.Prelude.{◌≡◌, IfOk, OnOk, Some, true, map, string_bytes};
 ghost use Rattle.toml.specs.Data.{string, no_members};
 ghost use Rattle.toml.specs.Parse.{parse_document};
 ghost use Rattle.toml.specs.View.{view, table_view};
@@ -15,6 +13,7 @@ ghost use Rattle.policy.specs.Printed as spec;
 use crate::kernel::{PAGE_BYTES, RAM_BASE};
 use std::alloc::{AllocError, Global};
 use sv_types::{Export, ModulePolicy, Policy, Site, Span};
+use text_numbers::address_text;
 use toml::{Table, Value};
 
 #[tactic(auto, using(crate::proofs::Puts::members_view_insert))]
@@ -32,34 +31,11 @@ fn number(number: u32) -> Value
     Value::from(number)
 }
 
-fn hexadecimal_digit(digit: u8) -> char
-    requires { digit < 16 }
-    ensures { result ≡ digit_char digit }
-{
-    if digit < 10 {
-        (b'0' + digit) as char
-    } else {
-        (b'a' + (digit - 10)) as char
-    }
-}
-
-#[tactic(auto, unfolding(sv_types::specs::Output::hexadecimal))]
-fn push_hexadecimal(text: &mut String, digits: u8, value: u64) -> Result<(), AllocError>
-    ensures { OnOk result (string_bytes text.new ≡ string_bytes text.old ++ hexadecimal digits value) }
-{
-    if digits == 0 {
-        return Ok(());
-    }
-    push_hexadecimal(text, digits - 1, value / 16)?;
-    text.push(hexadecimal_digit((value % 16) as u8))
-}
-
-#[tactic(auto, unfolding(crate::specs::Printed::address_data, sv_types::specs::Output::address_text))]
+#[tactic(auto, unfolding(crate::specs::Printed::address_data))]
 fn address(alloc: Global, address: u64) -> Result<Value, AllocError>
     ensures { IfOk result (λ v. view v ≡ spec.address_data address) }
 {
-    let mut text = String::from_str(alloc, "0x")?;
-    push_hexadecimal(&mut text, 16, address)?;
+    let text = address_text(alloc, address)?;
     Ok(Value::from(text))
 }
 

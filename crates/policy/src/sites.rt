@@ -7,7 +7,9 @@ ghost use Rattle.policy.specs.Text as spec;
 
 use crate::refusal::{BEYOND_LIMIT, NOT_ASCENDING, PolicyRefusal, WRONG_KIND};
 use crate::values::{integer, items, natural};
-use policy_limits::{is_aligned, is_anchor, is_behind, is_kind, is_place};
+use policy_limits::{
+    MOST_MODULE_SITES, MOST_SITES, is_aligned, is_anchor, is_behind, is_kind, is_place,
+};
 use std::alloc::Global;
 use sv_types::Site;
 use toml::Value;
@@ -158,7 +160,7 @@ pub fn sites(
     ensures refused { IfErr result (Refuses (spec.sites_in bounds.pages bounds.exports before (view value.now))) }
 {
     let items = items(value)?;
-    if items.len() > 65_536 || before + items.len() > 131_072 {
+    if items.len() > MOST_MODULE_SITES || before + items.len() > MOST_SITES {
         return Err(BEYOND_LIMIT);
     }
     each_site(alloc, bounds, items)

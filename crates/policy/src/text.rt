@@ -11,6 +11,7 @@ use crate::kernel::{init, kernel};
 use crate::modules::{key_measure, modules};
 use crate::refusal::{BEYOND_LIMIT, NOT_TOML, OTHER_FORMAT, PolicyRefusal};
 use crate::values::{integer, natural, optional, required, with_known};
+use policy_limits::{FEWEST_RAM_PAGES, MOST_HARTS, MOST_RAM_PAGES};
 use std::alloc::Global;
 use std::str;
 use sv_types::{Policy, Span};
@@ -33,7 +34,7 @@ fn harts(table: &Table) -> Result<u8, PolicyRefusal>
 {
     let value = required(table, "harts")?;
     let harts = natural(value)?;
-    if harts < 1 || harts > 4 {
+    if harts < 1 || harts > u64::from(MOST_HARTS) {
         return Err(BEYOND_LIMIT);
     }
     Ok(harts as u8)
@@ -44,7 +45,7 @@ fn ram_pages(table: &Table) -> Result<u32, PolicyRefusal>
 {
     let value = required(table, "ram_pages")?;
     let pages = natural(value)?;
-    if pages < 16 || pages > 65_536 {
+    if pages < u64::from(FEWEST_RAM_PAGES) || pages > u64::from(MOST_RAM_PAGES) {
         return Err(BEYOND_LIMIT);
     }
     Ok(pages as u32)

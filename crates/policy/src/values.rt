@@ -1,12 +1,10 @@
 // Values of a policy's table.
 
-ghost use Rattle.std.specs.Prelude.{◌≡◌, ◌≤◌, ◌<◌, ◌^◌, ℕ, List, length, option_map, map, true};
-ghost use Rattle.std.specs.List.{list_all, list_any};
+ghost use Rattle.std.specs.Prelude.{◌≡◌, option_map, map};
+ghost use Rattle.std.specs.List.{list_any};
 ghost use Rattle.std.specs.Str.{bytes_eq};
-ghost use Rattle.std.specs.Char.{is_ascii_hexdigit, digit_value};
 ghost use Rattle.toml.specs.Data.{get_member};
 ghost use Rattle.toml.specs.View.{view, table_view, items_view};
-ghost use Rattle.sv_types.specs.Numbers.{digest_of};
 ghost use Rattle.policy.specs.Refusals.{judged_map};
 ghost use Rattle.policy.specs.Values as spec;
 
@@ -14,6 +12,7 @@ use crate::refusal::{
     BAD_HEXADECIMAL, BEYOND_LIMIT, MISSING_KEY, PolicyRefusal, UNKNOWN_KEY, WRONG_KIND,
 };
 use sv_types::Name;
+use text_numbers::{address_of, digest_of};
 use toml::{Table, Value};
 
 /// The value at a key, if the table has it.
@@ -89,78 +88,13 @@ pub fn name(value: &Value) -> Result<Name, PolicyRefusal>
     }
 }
 
-fn has_hexadecimal_alone(text: &[u8]) -> bool
-    ensures { result ≡ list_all is_ascii_hexdigit text.now }
-{
-    text.iter().all(|c| c.is_ascii_hexdigit())
-}
-
-fn is_hexadecimal(text: &[u8]) -> bool
-    ensures { result ≡ spec.is_hexadecimal text.now }
-{
-    1 <= text.len() && text.len() <= 16 && has_hexadecimal_alone(text)
-}
-
-fn digit_value(digit: u8) -> u64
-    requires { is_ascii_hexdigit digit ≡ true }
-    ensures value { result ≡ digit_value digit }
-    ensures below { result < 16 }
-{
-    match digit {
-        b'0'..=b'9' => (digit - b'0') as u64,
-        b'a'..=b'f' => (digit - b'a') as u64 + 10,
-        _ => (digit - b'A') as u64 + 10,
-    }
-}
-
-fn hexadecimal_value(digits: &[u8]) -> u64
-    requires short { length digits.now ≤ 16 }
-    requires digits { list_all is_ascii_hexdigit digits.now ≡ true }
-    ensures { result ≡ spec.hexadecimal_value 0 digits.now }
-{
-    let mut value: u64 = 0;
-    for digit in digits {
-        value = 16 * value + digit_value(*digit);
-    }
-    value
-}
-
-fn hexadecimal_number(digits: &[u8]) -> Result<u64, PolicyRefusal>
-    ensures { result ≡ spec.hexadecimal_number digits.now }
-{
-    if is_hexadecimal(digits) {
-        Ok(hexadecimal_value(digits))
-    } else {
-        Err(BAD_HEXADECIMAL)
-    }
-}
-
-fn address_number(text: &[u8]) -> Result<u64, PolicyRefusal>
-    ensures { result ≡ spec.address_number text.now }
-{
-    if text.starts_with(b"0x".as_slice()) {
-        hexadecimal_number(&text[2..])
-    } else {
-        Err(BAD_HEXADECIMAL)
-    }
-}
-
 pub fn address(value: &Value) -> Result<u64, PolicyRefusal>
     ensures { result ≡ spec.address_of (view value.now) }
 {
     let text = text(value)?;
-    address_number(text.as_bytes())
-}
-
-// The 32 bytes of 64 digits.
-#[tactic(auto, unfolding(sv_types::specs::Numbers::digest_of))]
-fn digest(text: &str) -> Option<[u8; 32]>
-    ensures { result ≡ digest_of text.now }
-{
-    let mut bytes = [0u8; 32];
-    match hex::decode_to_slice(text.as_bytes(), &mut bytes) {
-        Ok(()) => Some(bytes),
-        Err(_) => None,
+    match address_of(text) {
+        Some(address) => Ok(address),
+        None => Err(BAD_HEXADECIMAL),
     }
 }
 
@@ -169,7 +103,7 @@ pub fn measure(value: &Value) -> Result<[u8; 32], PolicyRefusal>
     ensures { result ≡ spec.measure_of (view value.now) }
 {
     let text = text(value)?;
-    match digest(text) {
+    match digest_of(text) {
         Some(digest) => Ok(digest),
         None => Err(BAD_HEXADECIMAL),
     }

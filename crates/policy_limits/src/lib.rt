@@ -5,6 +5,9 @@ mod limits;
 mod names;
 mod places;
 
-pub use limits::within;
+pub use limits::{
+    FEWEST_RAM_PAGES, MOST_ENTRIES, MOST_EXPORTS, MOST_HARTS, MOST_MODULE_PAGES, MOST_MODULE_SITES,
+    MOST_MODULES, MOST_RAM_PAGES, MOST_SITES, within,
+};
 pub use names::is_module;
 pub use places::{is_aligned, is_anchor, is_behind, is_kind, is_place};

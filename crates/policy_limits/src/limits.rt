@@ -7,6 +7,33 @@ use crate::names::{is_exported, is_module};
 use crate::places::{is_aligned, is_anchor, is_behind, is_kind, is_place};
 use sv_types::{Export, ModulePolicy, Policy, Site, Span};
 
+/// The most harts.
+pub const MOST_HARTS: u8 = 4;
+
+/// The fewest pages of RAM.
+pub const FEWEST_RAM_PAGES: u32 = 16;
+
+/// The most pages of RAM.
+pub const MOST_RAM_PAGES: u32 = 65_536;
+
+/// The most permitted entries.
+pub const MOST_ENTRIES: usize = 64;
+
+/// The most exports.
+pub const MOST_EXPORTS: usize = 4096;
+
+/// The most pages of a module.
+pub const MOST_MODULE_PAGES: u32 = 1024;
+
+/// The most sites of a module.
+pub const MOST_MODULE_SITES: usize = 65_536;
+
+/// The most sites of all modules together.
+pub const MOST_SITES: usize = 131_072;
+
+/// The most modules.
+pub const MOST_MODULES: usize = 64;
+
 fn entries_within(entries: &[u64]) -> bool
     ensures { result ≡ limits.entries_within entries.now }
 {
@@ -79,7 +106,7 @@ fn sites_count_within(before: usize, count: usize) -> bool
     ensures value { result ≡ limits.sites_count_within before count }
     ensures few { IsTrue result → before + count ≤ 131072 }
 {
-    count <= 65_536 && before + count <= 131_072
+    count <= MOST_MODULE_SITES && before + count <= MOST_SITES
 }
 
 fn module_within(
@@ -95,7 +122,7 @@ fn module_within(
     ensures few { IsTrue result → sites_before + length m.now.sites.items ≤ 131072 }
 {
     1 <= m.pages
-        && m.pages <= 1024
+        && m.pages <= MOST_MODULE_PAGES
         && sites_count_within(sites_before, m.sites.len())
         && sites_within(m.pages, exports, m.sites.as_slice())
         && !is_module(&m.name, before)
@@ -120,9 +147,9 @@ fn numbers_within(policy: &Policy) -> bool
 {
     policy.format == 1
         && 1 <= policy.harts
-        && policy.harts <= 4
-        && 16 <= policy.ram_pages
-        && policy.ram_pages <= 65_536
+        && policy.harts <= MOST_HARTS
+        && FEWEST_RAM_PAGES <= policy.ram_pages
+        && policy.ram_pages <= MOST_RAM_PAGES
 }
 
 fn lists_within(policy: &Policy) -> bool
@@ -130,9 +157,9 @@ fn lists_within(policy: &Policy) -> bool
     ensures few_exports { IsTrue result → length policy.now.exports.items ≤ 4096 }
 {
     1 <= policy.entries.len()
-        && policy.entries.len() <= 64
+        && policy.entries.len() <= MOST_ENTRIES
         && entries_within(policy.entries.as_slice())
-        && policy.exports.len() <= 4096
+        && policy.exports.len() <= MOST_EXPORTS
         && exports_within(policy.exports.as_slice())
 }
 
@@ -143,6 +170,6 @@ pub fn within(policy: &Policy) -> bool
     numbers_within(policy)
         && lists_within(policy)
         && init_within(policy.ram_pages, policy.init)
-        && policy.modules.len() <= 64
+        && policy.modules.len() <= MOST_MODULES
         && modules_within(policy.exports.len(), policy.modules.as_slice())
 }
