@@ -1,3 +1,6 @@
 pub mod BeginCodes
 pub mod Lists
+pub mod LoadDecisions
 pub mod ModuleRules
+pub mod PagePieces
+pub mod PagesCounted

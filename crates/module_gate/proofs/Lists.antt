@@ -1,7 +1,8 @@
 -- Lists of modules: how they are searched, and that they ascend.
-use Rattle.std.proofs.Common.{◌≡◌, ℕ, suc, ◌+◌, ◌≤◌, List, [], ◌∷◌, length, refl, ap, Bool, true, false, not, arith}
+use Rattle.std.proofs.Common.{◌≡◌, ℕ, suc, ◌+◌, ◌<◌, ◌≤◌, List, [], ◌∷◌, length, refl, ap, Bool, true, false, not, arith}
 use Rattle.std.specs.Prelude.{Option, Some, None, find, position, unwrap_or, ◌==◌, if◌then◌else◌, nat_lt}
 use Rattle.std.specs.List.{insert, position_or_len}
+use Rattle.std.proofs.lemmas.Bool.{eq-eqb}
 use Rattle.std.proofs.lemmas.Bool.Decides.{nat_tests}
 use Rattle.std.proofs.lemmas.List.Sums.{prefix_len-le-length}
 use Rattle.sv_types.specs.declared.saved.SavedModule.{SavedModule}
@@ -49,6 +50,34 @@ kept_or_gone false low m rest first up = (first, up)
 pub ascends_without : (low : ℕ) (modules : List SavedModule) (gone : ℕ) → AscendsFrom low modules → AscendsFrom low (without_module modules gone)
 ascends_without low [] gone up = up
 ascends_without low (m ∷ modules) gone up = kept_or_gone (m.id == gone) low m (without_module modules gone) up.0 (ascends_without (m.id + 1) modules gone up.1)
+
+with_by : (before : Bool) (low : ℕ) (m first : SavedModule) (rest : List SavedModule) → nat_lt m.id first.id ≡ before → (first.id == m.id) ≡ false → low ≤ m.id → low ≤ first.id
+    → AscendsFrom (first.id + 1) rest → (first.id + 1 ≤ m.id → AscendsFrom (first.id + 1) (with_module rest m)) → m.id < 64
+    → AscendsFrom low (if before then m ∷ (first ∷ rest) else first ∷ with_module rest m)
+with_by true low m first rest test other a b up more below = let less : m.id + 1 ≤ first.id = grind (arith, nat_tests) in (a, (less, up))
+with_by false low m first rest test other a b up more below =
+    let apart : first.id ≡ m.id → ⊥ = λ same. let there : (first.id == m.id) ≡ true = eq-eqb first.id m.id same in cc in
+    let less : first.id + 1 ≤ m.id = grind (arith, nat_tests, apart) in (b, more less)
+
+other_first : (first : SavedModule) (id : ℕ) (b : Bool) (rest : Option SavedModule) → (if b then Some first else rest) ≡ None → (b ≡ false) × (rest ≡ None)
+other_first first id true rest e = absurd (cc)
+other_first first id false rest e = (refl, e)
+
+pub ascends_with : (low : ℕ) (modules : List SavedModule) (m : SavedModule) → AscendsFrom low modules → low ≤ m.id → m.id < 64 → find_module modules m.id ≡ None → AscendsFrom low (with_module modules m)
+unfolding with_module find_module
+ascends_with low [] m up from below none = (from, omega (arith, below))
+ascends_with low (first ∷ rest) m up from below none =
+    let other = other_first first m.id (first.id == m.id) (find_module rest m.id) none in
+    with_by (nat_lt m.id first.id) low m first rest refl other.0 from up.0 up.1 (λ more. ascends_with (first.id + 1) rest m up.1 more below other.1) below
+
+pub length_with : (modules : List SavedModule) (m : SavedModule) → length (with_module modules m) ≡ suc (length modules)
+unfolding with_module
+length_with [] m = refl
+length_with (first ∷ rest) m = by (nat_lt m.id first.id) (length_with rest m)
+  where
+    by : (b : Bool) → length (with_module rest m) ≡ suc (length rest) → length (if b then m ∷ (first ∷ rest) else first ∷ with_module rest m) ≡ suc (suc (length rest))
+    by true e = refl
+    by false e = ap suc e
 
 pub few_modules : (low : ℕ) (modules : List SavedModule) → AscendsFrom low modules → low + length modules ≤ 64
 few_modules low [] up = omega (arith, up)

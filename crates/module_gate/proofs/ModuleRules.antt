@@ -1,10 +1,12 @@
 -- What holds of a module of a policy whose values are within their limits.
 use Rattle.std.proofs.Common.{◌≡◌, ℕ, zero, suc, ◌<◌, ◌≤◌, List, [], ◌∷◌, ◌++◌, length, subst, true, not, ◌&&◌, slice_get, arith}
-use Rattle.std.specs.Prelude.{Some, IsTrue, nat_le}
+use Rattle.std.specs.Prelude.{All, Some, IsTrue, nat_le}
 use Rattle.std.proofs.lemmas.Bool.{and_parts}
 use Rattle.std.proofs.lemmas.Bool.Decides.{nat_tests}
 use Rattle.std.proofs.lemmas.Option.{slice_get_within}
 use Rattle.sv_types.specs.Policies.{Rules, ModuleRule, rules_within, numbers_within, lists_within, init_within, modules_count_within, modules_within, module_within, module_pages_within, sites_count_within, sites_within, sites_of, is_module, each_within}
+use Rattle.relocated_fields.specs.Pieces.{IsAligned}
+use Rattle.module_gate.proofs.PagePieces.{sites_aligned}
 
 modules_part : (rules : Rules) → IsTrue (rules_within rules) → (modules_count_within (length rules.modules) ≡ true) × (modules_within (length rules.exports) rules.modules ≡ true)
 modules_part rules within =
@@ -37,3 +39,6 @@ pub low_id : (rules : Rules) (id : ℕ) (rule : ModuleRule) → IsTrue (rules_wi
 low_id rules id rule within found =
     let most = (modules_part rules within).0 in
     let inside = slice_get_within rules.modules id rule found in grind (arith, nat_tests)
+
+pub aligned_sites : (rules : Rules) (id : ℕ) (rule : ModuleRule) → IsTrue (rules_within rules) → slice_get rules.modules id ≡ Some rule → All IsAligned rule.sites
+aligned_sites rules id rule within found = sites_aligned rule.pages (length rules.exports) [] rule.sites (rule_within rules id rule within found).1

@@ -1,15 +1,16 @@
 -- What the gate records, a load under way, and the pages that a module takes. This project's own.
-use Rattle.std.specs.Prelude.{◌≡◌, ℕ, ◌*◌, ◌%◌, ◌&&◌, Bool, true, false, List, [], ◌==◌, Some, slice_get}
+use Rattle.std.specs.Prelude.{◌≡◌, ℕ, ◌*◌, ◌%◌, ◌&&◌, Bool, true, false, List, [], ◌==◌, ◌-◌, if◌then◌else◌, Option, Some, None, slice_get}
 use Rattle.std.specs.List.{list_all}
 use Rattle.sv_types.specs.Bytes.{page_size, page_of, in_ram}
-use Rattle.sv_types.specs.Policies.{Rules}
+use Rattle.sv_types.specs.Policies.{Rules, ModuleRule}
 use Rattle.sv_types.specs.Reference.{numbers_from}
 use Rattle.sv_types.specs.declared.module.Span.{Span}
 use Rattle.sv_types.specs.declared.saved.SavedModule.{SavedModule}
 use Rattle.sv_types.specs.declared.wires.Protection.{Protection}
 use Rattle.sv_types.specs.declared.wires.Protection.TheVariants.{Approved}
 use Rattle.reference.specs.Protections.{is_free, protection_at}
-use Rattle.reference.specs.States.{pages_in_rule, find_module}
+use Rattle.reference.specs.States.{pages_in_rule, find_module, with_module}
+use Rattle.machine_model.specs.HostExits.{page_counted}
 use Rattle.machine_model.specs.Machine.{HostLoad}
 use Rattle.page_guard.specs.Guarded.{IsInRam, AllAre}
 
@@ -70,3 +71,12 @@ begun about pages = record { about = about; pages = pages; left = pages; digests
 pub record AreApproved (rules : Rules) (guard : List Protection) (loaded : List SavedModule) : Type 0 where
   pub inside : (id : ℕ) (about : SavedModule) → find_module loaded id ≡ Some about → IsInRam guard (module_span rules about)
   pub approved : (id : ℕ) (about : SavedModule) → find_module loaded id ≡ Some about → AllAre guard (module_span rules about) Approved
+
+-- the load with its next page counted, whose bytes these are
+unfoldable pub next_counted : Rules → List ℕ → HostLoad → Option ModuleRule → HostLoad
+next_counted rules bytes load None = load
+next_counted rules bytes load (Some rule) = page_counted rules rule load (rule.pages - load.left) bytes (load.left - 1)
+
+-- after the decision of a load, by its answer
+abbrev pub decided : Records → SavedModule → Bool → Records
+decided gate about good = record gate { loaded = if good then with_module gate.loaded about else gate.loaded; loading = false }

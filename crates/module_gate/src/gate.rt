@@ -1,17 +1,17 @@
 // The gate of modules.
 
-ghost use Rattle.std.specs.Prelude.{◌≡◌, ◌<◌, ◌≤◌, length, map, slice_get, option_map, Some, None, IfOk, OnOk, IfErr, OnErr, IsTrue, true, false};
+ghost use Rattle.std.specs.Prelude.{◌≡◌, ◌<◌, ◌≤◌, length, slice_get, option_map, Some, None, IfOk, OnOk, IfErr, OnErr, IsTrue, true, false, vec_capacity};
 ghost use Rattle.sv_types.specs.Policies.{rules_of, rules_within};
-ghost use Rattle.sv_types.specs.declared.wires.Protection.TheVariants.{Free, Held, Approved};
-ghost use Rattle.reference.specs.States.{find_module, without_module};
+ghost use Rattle.sv_types.specs.declared.wires.Protection.TheVariants.{Free, Held};
+ghost use Rattle.reference.specs.States.{find_module, with_module, without_module};
 ghost use Rattle.page_guard.specs.Guarded.{with_span, IsInRam, AllAre, IsTheirs};
-ghost use Rattle.module_gate.specs.Ascending.{AscendsFrom};
+ghost use Rattle.module_gate.specs.Ascending.{AscendsFrom, most_modules};
 ghost use Rattle.module_gate.specs.Codes.{begin_code, unload_code};
-ghost use Rattle.module_gate.specs.Gates.{no_modules, asked, begun, load_span, module_span, AreApproved};
+ghost use Rattle.module_gate.specs.Gates.{most_module_pages, no_modules, asked, begun, load_span, module_span, AreApproved};
 
 use crate::codes::GateCode;
 use crate::load::Load;
-use crate::modules::{find_module, remove_module};
+use crate::modules::{find_module, place_of, remove_module};
 use crate::rules::{is_place, module_pages, pages_at, rule_of};
 use host_mem::HostMem;
 use page_guard::Guard;
@@ -173,5 +173,26 @@ impl Gate {
         guard.unapprove(mem, span);
         remove_module(&mut self.loaded, id);
         Ok(span)
+    }
+
+    /// The load under way is over, and gives its room back.
+    pub(crate) fn end_load(&mut self, mut room: Vec<[u8; 32]>)
+        requires { most_module_pages ≤ vec_capacity room }
+        ensures { self.new ≡ record self.old { loading = false } }
+    {
+        room.clear();
+        self.room = Some(room);
+    }
+
+    /// A module is loaded.
+    pub(crate) fn add(&mut self, about: SavedModule)
+        requires id { about.id < most_modules }
+        requires other { find_module self.old.loaded about.id ≡ None }
+        ensures { self.new ≡ record self.old { loaded = with_module self.old.loaded about } }
+    {
+        let at = place_of(&self.loaded, &about);
+        let Ok(()) = self.loaded.insert(at, about) else {
+            unreachable!();
+        };
     }
 }

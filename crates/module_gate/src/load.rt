@@ -1,10 +1,28 @@
 // A load under way.
 
-ghost use Rattle.std.specs.Prelude.{◌≡◌};
+ghost use Rattle.std.specs.Prelude.{◌≡◌, ℕ, ◌%◌, ◌<◌, length, slice_get, All, IsTrue, true, false, if◌then◌else◌};
+ghost use Rattle.sv_types.specs.Bytes.{page_size};
+ghost use Rattle.sv_types.specs.Measure.{page_digest};
+ghost use Rattle.sv_types.specs.Policies.{rules_of, rules_within};
+ghost use Rattle.sv_types.specs.declared.wires.Protection.TheVariants.{Free, Held, Approved};
+ghost use Rattle.reference.specs.Relocations.{masked};
+ghost use Rattle.reference.specs.States.{find_module, pages_in_rule};
+ghost use Rattle.machine_model.specs.HostExits.{host_is_good};
+ghost use Rattle.relocated_fields.specs.Pieces.{piece_sites, IsAligned};
+ghost use Rattle.page_guard.specs.Guarded.{with_span, IsInRam, AllAre, IsTheirs};
+ghost use Rattle.module_gate.specs.Gates.{host_load, load_span, next_counted, decided};
 
-use page_guard::Hold;
+use crate::gate::Gate;
+use crate::rules::rule_of;
+use host_mem::HostMem;
+use page_guard::{Guard, Hold};
+use page_measure::{join_digests, page_digest};
+use relocated_fields::{fields_right, mask};
 use std::marker::Model;
-use sv_types::SavedModule;
+use sv_types::{Bases, Policy, SavedModule, Site};
+
+/// The bytes of a page.
+const PAGE_BYTES: u32 = 4096;
 
 /// A load under way, which can't be dropped. Contracts see the arguments of the load, the pages of the module, how many of
 /// them are left to count, and of those that were counted the digests and whether their fields are right.
@@ -43,4 +61,120 @@ impl Load {
     {
         self.left
     }
+
+    /// Counts the next page of the module, whose 4,096 bytes these are: keeps the digest of the page with its fields cleared,
+    /// and whether its fields are right for the load's addresses. The policy is the one that the load began with.
+    pub fn page(&mut self, policy: &Policy, bytes: &[u8])
+        requires within { IsTrue (rules_within (rules_of policy.now)) }
+        requires policy { pages_in_rule (slice_get (rules_of policy.now).modules self.old.about.id) ≡ self.old.pages }
+        requires left { 0 < self.old.left }
+        requires page { length bytes.now ≡ page_size }
+        ensures counted { (hart : ℕ) → host_load hart self.new ≡ next_counted (rules_of policy.now) bytes.now (host_load hart self.old) (slice_get (rules_of policy.now).modules self.old.about.id) }
+        ensures pages { self.new.pages ≡ self.old.pages }
+    {
+        let Some(rule) = rule_of(policy, self.about.id) else {
+            unreachable!();
+        };
+        let first = PAGE_BYTES * self.digests.len() as u32;
+        let bases = Bases {
+            va: self.about.va,
+            data_va: self.about.data_va,
+        };
+        let sites = rule.sites.as_slice();
+        let exports = policy.exports.as_slice();
+        let digest = masked_digest(bytes, first, sites);
+        let right = fields_right(bytes, first, sites, &bases, exports);
+        self.digests.push_reserved(digest);
+        self.right &= right;
+        self.left -= 1;
+    }
+
+    // Whether the counted pages are those that the policy measured, with all fields right.
+    fn is_good(&self, policy: &Policy) -> bool
+        ensures { (hart : ℕ) → result ≡ host_is_good (host_load hart self.now) (slice_get (rules_of policy.now).modules self.now.about.id) }
+    {
+        match rule_of(policy, self.about.id) {
+            None => false,
+            Some(rule) => join_digests(&self.digests) == rule.measure && self.right,
+        }
+    }
+
+    /// Ends the load of this gate once all pages are counted. Where the policy measured these pages and all fields are
+    /// right, the pages are approved and the module is loaded; else the pages are free again. Says which.
+    pub fn decide(
+        self,
+        gate: &mut Gate,
+        guard: &mut Guard,
+        mem: &mut HostMem,
+        policy: &Policy,
+    ) -> bool
+        requires under_way { gate.old.loading ≡ true }
+        requires other { find_module gate.old.loaded self.about.id ≡ None }
+        requires counted { self.left ≡ 0 }
+        requires inside { IsInRam guard.old (load_span self) }
+        requires held { AllAre guard.old (load_span self) Held }
+        requires theirs { IsTheirs mem.old guard.old }
+        ensures answer { (hart : ℕ) → result ≡ host_is_good (host_load hart self) (slice_get (rules_of policy.now).modules self.about.id) }
+        ensures gate { gate.new ≡ decided gate.old self.about result }
+        ensures guard { guard.new ≡ with_span guard.old (load_span self) (if result then Approved else Free) }
+        ensures size { length guard.new ≡ length guard.old }
+        ensures theirs { IsTheirs mem.new guard.new }
+        ensures ram { mem.new.ram ≡ mem.old.ram }
+    {
+        let good = self.is_good(policy);
+        let Load {
+            hold,
+            about,
+            pages: _,
+            left: _,
+            digests,
+            right: _,
+        } = self;
+        gate.end_load(digests);
+        if good {
+            guard.approve(mem, hold);
+            gate.add(about);
+            true
+        } else {
+            guard.release(mem, hold);
+            false
+        }
+    }
+
+    /// Ends the load of this gate at any moment. Its pages are free again.
+    pub fn cancel(self, gate: &mut Gate, guard: &mut Guard, mem: &mut HostMem)
+        requires under_way { gate.old.loading ≡ true }
+        requires inside { IsInRam guard.old (load_span self) }
+        requires held { AllAre guard.old (load_span self) Held }
+        requires theirs { IsTheirs mem.old guard.old }
+        ensures gate { gate.new ≡ record gate.old { loading = false } }
+        ensures guard { guard.new ≡ with_span guard.old (load_span self) Free }
+        ensures size { length guard.new ≡ length guard.old }
+        ensures theirs { IsTheirs mem.new guard.new }
+        ensures ram { mem.new.ram ≡ mem.old.ram }
+    {
+        let Load {
+            hold,
+            about: _,
+            pages: _,
+            left: _,
+            digests,
+            right: _,
+        } = self;
+        gate.end_load(digests);
+        guard.release(mem, hold);
+    }
+}
+
+// The digest of a page with the fields cleared that begin in it. The page begins at the byte `first` of the text.
+fn masked_digest(bytes: &[u8], first: u32, sites: &[Site]) -> [u8; 32]
+    requires page { length bytes.now ≡ page_size }
+    requires start { first % 4096 ≡ 0 }
+    requires aligned { All IsAligned sites.now }
+    ensures { result ≡ page_digest (masked bytes.now (piece_sites first page_size sites.now)) }
+{
+    let mut page = [0; PAGE_BYTES as usize];
+    page.copy_from_slice(bytes);
+    mask(&mut page, first, sites);
+    page_digest(&page)
 }

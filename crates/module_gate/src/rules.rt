@@ -1,6 +1,6 @@
 // What the policy says of a module, and the pages that a module takes.
 
-ghost use Rattle.std.specs.Prelude.{◌≡◌, ◌*◌, ◌<◌, ◌≤◌, ◌^◌, option_map, slice_get, length};
+ghost use Rattle.std.specs.Prelude.{◌≡◌, ◌<◌, ◌^◌, option_map, slice_get};
 ghost use Rattle.sv_types.specs.Bytes.{page_of};
 ghost use Rattle.sv_types.specs.Policies.{rules_of, module_rule};
 ghost use Rattle.module_gate.specs.Gates.{pages_at, is_place, module_span};

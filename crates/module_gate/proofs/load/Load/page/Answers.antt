@@ -1,0 +1,46 @@
+use Rattle.std.proofs.Common.{rules, ◌≡◌, ◌&&◌, ◌+◌, ◌-◌, ◌*◌, ◌∙◌, sym, ap, subst, length, slice_get, arith, [], ◌∷◌, ◌++◌}
+use Rattle.std.specs.Prelude.{All, Some}
+use Rattle.sv_types.specs.Measure.{page_digest}
+use Rattle.sv_types.specs.Policies.{rules_of, module_rule}
+use Rattle.reference.specs.Loads.{module_bases}
+use Rattle.reference.specs.Relocations.{masked, fields_right}
+use Rattle.reference.specs.States.{pages_in_rule}
+use Rattle.relocated_fields.specs.Pieces.{piece_sites, IsAligned}
+use Rattle.module_gate.specs.Gates.{PageTurns, host_load, next_counted}
+use Rattle.module_gate.specs.InsideLoad.{turns_of}
+use Rattle.module_gate.proofs.ModuleRules.{aligned_sites}
+use Rattle.module_gate.proofs.PagesCounted.{counted_where}
+use Rattle.module_gate.proofs.load.Load.page.Goals as goal
+
+pub masked_digest-digest-requires-clause-aligned : goal.masked_digest-digest-requires-clause-aligned
+masked_digest-digest-requires-clause-aligned c =
+    let rule = module_rule c.in-Some.rule.now in
+    let there : slice_get (rules_of c.args.policy.now).modules c.args.self.now.about.id ≡ Some rule = search rules in
+    subst (All IsAligned) (sym c.as_slice-sites.ensures.value) (aligned_sites (rules_of c.args.policy.now) c.args.self.now.about.id rule c.requires.within there)
+
+pub fields_right-right-requires-clause-aligned : goal.fields_right-right-requires-clause-aligned
+fields_right-right-requires-clause-aligned c =
+    let rule = module_rule c.in-Some.rule.now in
+    let there : slice_get (rules_of c.args.policy.now).modules c.args.self.now.about.id ≡ Some rule = search rules in
+    subst (All IsAligned) (sym c.as_slice-sites.ensures.value) (aligned_sites (rules_of c.args.policy.now) c.args.self.now.about.id rule c.requires.within there)
+
+pub returns-clause-counted : goal.returns-clause-counted
+returns-clause-counted c = λ hart.
+    let law = rules_of c.args.policy.now in
+    let rule = module_rule c.in-Some.rule.now in
+    let inside = turns_of c.self.inside in
+    let load = host_load hart inside in
+    let bytes = c.args.bytes.now in
+    let n = length c.self.inside.digests.items in
+    let there : slice_get law.modules c.args.self.now.about.id ≡ Some rule = search rules in
+    let there_inside : slice_get law.modules c.self.inside.about.id ≡ Some rule = ap (λ (t : PageTurns). slice_get law.modules t.about.id) c.self.view_is ∙ there in
+    let pages : rule.pages ≡ c.self.inside.pages = ap pages_in_rule (sym there) ∙ c.requires.policy ∙ ap (λ (t : PageTurns). t.pages) (sym c.self.view_is) in
+    let turns : n + c.self.inside.left ≡ c.self.inside.pages = c.self.invariant.turns in
+    let number : n ≡ rule.pages - c.self.inside.left = omega (arith, pages, turns) in
+    let digested : c.masked_digest-digest.result ≡ page_digest (masked bytes (piece_sites (4096 * n) 4096 rule.sites)) = search rules in
+    let judged : c.fields_right-right.result ≡ fields_right law.exports (module_bases c.self.inside.about) (piece_sites (4096 * n) (length bytes) rule.sites) bytes = search rules in
+    let pushed : c.push_reserved.new.self.items ≡ c.self.inside.digests.items ++ c.masked_digest-digest.result ∷ [] = search rules in
+    subst (λ (t : PageTurns). host_load hart (record inside { left = c.self.inside.left - 1; digests = c.push_reserved.new.self.items; right = c.self.inside.right && c.fields_right-right.result }) ≡ next_counted law bytes (host_load hart t) (slice_get law.modules t.about.id))
+    c.self.view_is
+    (counted_where law rule load (slice_get law.modules c.self.inside.about.id) bytes n (length bytes) c.masked_digest-digest.result c.fields_right-right.result c.push_reserved.new.self.items
+    there_inside number c.requires.page digested judged pushed)
