@@ -1,3 +1,4 @@
 pub mod HexadecimalRead
 pub mod HexadecimalPrinted
 pub mod AddressesBack
+pub mod DigestsPrinted

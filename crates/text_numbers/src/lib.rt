@@ -11,4 +11,4 @@ mod tests;
 pub use addresses::address_of;
 pub use decimals::number_within;
 pub use digests::digest_of;
-pub use printed::{address_text, word_text};
+pub use printed::{address_text, digest_text, word_text};

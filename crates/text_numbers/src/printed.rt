@@ -1,4 +1,4 @@
-// Addresses and words as they are printed.
+// Addresses, words and digests as they are printed.
 
 ghost use Rattle.std.specs.Prelude.{◌≡◌, IfOk, string_bytes};
 ghost use Rattle.sv_types.specs.Output as spec;
@@ -19,4 +19,13 @@ pub fn word_text(alloc: Global, word: u32) -> Result<String, AllocError>
     ensures { IfOk result (λ t. string_bytes t ≡ spec.word_text word) }
 {
     format!(in alloc; "0x{word:08x}")
+}
+
+/// The 64 hexadecimal digits of a digest, in lower case.
+#[tactic(auto, using(crate::proofs::DigestsPrinted::encoded))]
+pub fn digest_text(alloc: Global, digest: &[u8; 32]) -> Result<String, AllocError>
+    ensures { IfOk result (λ t. string_bytes t ≡ spec.hexadecimal_bytes digest.now) }
+{
+    let text = hex::encode(alloc, digest.as_slice())?;
+    Ok(text)
 }
