@@ -21,8 +21,8 @@ refusal_line (OutOfRange word) = codes "usage " ++ (word_name word ++ line_feed)
 refusal_line (ReadFault part) = codes "read fault " ++ (part_name part ++ line_feed)
 refusal_line (File part number) = codes "refused " ++ (part_name part ++ (codes " " ++ (decimal number ++ line_feed)))
 refusal_line (Measure found wanted) =
-    codes "refused measure found " ++ hexadecimal_bytes found ++ codes " wanted " ++ hexadecimal_bytes wanted ++ line_feed
-refusal_line (Entry entry) = codes "refused entry " ++ address_text entry ++ line_feed
+    codes "refused measure found " ++ (hexadecimal_bytes found ++ (codes " wanted " ++ (hexadecimal_bytes wanted ++ line_feed)))
+refusal_line (Entry entry) = codes "refused entry " ++ (address_text entry ++ line_feed)
 
 abbrev pub refusal_status : Refusal → Status
 refusal_status NoCommand = Status.Usage

@@ -1,14 +1,13 @@
 // Why a command isn't carried out.
-ghost use Rattle.std.specs.Prelude.{◌≡◌, ◌<◌, ◌-◌, ◌^◌, ◌++◌, IsTrue, IsErrOf, OnOk, IfOk, string_bytes};
+ghost use Rattle.std.specs.Prelude.{◌≡◌, ◌<◌, ◌-◌, ◌^◌, IsTrue, IsErrOf, OnOk, IfOk, string_bytes};
 ghost use Rattle.outside.specs.Outside.{after_taking, BreaksOff};
-ghost use Rattle.sv_types.specs.Output.{hexadecimal_bytes};
 ghost use Rattle.secvisor_cli.specs.Refusals.{part_name, refusal_line, refusal_status, takes_memory};
 
-use crate::report::{hexadecimal_digit, push_address};
 use crate::trouble::Trouble;
 use outside::{Sink, write_all};
 use std::alloc::{AllocError, Global};
 use sv_types::Status;
+use text_numbers::{address_text, digest_text};
 
 /// A file by what it is for.
 #[derive(Clone, Copy, Debug, PartialEq, Eq, Drop)]
@@ -134,34 +133,19 @@ fn file_line(alloc: Global, part: Part, number: u64) -> Result<String, AllocErro
     format!(in alloc; "refused {name} {number}\n")
 }
 
-fn push_digest(text: &mut String, digest: &[u8]) -> Result<(), AllocError>
-    ensures { OnOk result (string_bytes text.new ≡ string_bytes text.old ++ hexadecimal_bytes digest.now) }
-{
-    for b in digest {
-        text.push(hexadecimal_digit(*b / 16))?;
-        text.push(hexadecimal_digit(*b % 16))?;
-    }
-    Ok(())
-}
-
 #[tactic(auto, unfolding(crate::specs::Refusals::refusal_line))]
-fn measure_line(alloc: Global, found: &[u8], wanted: &[u8]) -> Result<String, AllocError>
+fn measure_line(alloc: Global, found: &[u8; 32], wanted: &[u8; 32]) -> Result<String, AllocError>
     ensures { IfOk result (λ t. string_bytes t ≡ refusal_line (Refusal.Measure found.now wanted.now)) }
 {
-    let mut text = String::from_str(alloc, "refused measure found ")?;
-    push_digest(&mut text, found)?;
-    text.push_str(" wanted ")?;
-    push_digest(&mut text, wanted)?;
-    text.push_str("\n")?;
-    Ok(text)
+    let found = digest_text(alloc, found)?;
+    let wanted = digest_text(alloc, wanted)?;
+    format!(in alloc; "refused measure found {found} wanted {wanted}\n")
 }
 
 #[tactic(auto, unfolding(crate::specs::Refusals::refusal_line))]
 fn entry_line(alloc: Global, entry: u64) -> Result<String, AllocError>
     ensures { IfOk result (λ t. string_bytes t ≡ refusal_line (Refusal.Entry entry)) }
 {
-    let mut text = String::from_str(alloc, "refused entry ")?;
-    push_address(&mut text, entry)?;
-    text.push_str("\n")?;
-    Ok(text)
+    let entry = address_text(alloc, entry)?;
+    format!(in alloc; "refused entry {entry}\n")
 }

@@ -1,47 +1,21 @@
 // The lines of a report.
-ghost use Rattle.std.specs.Prelude.{◌≡◌, ◌<◌, ◌++◌, OnOk, IfOk, string_bytes};
-ghost use Rattle.std.specs.Char.{digit_char};
-ghost use Rattle.sv_types.specs.Output.{hexadecimal, address_text, word_text, notes_line, events_line, retired_line, denied_line, rule_name, rule_places, stop_head, verdict_line, report_lines, line_feed};
+ghost use Rattle.std.specs.Prelude.{◌≡◌, ◌++◌, OnOk, IfOk, string_bytes};
+ghost use Rattle.sv_types.specs.Output.{address_text, word_text, notes_line, events_line, retired_line, denied_line, rule_name, rule_places, stop_head, verdict_line, report_lines, line_feed};
 
 use machine::{Counts, Rule, Verdict};
 use std::alloc::{AllocError, Global};
+use text_numbers::{address_text, word_text};
 
-pub fn hexadecimal_digit(d: u8) -> char
-    requires { d < 16 }
-    ensures { result ≡ digit_char d }
-{
-    if d < 10 {
-        (b'0' + d) as char
-    } else {
-        (b'a' + d - 10) as char
-    }
-}
-
-#[tactic(auto, unfolding(sv_types::specs::Output::hexadecimal))]
-fn push_hexadecimal(text: &mut String, digits: u8, value: u64) -> Result<(), AllocError>
-    ensures { OnOk result (string_bytes text.new ≡ string_bytes text.old ++ hexadecimal digits value) }
-{
-    if digits == 0 {
-        return Ok(());
-    }
-    push_hexadecimal(text, digits - 1, value / 16)?;
-    text.push(hexadecimal_digit((value % 16) as u8))
-}
-
-#[tactic(auto, unfolding(sv_types::specs::Output::address_text))]
-pub fn push_address(text: &mut String, value: u64) -> Result<(), AllocError>
+fn push_address(alloc: Global, text: &mut String, value: u64) -> Result<(), AllocError>
     ensures { OnOk result (string_bytes text.new ≡ string_bytes text.old ++ address_text value) }
 {
-    text.push_str("0x")?;
-    push_hexadecimal(text, 16, value)
+    text.push_str(address_text(alloc, value)?.as_str())
 }
 
-#[tactic(auto, unfolding(sv_types::specs::Output::word_text))]
-fn push_word(text: &mut String, value: u32) -> Result<(), AllocError>
+fn push_word(alloc: Global, text: &mut String, value: u32) -> Result<(), AllocError>
     ensures { OnOk result (string_bytes text.new ≡ string_bytes text.old ++ word_text value) }
 {
-    text.push_str("0x")?;
-    push_hexadecimal(text, 8, value as u64)
+    text.push_str(word_text(alloc, value)?.as_str())
 }
 
 #[tactic(auto, unfolding(sv_types::specs::Output::notes_line))]
@@ -104,29 +78,29 @@ fn rule_name(rule: Rule) -> &'static str
 }
 
 #[tactic(auto, unfolding(sv_types::specs::Output::rule_places))]
-fn push_places(text: &mut String, rule: Rule) -> Result<(), AllocError>
+fn push_places(alloc: Global, text: &mut String, rule: Rule) -> Result<(), AllocError>
     ensures { OnOk result (string_bytes text.new ≡ string_bytes text.old ++ rule_places rule) }
 {
     match rule {
         Rule::Entry { target } => {
             text.push_str(" target ")?;
-            push_address(text, target)
+            push_address(alloc, text, target)
         }
         Rule::Outside { pc } => {
             text.push_str(" pc ")?;
-            push_address(text, pc)
+            push_address(alloc, text, pc)
         }
         Rule::Word { pc, word } => {
             text.push_str(" pc ")?;
-            push_address(text, pc)?;
+            push_address(alloc, text, pc)?;
             text.push_str(" word ")?;
-            push_word(text, word)
+            push_word(alloc, text, word)
         }
         Rule::Write { pc, gpa } => {
             text.push_str(" pc ")?;
-            push_address(text, pc)?;
+            push_address(alloc, text, pc)?;
             text.push_str(" gpa ")?;
-            push_address(text, gpa)
+            push_address(alloc, text, gpa)
         }
     }
 }
@@ -144,7 +118,7 @@ fn stop_line(alloc: Global, rule: Rule, hart: u8, turn: u64) -> Result<String, A
     ensures { IfOk result (λ t. string_bytes t ≡ verdict_line (Verdict.Stopped rule hart turn)) }
 {
     let mut text = stop_head(alloc, rule, hart, turn)?;
-    push_places(&mut text, rule)?;
+    push_places(alloc, &mut text, rule)?;
     text.push_str("\n")?;
     Ok(text)
 }

@@ -1,12 +1,11 @@
 // The words of the command line.
 ghost use Rattle.std.specs.Prelude.{◌≡◌, ◌≤◌, ◌^◌, map, length, IfOk, IsTrue, string_bytes};
 ghost use Rattle.std.specs.List.{list_any};
-ghost use Rattle.sv_types.specs.Numbers.{digest_of};
 ghost use Rattle.secvisor_cli.specs.CommandLine.{has_dash, is_flat};
 ghost use Rattle.secvisor_cli.specs.Words.{AreJudged, IsInRange};
 
 use crate::refusal::{Refusal, Word};
-use text_numbers::number_within;
+use text_numbers::{digest_of, number_within};
 
 const MOST_EVENTS: u64 = 1 << 32;
 
@@ -69,17 +68,5 @@ fn has_dash(word: &str) -> bool
     match word.as_bytes() {
         [first, ..] => *first == b'-',
         [] => false,
-    }
-}
-
-/// The 32 bytes of 64 hexadecimal digits.
-#[tactic(auto, unfolding(sv_types::specs::Numbers::digest_of))]
-fn digest_of(text: &str) -> Option<[u8; 32]>
-    ensures { result ≡ digest_of text.now }
-{
-    let mut digest = [0u8; 32];
-    match hex::decode_to_slice(text.as_bytes(), &mut digest) {
-        Ok(()) => Some(digest),
-        Err(_) => None,
     }
 }
