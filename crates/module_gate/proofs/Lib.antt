@@ -4,3 +4,4 @@ pub mod LoadDecisions
 pub mod ModuleRules
 pub mod PagePieces
 pub mod PagesCounted
+pub mod Retired

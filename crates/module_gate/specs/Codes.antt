@@ -2,6 +2,7 @@
 -- SBI, "Binary Encoding"; -7 is this project's own.
 use Rattle.std.specs.Prelude.{ℕ, ℤ, if◌then◌else◌, List, Option, Some, None, is_some}
 use Rattle.sv_types.specs.Policies.{ModuleRule}
+use Rattle.sv_types.specs.declared.module.Span.{Span}
 use Rattle.sv_types.specs.declared.saved.SavedModule.{SavedModule}
 use Rattle.sv_types.specs.declared.wires.Protection.{Protection}
 use Rattle.reference.specs.Calls.{invalid_parameter, invalid_address, already}
@@ -30,3 +31,8 @@ begin_code gate ram guard about (Some rule) =
 unfoldable pub unload_code : Records → Option SavedModule → Option GateCode
 unload_code gate None = Some Invalid
 unload_code gate (Some about) = if gate.loading then Some UnderWay else None
+
+-- whether the policy's init pages may be retired
+unfoldable pub retire_code : Records → Option Span → Option GateCode
+retire_code gate None = Some Invalid
+retire_code gate (Some span) = if gate.retired then Some Already else None

@@ -3,3 +3,4 @@ pub mod Codes
 pub mod Gates
 pub mod InsideGate
 pub mod InsideLoad
+pub mod Retiring

@@ -6,10 +6,12 @@ ghost use Rattle.sv_types.specs.declared.wires.Protection.TheVariants.{Free, Hel
 ghost use Rattle.reference.specs.States.{find_module, with_module, without_module};
 ghost use Rattle.page_guard.specs.Guarded.{with_span, IsInRam, AllAre, IsTheirs};
 ghost use Rattle.module_gate.specs.Ascending.{AscendsFrom, most_modules};
-ghost use Rattle.module_gate.specs.Codes.{begin_code, unload_code};
+ghost use Rattle.module_gate.specs.Codes.{begin_code, retire_code, unload_code};
+ghost use Rattle.module_gate.specs.Retiring.{init_freed, init_pages};
 ghost use Rattle.module_gate.specs.Gates.{most_module_pages, no_modules, asked, begun, load_span, module_span, AreApproved};
 
 use crate::codes::GateCode;
+use crate::init::free_pages;
 use crate::load::Load;
 use crate::modules::{find_module, place_of, remove_module};
 use crate::rules::{is_place, module_pages, pages_at, rule_of};
@@ -173,6 +175,37 @@ impl Gate {
         guard.unapprove(mem, span);
         remove_module(&mut self.loaded, id);
         Ok(span)
+    }
+
+    /// Retires the init pages: those that are approved and no loaded module's become free. Gives their number. The policy's
+    /// values are within their limits, and RAM has as many pages as it says.
+    #[tactic(auto, unfolding(crate::specs::Codes::retire_code))]
+    pub fn retire(
+        &mut self,
+        guard: &mut Guard,
+        mem: &mut HostMem,
+        policy: &Policy,
+    ) -> Result<u32, GateCode>
+        requires within { IsTrue (rules_within (rules_of policy.now)) }
+        requires pages { length guard.old ≡ policy.now.ram_pages }
+        requires theirs { IsTheirs mem.old guard.old }
+        ensures retires { OnOk result (retire_code self.old policy.now.init ≡ None) }
+        ensures code { IfErr result (λ code. retire_code self.old policy.now.init ≡ Some code) }
+        ensures freed { IfOk result (λ freed. freed ≡ length (init_pages (rules_of policy.now) self.old.loaded guard.old policy.now.init)) }
+        ensures gate { OnOk result (self.new ≡ record self.old { retired = true }) }
+        ensures guard { OnOk result (guard.new ≡ init_freed (rules_of policy.now) self.old.loaded guard.old policy.now.init) }
+        ensures kept { OnErr result ((self.new ≡ self.old) × ((guard.new ≡ guard.old) × (mem.new ≡ mem.old))) }
+        ensures size { length guard.new ≡ length guard.old }
+        ensures theirs { IsTheirs mem.new guard.new }
+        ensures ram { mem.new.ram ≡ mem.old.ram }
+    {
+        let span = match policy.init {
+            None => return Err(GateCode::Invalid),
+            Some(_) if self.retired => return Err(GateCode::Already),
+            Some(span) => span,
+        };
+        self.retired = true;
+        Ok(free_pages(guard, mem, policy, &self.loaded, span))
     }
 
     /// The load under way is over, and gives its room back.

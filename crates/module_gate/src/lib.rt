@@ -3,6 +3,7 @@
 
 mod codes;
 mod gate;
+mod init;
 mod load;
 mod modules;
 mod rules;

@@ -3,6 +3,7 @@
 ghost use Rattle.std.specs.Prelude.{◌≡◌, ◌<◌, ◌^◌, option_map, slice_get};
 ghost use Rattle.sv_types.specs.Bytes.{page_of};
 ghost use Rattle.sv_types.specs.Policies.{rules_of, module_rule};
+ghost use Rattle.reference.specs.States.{pages_in_rule};
 ghost use Rattle.module_gate.specs.Gates.{pages_at, is_place, module_span};
 
 use host_mem::HostMem;
@@ -21,13 +22,30 @@ pub fn rule_of(policy: &Policy, id: u64) -> Option<&ModulePolicy>
     policy.modules.get(id as usize)
 }
 
+/// The number of a module's pages, 0 where the policy has no such module.
+pub fn pages_of(policy: &Policy, id: u64) -> u32
+    ensures { result ≡ pages_in_rule (slice_get (rules_of policy.now).modules id) }
+{
+    match rule_of(policy, id) {
+        Some(rule) => rule.pages,
+        None => 0,
+    }
+}
+
+/// The number of the page of a guest-physical address.
+pub fn page_number(gpa: u64) -> u64
+    ensures { result ≡ page_of gpa }
+{
+    gpa.saturating_sub(RAM_BASE) / PAGE_BYTES
+}
+
 /// So many pages from a guest-physical address on.
 pub fn pages_at(gpa: u64, count: u32) -> Span
     requires { page_of gpa < 2 ^ 32 }
     ensures { result ≡ pages_at gpa count }
 {
     Span {
-        first: (gpa.saturating_sub(RAM_BASE) / PAGE_BYTES) as u32,
+        first: page_number(gpa) as u32,
         count,
     }
 }
@@ -49,9 +67,5 @@ pub fn module_pages(policy: &Policy, about: &SavedModule) -> Span
     requires { page_of about.now.gpa < 2 ^ 32 }
     ensures { result ≡ module_span (rules_of policy.now) about.now }
 {
-    let count = match rule_of(policy, about.id) {
-        Some(rule) => rule.pages,
-        None => 0,
-    };
-    pages_at(about.gpa, count)
+    pages_at(about.gpa, pages_of(policy, about.id))
 }

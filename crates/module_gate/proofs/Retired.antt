@@ -1,0 +1,111 @@
+-- Pages that are freed one after another.
+use Rattle.std.proofs.Common.{◌≡◌, ℕ, zero, suc, ◌+◌, ◌-◌, ◌≤◌, List, [], ◌∷◌, ◌++◌, length, refl, sym, ◌∙◌, ap, Bool, true, false, ◌&&◌, filter, slice_get, slice_set, arith}
+use Rattle.std.specs.Prelude.{Option, Some, None, if◌then◌else◌, ◌==◌, ◌||◌, nat_le, nat_lt}
+use Rattle.std.proofs.lemmas.Bool.{eqb-true, eq-eqb}
+use Rattle.std.proofs.lemmas.Bool.Decides.{nat_tests}
+use Rattle.sv_types.specs.Reference.{numbers_from}
+use Rattle.sv_types.specs.declared.wires.Protection.{Protection}
+use Rattle.sv_types.specs.declared.wires.Protection.TheVariants.{Free, Held, Approved}
+use Rattle.reference.specs.Protections.{or_free, protection_at, freed_one, freed_by, with_pages}
+use Rattle.sv_types.specs.declared.module.Span.{Span}
+use Rattle.reference.specs.States.{has_number}
+use Rattle.machine_model.specs.HostCalls.{is_approved_one}
+use Rattle.page_guard.specs.Guarded.{AllAre, with_span}
+use Rattle.page_guard.proofs.Sets.{get_other}
+use Rattle.page_guard.proofs.Spans.{numbers_more}
+
+-- a page that is behind those that were freed is as it was
+freed_kept : (picks : ℕ → Protection → Bool) (guard : List Protection) (first count k : ℕ) → count ≤ k → slice_get (freed_by picks guard first count) (first + k) ≡ slice_get guard (first + k)
+unfolding freed_by
+freed_kept picks guard first zero k behind = refl
+freed_kept picks guard first (suc count) k behind =
+    by (picks (first + count) (protection_at (freed_by picks guard first count) (first + count))) (freed_kept picks guard first count k (omega (arith, behind)))
+  where
+    by : (b : Bool) → slice_get (freed_by picks guard first count) (first + k) ≡ slice_get guard (first + k)
+        → slice_get (if b then slice_set (freed_by picks guard first count) (first + count) Free else freed_by picks guard first count) (first + k) ≡ slice_get guard (first + k)
+    by true before = get_other (freed_by picks guard first count) (first + count) (first + k) Free (λ same. absurd (omega (arith, behind, same))) ∙ before
+    by false before = before
+
+pub next_as_it_was : (picks : ℕ → Protection → Bool) (guard : List Protection) (first count : ℕ)
+    → protection_at (freed_by picks guard first count) (first + count) ≡ protection_at guard (first + count)
+next_as_it_was picks guard first count = ap or_free (freed_kept picks guard first count count (omega arith))
+
+-- one page more
+pub freed_more : (picks : ℕ → Protection → Bool) (guard : List Protection) (first count : ℕ)
+    → freed_one picks (freed_by picks guard first count) (first + count) ≡ freed_by picks guard first (count + 1)
+unfolding freed_by
+freed_more picks guard first count = let one : count + 1 ≡ suc count = omega arith in rw one refl
+
+filter_length : (test : ℕ → Bool) (xs : List ℕ) (x : ℕ) → length (filter test (xs ++ x ∷ [])) ≡ length (filter test xs) + (if test x then 1 else 0)
+filter_length test [] x = by (test x)
+  where
+    by : (b : Bool) → length (if b then x ∷ [] else []) ≡ 0 + (if b then 1 else 0)
+    by true = refl
+    by false = refl
+filter_length test (y ∷ xs) x = by (test y) (filter_length test xs x)
+  where
+    by : (b : Bool) → length (filter test (xs ++ x ∷ [])) ≡ length (filter test xs) + (if test x then 1 else 0)
+        → length (if b then y ∷ filter test (xs ++ x ∷ []) else filter test (xs ++ x ∷ [])) ≡ length (if b then y ∷ filter test xs else filter test xs) + (if test x then 1 else 0)
+    by true e = omega (arith, e)
+    by false e = e
+
+pub picked_more : (test : ℕ → Bool) (first count : ℕ) → length (filter test (numbers_from first (count + 1))) ≡ length (filter test (numbers_from first count)) + (if test (first + count) then 1 else 0)
+picked_more test first count =
+    let one : count + 1 ≡ suc count = omega arith in
+    ap (λ (n : ℕ). length (filter test (numbers_from first n))) one
+    ∙ ap (λ (ns : List ℕ). length (filter test ns)) (numbers_more first count)
+    ∙ filter_length test (numbers_from first count) (first + count)
+
+-- a number of a span is between its ends
+pub in_numbers : (first count page : ℕ) → has_number (numbers_from first count) page ≡ (nat_le first page && nat_lt (page - first) count)
+in_numbers first zero page = by (nat_le first page) (nat_lt (page - first) 0) refl
+  where
+    by : (a b : Bool) → nat_lt (page - first) 0 ≡ b → false ≡ (a && b)
+    by true true e = absurd (grind (arith, nat_tests))
+    by true false e = refl
+    by false b e = refl
+in_numbers first (suc count) page =
+    ap (λ (b : Bool). first == page || b) (in_numbers (first + 1) count page)
+    ∙ by (first == page) (nat_le (first + 1) page) (nat_lt (page - (first + 1)) count) (nat_le first page) (nat_lt (page - first) (suc count)) refl refl refl refl refl
+  where
+    by : (s a b c d : Bool) → (first == page) ≡ s → nat_le (first + 1) page ≡ a → nat_lt (page - (first + 1)) count ≡ b → nat_le first page ≡ c → nat_lt (page - first) (suc count) ≡ d
+        → (s || (a && b)) ≡ (c && d)
+    by true a b true true e f g h i = refl
+    by true a b false d e f g h i = let same : first ≡ page = eqb-true first page e in absurd (grind (arith, nat_tests))
+    by true a b true false e f g h i = let same : first ≡ page = eqb-true first page e in absurd (grind (arith, nat_tests))
+    by false true true true true e f g h i = refl
+    by false true true false d e f g h i = absurd (grind (arith, nat_tests))
+    by false true true true false e f g h i = absurd (grind (arith, nat_tests))
+    by false true false true true e f g h i = absurd (grind (arith, nat_tests))
+    by false true false true false e f g h i = refl
+    by false true false false d e f g h i = refl
+    by false false b true true e f g h i = let apart : first ≡ page → ⊥ = λ same. let there : (first == page) ≡ true = eq-eqb first page same in cc in absurd (grind (arith, nat_tests, apart))
+    by false false b true false e f g h i = refl
+    by false false b false d e f g h i = refl
+
+-- ---- one page
+
+abbrev pub one_page : ℕ → Span
+one_page page = record { first = page; count = 1 }
+
+approved_is : (o : Option Protection) → is_approved_one (or_free o) ≡ true → o ≡ Some Approved
+approved_is None e = cc
+approved_is (Some Free) e = cc
+approved_is (Some Held) e = cc
+approved_is (Some Approved) e = refl
+
+pub one_approved : (guard : List Protection) (page : ℕ) → is_approved_one (protection_at guard page) ≡ true → AllAre guard (one_page page) Approved
+one_approved guard page approved = record {
+  each = λ i below. let here : page + i ≡ page = omega (arith, below) in ap (λ (k : ℕ). slice_get guard k) here ∙ approved_is (slice_get guard page) approved;
+}
+
+pub one_freed : (guard : List Protection) (page : ℕ) → with_span guard (one_page page) Free ≡ slice_set guard page Free
+unfolding with_pages
+one_freed guard page = let here : page + 0 ≡ page = omega arith in ap (λ (k : ℕ). slice_set guard k Free) here
+
+-- as a test picks the page
+pub freed_where : (picks : ℕ → Protection → Bool) (guard : List Protection) (page : ℕ) → picks page (protection_at guard page) ≡ true → slice_set guard page Free ≡ freed_one picks guard page
+freed_where picks guard page picked = ap (λ (b : Bool). if b then slice_set guard page Free else guard) (sym picked)
+
+pub kept_where : (picks : ℕ → Protection → Bool) (guard : List Protection) (page : ℕ) → picks page (protection_at guard page) ≡ false → guard ≡ freed_one picks guard page
+kept_where picks guard page other = ap (λ (b : Bool). if b then slice_set guard page Free else guard) (sym other)

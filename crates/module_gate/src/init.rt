@@ -1,0 +1,103 @@
+// The kernel's pages among those of the init span.
+
+ghost use Rattle.std.specs.Prelude.{◌≡◌, ◌<◌, ◌≤◌, ◌-◌, ◌&&◌, length, nat_le, nat_lt, if◌then◌else◌};
+ghost use Rattle.sv_types.specs.Policies.{rules_of};
+ghost use Rattle.reference.specs.Protections.{protection_at, freed_one, freed_by};
+ghost use Rattle.reference.specs.States.{has_number, module_pages};
+ghost use Rattle.machine_model.specs.HostCalls.{is_approved_one};
+ghost use Rattle.page_guard.specs.Guarded.{IsTheirs, IsInRam};
+ghost use Rattle.module_gate.specs.Retiring.{is_modules, is_kernels, kernel_pages};
+
+use crate::rules::{page_number, pages_of};
+use host_mem::HostMem;
+use page_guard::Guard;
+use sv_types::{Policy, Protection, SavedModule, Span};
+
+// Whether a page is one of so many from the first one on.
+fn is_between(first: u64, count: u32, page: u32) -> bool
+    ensures { result ≡ (nat_le first page && nat_lt (page - first) count) }
+{
+    first <= page as u64 && page as u64 - first < count as u64
+}
+
+// Whether a page is one of a loaded module.
+fn is_page_of(policy: &Policy, about: &SavedModule, page: u32) -> bool
+    ensures { result ≡ has_number (module_pages (rules_of policy.now) about.now) page }
+{
+    is_between(page_number(about.gpa), pages_of(policy, about.id), page)
+}
+
+// Whether a page is one of the loaded modules'.
+fn is_modules(policy: &Policy, loaded: &[SavedModule], page: u32) -> bool
+    ensures { result ≡ is_modules (rules_of policy.now) loaded.now page }
+{
+    loaded.iter().any(|about| is_page_of(policy, about, page))
+}
+
+// Whether a page is approved and no module's.
+fn is_kernels(guard: &Guard, policy: &Policy, loaded: &[SavedModule], page: u32) -> bool
+    requires { page < length guard.now }
+    ensures { result ≡ is_kernels (rules_of policy.now) loaded.now page (protection_at guard.now page) }
+{
+    is_approved(guard.protection(page)) && !is_modules(policy, loaded, page)
+}
+
+fn is_approved(protection: Protection) -> bool
+    ensures { result ≡ is_approved_one protection }
+{
+    matches!(protection, Protection::Approved)
+}
+
+// Frees a page if it is approved and no module's. Gives the number of pages that were: one, or none.
+fn free_page(
+    guard: &mut Guard,
+    mem: &mut HostMem,
+    policy: &Policy,
+    loaded: &[SavedModule],
+    page: u32,
+) -> u32
+    requires inside { page < length guard.old }
+    requires theirs { IsTheirs mem.old guard.old }
+    ensures freed { result ≡ (if is_kernels (rules_of policy.now) loaded.now page (protection_at guard.old page) then 1 else 0) }
+    ensures one { result ≤ 1 }
+    ensures guard { guard.new ≡ freed_one (is_kernels (rules_of policy.now) loaded.now) guard.old page }
+    ensures size { length guard.new ≡ length guard.old }
+    ensures theirs { IsTheirs mem.new guard.new }
+    ensures ram { mem.new.ram ≡ mem.old.ram }
+{
+    if is_kernels(guard, policy, loaded, page) {
+        guard.unapprove(
+            mem,
+            Span {
+                first: page,
+                count: 1,
+            },
+        );
+        1
+    } else {
+        0
+    }
+}
+
+/// Frees the pages of a span that are approved and no module's. Gives their number.
+pub fn free_pages(
+    guard: &mut Guard,
+    mem: &mut HostMem,
+    policy: &Policy,
+    loaded: &[SavedModule],
+    span: Span,
+) -> u32
+    requires inside { IsInRam guard.old span }
+    requires theirs { IsTheirs mem.old guard.old }
+    ensures freed { result ≡ length (kernel_pages (rules_of policy.now) loaded.now guard.old span) }
+    ensures guard { guard.new ≡ freed_by (is_kernels (rules_of policy.now) loaded.now) guard.old span.first span.count }
+    ensures size { length guard.new ≡ length guard.old }
+    ensures theirs { IsTheirs mem.new guard.new }
+    ensures ram { mem.new.ram ≡ mem.old.ram }
+{
+    let mut freed = 0;
+    'pages: for i in 0..span.count {
+        freed += free_page(guard, mem, policy, loaded, span.first + i);
+    }
+    freed
+}
