@@ -2,7 +2,7 @@
 
 ghost use Rattle.std.specs.Prelude.{◌≡◌, ◌<◌, ◌%◌, true, false, OnOk, OnErr, IfErr};
 ghost use Rattle.sv_types.specs.Policies.{Rules};
-ghost use Rattle.sv_types.specs.Traps.{trap_target};
+ghost use Rattle.sv_types.specs.Traps.{trap_target, mode_at_return};
 ghost use Rattle.sv_types.specs.declared.wires.Mode.{Mode as Privilege};
 ghost use Rattle.sv_types.specs.declared.wires.Mode.TheVariants.{Kernel};
 ghost use Rattle.reference.specs.Trapping.{may_enter};
@@ -73,6 +73,7 @@ fn enter_handler(hart: &mut Hart, from: Mode, trap: Trap)
 pub fn return_from_trap(hart: &mut Hart, side: &mut Side, guard: &Guard)
     requires { side.old ≡ Kernel }
     ensures hart { host_of hart.new side.new ≡ host_at_return (host_of hart.old side.old) }
+    ensures side { side.new ≡ mode_at_return hart.old.csrs.vsstatus }
     ensures id { hart.new.id ≡ hart.old.id }
 {
     let (pc, to) = return_to_guest(&mut hart.csrs);

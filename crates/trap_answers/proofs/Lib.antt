@@ -1,0 +1,4 @@
+pub mod Places
+pub mod Sret
+pub mod Virtual
+pub mod Demotions
