@@ -2,6 +2,8 @@
 #![tactic(auto)]
 
 mod fetches;
+#[cfg(test)]
+mod tests;
 mod traps;
 
 pub use fetches::serve_fetch;
