@@ -5,7 +5,7 @@ use Rattle.std.proofs.lemmas.Bool.{eqb-true}
 use Rattle.std.proofs.lemmas.Bool.Decides.{nat_tests}
 use Rattle.sv_types.specs.Bytes.{page_of}
 use Rattle.sv_types.specs.Policies.{Rules}
-use Rattle.sv_types.specs.Reference.{numbers_from, approved_bytes}
+use Rattle.sv_types.specs.ApprovedPages.{numbers_from, approved_bytes}
 use Rattle.sv_types.specs.declared.module.Span.{Span}
 use Rattle.sv_types.specs.declared.wires.Protection.{Protection}
 use Rattle.sv_types.specs.declared.wires.Protection.TheVariants.{Free, Held, Approved}

@@ -3,7 +3,7 @@ use Rattle.std.proofs.Common.{◌≡◌, ℕ, zero, suc, ◌+◌, ◌<◌, List,
 use Rattle.std.specs.Prelude.{Some, None, if◌then◌else◌}
 use Rattle.std.proofs.lemmas.Bool.Decides.{nat_tests}
 use Rattle.sv_types.specs.Bytes.{ram_place, page_of}
-use Rattle.sv_types.specs.Reference.{numbers_from}
+use Rattle.sv_types.specs.ApprovedPages.{numbers_from}
 use Rattle.sv_types.specs.SecondStage.{AreViews, IsView, page_in_ram, view_permits, view_answer, view_hgatp}
 use Rattle.sv_types.specs.declared.wires.Access.{Access}
 use Rattle.sv_types.specs.declared.wires.Protection.{Protection}

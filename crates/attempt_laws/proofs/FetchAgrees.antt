@@ -6,7 +6,7 @@ use Rattle.sv_types.specs.Hardware.{Attempted, with_region, raise}
 use Rattle.sv_types.specs.HardwareAttempt.{after_fetch, after_word}
 use Rattle.sv_types.specs.HardwareMemory.{place_or_exception, fault_exception, implicit_read, translated}
 use Rattle.sv_types.specs.HypervisorRegisters.{HypervisorRegisters}
-use Rattle.sv_types.specs.Reference.{approved_bytes}
+use Rattle.sv_types.specs.ApprovedPages.{approved_bytes}
 use Rattle.sv_types.specs.Regions.{host_word}
 use Rattle.sv_types.specs.SecondStage.{place_through, view_answer}
 use Rattle.sv_types.specs.Translation.{Destination, At, PageFault, Unreadable, place, entry_in_ram}

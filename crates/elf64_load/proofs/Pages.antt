@@ -10,7 +10,7 @@ use Rattle.std.proofs.Math.ListN.{drop_of_length-le}
 use Rattle.elf64_sections.proofs.Numbers.{numbers-suc}
 use Rattle.sv_types.specs.Bytes.{part}
 use Rattle.sv_types.specs.Kernel.{header_at, is_loaded, loaded_among, table_place}
-use Rattle.sv_types.specs.Reference.{numbers_from}
+use Rattle.sv_types.specs.ApprovedPages.{numbers_from}
 use Rattle.sv_types.specs.declared.kernel.ProgramHeader.{ProgramHeader}
 use Rattle.sv_types.proofs.ByteLemmas.{lt_or_le}
 

@@ -2,7 +2,7 @@
 use Rattle.std.specs.Prelude.{ℕ, ◌*◌, ◌+◌, ◌/◌, Bool, true, false, List, [], ◌∷◌, length, flat_map, ◌==◌, if◌then◌else◌, Option, Some, None, slice_get}
 use Rattle.sv_types.specs.Bytes.{word}
 use Rattle.sv_types.specs.Effects.{plus}
-use Rattle.sv_types.specs.Reference.{numbers_from}
+use Rattle.sv_types.specs.ApprovedPages.{numbers_from}
 use Rattle.elf64_sections.specs.Sections.{section_bytes}
 use Rattle.elf64_sections.specs.declared.sections.SectionHeader.{SectionHeader}
 use Rattle.elf64_reloc.specs.declared.layout.PlacedSection.{PlacedSection}

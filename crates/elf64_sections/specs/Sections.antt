@@ -4,7 +4,7 @@ use Rattle.std.specs.List.{position_or_len}
 use Rattle.std.specs.Str.{is_utf8}
 use Rattle.sv_types.specs.Bytes.{word, part}
 use Rattle.sv_types.specs.Policies.{is_between}
-use Rattle.sv_types.specs.Reference.{numbers_from}
+use Rattle.sv_types.specs.ApprovedPages.{numbers_from}
 use Rattle.elf64_sections.specs.declared.sections.SectionHeader.{SectionHeader}
 use Rattle.elf64_sections.specs.declared.tables.Symbol.{Symbol}
 

@@ -48,7 +48,7 @@ impl Journal {
         Ok(Journal {
             printed,
             notes,
-            counts: no_counts(),
+            counts: Counts::default(),
             verdict: Verdict::Running,
         })
     }
@@ -284,27 +284,5 @@ impl Journal {
             self.notes.push_reserved(note);
         }
         self.counts.notes += 1;
-    }
-}
-
-fn no_counts() -> Counts
-    ensures { result ≡ no_counts }
-{
-    Counts {
-        turns: 0,
-        beats: 0,
-        keys: 0,
-        ticks: 0,
-        retired: 0,
-        traps: 0,
-        enters: 0,
-        leaves: 0,
-        demotes: 0,
-        denied: 0,
-        dropped: 0,
-        loads: 0,
-        unloads: 0,
-        refused: 0,
-        notes: 0,
     }
 }

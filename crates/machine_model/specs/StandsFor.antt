@@ -7,7 +7,7 @@ use Rattle.sv_types.specs.Hardware.{Core}
 use Rattle.sv_types.specs.HypervisorRegisters.{HypervisorRegisters}
 use Rattle.sv_types.specs.Measure.{page_digests}
 use Rattle.sv_types.specs.Policies.{Rules, ModuleRule}
-use Rattle.sv_types.specs.Reference.{numbers_from}
+use Rattle.sv_types.specs.ApprovedPages.{numbers_from}
 use Rattle.sv_types.specs.Regions.{IsRegion}
 use Rattle.sv_types.specs.SecondStage.{AreViews, view_hgatp, with_ram}
 use Rattle.sv_types.specs.declared.wires.HRegs.{HRegs}

@@ -3,7 +3,7 @@ use Rattle.std.proofs.Common.{◌≡◌, ℕ, zero, suc, ◌+◌, ◌-◌, ◌�
 use Rattle.std.specs.Prelude.{Option, Some, None, if◌then◌else◌, ◌==◌, ◌||◌, nat_le, nat_lt}
 use Rattle.std.proofs.lemmas.Bool.{eqb-true, eq-eqb}
 use Rattle.std.proofs.lemmas.Bool.Decides.{nat_tests}
-use Rattle.sv_types.specs.Reference.{numbers_from}
+use Rattle.sv_types.specs.ApprovedPages.{numbers_from}
 use Rattle.sv_types.specs.declared.wires.Protection.{Protection}
 use Rattle.sv_types.specs.declared.wires.Protection.TheVariants.{Free, Held, Approved}
 use Rattle.reference.specs.Protections.{or_free, protection_at, freed_one, freed_by, with_pages}

@@ -3,7 +3,7 @@ use Rattle.std.specs.Prelude.{◌≡◌, ℕ, ◌*◌, ◌%◌, ◌&&◌, Bool, 
 use Rattle.std.specs.List.{list_all}
 use Rattle.sv_types.specs.Bytes.{page_size, page_of, in_ram}
 use Rattle.sv_types.specs.Policies.{Rules, ModuleRule}
-use Rattle.sv_types.specs.Reference.{numbers_from}
+use Rattle.sv_types.specs.ApprovedPages.{numbers_from}
 use Rattle.sv_types.specs.declared.module.Span.{Span}
 use Rattle.sv_types.specs.declared.saved.SavedModule.{SavedModule}
 use Rattle.sv_types.specs.declared.wires.Protection.{Protection}

@@ -7,7 +7,7 @@ use Rattle.std.proofs.lemmas.List.{length-set, length-replicate}
 use Rattle.std.proofs.lemmas.Option.{slice_get_read}
 use Rattle.std.proofs.lemmas.List.Folds.{find-append}
 use Rattle.sv_types.specs.Bytes.{page_size}
-use Rattle.sv_types.specs.Reference.{numbers_from}
+use Rattle.sv_types.specs.ApprovedPages.{numbers_from}
 use Rattle.sv_types.specs.Regions.{Region}
 use Rattle.sv_types.specs.SecondStage.{AreViews, all_free}
 use Rattle.gstage_tables.specs.Layout.{HoldsTrees}

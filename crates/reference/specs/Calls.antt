@@ -8,7 +8,7 @@ use Rattle.sv_types.specs.Bits.{bit}
 use Rattle.sv_types.specs.Clock.{with_timer, latest}
 use Rattle.sv_types.specs.Console.{console_line, without_first}
 use Rattle.sv_types.specs.Effects.{register, set_register, next_pc}
-use Rattle.sv_types.specs.Reference.{numbers_from}
+use Rattle.sv_types.specs.ApprovedPages.{numbers_from}
 use Rattle.sv_types.specs.Registers.{Supervisor}
 use Rattle.sv_types.specs.declared.wires.Mode.TheVariants.{Kernel}
 use Rattle.sv_types.specs.declared.event.Verdict.TheVariants.{Shutdown}

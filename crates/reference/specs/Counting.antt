@@ -1,5 +1,5 @@
 -- What the machine records: counts, notes, printed bytes and the verdict. This project's own.
-use Rattle.std.specs.Prelude.{ℕ, ◌+◌, ◌%◌, [], ◌∷◌, ◌++◌, take}
+use Rattle.std.specs.Prelude.{ℕ, ◌+◌, ◌-◌, ◌^◌, ◌%◌, ◌<◌, ◌≤◌, [], ◌∷◌, ◌++◌, take}
 use Rattle.sv_types.specs.declared.event.Counts.{Counts}
 use Rattle.sv_types.specs.declared.wires.Mode.{Mode}
 use Rattle.sv_types.specs.declared.wires.Mode.TheVariants.{Kernel, User}
@@ -53,6 +53,40 @@ count_unload c = record c { unloads = c.unloads + 1 }
 
 abbrev pub count_refused : Counts → Counts
 count_refused c = record c { refused = c.refused + 1 }
+
+-- ---- how high the counts are
+
+-- every count is at most n
+pub record CountsAtMost (n : ℕ) (c : Counts) : Type 0 where
+  pub turns : c.turns ≤ n
+  pub beats : c.beats ≤ n
+  pub keys : c.keys ≤ n
+  pub ticks : c.ticks ≤ n
+  pub retired : c.retired ≤ n
+  pub traps : c.traps ≤ n
+  pub enters : c.enters ≤ n
+  pub leaves : c.leaves ≤ n
+  pub demotes : c.demotes ≤ n
+  pub denied : c.denied ≤ n
+  pub dropped : c.dropped ≤ n
+  pub loads : c.loads ≤ n
+  pub unloads : c.unloads ≤ n
+  pub refused : c.refused ≤ n
+  pub notes : c.notes ≤ n
+
+-- what happens within an event can be counted: all counts but those of the events are below the end of their type
+pub record MayCount (c : Counts) : Type 0 where
+  pub retired : c.retired < 2 ^ 64 - 1
+  pub traps : c.traps < 2 ^ 64 - 1
+  pub enters : c.enters < 2 ^ 64 - 1
+  pub leaves : c.leaves < 2 ^ 64 - 1
+  pub demotes : c.demotes < 2 ^ 64 - 1
+  pub denied : c.denied < 2 ^ 64 - 1
+  pub dropped : c.dropped < 2 ^ 64 - 1
+  pub loads : c.loads < 2 ^ 64 - 1
+  pub unloads : c.unloads < 2 ^ 64 - 1
+  pub refused : c.refused < 2 ^ 64 - 1
+  pub notes : c.notes < 2 ^ 64 - 1
 
 -- ---- the journal
 

@@ -4,7 +4,7 @@ use Rattle.std.specs.Prelude.{ℕ, ◌*◌, ◌%◌, Bool, true, not, ◌&&◌, 
 use Rattle.std.specs.List.{list_any}
 use Rattle.sv_types.specs.Bytes.{page_size, page_of, in_ram}
 use Rattle.sv_types.specs.Policies.{ModuleRule}
-use Rattle.sv_types.specs.Reference.{numbers_from}
+use Rattle.sv_types.specs.ApprovedPages.{numbers_from}
 use Rattle.sv_types.specs.declared.event.Counts.{Counts}
 use Rattle.sv_types.specs.declared.module.Span.{Span}
 use Rattle.sv_types.specs.declared.event.Note.{Note}

@@ -2,7 +2,7 @@
 use Rattle.std.specs.Prelude.{◌≡◌, ℕ, ◌%◌, ◌<◌, ◌≤◌, ◌⊎◌, Bool, true, false, not, ◌&&◌, List, [], ◌∷◌, Option, Some, None, slice_get, length}
 use Rattle.sv_types.specs.Bytes.{page_size, ram_place, ram_base}
 use Rattle.sv_types.specs.Policies.{Rules}
-use Rattle.sv_types.specs.Reference.{ApprovedPage, approved_bytes}
+use Rattle.sv_types.specs.ApprovedPages.{ApprovedPage, approved_bytes}
 use Rattle.sv_types.specs.declared.module.Span.{Span}
 use Rattle.sv_types.specs.declared.saved.SavedModule.{SavedModule}
 use Rattle.reference.specs.Loads.{is_good}

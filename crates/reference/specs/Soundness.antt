@@ -2,7 +2,7 @@
 use Rattle.std.specs.Prelude.{◌≡◌, ℕ, ◌+◌, ◌*◌, ◌%◌, ◌^◌, ◌<◌, ◌≤◌, true, false, List, [], length, Option, Some, None, slice_get, IsTrue}
 use Rattle.sv_types.specs.Bytes.{page_size, page_bytes, ram_place, ram_base}
 use Rattle.sv_types.specs.Policies.{Rules, rules_within}
-use Rattle.sv_types.specs.Reference.{ApprovedPage, approved_bytes}
+use Rattle.sv_types.specs.ApprovedPages.{ApprovedPage, approved_bytes}
 use Rattle.sv_types.specs.Registers.{IsLegalSupervisor}
 use Rattle.sv_types.specs.declared.saved.SavedModule.{SavedModule}
 use Rattle.sv_types.specs.declared.wires.Mode.TheVariants.{Kernel}

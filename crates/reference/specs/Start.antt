@@ -5,7 +5,7 @@ use Rattle.sv_types.specs.Bytes.{padded, page_size, ram_base}
 use Rattle.sv_types.specs.Clock.{clock_at_boot}
 use Rattle.sv_types.specs.Kernel.{header_entry, kernel_refusal, kernel_segments, segments_ram, text_pages}
 use Rattle.sv_types.specs.Policies.{Rules, rules_within}
-use Rattle.sv_types.specs.Reference.{approved_pages, numbers_from}
+use Rattle.sv_types.specs.ApprovedPages.{approved_pages, numbers_from}
 use Rattle.sv_types.specs.declared.event.Verdict.TheVariants.{Running}
 use Rattle.sv_types.specs.declared.saved.BlockState.{BlockState}
 use Rattle.reference.specs.States.{State, Hart, has_number}

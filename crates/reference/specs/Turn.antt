@@ -5,7 +5,7 @@ use Rattle.std.specs.Prelude.{ℕ, List, ◌==◌, if◌then◌else◌, Option, 
 use Rattle.sv_types.specs.Bytes.{word, in_ram, ram_place, page_of, place_in_page}
 use Rattle.sv_types.specs.Effects.{effect_of, set_register}
 use Rattle.sv_types.specs.Instructions.{instruction_of}
-use Rattle.sv_types.specs.Reference.{ApprovedPage, approved_bytes}
+use Rattle.sv_types.specs.ApprovedPages.{ApprovedPage, approved_bytes}
 use Rattle.sv_types.specs.Translation.{Destination, At, PageFault, Unreadable, Settings, place}
 use Rattle.sv_types.specs.Traps.{deliverable}
 use Rattle.sv_types.specs.declared.cause.Cause.{Cause}

@@ -2,7 +2,7 @@
 use Rattle.std.specs.Prelude.{◌≡◌, ℕ, List, [], ◌∷◌, ◌++◌, map, replicate, Option, Some, None, ℤ, pos, negsuc, Bool, true, false}
 use Rattle.sv_types.specs.Bytes.{padded}
 use Rattle.sv_types.specs.Policies.{Rules, ModuleRule}
-use Rattle.sv_types.specs.Reference.{ApprovedPage, approved_pages}
+use Rattle.sv_types.specs.ApprovedPages.{ApprovedPage, approved_pages}
 use Rattle.sv_types.specs.declared.event.Event.TheVariants.{Turn, Beat}
 use Rattle.sv_types.specs.declared.event.Note.TheVariants.{Demote, Denied, Load, Unload, Retire}
 use Rattle.sv_types.specs.declared.module.Bases.{Bases}

@@ -5,7 +5,7 @@ use Rattle.std.specs.Prelude.{Option, Some, None, if◌then◌else◌, is_some, 
 use Rattle.std.proofs.lemmas.Bool.{eqb-true}
 use Rattle.std.proofs.lemmas.Bool.Decides.{nat_tests}
 use Rattle.sv_types.specs.Bytes.{page_bytes, part}
-use Rattle.sv_types.specs.Reference.{ApprovedPage, numbers_from, approved_pages, approved_bytes}
+use Rattle.sv_types.specs.ApprovedPages.{ApprovedPage, numbers_from, approved_pages, approved_bytes}
 use Rattle.sv_types.specs.declared.saved.SavedModule.{SavedModule}
 use Rattle.reference.specs.Origins.{AllAbove, Ascends}
 use Rattle.reference.specs.States.{has_number, without_pages, find_module, with_module, without_module, State, is_protected, is_approved_in}

@@ -9,7 +9,7 @@ use Rattle.std.proofs.lemmas.Bool.Decides.{nat_tests}
 use Rattle.std.proofs.lemmas.Option.{slice_get_within}
 use Rattle.sv_types.specs.Bytes.{page_bytes, page_size, page_of, ram_base, ram_place, in_ram}
 use Rattle.sv_types.specs.Policies.{Rules, ModuleRule}
-use Rattle.sv_types.specs.Reference.{ApprovedPage, numbers_from, approved_pages, approved_bytes}
+use Rattle.sv_types.specs.ApprovedPages.{ApprovedPage, numbers_from, approved_pages, approved_bytes}
 use Rattle.sv_types.specs.declared.module.Span.{Span}
 use Rattle.sv_types.specs.declared.saved.SavedModule.{SavedModule}
 use Rattle.reference.specs.States.{State, Loading, is_approved_in, is_protected, has_number, find_module, with_module, without_module, without_pages, module_pages, pages_in_rule}

@@ -4,7 +4,7 @@ use Rattle.std.proofs.Common.{sym, ◌≡◌, ℕ, zero, suc, ◌+◌, ◌*◌, 
 use Rattle.std.specs.Prelude.{Option, Some, None, option_map, if◌then◌else◌}
 use Rattle.sv_types.specs.Bytes.{overwrite, part, page_size, ram_place, page_of}
 use Rattle.sv_types.specs.Policies.{Rules, ModuleRule}
-use Rattle.sv_types.specs.Reference.{ApprovedPage, approved_bytes}
+use Rattle.sv_types.specs.ApprovedPages.{ApprovedPage, approved_bytes}
 use Rattle.sv_types.proofs.ByteLemmas.{length_overwrite, page_elsewhere, part_before, part_after, lt_or_le}
 use Rattle.sv_types.specs.declared.saved.SavedModule.{SavedModule}
 use Rattle.reference.specs.States.{State, Hart, Loading, Devices, Journal, is_approved_in, has_number, find_module, module_pages, pages_in_rule}

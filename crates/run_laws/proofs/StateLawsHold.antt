@@ -5,7 +5,7 @@ use Rattle.sv_types.specs.Boot.{flat_ram_pages}
 use Rattle.sv_types.specs.Bytes.{padded, page_bytes, page_size, ram_base}
 use Rattle.sv_types.specs.Kernel.{header_entry, kernel_segments, segments_ram, text_pages}
 use Rattle.sv_types.specs.Policies.{Rules}
-use Rattle.sv_types.specs.Reference.{approved_bytes, numbers_from}
+use Rattle.sv_types.specs.ApprovedPages.{approved_bytes, numbers_from}
 use Rattle.sv_types.specs.declared.event.Event.{Event}
 use Rattle.sv_types.specs.declared.saved.SavedModule.{SavedModule}
 use Rattle.reference.specs.Origins.{IsPageOf, IsOwned, TextStays, is_kernel_text, ownership}

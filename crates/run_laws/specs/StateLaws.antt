@@ -1,7 +1,7 @@
 -- Two laws of the reference machine alone, for each state that a run reaches from a start. This project's own.
 use Rattle.std.specs.Prelude.{◌≡◌, ℕ, ◌<◌, ◌⊎◌, true, false, List, [], length, Option, Some, None, slice_get}
 use Rattle.sv_types.specs.Bytes.{page_bytes}
-use Rattle.sv_types.specs.Reference.{approved_bytes}
+use Rattle.sv_types.specs.ApprovedPages.{approved_bytes}
 use Rattle.sv_types.specs.declared.event.Event.{Event}
 use Rattle.sv_types.specs.declared.saved.SavedModule.{SavedModule}
 use Rattle.reference.specs.Loads.{is_good}

@@ -3,11 +3,11 @@ use Rattle.std.proofs.Common.{◌≡◌, ◌≢◌, ℕ, zero, suc, ◌+◌, ◌
 use Rattle.std.proofs.lemmas.List.{append-nil}
 use Rattle.sv_types.specs.declared.event.Event.{Event}
 use Rattle.sv_types.specs.declared.event.Counts.{Counts}
-use Rattle.sv_types.specs.declared.event.Verdict.TheVariants.{Running}
-use Rattle.sv_types.specs.Reference.{State}
-use Rattle.sv_types.specs.Run.{run, step, CountsAtMost}
+use Rattle.thin_machine.specs.declared.event.Verdict.TheVariants.{Running}
+use Rattle.thin_machine.specs.States.{State}
+use Rattle.thin_machine.specs.Run.{run, step, CountsAtMost}
 use Rattle.sv_types.specs.Schedule.{Schedule, first_events, next_event, after_event, begun_with}
-use Rattle.sv_types.proofs.RunLemmas.{run-append, run-ended}
+use Rattle.thin_machine.proofs.RunLemmas.{run-append, run-ended}
 use Rattle.outside.specs.Outside.{SinkState, after_taking, BreaksOff}
 use Rattle.outside.proofs.SinkLemmas.{after_taking-append, after_taking-nil}
 use Rattle.secvisor_cli.specs.Standing.{Stands}

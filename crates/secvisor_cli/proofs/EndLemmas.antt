@@ -2,13 +2,14 @@
 use Rattle.std.proofs.Common.{◌≡◌, ℕ, List, [], ◌++◌, ◌<◌, length, refl, sym, ◌∙◌, ap, subst, append_assoc, inl, inr, Result, Ok, Err, IsErrOf, IsTrue}
 use Rattle.std.proofs.lemmas.List.{append-nil}
 use Rattle.sv_types.specs.declared.event.Event.{Event}
-use Rattle.sv_types.specs.declared.event.Verdict.{Verdict}
-use Rattle.sv_types.specs.declared.event.Verdict.TheVariants.{Running, Shutdown, Stopped}
+use Rattle.thin_machine.specs.declared.event.Verdict.{Verdict}
+use Rattle.thin_machine.specs.declared.event.Verdict.TheVariants.{Running, Shutdown, Stopped}
 use Rattle.sv_types.specs.declared.status.Status.{Status}
-use Rattle.sv_types.specs.Reference.{State}
-use Rattle.sv_types.specs.Run.{run, with_printed}
-use Rattle.sv_types.specs.Output.{output, report_lines, run_status, line_feed}
-use Rattle.sv_types.proofs.RunLemmas.{run-with_printed, run-append}
+use Rattle.thin_machine.specs.States.{State}
+use Rattle.thin_machine.specs.Run.{run, with_printed}
+use Rattle.sv_types.specs.Output.{line_feed}
+use Rattle.thin_machine.specs.Output.{output, report_lines, run_status}
+use Rattle.thin_machine.proofs.RunLemmas.{run-with_printed, run-append}
 use Rattle.outside.specs.Outside.{SinkState, after_taking, TookPrefix, BreaksOff}
 use Rattle.outside.proofs.SinkLemmas.{after_taking-append, prefix_behind, prefix_of_front, prefix_same, breaks_behind}
 use Rattle.secvisor_cli.specs.declared.trouble.Trouble.{Trouble}

@@ -3,13 +3,14 @@ use Rattle.std.proofs.Common.{◌≡◌, ◌≢◌, ℕ, List, [], true, false, 
 use Rattle.std.specs.Str.{bytes_eq}
 use Rattle.std.proofs.lemmas.Slice.Eq.{bytes_eq-Decides}
 use Rattle.sv_types.specs.declared.event.Event.{Event}
-use Rattle.sv_types.specs.Reference.{State}
-use Rattle.sv_types.specs.Run.{CountsAtMost}
+use Rattle.thin_machine.specs.States.{State}
+use Rattle.thin_machine.specs.Run.{CountsAtMost}
 use Rattle.sv_types.specs.Measure.{measure}
-use Rattle.sv_types.specs.Boot.{flat_start, boot_state, no_counts}
+use Rattle.sv_types.specs.Boot.{no_counts}
+use Rattle.thin_machine.specs.Start.{flat_start, boot_state}
 use Rattle.outside.specs.Outside.{FilesState}
-use Rattle.machine.specs.declared.boot.BootRefusal.{BootRefusal}
-use Rattle.machine.specs.Boot.{RefusesFlat}
+use Rattle.thin_machine.specs.declared.boot.BootRefusal.{BootRefusal}
+use Rattle.thin_machine.specs.Boot.{RefusesFlat}
 use Rattle.secvisor_cli.specs.declared.refusal.Part.{Part}
 use Rattle.secvisor_cli.specs.declared.refusal.Refusal.{Refusal}
 use Rattle.secvisor_cli.specs.declared.refusal.Refusal.TheVariants.{ReadFault, File, Measure}

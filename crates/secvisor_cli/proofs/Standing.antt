@@ -1,11 +1,12 @@
 -- What follows where a machine stands for a state. The other proofs use no more of it than this.
 use Rattle.std.proofs.Common.{◌≡◌, ◌≤◌, ◌+◌, ℕ, List, [], ◌++◌, length, refl, sym, ◌∙◌, ap, subst, append_assoc}
 use Rattle.sv_types.specs.declared.event.Event.{Event}
-use Rattle.sv_types.specs.Reference.{State}
-use Rattle.sv_types.specs.Run.{step, with_printed, CountsAtMost}
-use Rattle.sv_types.specs.Output.{output, report_lines, line_feed}
-use Rattle.sv_types.proofs.Growth.{step-grows}
-use Rattle.sv_types.proofs.RunLemmas.{step-with_printed}
+use Rattle.thin_machine.specs.States.{State}
+use Rattle.thin_machine.specs.Run.{step, with_printed, CountsAtMost}
+use Rattle.sv_types.specs.Output.{line_feed}
+use Rattle.thin_machine.specs.Output.{output, report_lines}
+use Rattle.thin_machine.proofs.Growth.{step-grows}
+use Rattle.thin_machine.proofs.RunLemmas.{step-with_printed}
 use Rattle.secvisor_cli.specs.Standing.{Stands, TakesAway}
 
 pub stands_itself : (m : State) → Stands m [] m

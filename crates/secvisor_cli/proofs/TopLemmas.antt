@@ -4,14 +4,14 @@ use Rattle.std.specs.Result.{is_ok}
 use Rattle.std.specs.List.{list_any}
 use Rattle.std.specs.Str.{bytes_eq}
 use Rattle.sv_types.specs.declared.event.Event.{Event}
-use Rattle.sv_types.specs.declared.event.Verdict.{Verdict}
-use Rattle.sv_types.specs.declared.event.Verdict.TheVariants.{Running, Shutdown, Stopped}
+use Rattle.thin_machine.specs.declared.event.Verdict.{Verdict}
+use Rattle.thin_machine.specs.declared.event.Verdict.TheVariants.{Running, Shutdown, Stopped}
 use Rattle.sv_types.specs.declared.status.Status.{Status}
-use Rattle.sv_types.specs.Boot.{flat_start}
+use Rattle.thin_machine.specs.Start.{flat_start}
 use Rattle.sv_types.specs.Measure.{measure}
-use Rattle.sv_types.specs.Output.{run_status}
-use Rattle.sv_types.specs.Reference.{State}
-use Rattle.sv_types.specs.Run.{run}
+use Rattle.thin_machine.specs.Output.{run_status}
+use Rattle.thin_machine.specs.States.{State}
+use Rattle.thin_machine.specs.Run.{run}
 use Rattle.sv_types.specs.Schedule.{first_events}
 use Rattle.outside.specs.Outside.{FilesState, SinkState}
 use Rattle.outside.proofs.SinkLemmas.{prefix_none}

@@ -1,8 +1,8 @@
 -- A run and its console, while it goes on.
 use Rattle.std.specs.Prelude.{◌≡◌, ℕ, List, ◌++◌, length}
 use Rattle.sv_types.specs.declared.event.Event.{Event}
-use Rattle.sv_types.specs.Reference.{State}
-use Rattle.sv_types.specs.Run.{run}
+use Rattle.thin_machine.specs.States.{State}
+use Rattle.thin_machine.specs.Run.{run}
 use Rattle.outside.specs.Outside.{SinkState, after_taking, BreaksOff}
 use Rattle.secvisor_cli.specs.Standing.{Stands, TakesAway}
 

@@ -5,11 +5,12 @@ use Rattle.std.specs.Str.{bytes_eq}
 use Rattle.sv_types.specs.declared.event.Event.{Event}
 use Rattle.sv_types.specs.declared.status.Status.{Status}
 use Rattle.sv_types.specs.Bytes.{page_size}
-use Rattle.sv_types.specs.Boot.{flat_start, flat_ram_pages}
+use Rattle.sv_types.specs.Boot.{flat_ram_pages}
+use Rattle.thin_machine.specs.Start.{flat_start}
 use Rattle.sv_types.specs.Measure.{measure}
-use Rattle.sv_types.specs.Output.{output, run_status}
-use Rattle.sv_types.specs.Reference.{State}
-use Rattle.sv_types.specs.Run.{run}
+use Rattle.thin_machine.specs.Output.{output, run_status}
+use Rattle.thin_machine.specs.States.{State}
+use Rattle.thin_machine.specs.Run.{run}
 use Rattle.sv_types.specs.Schedule.{Schedule, first_events}
 use Rattle.secvisor_cli.specs.declared.refusal.Part.{Part}
 use Rattle.secvisor_cli.specs.declared.refusal.Refusal.{Refusal}

@@ -1,10 +1,10 @@
 -- What is made ready of a command, before anything is written.
 use Rattle.std.specs.Prelude.{◌≡◌, ◌≤◌, ◌^◌, ℕ, List, [], IsTrue, Option, Some, None, Result, Ok, Err, IsErrOf, Vec}
 use Rattle.std.specs.declared.alloc.Global.{Global}
-use Rattle.sv_types.specs.Run.{CountsAtMost}
+use Rattle.thin_machine.specs.Run.{CountsAtMost}
 use Rattle.sv_types.specs.Schedule.{first_events}
 use Rattle.outside.specs.Outside.{FilesState, after_asking}
-use Rattle.machine.specs.declared.boot.BootRefusal.{BootRefusal}
+use Rattle.thin_machine.specs.declared.boot.BootRefusal.{BootRefusal}
 use Rattle.secvisor_cli.specs.declared.refusal.Part.{Part}
 use Rattle.secvisor_cli.specs.declared.refusal.Refusal.{Refusal}
 use Rattle.secvisor_cli.specs.declared.refusal.Refusal.TheVariants.{ReadFault, File}

@@ -1,7 +1,7 @@
 -- What a machine is to a state of the reference machine. Only this file looks inside a machine.
 use Rattle.std.specs.Prelude.{◌≡◌, ℕ, List}
-use Rattle.sv_types.specs.Reference.{State}
-use Rattle.sv_types.specs.Run.{with_printed}
+use Rattle.thin_machine.specs.States.{State}
+use Rattle.thin_machine.specs.Run.{with_printed}
 
 -- the machine stands for this state, and these bytes of its console were taken away
 unfoldable pub Stands : (machine : State) → (cleared : List ℕ) → (state : State) → Type 0

@@ -1,8 +1,8 @@
 // The answer to the words.
 ghost use Rattle.std.specs.Prelude.{◌≡◌, ◌<◌, ◌≤◌, ◌-◌, ◌^◌, ◌⊎◌, ℕ, List, Option, [], map, string_bytes, Ok, IsTrue, IsErrOf, false};
 ghost use Rattle.std.specs.Result.{is_ok};
-ghost use Rattle.sv_types.specs.Output.{output, run_status};
-ghost use Rattle.sv_types.specs.Run.{CountsAtMost, run};
+ghost use Rattle.thin_machine.specs.Output.{output, run_status};
+ghost use Rattle.thin_machine.specs.Run.{CountsAtMost, run};
 ghost use Rattle.sv_types.specs.Schedule.{first_events};
 ghost use Rattle.secvisor_cli.specs.Refusals.{refusal_line, refusal_status, takes_memory};
 ghost use Rattle.secvisor_cli.specs.CommandLine.{judged};
@@ -19,12 +19,12 @@ use crate::report::report;
 use crate::run::run;
 use crate::trouble::Trouble;
 use crate::words::{Command, judge};
-use machine::{Machine, Verdict};
 use outside::{Files, Sink, write_all};
 use script::Script;
 use std::alloc::Global;
 use std::thread::Threads;
 use sv_types::Status;
+use thin_machine::{Machine, Verdict};
 
 /// What a run leaves behind: the machine, where one was booted.
 #[derive(Drop)]

@@ -1,10 +1,11 @@
 // The lines of a report.
 ghost use Rattle.std.specs.Prelude.{◌≡◌, ◌++◌, OnOk, IfOk, string_bytes};
-ghost use Rattle.sv_types.specs.Output.{address_text, word_text, notes_line, events_line, retired_line, denied_line, rule_name, rule_places, stop_head, verdict_line, report_lines, line_feed};
+ghost use Rattle.sv_types.specs.Output.{address_text, word_text, notes_line, events_line, retired_line, denied_line, line_feed};
+ghost use Rattle.thin_machine.specs.Output.{rule_name, rule_places, stop_head, verdict_line, report_lines};
 
-use machine::{Counts, Rule, Verdict};
 use std::alloc::{AllocError, Global};
 use text_numbers::{address_text, word_text};
+use thin_machine::{Counts, Rule, Verdict};
 
 fn push_address(alloc: Global, text: &mut String, value: u64) -> Result<(), AllocError>
     ensures { OnOk result (string_bytes text.new ≡ string_bytes text.old ++ address_text value) }
@@ -65,7 +66,7 @@ fn denied_line(alloc: Global, c: &Counts) -> Result<String, AllocError>
     )
 }
 
-#[tactic(auto, unfolding(sv_types::specs::Output::rule_name))]
+#[tactic(auto, unfolding(thin_machine::specs::Output::rule_name))]
 fn rule_name(rule: Rule) -> &'static str
     ensures { result.now ≡ rule_name rule }
 {
@@ -77,7 +78,7 @@ fn rule_name(rule: Rule) -> &'static str
     }
 }
 
-#[tactic(auto, unfolding(sv_types::specs::Output::rule_places))]
+#[tactic(auto, unfolding(thin_machine::specs::Output::rule_places))]
 fn push_places(alloc: Global, text: &mut String, rule: Rule) -> Result<(), AllocError>
     ensures { OnOk result (string_bytes text.new ≡ string_bytes text.old ++ rule_places rule) }
 {
@@ -105,7 +106,7 @@ fn push_places(alloc: Global, text: &mut String, rule: Rule) -> Result<(), Alloc
     }
 }
 
-#[tactic(auto, unfolding(sv_types::specs::Output::stop_head))]
+#[tactic(auto, unfolding(thin_machine::specs::Output::stop_head))]
 fn stop_head(alloc: Global, rule: Rule, hart: u8, turn: u64) -> Result<String, AllocError>
     ensures { IfOk result (λ t. string_bytes t ≡ stop_head rule hart turn) }
 {
@@ -113,7 +114,7 @@ fn stop_head(alloc: Global, rule: Rule, hart: u8, turn: u64) -> Result<String, A
     format!(in alloc; "verdict stopped {name} hart {hart} turn {turn}")
 }
 
-#[tactic(auto, unfolding(sv_types::specs::Output::verdict_line))]
+#[tactic(auto, unfolding(thin_machine::specs::Output::verdict_line))]
 fn stop_line(alloc: Global, rule: Rule, hart: u8, turn: u64) -> Result<String, AllocError>
     ensures { IfOk result (λ t. string_bytes t ≡ verdict_line (Verdict.Stopped rule hart turn)) }
 {
@@ -123,7 +124,7 @@ fn stop_line(alloc: Global, rule: Rule, hart: u8, turn: u64) -> Result<String, A
     Ok(text)
 }
 
-#[tactic(auto, unfolding(sv_types::specs::Output::verdict_line))]
+#[tactic(auto, unfolding(thin_machine::specs::Output::verdict_line))]
 fn push_verdict(alloc: Global, text: &mut String, verdict: Verdict) -> Result<(), AllocError>
     ensures { OnOk result (string_bytes text.new ≡ string_bytes text.old ++ verdict_line verdict) }
 {
@@ -137,7 +138,7 @@ fn push_verdict(alloc: Global, text: &mut String, verdict: Verdict) -> Result<()
 }
 
 /// The report behind the console's bytes: a line feed, and the report's lines.
-#[tactic(auto, unfolding(sv_types::specs::Output::report_lines))]
+#[tactic(auto, unfolding(thin_machine::specs::Output::report_lines))]
 pub fn report(alloc: Global, verdict: Verdict, counts: &Counts) -> Result<String, AllocError>
     ensures { IfOk result (λ t. string_bytes t ≡ line_feed ++ report_lines verdict counts.now) }
 {

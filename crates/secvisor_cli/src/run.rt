@@ -1,13 +1,13 @@
 // A machine's run, with its console.
 ghost use Rattle.std.specs.Prelude.{◌≡◌, ◌<◌, ◌≤◌, ◌-◌, ◌^◌, [], length, IsTrue, OnOk, OnErr};
-ghost use Rattle.sv_types.specs.Run.{CountsAtMost};
+ghost use Rattle.thin_machine.specs.Run.{CountsAtMost};
 ghost use Rattle.sv_types.specs.Schedule.{first_events};
 ghost use Rattle.outside.specs.Outside.{BreaksOff};
 ghost use Rattle.secvisor_cli.specs.Console.{Flushed, HasRun, RunBroke};
 
-use machine::{Machine, Verdict};
 use outside::{Failed, Sink, write_all};
 use script::Script;
+use thin_machine::{Machine, Verdict};
 
 const CONSOLE_ROOM: usize = 4096;
 

@@ -4,7 +4,7 @@ use Rattle.std.specs.Prelude.{ℕ, ◌+◌, ◌-◌, ◌*◌, ◌%◌, Bool, fal
 use Rattle.std.specs.List.{list_any}
 use Rattle.sv_types.specs.Bits.{bit}
 use Rattle.sv_types.specs.Bytes.{word, part, padded, overwrite, ram_base, ram_place, page_size, page_of}
-use Rattle.sv_types.specs.Reference.{numbers_from}
+use Rattle.sv_types.specs.ApprovedPages.{numbers_from}
 use Rattle.sv_types.specs.Regions.{most_ram_pages}
 use Rattle.sv_types.specs.declared.kernel.ProgramHeader.{ProgramHeader}
 

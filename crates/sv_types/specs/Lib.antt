@@ -4,9 +4,7 @@ pub mod Regions
 pub mod Instructions
 pub mod Effects
 pub mod Encoding
-pub mod Reference
-pub mod Turn
-pub mod Run
+pub mod ApprovedPages
 pub mod Measure
 pub mod Boot
 pub mod Names

@@ -2,12 +2,11 @@
 use Rattle.std.specs.Prelude.{ℕ, zero, suc, ◌/◌, ◌%◌, List, [], ◌∷◌, ◌++◌, codes}
 use Rattle.std.specs.Fmt.{decimal}
 use Rattle.std.specs.Char.{digit_char}
-use Rattle.sv_types.specs.Reference.{State}
 use Rattle.sv_types.specs.declared.event.Counts.{Counts}
 use Rattle.sv_types.specs.declared.event.Verdict.{Verdict}
 use Rattle.sv_types.specs.declared.event.Verdict.TheVariants.{Running, Shutdown, Stopped}
 use Rattle.sv_types.specs.declared.event.Rule.{Rule}
-use Rattle.sv_types.specs.declared.event.Rule.TheVariants.{Entry, Outside, Word, Write}
+use Rattle.sv_types.specs.declared.event.Rule.TheVariants.{Entry, Write}
 use Rattle.sv_types.specs.declared.status.Status.{Status}
 
 abbrev pub line_feed : List ℕ
@@ -53,14 +52,10 @@ denied_line c =
 
 unfoldable pub rule_name : Rule → List ℕ
 rule_name (Entry target) = codes "entry"
-rule_name (Outside pc) = codes "outside"
-rule_name (Word pc word) = codes "word"
 rule_name (Write pc gpa) = codes "write"
 
 unfoldable pub rule_places : Rule → List ℕ
 rule_places (Entry target) = codes " target " ++ address_text target
-rule_places (Outside pc) = codes " pc " ++ address_text pc
-rule_places (Word pc word) = codes " pc " ++ address_text pc ++ codes " word " ++ word_text word
 rule_places (Write pc gpa) = codes " pc " ++ address_text pc ++ codes " gpa " ++ address_text gpa
 
 unfoldable pub stop_head : Rule → ℕ → ℕ → List ℕ
@@ -74,13 +69,9 @@ verdict_line (Stopped rule hart turn) = stop_head rule hart turn ++ rule_places 
 
 -- ---- the whole
 
--- the report's lines. The lines of the notes will stand before the first of these, once there are notes
+-- the report's lines behind those of the notes
 unfoldable pub report_lines : Verdict → Counts → List ℕ
 report_lines verdict counts = notes_line counts ++ events_line counts ++ retired_line counts ++ denied_line counts ++ verdict_line verdict
-
--- all printed bytes, a line feed, and the report
-abbrev pub output : State → List ℕ
-output r = r.printed ++ (line_feed ++ report_lines r.verdict r.counts)
 
 abbrev pub run_status : Verdict → Status
 run_status Running = Status.Ended

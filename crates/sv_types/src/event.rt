@@ -5,10 +5,6 @@
 pub enum Rule {
     /// A trap from user mode to an address that is no permitted entry.
     Entry { target: u64 },
-    /// The pc lies in no approved page.
-    Outside { pc: u64 },
-    /// The word at the pc can't be carried out.
-    Word { pc: u64, word: u32 },
     /// A store into a protected page, at a guest-physical address.
     Write { pc: u64, gpa: u64 },
 }
@@ -67,7 +63,7 @@ pub enum Note {
 }
 
 /// How often each thing happened.
-#[derive(Clone, Copy, Debug, PartialEq, Eq, Drop)]
+#[derive(Clone, Copy, Debug, Default, PartialEq, Eq, Drop)]
 pub struct Counts {
     pub turns: u64,
     pub beats: u64,

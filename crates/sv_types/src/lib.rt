@@ -10,6 +10,7 @@ mod event;
 mod instruction;
 mod kernel;
 mod laws;
+mod memory;
 mod module;
 mod name;
 mod outcome;
@@ -33,7 +34,8 @@ pub use instruction::{
     AmoOp, BranchOp, CsrOp, HyperOp, Instr, LoadOp, Op32Op, OpImm32Op, OpImmOp, OpOp, StoreOp,
 };
 pub use kernel::ProgramHeader;
-pub use laws::{law_ended, law_rows};
+pub use laws::law_rows;
+pub use memory::{PAGE_BYTES, RAM_BASE};
 pub use module::{Bases, Site, Span};
 pub use name::{MOST_NAME_BYTES, Name};
 pub use outcome::{Exception, Outcome, Wrote};

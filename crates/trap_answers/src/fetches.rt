@@ -4,10 +4,11 @@ ghost use Rattle.std.specs.Prelude.{◌≡◌, ◌%◌, ℕ, List, Some, None, i
 ghost use Rattle.sv_types.specs.Bytes.{in_ram};
 ghost use Rattle.sv_types.specs.declared.wires.Mode.TheVariants.{Kernel};
 ghost use Rattle.machine_model.specs.HostHarts.{host_demote, served_fetch};
+ghost use Rattle.reference.specs.Counting.{MayCount};
 ghost use Rattle.machine_model.specs.Machine.{Machine};
 ghost use Rattle.machine_model.specs.Served.{exit_gpa};
 ghost use Rattle.hart_answers.specs.Hosts.{host_of};
-ghost use Rattle.trap_answers.specs.Answered.{answered, MayCount};
+ghost use Rattle.trap_answers.specs.Answered.{answered};
 
 use crate::traps::{exception, guest_trap};
 use hart::Hart;
@@ -15,20 +16,16 @@ use hart_answers::{Side, demote};
 use host_mem::HostMem;
 use journal_records::Journal;
 use page_guard::{Entries, Guard};
-use sv_types::{Cause, Exit, Mode};
+use sv_types::{Cause, Exit, Mode, PAGE_BYTES, RAM_BASE};
 
 /// The transformed instruction of an implicit read of a first-stage entry.
 const IMPLICIT_READ: u32 = 0x3000;
-
-const RAM_BASE: u64 = 0x8000_0000;
-
-const PAGE_SIZE: u64 = 4096;
 
 // The guest-physical address of the word whose fetch was refused, where it lies in RAM.
 fn gpa_in_ram(mem: &HostMem, exit: &Exit) -> Option<u64>
     ensures { result ≡ (if in_ram mem.now.ram (exit_gpa exit.now) 4 then Some (exit_gpa exit.now) else None) }
 {
-    let size = PAGE_SIZE * mem.ram_pages() as u64;
+    let size = PAGE_BYTES * mem.ram_pages() as u64;
     if exit.htval >= 1 << 40 {
         return None;
     }

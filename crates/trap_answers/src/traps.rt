@@ -4,10 +4,11 @@ ghost use Rattle.std.specs.Prelude.{◌≡◌, ◌%◌, ℕ, List, false};
 ghost use Rattle.sv_types.specs.Causes.{cause_number};
 ghost use Rattle.sv_types.specs.declared.wires.Mode.TheVariants.{Kernel};
 ghost use Rattle.machine_model.specs.HostHarts.{host_trap, host_return, host_virtual, served_trap};
+ghost use Rattle.reference.specs.Counting.{MayCount};
 ghost use Rattle.machine_model.specs.Machine.{Machine};
 ghost use Rattle.machine_model.specs.Served.{is_sret_word};
 ghost use Rattle.hart_answers.specs.Hosts.{host_of};
-ghost use Rattle.trap_answers.specs.Answered.{answered, MayCount};
+ghost use Rattle.trap_answers.specs.Answered.{answered};
 
 use hart::Hart;
 use hart_answers::{Side, Trap, return_from_trap, take_trap};

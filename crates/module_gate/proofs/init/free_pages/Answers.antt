@@ -1,7 +1,7 @@
 use Rattle.std.proofs.Common.{◌≡◌, ◌+◌, ◌∙◌, sym, ap, refl, arith, ℕ, List, length, filter}
 use Rattle.std.specs.Prelude.{if◌then◌else◌}
 use Rattle.sv_types.specs.Policies.{rules_of}
-use Rattle.sv_types.specs.Reference.{numbers_from}
+use Rattle.sv_types.specs.ApprovedPages.{numbers_from}
 use Rattle.sv_types.specs.declared.wires.Protection.{Protection}
 use Rattle.reference.specs.Protections.{protection_at, freed_one, freed_by}
 use Rattle.module_gate.specs.Retiring.{is_kernels}

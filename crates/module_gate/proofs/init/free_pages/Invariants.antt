@@ -1,6 +1,6 @@
 use Rattle.std.proofs.Common.{◌≡◌, ◌≤◌, filter, length}
 use Rattle.sv_types.specs.Policies.{rules_of}
-use Rattle.sv_types.specs.Reference.{numbers_from}
+use Rattle.sv_types.specs.ApprovedPages.{numbers_from}
 use Rattle.reference.specs.Protections.{protection_at, freed_by}
 use Rattle.page_guard.specs.Guarded.{IsTheirs}
 use Rattle.module_gate.specs.Retiring.{is_kernels}

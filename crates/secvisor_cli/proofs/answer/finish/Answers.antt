@@ -1,10 +1,11 @@
 use Rattle.std.proofs.Common.{◌++◌, IsTrue, subst, sym, rules, ◌∙◌, ap}
 use Rattle.sv_types.specs.declared.event.Counts.{Counts}
-use Rattle.sv_types.specs.declared.event.Verdict.{Verdict}
+use Rattle.thin_machine.specs.declared.event.Verdict.{Verdict}
 use Rattle.sv_types.specs.declared.status.Status.{Status}
 use Rattle.secvisor_cli.specs.Answers.{is_answer}
 use Rattle.secvisor_cli.proofs.EndLemmas.{run_is_answer}
-use Rattle.sv_types.specs.Output.{report_lines, line_feed}
+use Rattle.sv_types.specs.Output.{line_feed}
+use Rattle.thin_machine.specs.Output.{report_lines}
 use Rattle.outside.proofs.SinkLemmas.{prefix_whole}
 use Rattle.secvisor_cli.proofs.EndLemmas.{finish_broke, finish_whole}
 use Rattle.secvisor_cli.proofs.answer.finish.Goals as goal

@@ -1,5 +1,5 @@
 use Rattle.std.proofs.Common.{◌≡◌, ◌≢◌, ◌<◌, ◌-◌, ◌+◌, suc, IsTrue, ap, subst, sym, ◌∙◌, length, arith}
-use Rattle.sv_types.specs.declared.event.Verdict.TheVariants.{Running}
+use Rattle.thin_machine.specs.declared.event.Verdict.TheVariants.{Running}
 use Rattle.outside.specs.Outside.{SinkState}
 use Rattle.outside.proofs.SinkLemmas.{on_err}
 use Rattle.secvisor_cli.proofs.ConsoleLemmas.{runs_none, runs_more, runs_broke, ran_ended, ran_out, ran_all, counts_after, room_after, counts_within}

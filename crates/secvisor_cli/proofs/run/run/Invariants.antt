@@ -1,5 +1,5 @@
 use Rattle.std.proofs.Common.{◌<◌, ◌-◌, length}
-use Rattle.sv_types.specs.Run.{CountsAtMost}
+use Rattle.thin_machine.specs.Run.{CountsAtMost}
 use Rattle.sv_types.specs.Schedule.{first_events}
 use Rattle.secvisor_cli.proofs.ConsoleLemmas.{RunsOn}
 use Rattle.secvisor_cli.proofs.run.run.Given as goal

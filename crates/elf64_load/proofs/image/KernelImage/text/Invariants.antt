@@ -1,6 +1,6 @@
 use Rattle.std.proofs.Common.{◌≡◌, flat_map}
 use Rattle.sv_types.specs.Kernel.{text_page}
-use Rattle.sv_types.specs.Reference.{numbers_from}
+use Rattle.sv_types.specs.ApprovedPages.{numbers_from}
 use Rattle.elf64_load.specs.Images.{segments_of}
 use Rattle.elf64_load.proofs.image.KernelImage.text.Given as goal
 

@@ -1,2 +1,0 @@
-mod PageLemmas
-mod EffectLemmas

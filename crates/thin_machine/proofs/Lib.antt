@@ -1,0 +1,4 @@
+pub mod RunLemmas
+pub mod Growth
+mod PageLemmas
+mod EffectLemmas

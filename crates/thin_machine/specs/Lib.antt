@@ -1,0 +1,10 @@
+pub mod States
+pub mod Turn
+pub mod Run
+pub mod Start
+pub mod Output
+pub mod Memory
+pub mod Inside
+pub mod InsideMachine
+pub mod Effect
+pub mod Boot
