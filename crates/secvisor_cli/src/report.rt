@@ -71,7 +71,6 @@ fn rule_name(rule: Rule) -> &'static str
     ensures { result.now ≡ rule_name rule }
 {
     match rule {
-        Rule::Entry { target: _ } => "entry",
         Rule::Outside { pc: _ } => "outside",
         Rule::Word { pc: _, word: _ } => "word",
         Rule::Write { pc: _, gpa: _ } => "write",
@@ -83,10 +82,6 @@ fn push_places(alloc: Global, text: &mut String, rule: Rule) -> Result<(), Alloc
     ensures { OnOk result (string_bytes text.new ≡ string_bytes text.old ++ rule_places rule) }
 {
     match rule {
-        Rule::Entry { target } => {
-            text.push_str(" target ")?;
-            push_address(alloc, text, target)
-        }
         Rule::Outside { pc } => {
             text.push_str(" pc ")?;
             push_address(alloc, text, pc)
