@@ -9,15 +9,10 @@ use crate::headers::PROGRAM_HEADER_BYTES;
 use crate::shared_text::text_is_shared;
 use elf64_sections::{double, file_refusal, half};
 use std::alloc::{AllocError, Global};
-use sv_types::{ProgramHeader, has_bit};
+use sv_types::{PAGE_BYTES, ProgramHeader, RAM_BASE, has_bit};
 
 /// The kind of an executable file.
 pub(crate) const EXECUTABLE_FILE: u16 = 2;
-
-/// Where guest RAM begins, and the bytes of a page.
-pub(crate) const RAM_BASE: u64 = 0x8000_0000;
-
-pub(crate) const PAGE_BYTES: u64 = 4096;
 
 /// The end of a range, as a whole number.
 pub(crate) fn end_of(start: u64, size: u64) -> u128

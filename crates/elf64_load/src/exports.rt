@@ -14,12 +14,10 @@ use elf64_sections::{
     Symbol, SymbolTables, file_refusal, name_at, section_headers, sections_in_file, symbol_at,
     symbol_count, symbol_tables,
 };
+use policy_limits::MOST_EXPORTS;
 use std::alloc::{AllocError, Global};
 use std::collections::BTreeMap;
 use sv_types::{Export, Name};
-
-/// The most exports that may be wanted.
-const MOST_EXPORTS: usize = 4096;
 
 fn is_defined_global(symbol: &Symbol) -> bool
     ensures { result ≡ spec.is_defined_global symbol.now }

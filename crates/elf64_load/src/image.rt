@@ -4,12 +4,10 @@ ghost use Rattle.std.specs.Prelude.{◌≡◌, ℕ, ◌≤◌, ◌<◌, ◌&&◌
 ghost use Rattle.sv_types.specs.Kernel.{is_text_of, filled_part, text_page, text_page_in, text_of};
 ghost use Rattle.elf64_load.specs.Images.{segment_of, segments_of, text_owner};
 
-use crate::checks::{PAGE_BYTES, RAM_BASE};
 use elf64_sections::push_zeros;
+use policy_limits::MOST_RAM_PAGES;
 use std::alloc::{AllocError, Global};
-
-/// The most pages of guest RAM.
-const MOST_RAM_PAGES: usize = 65536;
+use sv_types::{PAGE_BYTES, RAM_BASE};
 
 /// A segment that is loaded: its bytes, which stay in the file, and zeros behind them up to the size in memory.
 #[derive(Clone, Copy, Debug, PartialEq, Eq, Drop)]
@@ -67,8 +65,8 @@ fn text_range(segment: &Segment) -> PageRange
     let place = segment.gpa.saturating_sub(RAM_BASE);
     let end = (place as u128 + segment.memory as u128).div_ceil(PAGE_BYTES as u128);
     PageRange {
-        first: (place / PAGE_BYTES).min(MOST_RAM_PAGES as u64) as usize,
-        end: end.min(MOST_RAM_PAGES as u128) as usize,
+        first: (place / PAGE_BYTES).min(u64::from(MOST_RAM_PAGES)) as usize,
+        end: end.min(u128::from(MOST_RAM_PAGES)) as usize,
     }
 }
 
@@ -93,7 +91,7 @@ fn text_owners(alloc: Global, segments: &[Segment]) -> Result<Vec<usize>, AllocE
     ensures pages { IfOk result (λ owners. length owners.items ≡ 65536) }
     ensures owners { IfOk result (λ owners. (page : ℕ) → page < 65536 → slice_index owners.items page ≡ text_owner page (map segment_of segments.now)) }
 {
-    let mut owners = pages_of_none(alloc, MOST_RAM_PAGES, segments.len())?;
+    let mut owners = pages_of_none(alloc, MOST_RAM_PAGES as usize, segments.len())?;
     'segments: for i in (0..segments.len()).rev() {
         claim_pages(&mut owners, &segments[i], i);
     }

@@ -6,9 +6,9 @@ ghost use Rattle.std.specs.List.Sorted.{IsNonDecreasingBy};
 ghost use Rattle.sv_types.specs.Kernel.{first_page, last_page, text_is_shared};
 ghost use Rattle.elf64_load.specs.Headers.{HasMemory};
 
-use crate::checks::{PAGE_BYTES, RAM_BASE, end_of, is_executable};
+use crate::checks::{end_of, is_executable};
 use std::alloc::{AllocError, Global};
-use sv_types::ProgramHeader;
+use sv_types::{PAGE_BYTES, ProgramHeader, RAM_BASE};
 
 fn first_page(header: &ProgramHeader) -> u64
     ensures { result ≡ first_page header.now }

@@ -6,7 +6,7 @@ ghost use Rattle.elf64_reloc.specs.Layouts as spec;
 
 use elf64_sections::SectionHeader;
 use std::alloc::{AllocError, Global};
-use sv_types::has_bit;
+use sv_types::{PAGE_BYTES, has_bit};
 
 /// The kind of a section that the program gives.
 const PROGRAM: u32 = 1;
@@ -16,8 +16,8 @@ const ALLOCATED: u8 = 1;
 
 const EXECUTABLE: u8 = 2;
 
-/// The bytes of a page, and the largest alignment.
-pub(crate) const PAGE_BYTES: u64 = 4096;
+/// The largest alignment.
+const MOST_ALIGNMENT: u64 = PAGE_BYTES;
 
 /// What a section belongs to.
 #[derive(Clone, Copy, Debug, PartialEq, Eq, Drop)]
@@ -53,7 +53,7 @@ fn is_good_alignment(section: &SectionHeader) -> bool
     ensures { result ≡ spec.is_good_alignment section.now }
 {
     section.alignment == 0
-        || (section.alignment <= PAGE_BYTES && PAGE_BYTES % section.alignment == 0)
+        || (section.alignment <= MOST_ALIGNMENT && MOST_ALIGNMENT % section.alignment == 0)
 }
 
 /// Whether each section's alignment is a power of two up to 4,096.

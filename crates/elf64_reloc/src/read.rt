@@ -11,7 +11,7 @@ ghost use Rattle.elf64_reloc.specs.Objects.{is_good_part};
 ghost use Rattle.elf64_reloc.specs.Refusals.{Refuses};
 ghost use Rattle.elf64_reloc.specs.Views.{names_view, object_view};
 
-use crate::layout::{PAGE_BYTES, PlacedSection, are_good_alignments, lay_out};
+use crate::layout::{PlacedSection, are_good_alignments, lay_out};
 use crate::object::{Object, read_object};
 use crate::order::{fields_overlap, ordered_sites};
 use crate::refusal::{RelocRefusal, numbered};
@@ -19,14 +19,10 @@ use crate::relocations::{Relocation, all_relocations};
 use crate::sites::{Judging, all_fields, high_parts};
 use crate::symbols::{Names, export_bases};
 use crate::text::text_of;
+use policy_limits::{MOST_MODULE_PAGES, MOST_MODULE_SITES};
 use std::alloc::Global;
 use std::collections::BTreeMap;
-use sv_types::{Export, Site};
-
-/// The most fields of a module, and the most pages of its text.
-const MOST_SITES: usize = 65536;
-
-const MOST_PAGES: u64 = 1024;
+use sv_types::{Export, PAGE_BYTES, Site};
 
 /// A module: its text in whole pages, and the fields of it that relocations change, in the order of their places.
 #[derive(Drop)]
@@ -89,7 +85,7 @@ fn module_with(
     ensures ok { IfOk result (λ image. spec.module_with (object_view object.now) sites.now ≡ Ok (module_view image)) }
     ensures refused { IfErr result (Refuses (spec.module_with (object_view object.now) sites.now)) }
 {
-    if sites.len() > MOST_SITES || size > PAGE_BYTES * MOST_PAGES {
+    if sites.len() > MOST_MODULE_SITES || size > PAGE_BYTES * u64::from(MOST_MODULE_PAGES) {
         return Err(numbered(16));
     }
     let ordered = ordered_sites(alloc, sites)?;

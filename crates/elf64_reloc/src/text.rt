@@ -7,10 +7,11 @@ ghost use Rattle.elf64_reloc.specs.Modules as spec;
 ghost use Rattle.elf64_reloc.specs.Objects.{is_good_part};
 ghost use Rattle.elf64_reloc.specs.Views.{object_view};
 
-use crate::layout::{PAGE_BYTES, Space, padding, space_of};
+use crate::layout::{Space, padding, space_of};
 use crate::object::Object;
 use elf64_sections::{SectionHeader, part, push_zeros};
 use std::alloc::{AllocError, Global};
+use sv_types::PAGE_BYTES;
 
 // Puts a section of text behind the text so far, at the next multiple of its alignment.
 fn push_section(text: &mut Vec<u8>, file: &[u8], section: &SectionHeader) -> Result<(), AllocError>

@@ -18,32 +18,39 @@ fn numbered_pages(alloc: Global, count: usize) -> Result<Vec<u8>, AllocError>
         .collect(alloc)
 }
 
+// So many numbered pages, and their measure.
+#[derive(Clone, Copy, Drop)]
+struct MeasureRow<'a> {
+    count: usize,
+    digits: &'a str,
+}
+
 // Each measure is that of Python's hashlib.
 #[test]
 fn measures_of_numbered_pages(rt: HostRuntime) -> Result<(), Fail> {
-    let table = [
-        (
-            0usize,
-            "e3b0c44298fc1c149afbf4c8996fb92427ae41e4649b934ca495991b7852b855",
-        ),
-        (
-            1usize,
-            "848eb1ae67312dbe55f4751dfd0da669e0a532ee704ddbee62ce3e1025295888",
-        ),
-        (
-            64usize,
-            "7bb6a4575eb6225bb921cd108eefcd93e118b91508a565f83b001f0d4a5cf944",
-        ),
-        (
-            65usize,
-            "fccfcd7308b0ca0e2321a867c1ab348ed62dd94ad2c0c1e61f5f1d646ada2133",
-        ),
-        (
-            200usize,
-            "f3007098b3852a1e82ca79af4f33a796639b14661ee05c928fb898603ec4baf8",
-        ),
+    let table: [MeasureRow<'_>; 5] = [
+        MeasureRow {
+            count: 0usize,
+            digits: "e3b0c44298fc1c149afbf4c8996fb92427ae41e4649b934ca495991b7852b855",
+        },
+        MeasureRow {
+            count: 1usize,
+            digits: "848eb1ae67312dbe55f4751dfd0da669e0a532ee704ddbee62ce3e1025295888",
+        },
+        MeasureRow {
+            count: 64usize,
+            digits: "7bb6a4575eb6225bb921cd108eefcd93e118b91508a565f83b001f0d4a5cf944",
+        },
+        MeasureRow {
+            count: 65usize,
+            digits: "fccfcd7308b0ca0e2321a867c1ab348ed62dd94ad2c0c1e61f5f1d646ada2133",
+        },
+        MeasureRow {
+            count: 200usize,
+            digits: "f3007098b3852a1e82ca79af4f33a796639b14661ee05c928fb898603ec4baf8",
+        },
     ];
-    for (count, digits) in table {
+    for MeasureRow { count, digits } in table {
         let mut wanted = [0; 32];
         hex::decode_to_slice(digits, &mut wanted)?;
         let pages = numbered_pages(rt.alloc(), count)?;

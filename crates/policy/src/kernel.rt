@@ -7,14 +7,8 @@ ghost use Rattle.policy.specs.Text as spec;
 
 use crate::refusal::{BEYOND_LIMIT, PolicyRefusal, WRONG_KIND};
 use crate::values::{address, items, members, natural, required, with_known};
-use sv_types::Span;
+use sv_types::{PAGE_BYTES, RAM_BASE, Span};
 use toml::{Table, Value};
-
-/// Where RAM begins.
-pub const RAM_BASE: u64 = 0x8000_0000;
-
-/// The bytes of a page.
-pub const PAGE_BYTES: u64 = 4096;
 
 fn page_address(value: &Value) -> Result<u64, PolicyRefusal>
     ensures { result ≡ spec.page_address_of (view value.now) }

@@ -463,10 +463,27 @@ fn module_text(alloc: Global, name: &str, sites: u32) -> Result<String, AllocErr
     Ok(text)
 }
 
+// So many sites of the third module, and the number that refuses the policy, 0 where it is good.
+#[derive(Clone, Copy, Drop)]
+struct SitesRow {
+    sites: usize,
+    number: u8,
+}
+
 // Three modules, whose sites are as many as may be, and one more.
 #[test]
 fn one_site_too_many(rt: HostRuntime) -> Result<(), Fail> {
-    for (sites, number) in [(65_533, 0), (65_534, 6)] {
+    let table: [SitesRow; 2] = [
+        SitesRow {
+            sites: 65_533,
+            number: 0,
+        },
+        SitesRow {
+            sites: 65_534,
+            number: 6,
+        },
+    ];
+    for SitesRow { sites, number } in table {
         let mut text = String::from_str(rt.alloc(), GOOD)?;
         text.push_str(module_text(rt.alloc(), "a", 65_536)?.as_str())?;
         text.push_str(module_text(rt.alloc(), "b", sites)?.as_str())?;

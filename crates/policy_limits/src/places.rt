@@ -3,7 +3,7 @@
 ghost use Rattle.std.specs.Prelude.{◌≡◌, ◌≤◌, Some};
 ghost use Rattle.sv_types.specs.Policies as limits;
 
-use sv_types::Site;
+use sv_types::{PAGE_BYTES, Site};
 
 /// The kind of a field of eight bytes. All others have four.
 const EIGHT_BYTES: u8 = 2;
@@ -19,7 +19,7 @@ fn site_size(kind: u8) -> u64
 pub fn is_place(pages: u32, place: u64) -> bool
     ensures { result ≡ limits.place_within pages place }
 {
-    place % 4 == 0 && place < 4096 * u64::from(pages)
+    place % 4 == 0 && place < PAGE_BYTES * u64::from(pages)
 }
 
 /// The kind is one of a module's relocations.
