@@ -7,3 +7,7 @@ pub mod CallsSound
 pub mod StepsSound
 pub mod StartsSound
 pub mod StateLawsHold
+pub mod Growth
+pub mod RequestsGrow
+pub mod CallsGrow
+pub mod StepsGrow

@@ -1,1 +1,2 @@
 pub mod StateLaws
+pub mod GrowthLaws

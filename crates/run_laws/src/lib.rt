@@ -1,6 +1,7 @@
 //! The laws of whole runs of the reference machine: which bytes are approved, and where they come from.
 #![tactic(auto)]
 
+ghost use Rattle.run_laws.specs.GrowthLaws.{GrowsLaw};
 ghost use Rattle.run_laws.specs.StateLaws.{BytesLaw, ModulesLaw};
 
 /// In each state that a run reaches from a start, RAM has in each approved page the bytes that were approved.
@@ -12,4 +13,9 @@ pub fn law_bytes()
 /// module that is as it was measured; and no page is two parties'.
 pub fn law_modules()
     ensures { ModulesLaw }
+{}
+
+/// One event raises each count by one at most, and prints one byte at most, behind those that were printed.
+pub fn law_grows()
+    ensures { GrowsLaw }
 {}

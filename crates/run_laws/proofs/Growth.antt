@@ -1,0 +1,121 @@
+-- What one event does to the journal once its own count was raised: each other count rises by one at most, and one byte at
+-- most is printed, behind those that were.
+use Rattle.std.proofs.Common.{◌≡◌, ℕ, ◌+◌, ◌%◌, ◌≤◌, ◌∷◌, ◌++◌, Bool, true, false, List, [], length, refl, sym, subst, arith, length-append, ℤ, pos, negsuc}
+use Rattle.std.specs.Prelude.{if◌then◌else◌}
+use Rattle.std.proofs.lemmas.List.{append-nil}
+use Rattle.sv_types.specs.declared.event.Note.{Note}
+use Rattle.sv_types.specs.declared.event.Verdict.{Verdict}
+use Rattle.sv_types.specs.declared.wires.Mode.{Mode}
+use Rattle.sv_types.specs.declared.wires.Mode.TheVariants.{Kernel, User}
+use Rattle.reference.specs.States.{State, Journal}
+use Rattle.reference.specs.Counting.{CountsAtMost, counted, noted, printed_low, machine_ended, count_trap, count_return, count_retired, count_denied, count_demote, count_dropped, count_load, count_unload, count_turn, count_beat, count_key, count_tick}
+use Rattle.reference.specs.ModuleCalls.{count_answer}
+use Rattle.run_laws.specs.GrowthLaws.{Grows}
+
+-- the counts but for those of the events
+pub record Rises (old new : Journal) : Type 0 where
+  pub turns : new.counts.turns ≡ old.counts.turns
+  pub beats : new.counts.beats ≡ old.counts.beats
+  pub keys : new.counts.keys ≡ old.counts.keys
+  pub ticks : new.counts.ticks ≡ old.counts.ticks
+  pub retired : new.counts.retired ≤ old.counts.retired + 1
+  pub traps : new.counts.traps ≤ old.counts.traps + 1
+  pub enters : new.counts.enters ≤ old.counts.enters + 1
+  pub leaves : new.counts.leaves ≤ old.counts.leaves + 1
+  pub demotes : new.counts.demotes ≤ old.counts.demotes + 1
+  pub denied : new.counts.denied ≤ old.counts.denied + 1
+  pub dropped : new.counts.dropped ≤ old.counts.dropped + 1
+  pub loads : new.counts.loads ≤ old.counts.loads + 1
+  pub unloads : new.counts.unloads ≤ old.counts.unloads + 1
+  pub refused : new.counts.refused ≤ old.counts.refused + 1
+  pub notes : new.counts.notes ≤ old.counts.notes + 1
+
+-- the printed bytes
+pub record Prints (old new : List ℕ) : Type 0 where
+  pub console : length new ≤ length old + 1
+  pub behind : (more : List ℕ) × (new ≡ old ++ more)
+
+pub record Moves (old new : Journal) : Type 0 where
+  pub rises : Rises old new
+  pub prints : Prints old.printed new.printed
+
+abbrev pub Gains : State → State → Type 0
+Gains r next = Moves r.journal next.journal
+
+prints_none : (list : List ℕ) → Prints list list
+prints_none list = record { console = omega arith; behind = ([], sym (append-nil list)) }
+
+prints_one : (list : List ℕ) (byte : ℕ) → Prints list (list ++ byte ∷ [])
+prints_one list byte = record { console = grind (arith, length-append list (byte ∷ [])); behind = (byte ∷ [], refl) }
+
+quietly : (old new : Journal) → Rises old new → old.printed ≡ new.printed → Moves old new
+quietly old new rises same = record { rises = rises; prints = subst (Prints old.printed) same (prints_none old.printed) }
+
+-- nothing, or the verdict alone
+pub still : (j : Journal) → Moves j (j)
+still j = quietly j _ (record { turns = refl; beats = refl; keys = refl; ticks = refl; retired = omega arith; traps = omega arith; enters = omega arith; leaves = omega arith; demotes = omega arith; denied = omega arith; dropped = omega arith; loads = omega arith; unloads = omega arith; refused = omega arith; notes = omega arith }) refl
+
+pub ended : (j : Journal) (verdict : Verdict) → Moves j (machine_ended verdict j)
+ended j verdict = quietly j _ (record { turns = refl; beats = refl; keys = refl; ticks = refl; retired = omega arith; traps = omega arith; enters = omega arith; leaves = omega arith; demotes = omega arith; denied = omega arith; dropped = omega arith; loads = omega arith; unloads = omega arith; refused = omega arith; notes = omega arith }) refl
+
+-- an instruction, with or without a byte that it prints
+pub retires : (j : Journal) → Moves j (counted count_retired j)
+retires j = quietly j _ (record { turns = refl; beats = refl; keys = refl; ticks = refl; retired = omega arith; traps = omega arith; enters = omega arith; leaves = omega arith; demotes = omega arith; denied = omega arith; dropped = omega arith; loads = omega arith; unloads = omega arith; refused = omega arith; notes = omega arith }) refl
+
+pub printed : (j : Journal) (value : ℕ) → Moves j (printed_low value j)
+printed j value = record { rises = record { turns = refl; beats = refl; keys = refl; ticks = refl; retired = omega arith; traps = omega arith; enters = omega arith; leaves = omega arith; demotes = omega arith; denied = omega arith; dropped = omega arith; loads = omega arith; unloads = omega arith; refused = omega arith; notes = omega arith }; prints = prints_one j.printed (value % 256) }
+
+pub printed_retired : (j : Journal) (value : ℕ) → Moves j (counted count_retired (printed_low value j))
+printed_retired j value = record { rises = record { turns = refl; beats = refl; keys = refl; ticks = refl; retired = omega arith; traps = omega arith; enters = omega arith; leaves = omega arith; demotes = omega arith; denied = omega arith; dropped = omega arith; loads = omega arith; unloads = omega arith; refused = omega arith; notes = omega arith }; prints = prints_one j.printed (value % 256) }
+
+-- traps and returns
+pub trapped : (j : Journal) (from : Mode) → Moves j (counted (count_trap from) j)
+trapped j Kernel = quietly j _ (record { turns = refl; beats = refl; keys = refl; ticks = refl; retired = omega arith; traps = omega arith; enters = omega arith; leaves = omega arith; demotes = omega arith; denied = omega arith; dropped = omega arith; loads = omega arith; unloads = omega arith; refused = omega arith; notes = omega arith }) refl
+trapped j User = quietly j _ (record { turns = refl; beats = refl; keys = refl; ticks = refl; retired = omega arith; traps = omega arith; enters = omega arith; leaves = omega arith; demotes = omega arith; denied = omega arith; dropped = omega arith; loads = omega arith; unloads = omega arith; refused = omega arith; notes = omega arith }) refl
+
+pub returned : (j : Journal) (to : Mode) → Moves j (counted (count_return to) j)
+returned j Kernel = quietly j _ (record { turns = refl; beats = refl; keys = refl; ticks = refl; retired = omega arith; traps = omega arith; enters = omega arith; leaves = omega arith; demotes = omega arith; denied = omega arith; dropped = omega arith; loads = omega arith; unloads = omega arith; refused = omega arith; notes = omega arith }) refl
+returned j User = quietly j _ (record { turns = refl; beats = refl; keys = refl; ticks = refl; retired = omega arith; traps = omega arith; enters = omega arith; leaves = omega arith; demotes = omega arith; denied = omega arith; dropped = omega arith; loads = omega arith; unloads = omega arith; refused = omega arith; notes = omega arith }) refl
+
+-- what is noted
+pub demotes : (j : Journal) (line : Note) → Moves j (noted line (counted count_demote j))
+demotes j line = quietly j _ (record { turns = refl; beats = refl; keys = refl; ticks = refl; retired = omega arith; traps = omega arith; enters = omega arith; leaves = omega arith; demotes = omega arith; denied = omega arith; dropped = omega arith; loads = omega arith; unloads = omega arith; refused = omega arith; notes = omega arith }) refl
+
+pub denies : (j : Journal) (line : Note) → Moves j (noted line (counted count_denied j))
+denies j line = quietly j _ (record { turns = refl; beats = refl; keys = refl; ticks = refl; retired = omega arith; traps = omega arith; enters = omega arith; leaves = omega arith; demotes = omega arith; denied = omega arith; dropped = omega arith; loads = omega arith; unloads = omega arith; refused = omega arith; notes = omega arith }) refl
+
+pub loads : (j : Journal) (line : Note) → Moves j (noted line (counted count_load j))
+loads j line = quietly j _ (record { turns = refl; beats = refl; keys = refl; ticks = refl; retired = omega arith; traps = omega arith; enters = omega arith; leaves = omega arith; demotes = omega arith; denied = omega arith; dropped = omega arith; loads = omega arith; unloads = omega arith; refused = omega arith; notes = omega arith }) refl
+
+pub unloads : (j : Journal) (line : Note) → Moves j (noted line (counted count_unload j))
+unloads j line = quietly j _ (record { turns = refl; beats = refl; keys = refl; ticks = refl; retired = omega arith; traps = omega arith; enters = omega arith; leaves = omega arith; demotes = omega arith; denied = omega arith; dropped = omega arith; loads = omega arith; unloads = omega arith; refused = omega arith; notes = omega arith }) refl
+
+pub drops : (j : Journal) → Moves j (counted count_dropped j)
+drops j = quietly j _ (record { turns = refl; beats = refl; keys = refl; ticks = refl; retired = omega arith; traps = omega arith; enters = omega arith; leaves = omega arith; demotes = omega arith; denied = omega arith; dropped = omega arith; loads = omega arith; unloads = omega arith; refused = omega arith; notes = omega arith }) refl
+
+pub answers : (j : Journal) (code : ℤ) (line : Note) → Moves j (noted line (counted (count_answer code) j))
+answers j (pos n) line = quietly j _ (record { turns = refl; beats = refl; keys = refl; ticks = refl; retired = omega arith; traps = omega arith; enters = omega arith; leaves = omega arith; demotes = omega arith; denied = omega arith; dropped = omega arith; loads = omega arith; unloads = omega arith; refused = omega arith; notes = omega arith }) refl
+answers j (negsuc n) line = quietly j _ (record { turns = refl; beats = refl; keys = refl; ticks = refl; retired = omega arith; traps = omega arith; enters = omega arith; leaves = omega arith; demotes = omega arith; denied = omega arith; dropped = omega arith; loads = omega arith; unloads = omega arith; refused = omega arith; notes = omega arith }) refl
+
+-- ---- choices
+
+pub choose_gains : (r : State) (b : Bool) (x y : State) → Gains r x → Gains r y → Gains r (if b then x else y)
+choose_gains r true x y s t = s
+choose_gains r false x y s t = t
+
+-- ---- the event's own count, which is raised first
+
+pub turn_grows : (n : ℕ) (old new : Journal) → CountsAtMost n old.counts → Moves (counted count_turn old) new → Grows n old new
+turn_grows n old new c m = record { counts = record { turns = omega (arith, m.rises.turns, c.turns); beats = omega (arith, m.rises.beats, c.beats); keys = omega (arith, m.rises.keys, c.keys); ticks = omega (arith, m.rises.ticks, c.ticks); retired = omega (arith, m.rises.retired, c.retired); traps = omega (arith, m.rises.traps, c.traps); enters = omega (arith, m.rises.enters, c.enters); leaves = omega (arith, m.rises.leaves, c.leaves); demotes = omega (arith, m.rises.demotes, c.demotes); denied = omega (arith, m.rises.denied, c.denied); dropped = omega (arith, m.rises.dropped, c.dropped); loads = omega (arith, m.rises.loads, c.loads); unloads = omega (arith, m.rises.unloads, c.unloads); refused = omega (arith, m.rises.refused, c.refused); notes = omega (arith, m.rises.notes, c.notes) }; console = m.prints.console; behind = m.prints.behind }
+
+pub beat_grows : (n : ℕ) (old new : Journal) → CountsAtMost n old.counts → Moves (counted count_beat old) new → Grows n old new
+beat_grows n old new c m = record { counts = record { turns = omega (arith, m.rises.turns, c.turns); beats = omega (arith, m.rises.beats, c.beats); keys = omega (arith, m.rises.keys, c.keys); ticks = omega (arith, m.rises.ticks, c.ticks); retired = omega (arith, m.rises.retired, c.retired); traps = omega (arith, m.rises.traps, c.traps); enters = omega (arith, m.rises.enters, c.enters); leaves = omega (arith, m.rises.leaves, c.leaves); demotes = omega (arith, m.rises.demotes, c.demotes); denied = omega (arith, m.rises.denied, c.denied); dropped = omega (arith, m.rises.dropped, c.dropped); loads = omega (arith, m.rises.loads, c.loads); unloads = omega (arith, m.rises.unloads, c.unloads); refused = omega (arith, m.rises.refused, c.refused); notes = omega (arith, m.rises.notes, c.notes) }; console = m.prints.console; behind = m.prints.behind }
+
+pub key_grows : (n : ℕ) (old new : Journal) → CountsAtMost n old.counts → Moves (counted count_key old) new → Grows n old new
+key_grows n old new c m = record { counts = record { turns = omega (arith, m.rises.turns, c.turns); beats = omega (arith, m.rises.beats, c.beats); keys = omega (arith, m.rises.keys, c.keys); ticks = omega (arith, m.rises.ticks, c.ticks); retired = omega (arith, m.rises.retired, c.retired); traps = omega (arith, m.rises.traps, c.traps); enters = omega (arith, m.rises.enters, c.enters); leaves = omega (arith, m.rises.leaves, c.leaves); demotes = omega (arith, m.rises.demotes, c.demotes); denied = omega (arith, m.rises.denied, c.denied); dropped = omega (arith, m.rises.dropped, c.dropped); loads = omega (arith, m.rises.loads, c.loads); unloads = omega (arith, m.rises.unloads, c.unloads); refused = omega (arith, m.rises.refused, c.refused); notes = omega (arith, m.rises.notes, c.notes) }; console = m.prints.console; behind = m.prints.behind }
+
+pub tick_grows : (n : ℕ) (old new : Journal) → CountsAtMost n old.counts → Moves (counted count_tick old) new → Grows n old new
+tick_grows n old new c m = record { counts = record { turns = omega (arith, m.rises.turns, c.turns); beats = omega (arith, m.rises.beats, c.beats); keys = omega (arith, m.rises.keys, c.keys); ticks = omega (arith, m.rises.ticks, c.ticks); retired = omega (arith, m.rises.retired, c.retired); traps = omega (arith, m.rises.traps, c.traps); enters = omega (arith, m.rises.enters, c.enters); leaves = omega (arith, m.rises.leaves, c.leaves); demotes = omega (arith, m.rises.demotes, c.demotes); denied = omega (arith, m.rises.denied, c.denied); dropped = omega (arith, m.rises.dropped, c.dropped); loads = omega (arith, m.rises.loads, c.loads); unloads = omega (arith, m.rises.unloads, c.unloads); refused = omega (arith, m.rises.refused, c.refused); notes = omega (arith, m.rises.notes, c.notes) }; console = m.prints.console; behind = m.prints.behind }
+
+pub rests_grows : (n : ℕ) (j : Journal) → CountsAtMost n j.counts → Grows n j j
+rests_grows n j c = record { counts = record { turns = omega (arith, c.turns); beats = omega (arith, c.beats); keys = omega (arith, c.keys); ticks = omega (arith, c.ticks); retired = omega (arith, c.retired); traps = omega (arith, c.traps); enters = omega (arith, c.enters); leaves = omega (arith, c.leaves); demotes = omega (arith, c.demotes); denied = omega (arith, c.denied); dropped = omega (arith, c.dropped); loads = omega (arith, c.loads); unloads = omega (arith, c.unloads); refused = omega (arith, c.refused); notes = omega (arith, c.notes) }; console = omega arith; behind = ([], sym (append-nil j.printed)) }
