@@ -1,0 +1,147 @@
+// Accesses to the devices, and the events that reach them.
+ghost use Rattle.std.specs.Prelude.{◌≡◌, ◌<◌, length, slice_get, is_some, option_map};
+ghost use Rattle.sv_types.specs.Clock.{after_tick, with_timer};
+ghost use Rattle.sv_types.specs.Console.{has_room, after_key, without_first};
+ghost use Rattle.reference.specs.Devices.{DeviceLoad, device_load, device_store, lines_at, external_line};
+ghost use Rattle.reference.specs.Disk.{is_writable, disk_beat};
+ghost use Rattle.dma_guard.specs.Transfers.{told, after_move};
+ghost use Rattle.device_bus.specs.Bus.{devices_at_boot, devices_loaded, devices_stored, journal_stored};
+
+use crate::ports::{Place, place_at};
+use console_timer::{Clock, Console};
+use dma_guard::{Beaten, DiskPort, DmaGuard};
+use host_mem::HostMem;
+use journal_records::Journal;
+use std::marker::Model;
+use sv_types::Lines;
+
+/// The console, a block device and the clock. Contracts see them as the definitions' devices.
+#[derive(Drop)]
+pub struct Devices<D: DiskPort> {
+    console: Console,
+    disk: D,
+    clock: Clock,
+}
+
+impl<D: DiskPort> Model for Devices<D> {
+    ghost use Rattle.reference.specs.States.{Devices as State};
+
+    ghost Value = { State };
+
+    ghost view = { λ d. record { console = d.console; disk = D.state d.disk; clock = d.clock } };
+}
+
+impl<D: DiskPort> Devices<D> {
+    /// The devices at boot, with a block device as it stands.
+    pub fn new(disk: D) -> Devices<D>
+        ensures { result ≡ devices_at_boot (D.state disk) }
+    {
+        Devices {
+            console: Console::new(),
+            disk,
+            clock: Clock::new(),
+        }
+    }
+
+    /// A load of `width` bytes at a guest-physical address. None where no register is there; then nothing changes.
+    #[tactic(auto, unfolding(reference::specs::Devices::device_load, reference::specs::Devices::port_load))]
+    pub fn load(&mut self, gpa: u64, width: u8) -> Option<u64>
+        ensures value { result ≡ option_map (λ (l : DeviceLoad). l.value) (device_load self.old gpa width) }
+        ensures devices { self.new ≡ devices_loaded self.old (device_load self.old gpa width) }
+    {
+        match place_at(gpa) {
+            Place::Console(offset) => self.console.load(offset, width),
+            Place::Disk(offset) => self.disk.load(offset, width),
+            Place::Nowhere => None,
+        }
+    }
+
+    /// A store of `width` bytes at a guest-physical address. False where no register is there; then nothing changes. The
+    /// console's byte is printed in the journal.
+    #[tactic(auto, unfolding(reference::specs::Devices::device_store, reference::specs::Devices::port_store))]
+    pub fn store(&mut self, journal: &mut Journal, gpa: u64, width: u8, value: u64) -> bool
+        requires room { length journal.old.printed < 4096 }
+        ensures found { result ≡ is_some (device_store self.old journal.old gpa width value) }
+        ensures devices { self.new ≡ devices_stored self.old (device_store self.old journal.old gpa width value) }
+        ensures journal { journal.new ≡ journal_stored journal.old (device_store self.old journal.old gpa width value) }
+    {
+        match place_at(gpa) {
+            Place::Console(offset) => match self.console.store(offset, width, value) {
+                Some(byte) => {
+                    journal.print(u64::from(byte));
+                    true
+                }
+                None => false,
+            },
+            Place::Disk(offset) => self.disk.store(offset, width, value),
+            Place::Nowhere => false,
+        }
+    }
+
+    // The external line reaches hart 0 alone.
+    fn external_line(&self, hart: u8) -> bool
+        ensures { result ≡ external_line self.now hart }
+    {
+        hart == 0 && (self.console.line() || self.disk.line())
+    }
+
+    /// The wires of a hart.
+    #[tactic(auto, unfolding(reference::specs::Devices::lines_at))]
+    pub fn lines(&self, hart: u8) -> Lines
+        requires is_hart { hart < 4 }
+        ensures { result ≡ lines_at self.now hart }
+    {
+        Lines {
+            time: self.clock.now(),
+            external: self.external_line(hart),
+            timer: self.clock.due(hart),
+        }
+    }
+
+    /// One beat of the block device, which writes RAM through the guard alone.
+    pub fn beat(&mut self, guard: &DmaGuard, mem: &mut HostMem) -> Beaten
+        ensures devices { self.new ≡ record self.old { disk = (disk_beat self.old.disk mem.old.ram (is_writable guard.now)).disk } }
+        ensures told { result ≡ told (disk_beat self.old.disk mem.old.ram (is_writable guard.now)).move }
+        ensures memory { mem.new ≡ after_move mem.old (disk_beat self.old.disk mem.old.ram (is_writable guard.now)).move }
+    {
+        self.disk.beat(guard, mem)
+    }
+
+    /// A byte of input. False where the queue is full, and then the byte is dropped.
+    pub fn key(&mut self, byte: u8) -> bool
+        ensures taken { result ≡ has_room self.old.console }
+        ensures devices { self.new ≡ record self.old { console = after_key self.old.console byte } }
+    {
+        self.console.key(byte)
+    }
+
+    /// Lets `n` ticks pass.
+    pub fn tick(&mut self, n: u64)
+        ensures { self.new ≡ record self.old { clock = after_tick self.old.clock n } }
+    {
+        self.clock.tick(n);
+    }
+
+    /// The next byte of input, which leaves the queue.
+    pub fn take_input(&mut self) -> Option<u8>
+        ensures byte { result ≡ slice_get self.old.console 0 }
+        ensures devices { self.new ≡ record self.old { console = without_first self.old.console } }
+    {
+        self.console.take()
+    }
+
+    /// Sets a hart's timer. 2^64 - 1 means never.
+    pub fn set_timer(&mut self, hart: u8, at: u64)
+        requires is_hart { hart < 4 }
+        ensures { self.new ≡ record self.old { clock = with_timer self.old.clock hart at } }
+    {
+        self.clock.set(hart, at);
+    }
+
+    /// The bytes of the disk.
+    pub fn disk(&self) -> &[u8]
+        ensures { result.now ≡ self.now.disk.bytes }
+    {
+        self.disk.disk()
+    }
+}

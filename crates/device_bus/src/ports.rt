@@ -1,0 +1,38 @@
+// Which device lies where.
+ghost use Rattle.std.specs.Prelude.{◌≡◌};
+ghost use Rattle.reference.specs.Devices.{port_at};
+ghost use Rattle.device_bus.specs.Bus.{port_named};
+
+/// Where the console's registers begin, and then those of the block device; each has 4 KiB.
+const CONSOLE_BASE: u64 = 0x1000_0000;
+
+const DISK_BASE: u64 = 0x1000_1000;
+
+const DISK_END: u64 = 0x1000_2000;
+
+/// A device and an offset in its registers.
+#[derive(Clone, Copy, Debug, PartialEq, Eq, Drop)]
+pub enum Place {
+    /// The console's registers.
+    Console(u64),
+    /// The block device's registers.
+    Disk(u64),
+    /// No device.
+    Nowhere,
+}
+
+/// The device at a guest-physical address.
+#[tactic(auto, unfolding(reference::specs::Devices::port_at))]
+pub fn place_at(gpa: u64) -> Place
+    ensures { port_named result ≡ port_at gpa }
+{
+    if gpa < CONSOLE_BASE {
+        Place::Nowhere
+    } else if gpa < DISK_BASE {
+        Place::Console(gpa - CONSOLE_BASE)
+    } else if gpa < DISK_END {
+        Place::Disk(gpa - DISK_BASE)
+    } else {
+        Place::Nowhere
+    }
+}
