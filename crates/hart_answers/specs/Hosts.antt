@@ -1,9 +1,17 @@
--- A hart with the registers of its mode, as the machine has it. This project's own.
+-- A hart with the registers of its mode, as the machine has it, and all harts with their sides. This project's own.
+use Rattle.std.specs.Prelude.{List, map}
 use Rattle.sv_types.specs.declared.wires.Mode.{Mode}
 use Rattle.hart.specs.Cores.{core_of}
 use Rattle.hart.specs.declared.hart.Hart.{Hart}
 use Rattle.machine_model.specs.Machine.{HostHart}
 use Rattle.machine_model.specs.StandsFor.{hregs_in}
+use Rattle.hart_answers.specs.declared.seats.Seat.{Seat}
 
 abbrev pub host_of : Hart → Mode → HostHart
 host_of hart mode = record { core = core_of hart (hregs_in mode); started = hart.started }
+
+abbrev pub host_at : Seat → HostHart
+host_at seat = host_of seat.hart seat.side
+
+abbrev pub hosts_of : List Seat → List HostHart
+hosts_of seats = map host_at seats

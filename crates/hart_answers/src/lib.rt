@@ -1,7 +1,8 @@
-//! What SecVisor's answers make of one hart and of the side that it is on.
+//! What SecVisor's answers make of one hart and of the side that it is on, and what reaches all harts.
 #![tactic(auto)]
 
 mod answers;
+mod seats;
 mod side;
 #[cfg(test)]
 mod tests;
@@ -9,4 +10,5 @@ mod tests;
 pub use answers::{
     Trap, answer, demote, pass, return_from_trap, set, start, stay, stop, take_trap,
 };
+pub use seats::{Seat, forget, interrupt, is_named};
 pub use side::{Forbidden, Side};

@@ -1,7 +1,7 @@
-// One hart through all answers, on guarded memory.
+// One hart through all answers, and two harts that a write and an interrupt reach, on guarded memory.
 use super::{
-    Forbidden, Side, Trap, answer, demote, pass, return_from_trap, set, start, stay, stop,
-    take_trap,
+    Forbidden, Seat, Side, Trap, answer, demote, forget, interrupt, pass, return_from_trap, set,
+    start, stay, stop, take_trap,
 };
 use gstage_tables::Trees;
 use hart::Hart;
@@ -66,5 +66,38 @@ fn a_hart_through_all_answers(rt: HostRuntime) -> Result<(), Fail> {
     assert_eq!(rt; (side.mode(), hart.pc), (Mode::User, 0x8000_000C));
     stop(&mut hart);
     assert!(rt; !hart.started);
+    Ok(())
+}
+
+#[test]
+fn two_harts_behind_a_write_and_an_interrupt(rt: HostRuntime) -> Result<(), Fail> {
+    let size = Trees::table_bytes(16);
+    let mut mem = HostMem::new(rt.alloc(), size, 16)?;
+    assert_eq!(rt; mem.table_bytes(), size);
+    assert_eq!(rt; mem.ram_pages(), 16);
+    let guard = Guard::new(rt.alloc(), &mut mem)?;
+    let mut first = Hart::at_boot(0);
+    first.reservation = Some(0x2000);
+    let mut second = Hart::at_boot(1);
+    second.reservation = Some(0x2008);
+    let mut seats = [
+        Seat {
+            hart: first,
+            side: Side::at_boot(&guard),
+        },
+        Seat {
+            hart: second,
+            side: Side::at_boot(&guard),
+        },
+    ];
+    forget(&mut seats, 0x2007, 1);
+    interrupt(&mut seats, 1, 1);
+    let [first, second] = &seats;
+    assert_eq!(rt;
+        (first.hart.reservation, second.hart.reservation),
+        (None, Some(0x2008))
+    );
+    let waits = (first.hart.csrs.hvip, second.hart.csrs.hvip);
+    assert_eq!(rt; waits, (0, 4));
     Ok(())
 }

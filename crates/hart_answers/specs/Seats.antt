@@ -1,0 +1,19 @@
+-- A seat behind a write, and behind an interrupt, and the first ones of a list changed. This project's own.
+use Rattle.std.specs.Prelude.{ℕ, zero, suc, ◌+◌, Bool, List, [], ◌∷◌, if◌then◌else◌}
+use Rattle.sv_types.specs.Requests.{after_write}
+use Rattle.hart_answers.specs.declared.seats.Seat.{Seat}
+
+abbrev pub forgotten : ℕ → ℕ → Seat → Seat
+forgotten hpa width seat = record seat { hart = record seat.hart { reservation = after_write hpa width seat.hart.reservation } }
+
+abbrev pub notified : Seat → Seat
+notified seat = record seat { hart = record seat.hart { csrs = record seat.hart.csrs { hvip = 4 } } }
+
+-- of seats that are numbered from `at` on, the first n
+unfoldable pub first_changed : (ℕ → Seat → Seat) → (at n : ℕ) → List Seat → List Seat
+first_changed change at zero seats = seats
+first_changed change at (suc n) [] = []
+first_changed change at (suc n) (seat ∷ seats) = change at seat ∷ first_changed change (at + 1) n seats
+
+abbrev pub notified_by : (ℕ → Bool) → ℕ → Seat → Seat
+notified_by named h seat = if named h then notified seat else seat

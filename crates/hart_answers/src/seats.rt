@@ -1,0 +1,80 @@
+// All harts, each with the side that it is on.
+
+ghost use Rattle.std.specs.Prelude.{◌≡◌, length, map, if◌then◌else◌};
+ghost use Rattle.reference.specs.Calls.{mask_names};
+ghost use Rattle.machine_model.specs.Machine.{forgets};
+ghost use Rattle.machine_model.specs.HardwareEvent.{interrupted_hosts};
+ghost use Rattle.hart_answers.specs.Hosts.{host_at, hosts_of};
+ghost use Rattle.hart_answers.specs.Seats.{forgotten, notified};
+
+use crate::side::Side;
+use csr_file::Csrs;
+use hart::Hart;
+use sv_types::has_bit;
+
+/// The guest's software interrupt in `hvip`.
+const SOFTWARE_INTERRUPT: u64 = 1 << 2;
+
+/// The base that names all harts, whatever the mask is.
+const ALL_HARTS: u64 = u64::MAX;
+
+/// A hart and the side that it is on.
+#[derive(Drop)]
+pub struct Seat {
+    pub hart: Hart,
+    pub side: Side,
+}
+
+/// Clears each reservation of which some bytes are among the `width` bytes from a host place on.
+#[tactic(auto, using(crate::proofs::Changes::none_changed, crate::proofs::Changes::next_changed, crate::proofs::Changes::length_changed, crate::proofs::Changes::all_forgotten))]
+pub fn forget(seats: &mut [Seat], hpa: u64, width: u8)
+    ensures hosts { hosts_of seats.new ≡ map (forgets hpa width) (hosts_of seats.old) }
+    ensures number { length seats.new ≡ length seats.old }
+{
+    for seat in seats.iter_mut() {
+        forget_one(seat, hpa, width);
+    }
+}
+
+fn forget_one(seat: &mut Seat, hpa: u64, width: u8)
+    ensures { seat.new ≡ forgotten hpa width seat.old }
+{
+    seat.hart.forget(hpa, width);
+}
+
+/// Sends a software interrupt to each hart that a mask and a base name.
+#[tactic(auto, using(crate::proofs::Changes::none_changed, crate::proofs::Changes::next_changed, crate::proofs::Changes::length_changed, crate::proofs::Changes::all_notified))]
+pub fn interrupt(seats: &mut [Seat], mask: u64, base: u64)
+    ensures hosts { hosts_of seats.new ≡ interrupted_hosts (mask_names mask base) 0 (hosts_of seats.old) }
+    ensures number { length seats.new ≡ length seats.old }
+{
+    for i in 0..seats.len() {
+        let named = is_named(mask, base, i as u64);
+        notify(&mut seats[i], named);
+    }
+}
+
+fn notify(seat: &mut Seat, named: bool)
+    ensures { seat.new ≡ (if named then notified seat.old else seat.old) }
+{
+    if named {
+        set_software(&mut seat.hart.csrs);
+    }
+}
+
+fn set_software(csrs: &mut Csrs)
+    ensures { csrs.new ≡ record csrs.old { hvip = 4 } }
+{
+    csrs.hvip = SOFTWARE_INTERRUPT;
+}
+
+/// Whether a mask and a base name a hart: the hart base + i for each bit i of the mask, or all of them.
+#[tactic(auto, unfolding(reference::specs::Calls::mask_names))]
+pub fn is_named(mask: u64, base: u64, which: u64) -> bool
+    ensures { result ≡ mask_names mask base which }
+{
+    if base == ALL_HARTS {
+        return true;
+    }
+    base <= which && which - base < 64 && has_bit(mask, (which - base) as u8)
+}
