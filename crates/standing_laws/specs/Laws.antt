@@ -1,0 +1,67 @@
+-- What code may rely on in a machine that stands for a state of the reference machine. This project's own.
+use Rattle.std.specs.Prelude.{◌≡◌, ℕ, ◌*◌, ◌/◌, ◌%◌, ◌^◌, ◌<◌, ◌≤◌, List, map, length, None, Some, IfSome, IsTrue, slice_get, slice_index_or}
+use Rattle.sv_types.specs.Bytes.{page_size}
+use Rattle.sv_types.specs.Policies.{Rules, rules_within}
+use Rattle.sv_types.specs.Regions.{Region, IsRegion}
+use Rattle.sv_types.specs.SecondStage.{AreViews, WalksApart}
+use Rattle.sv_types.specs.declared.saved.SavedModule.{SavedModule}
+use Rattle.sv_types.specs.declared.wires.Protection.{Protection}
+use Rattle.sv_types.specs.declared.wires.Protection.TheVariants.{Held}
+use Rattle.reference.specs.Protections.{is_free, protection_at}
+use Rattle.reference.specs.Start.{AreWords}
+use Rattle.reference.specs.States.{State, find_module, pages_in_rule}
+use Rattle.machine_model.specs.Machine.{Machine, HostHart, HostLoad}
+use Rattle.machine_model.specs.StandsFor.{StandsFor, hregs_in}
+use Rattle.page_guard.specs.Guarded.{IsInRam, AllAre}
+use Rattle.module_gate.specs.Gates.{module_span, AreApproved}
+use Rattle.hart.specs.Conditions.{KeepsMode}
+
+-- ---- harts
+
+-- a hart may make an attempt
+pub record MayAttempt (region : Region) (host : HostHart) : Type 0 where
+  pub aligned : host.core.pc % 4 ≡ 0
+  pub registers : host.core.hregs ≡ hregs_in host.core.hregs.mode
+  pub keeps : KeepsMode host.core.hregs
+  pub stage : host.core.hregs.hgatp / 2 ^ 60 ≡ 8
+  pub apart : WalksApart region host.core.hregs.hgatp
+
+abbrev pub HartsLaw : Type 0
+HartsLaw = (m : Machine) (r : State) (h : ℕ) (host : HostHart) → StandsFor m r → slice_get m.harts h ≡ Some host → MayAttempt m.region host
+
+-- the same for the hart at a place of the list
+abbrev pub HartInLaw : Type 0
+HartInLaw = (m : Machine) (r : State) (h : ℕ) (past : HostHart) → StandsFor m r → h < length m.harts → MayAttempt m.region (slice_index_or m.harts h past)
+
+-- ---- sizes, pages and views
+
+pub record IsInOrder (m : Machine) : Type 0 where
+  pub within : IsTrue (rules_within m.rules)
+  pub words : AreWords m.rules.entries
+  pub number : length m.harts ≡ m.rules.harts
+  pub few : m.rules.harts ≤ 4
+  pub pages : length m.protections ≡ m.rules.ram_pages
+  pub dma : m.dma ≡ map is_free m.protections
+  pub size : length m.region.ram ≡ page_size * m.rules.ram_pages
+  pub region : IsRegion m.region
+  pub views : AreViews m.region.tables m.rules.ram_pages (protection_at m.protections)
+
+abbrev pub OrderLaw : Type 0
+OrderLaw = (m : Machine) (r : State) → StandsFor m r → IsInOrder m
+
+-- ---- modules
+
+-- the pages of each loaded module lie in RAM, and are approved
+abbrev pub LoadedLaw : Type 0
+LoadedLaw = (m : Machine) (r : State) → StandsFor m r → AreApproved m.rules m.protections m.loaded
+
+-- the module of a load under way is one of the policy's and isn't loaded, and its pages lie in RAM and are held
+pub record HoldsItsPages (rules : Rules) (guard : List Protection) (loaded : List SavedModule) (load : HostLoad) : Type 0 where
+  pub known : load.about.id < length rules.modules
+  pub inside : IsInRam guard (module_span rules load.about)
+  pub held : AllAre guard (module_span rules load.about) Held
+  pub other : find_module loaded load.about.id ≡ None
+  pub left : load.left ≤ pages_in_rule (slice_get rules.modules load.about.id)
+
+abbrev pub LoadingLaw : Type 0
+LoadingLaw = (m : Machine) (r : State) → StandsFor m r → IfSome m.loading (HoldsItsPages m.rules m.protections m.loaded)

@@ -1,0 +1,29 @@
+//! The laws of a machine that stands for a state of the reference machine: what code may rely on in it.
+#![tactic(auto)]
+
+ghost use Rattle.standing_laws.specs.Laws.{HartInLaw, HartsLaw, LoadedLaw, LoadingLaw, OrderLaw};
+
+/// Each hart may make an attempt: its pc is aligned, its registers are those of its mode, and its walks read the tables alone.
+pub fn law_harts()
+    ensures { HartsLaw }
+{}
+
+/// So may the hart at each place of the list.
+pub fn law_hart_in()
+    ensures { HartInLaw }
+{}
+
+/// Harts, pages and RAM are as many as the rules say, and the tables hold both views of the protections.
+pub fn law_order()
+    ensures { OrderLaw }
+{}
+
+/// The pages of each loaded module lie in RAM, and are approved.
+pub fn law_loaded()
+    ensures { LoadedLaw }
+{}
+
+/// The module of a load under way isn't loaded, and its pages lie in RAM and are held.
+pub fn law_loading()
+    ensures { LoadingLaw }
+{}
