@@ -1,0 +1,12 @@
+//! What stands behind a run's console: a line for each note, the counts, and the verdict with its status.
+#![tactic(auto)]
+
+mod counts;
+mod notes;
+#[cfg(test)]
+mod tests;
+mod verdict;
+mod whole;
+
+pub use verdict::status_of;
+pub use whole::report;
