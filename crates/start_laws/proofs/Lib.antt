@@ -1,1 +1,2 @@
+pub mod PagesApproved
 pub mod StartsStand
