@@ -1,0 +1,2 @@
+pub mod FieldBytes
+pub mod OnePage

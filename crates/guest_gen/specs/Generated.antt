@@ -1,0 +1,30 @@
+-- The generated guest as a file, and its policy. This project's own.
+use Rattle.std.specs.Prelude.{ℕ, ◌+◌, List, [], ◌∷◌, ◌++◌, None}
+use Rattle.sv_types.specs.Bytes.{padded, page_size}
+use Rattle.sv_types.specs.Measure.{measure}
+use Rattle.sv_types.specs.Policies.{Rules}
+use Rattle.guest_gen.specs.Images.{code_bytes, laid_out, text_address}
+use Rattle.guest_gen.specs.GuestCode.{setup, trap_handler, trap_place, user_loop}
+
+-- the page of text, with zeros between its two parts and behind them
+unfoldable pub generated_text : ℕ → List ℕ
+generated_text n = padded (padded (code_bytes (setup n)) trap_place ++ code_bytes trap_handler) page_size
+
+unfoldable pub generated_image : ℕ → List ℕ
+generated_image n = laid_out (generated_text n) (code_bytes user_loop)
+
+-- one hart and 64 pages; the kernel may be entered at its begin and at its trap vector
+unfoldable pub policy_of_text : List ℕ → Rules
+policy_of_text text = record {
+  format = 1;
+  harts = 1;
+  ram_pages = 64;
+  entries = text_address ∷ (text_address + trap_place) ∷ [];
+  exports = [];
+  kernel = measure text;
+  init = None;
+  modules = [];
+}
+
+abbrev pub generated_policy : ℕ → Rules
+generated_policy n = policy_of_text (generated_text n)

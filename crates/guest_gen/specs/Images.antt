@@ -1,0 +1,118 @@
+-- An executable file of three segments, page by page: its headers, a page of text, and a body.
+-- ELF-64 Object File Format, "ELF Header" and "Program Header Table"; RISC-V ELF psABI, "File Header".
+use Rattle.std.specs.Prelude.{ℕ, ◌+◌, ◌*◌, List, [], ◌∷◌, ◌++◌, length, flat_map}
+use Rattle.sv_types.specs.Bytes.{low_bytes, padded, page_size, ram_base}
+use Rattle.sv_types.specs.Encoding.{word_of}
+use Rattle.sv_types.specs.declared.instruction.Instr.{Instr}
+use Rattle.sv_types.specs.declared.kernel.ProgramHeader.{ProgramHeader}
+use Rattle.guest_gen.specs.declared.fields.Field.{Field}
+use Rattle.guest_gen.specs.declared.fields.Field.TheVariants.{Byte, Half, Word, Double}
+
+-- ---- fields, the lowest byte first
+
+abbrev pub field_bytes : Field → List ℕ
+field_bytes (Byte value) = value ∷ []
+field_bytes (Half value) = low_bytes 2 value
+field_bytes (Word value) = low_bytes 4 value
+field_bytes (Double value) = low_bytes 8 value
+
+-- ---- headers
+
+-- an executable file of RISC-V, 64 bits, little-endian, version 1, without sections
+abbrev pub magic : ℕ
+magic = 0x464C457F
+
+abbrev pub class_64 : ℕ
+class_64 = 2
+
+abbrev pub little_endian_data : ℕ
+little_endian_data = 1
+
+abbrev pub version : ℕ
+version = 1
+
+abbrev pub executable_file : ℕ
+executable_file = 2
+
+abbrev pub risc_v : ℕ
+risc_v = 243
+
+-- the bytes of the file's header, behind which the program headers lie, and of one of these
+abbrev pub file_header_size : ℕ
+file_header_size = 64
+
+abbrev pub program_header_size : ℕ
+program_header_size = 56
+
+-- the text lies in page 1, and the kernel begins with it
+abbrev pub text_address : ℕ
+text_address = ram_base + page_size
+
+unfoldable pub file_header : List Field
+file_header =
+    Word magic ∷ Byte class_64 ∷ Byte little_endian_data ∷ Byte version ∷ Byte 0 ∷ Double 0
+    ∷ Half executable_file ∷ Half risc_v ∷ Word version ∷ Double text_address ∷ Double file_header_size ∷ Double 0 ∷ Word 0
+    ∷ Half file_header_size ∷ Half program_header_size ∷ Half 3 ∷ Half 0 ∷ Half 0 ∷ Half 0 ∷ []
+
+unfoldable pub program_header : ProgramHeader → List Field
+program_header h =
+    Word h.kind ∷ Word h.flags ∷ Double h.offset ∷ Double h.va ∷ Double h.gpa ∷ Double h.file_size ∷ Double h.memory_size
+    ∷ Double page_size ∷ []
+
+-- ---- segments
+
+abbrev pub loaded : ℕ
+loaded = 1
+
+abbrev pub executable : ℕ
+executable = 1
+
+abbrev pub writable : ℕ
+writable = 2
+
+abbrev pub readable : ℕ
+readable = 4
+
+-- a segment that lies in RAM where it lies in the file
+unfoldable pub segment : (flags offset file_size memory_size : ℕ) → ProgramHeader
+segment flags offset file_size memory_size = record {
+  kind = loaded;
+  flags = flags;
+  offset = offset;
+  va = ram_base + offset;
+  gpa = ram_base + offset;
+  file_size = file_size;
+  memory_size = memory_size;
+}
+
+abbrev pub headers_segment : ProgramHeader
+headers_segment = segment readable 0 page_size page_size
+
+abbrev pub text_segment : ProgramHeader
+text_segment = segment (readable + executable) page_size page_size page_size
+
+-- two pages, whose front the file has
+abbrev pub body_segment : (size : ℕ) → ProgramHeader
+body_segment size = segment (readable + writable) (2 * page_size) size (2 * page_size)
+
+-- all headers of a file with a body of this size
+unfoldable pub headers : (body_size : ℕ) → List ℕ
+headers body_size =
+    flat_map field_bytes file_header ++ (flat_map field_bytes (program_header headers_segment)
+    ++ (flat_map field_bytes (program_header text_segment) ++ flat_map field_bytes (program_header (body_segment body_size))))
+
+-- ---- the file
+
+-- instructions as bytes
+abbrev pub instruction_bytes : Instr → List ℕ
+instruction_bytes instr = low_bytes 4 (word_of instr)
+
+abbrev pub code_bytes : List Instr → List ℕ
+code_bytes text = flat_map instruction_bytes text
+
+-- the headers, the text and the body, each from a page's begin on
+unfoldable pub laid_out : (text body : List ℕ) → List ℕ
+laid_out text body = padded (padded (headers (length body)) page_size ++ text) (2 * page_size) ++ body
+
+abbrev pub image : (text : List Instr) → (body : List ℕ) → List ℕ
+image text body = laid_out (code_bytes text) body

@@ -1,0 +1,186 @@
+// The guest's instructions.
+
+ghost use Rattle.std.specs.Prelude.{◌≡◌, ◌≤◌, IsTrue};
+ghost use Rattle.std.specs.List.{list_all};
+ghost use Rattle.sv_types.specs.Encoding.{fits, is_immediate};
+ghost use Rattle.guest_gen.specs.GuestCode as spec;
+
+use rv64_encode::Instr;
+use sv_types::{BranchOp, CsrOp, OpImm32Op, OpImmOp, OpOp, StoreOp};
+
+const X0: u8 = 0;
+
+const T0: u8 = 5;
+
+const T1: u8 = 6;
+
+const T2: u8 = 7;
+
+const S0: u8 = 8;
+
+const S1: u8 = 9;
+
+const A0: u8 = 10;
+
+const A7: u8 = 17;
+
+const T3: u8 = 28;
+
+const T4: u8 = 29;
+
+const STVEC: u16 = 0x105;
+
+const SEPC: u16 = 0x141;
+
+/// The block device's registers.
+const DISK: i64 = 0x1000_1000;
+
+/// The trap vector's place in the text.
+pub const TRAP_PLACE: usize = 256;
+
+// The upper bits of a number, rounded so that the rest is one of 12 bits with a sign.
+#[tactic(auto, unfolding(crate::specs::GuestCode::upper))]
+fn upper(n: u64) -> i64
+    requires { n ≤ 1000000 }
+    ensures value { result ≡ spec.upper n }
+    ensures fits { IsTrue (is_immediate 32 4096 result) }
+{
+    ((n + 2048) / 4096 * 4096) as i64
+}
+
+#[tactic(auto, unfolding(crate::specs::GuestCode::upper, crate::specs::GuestCode::lower))]
+fn lower(n: u64) -> i64
+    requires { n ≤ 1000000 }
+    ensures value { result ≡ spec.lower n }
+    ensures fits { IsTrue (is_immediate 12 1 result) }
+{
+    n as i64 - upper(n)
+}
+
+fn addi(rd: u8, rs1: u8, imm: i64) -> Instr
+    ensures { result ≡ spec.addi rd rs1 imm }
+{
+    Instr::OpImm {
+        op: OpImmOp::Addi,
+        rd,
+        rs1,
+        imm,
+        shamt: 0,
+    }
+}
+
+fn addiw(rd: u8, rs1: u8, imm: i64) -> Instr
+    ensures { result ≡ spec.addiw rd rs1 imm }
+{
+    Instr::OpImm32 {
+        op: OpImm32Op::Addiw,
+        rd,
+        rs1,
+        imm,
+        shamt: 0,
+    }
+}
+
+fn sw(rs2: u8, imm: i64, rs1: u8) -> Instr
+    ensures { result ≡ spec.sw rs2 imm rs1 }
+{
+    Instr::Store {
+        op: StoreOp::Sw,
+        rs1,
+        rs2,
+        imm,
+    }
+}
+
+fn sd(rs2: u8, imm: i64, rs1: u8) -> Instr
+    ensures { result ≡ spec.sd rs2 imm rs1 }
+{
+    Instr::Store {
+        op: StoreOp::Sd,
+        rs1,
+        rs2,
+        imm,
+    }
+}
+
+fn csrw(csr: u16, rs1: u8) -> Instr
+    ensures { result ≡ spec.csrw csr rs1 }
+{
+    Instr::Csr {
+        op: CsrOp::Csrrw,
+        rd: X0,
+        rs1,
+        csr,
+    }
+}
+
+/// The kernel's begin, for so many calls.
+#[tactic(auto, unfolding(crate::specs::GuestCode::setup, sv_types::specs::Encoding::fits, sv_types::specs::Encoding::is_shift, sv_types::specs::Encoding::is_shift_32))]
+pub fn setup(n: u64) -> [Instr; 16]
+    requires { n ≤ 1000000 }
+    ensures code { result ≡ spec.setup n }
+    ensures fits { IsTrue (list_all fits result) }
+{
+    [
+        Instr::Auipc { rd: T0, imm: 0 },
+        addi(T0, T0, TRAP_PLACE as i64),
+        csrw(STVEC, T0),
+        Instr::Auipc { rd: S1, imm: 4096 },
+        addi(S1, S1, -12),
+        Instr::Lui {
+            rd: S0,
+            imm: upper(n),
+        },
+        addiw(S0, S0, lower(n)),
+        Instr::Lui { rd: T2, imm: DISK },
+        addi(T3, T0, -768),
+        sd(T3, 8, T2),
+        addi(T4, X0, 2),
+        sw(T4, 16, T2),
+        addi(T4, X0, 1),
+        sw(T4, 20, T2),
+        csrw(SEPC, S1),
+        Instr::Sret,
+    ]
+}
+
+/// The trap vector.
+#[tactic(auto, unfolding(crate::specs::GuestCode::trap_handler, sv_types::specs::Encoding::fits, sv_types::specs::Encoding::is_shift))]
+pub fn trap_handler() -> [Instr; 12]
+    ensures code { result ≡ spec.trap_handler }
+    ensures fits { IsTrue (list_all fits result) }
+{
+    [
+        Instr::Lui { rd: T1, imm: 4096 },
+        Instr::Op {
+            op: OpOp::Add,
+            rd: T1,
+            rs1: T1,
+            rs2: S1,
+        },
+        sd(S0, 0, T1),
+        addi(S0, S0, -1),
+        Instr::Branch {
+            op: BranchOp::Beq,
+            rs1: S0,
+            rs2: X0,
+            imm: 12,
+        },
+        csrw(SEPC, S1),
+        Instr::Sret,
+        addi(A0, X0, 75),
+        addi(A7, X0, 1),
+        Instr::Ecall,
+        addi(A7, X0, 8),
+        Instr::Ecall,
+    ]
+}
+
+/// The user's loop.
+#[tactic(auto, unfolding(crate::specs::GuestCode::user_loop, sv_types::specs::Encoding::fits))]
+pub fn user_loop() -> [Instr; 2]
+    ensures code { result ≡ spec.user_loop }
+    ensures fits { IsTrue (list_all fits result) }
+{
+    [Instr::Ecall, Instr::Jal { rd: X0, imm: -4 }]
+}

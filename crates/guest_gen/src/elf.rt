@@ -1,0 +1,156 @@
+// The file of a kernel: headers, a page of text and a body.
+
+ghost use Rattle.std.specs.Prelude.{◌≡◌, ◌+◌, ◌*◌, ◌<◌, ◌≤◌, ◌^◌, IsTrue, IfOk, length};
+ghost use Rattle.std.specs.List.{list_all};
+ghost use Rattle.sv_types.specs.Bytes.{page_size};
+ghost use Rattle.sv_types.specs.Encoding.{fits};
+ghost use Rattle.guest_gen.specs.Images as spec;
+
+use crate::fields::{Field, pad, push_code, push_fields};
+use rv64_encode::Instr;
+use std::alloc::{AllocError, Global};
+use sv_types::ProgramHeader;
+
+const RAM_BASE: u64 = 0x8000_0000;
+
+/// The bytes of a page.
+pub const PAGE_BYTES: usize = 4096;
+
+/// Where the text lies and the kernel begins.
+pub const TEXT_ADDRESS: u64 = 0x8000_1000;
+
+/// The bytes 0x7F, E, L and F.
+const MAGIC: u32 = 0x464C_457F;
+
+/// Files of 64 bits, little-endian.
+const CLASS_64: u8 = 2;
+
+const LITTLE_ENDIAN: u8 = 1;
+
+const VERSION: u8 = 1;
+
+const EXECUTABLE_FILE: u16 = 2;
+
+const RISC_V: u16 = 243;
+
+const FILE_HEADER_BYTES: u16 = 64;
+
+const PROGRAM_HEADER_BYTES: u16 = 56;
+
+const LOADED: u32 = 1;
+
+const EXECUTABLE: u32 = 1;
+
+const WRITABLE: u32 = 2;
+
+const READABLE: u32 = 4;
+
+#[tactic(auto, unfolding(crate::specs::Images::file_header))]
+fn file_header() -> [Field; 19]
+    ensures { result ≡ spec.file_header }
+{
+    [
+        Field::Word(MAGIC),
+        Field::Byte(CLASS_64),
+        Field::Byte(LITTLE_ENDIAN),
+        Field::Byte(VERSION),
+        Field::Byte(0),
+        Field::Double(0),
+        Field::Half(EXECUTABLE_FILE),
+        Field::Half(RISC_V),
+        Field::Word(u32::from(VERSION)),
+        Field::Double(TEXT_ADDRESS),
+        Field::Double(u64::from(FILE_HEADER_BYTES)),
+        Field::Double(0),
+        Field::Word(0),
+        Field::Half(FILE_HEADER_BYTES),
+        Field::Half(PROGRAM_HEADER_BYTES),
+        Field::Half(3),
+        Field::Half(0),
+        Field::Half(0),
+        Field::Half(0),
+    ]
+}
+
+#[tactic(auto, unfolding(crate::specs::Images::program_header))]
+fn program_header(header: &ProgramHeader) -> [Field; 8]
+    ensures { result ≡ spec.program_header header.now }
+{
+    [
+        Field::Word(header.kind),
+        Field::Word(header.flags),
+        Field::Double(header.offset),
+        Field::Double(header.va),
+        Field::Double(header.gpa),
+        Field::Double(header.file_size),
+        Field::Double(header.memory_size),
+        Field::Double(PAGE_BYTES as u64),
+    ]
+}
+
+#[tactic(auto, unfolding(crate::specs::Images::segment))]
+fn segment(flags: u32, offset: u64, file_size: u64, memory_size: u64) -> ProgramHeader
+    requires { offset < 2 ^ 32 }
+    ensures { result ≡ spec.segment flags offset file_size memory_size }
+{
+    ProgramHeader {
+        kind: LOADED,
+        flags,
+        offset,
+        va: RAM_BASE + offset,
+        gpa: RAM_BASE + offset,
+        file_size,
+        memory_size,
+    }
+}
+
+// The headers of a file with a body of this size.
+#[tactic(auto, unfolding(crate::specs::Images::headers))]
+fn headers(alloc: Global, body_size: u64) -> Result<Vec<u8>, AllocError>
+    ensures { IfOk result (λ file. file.items ≡ spec.headers body_size) }
+{
+    let page = PAGE_BYTES as u64;
+    let mut file = Vec::new(alloc);
+    push_fields(&mut file, &file_header())?;
+    push_fields(
+        &mut file,
+        &program_header(&segment(READABLE, 0, page, page)),
+    )?;
+    push_fields(
+        &mut file,
+        &program_header(&segment(READABLE + EXECUTABLE, page, page, page)),
+    )?;
+    push_fields(
+        &mut file,
+        &program_header(&segment(READABLE + WRITABLE, 2 * page, body_size, 2 * page)),
+    )?;
+    Ok(file)
+}
+
+/// The file with this text, which is a page at most, and this body. Fails where memory is wanting.
+#[tactic(auto, unfolding(crate::specs::Images::laid_out))]
+pub fn laid_out(alloc: Global, text: &[u8], body: &[u8]) -> Result<Vec<u8>, AllocError>
+    requires text { length text.now ≤ page_size }
+    requires body { length body.now ≤ 2 * page_size }
+    ensures { IfOk result (λ file. file.items ≡ spec.laid_out text.now body.now) }
+{
+    let mut file = headers(alloc, body.len() as u64)?;
+    pad(&mut file, PAGE_BYTES)?;
+    file.extend_from_slice(text)?;
+    pad(&mut file, 2 * PAGE_BYTES)?;
+    file.extend_from_slice(body)?;
+    Ok(file)
+}
+
+/// The file of a kernel with this text, with which it begins, and this body in two pages behind. Fails where memory is
+/// wanting.
+pub fn image(alloc: Global, text: &[Instr], body: &[u8]) -> Result<Vec<u8>, AllocError>
+    requires instructions { IsTrue (list_all fits text.now) }
+    requires text { length text.now ≤ 1024 }
+    requires body { length body.now ≤ 2 * page_size }
+    ensures { IfOk result (λ file. file.items ≡ spec.image text.now body.now) }
+{
+    let mut code = Vec::new(alloc);
+    push_code(&mut code, text)?;
+    laid_out(alloc, &code, body)
+}

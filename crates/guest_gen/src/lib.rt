@@ -1,0 +1,12 @@
+//! The generated guest: a kernel that a user calls over and over while the disk writes over the kernel's text.
+#![tactic(auto)]
+
+mod code;
+mod elf;
+mod fields;
+mod guest;
+#[cfg(test)]
+mod tests;
+
+pub use elf::image;
+pub use guest::generate;
