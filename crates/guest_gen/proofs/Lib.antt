@@ -1,2 +1,3 @@
 pub mod FieldBytes
 pub mod OnePage
+pub mod Boots

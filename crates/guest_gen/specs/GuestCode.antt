@@ -1,7 +1,8 @@
--- The generated guest as instructions. Its kernel sets the trap vector, tells the disk to write over the kernel's text, and
--- enters the user's loop, which calls it over and over. After so many calls the kernel prints K and shuts down.
--- RISC-V Unprivileged manual, "Integer Register-Immediate Instructions"; RISC-V ELF psABI, "Integer Register Convention".
-use Rattle.std.specs.Prelude.{ℕ, ◌+◌, ◌*◌, ◌/◌, ℤ, pos, negsuc, ◌-ℤ◌, List, [], ◌∷◌}
+-- The generated guest as instructions. Its kernel sets the trap vector, tells the disk to write over the kernel's text,
+-- and enters the user's loop, which calls it over and over. After so many calls the kernel prints K and shuts down.
+-- RISC-V Unprivileged manual, "Integer Register-Immediate Instructions"; RISC-V ELF psABI, "Integer Register
+-- Convention".
+use Rattle.std.specs.Prelude.{ℕ, ◌+◌, ◌*◌, ◌/◌, ℤ, pos, neg_ℤ, ◌-ℤ◌, List, [], ◌∷◌}
 use Rattle.sv_types.specs.declared.instruction.Instr.{Instr}
 use Rattle.sv_types.specs.declared.instruction.BranchOp.TheVariants.{Beq}
 use Rattle.sv_types.specs.declared.instruction.StoreOp.TheVariants.{Sw, Sd}
@@ -48,11 +49,10 @@ stvec = 0x105
 abbrev pub sepc : ℕ
 sepc = 0x141
 
--- ---- instructions, in the order of the assembler's operands
+-- ---- instructions, with their operands in the assembler's order
 
--- a register's upper bits count pages
-abbrev pub lui : (rd : ℕ) → (page : ℤ) → Instr
-lui rd page = Instr.Lui rd page
+abbrev pub minus : ℕ → ℤ
+minus n = neg_ℤ (pos n)
 
 abbrev pub addi : (rd rs1 : ℕ) → ℤ → Instr
 addi rd rs1 imm = Instr.OpImm Addi rd rs1 imm 0
@@ -60,7 +60,7 @@ addi rd rs1 imm = Instr.OpImm Addi rd rs1 imm 0
 abbrev pub addiw : (rd rs1 : ℕ) → ℤ → Instr
 addiw rd rs1 imm = Instr.OpImm32 Addiw rd rs1 imm 0
 
--- the first register is stored at the second
+-- the first register is stored at a place behind the second
 abbrev pub sw : (rs2 : ℕ) → ℤ → (rs1 : ℕ) → Instr
 sw rs2 imm rs1 = Instr.Store Sw rs1 rs2 imm
 
@@ -85,22 +85,57 @@ lower n = pos n -ℤ upper n
 abbrev pub trap_place : ℕ
 trap_place = 0x100
 
--- the kernel's begin: the trap vector in t0, the user's loop in s1 and so many calls in s0. Two sectors from sector 0 on are
--- to go to 512 bytes below the text
-unfoldable pub setup : ℕ → List Instr
-setup n =
-    Instr.Auipc t0 (pos 0) ∷ addi t0 t0 (pos 256) ∷ csrw stvec t0 ∷ Instr.Auipc s1 (pos 4096) ∷ addi s1 s1 (negsuc 11)
-    ∷ Instr.Lui s0 (upper n) ∷ addiw s0 s0 (lower n) ∷ Instr.Lui t2 (pos 0x10001000) ∷ addi t3 t0 (negsuc 767) ∷ sd t3 (pos 8) t2
-    ∷ addi t4 x0 (pos 2) ∷ sw t4 (pos 16) t2 ∷ addi t4 x0 (pos 1) ∷ sw t4 (pos 20) t2 ∷ csrw sepc s1 ∷ Instr.Sret ∷ []
+-- the block device, and where its registers lie from there
+abbrev pub disk : ℕ
+disk = 0x10001000
 
--- the trap vector: the calls that are left are written behind the user's loop and counted down. While there are some the user
--- goes on; at the end K is printed, and the machine shut down
+abbrev pub disk_gpa : ℕ
+disk_gpa = 8
+
+abbrev pub disk_count : ℕ
+disk_count = 16
+
+abbrev pub disk_command : ℕ
+disk_command = 20
+
+-- the command that moves sectors to memory
+abbrev pub disk_to_memory : ℕ
+disk_to_memory = 1
+
+-- the numbers of the calls that print a byte and that shut down, and the byte
+abbrev pub print_call : ℕ
+print_call = 1
+
+abbrev pub shutdown_call : ℕ
+shutdown_call = 8
+
+abbrev pub letter_k : ℕ
+letter_k = 75
+
+-- the kernel's begin: the trap vector into t0, the user's loop, which lies behind the text, into s1, and the number of
+-- calls into s0. Two sectors from the first one on are to go to 512 bytes below the text; then the user's loop is
+-- entered
+unfoldable pub setup : (calls : ℕ) → List Instr
+setup calls =
+    Instr.Auipc t0 (pos 0) ∷ addi t0 t0 (pos trap_place) ∷ csrw stvec t0
+    ∷ Instr.Auipc s1 (pos 0x1000) ∷ addi s1 s1 (minus 12)
+    ∷ Instr.Lui s0 (upper calls) ∷ addiw s0 s0 (lower calls)
+    ∷ Instr.Lui t2 (pos disk) ∷ addi t3 t0 (minus 768) ∷ sd t3 (pos disk_gpa) t2
+    ∷ addi t4 x0 (pos 2) ∷ sw t4 (pos disk_count) t2
+    ∷ addi t4 x0 (pos disk_to_memory) ∷ sw t4 (pos disk_command) t2
+    ∷ csrw sepc s1 ∷ Instr.Sret ∷ []
+
+-- the trap vector: the number of calls left is stored a page behind the user's loop and counted down. While some are
+-- left the user's loop is entered again; at the end K is printed, and the machine shut down
 unfoldable pub trap_handler : List Instr
 trap_handler =
-    Instr.Lui t1 (pos 4096) ∷ Instr.Op Add t1 t1 s1 ∷ sd s0 (pos 0) t1 ∷ addi s0 s0 (negsuc 0) ∷ Instr.Branch Beq s0 x0 (pos 12)
+    Instr.Lui t1 (pos 0x1000) ∷ Instr.Op Add t1 t1 s1 ∷ sd s0 (pos 0) t1
+    ∷ addi s0 s0 (minus 1) ∷ Instr.Branch Beq s0 x0 (pos 12)
     ∷ csrw sepc s1 ∷ Instr.Sret
-    ∷ addi a0 x0 (pos 75) ∷ addi a7 x0 (pos 1) ∷ Instr.Ecall ∷ addi a7 x0 (pos 8) ∷ Instr.Ecall ∷ []
+    ∷ addi a0 x0 (pos letter_k) ∷ addi a7 x0 (pos print_call) ∷ Instr.Ecall
+    ∷ addi a7 x0 (pos shutdown_call) ∷ Instr.Ecall ∷ []
 
--- the user calls the kernel over and over
+-- ---- the user: it calls the kernel over and over
+
 unfoldable pub user_loop : List Instr
-user_loop = Instr.Ecall ∷ Instr.Jal x0 (negsuc 3) ∷ []
+user_loop = Instr.Ecall ∷ Instr.Jal x0 (minus 4) ∷ []

@@ -48,16 +48,19 @@ program_header_size = 56
 abbrev pub text_address : ℕ
 text_address = ram_base + page_size
 
+-- behind the version of the identification stand zeros
 unfoldable pub file_header : List Field
 file_header =
     Word magic ∷ Byte class_64 ∷ Byte little_endian_data ∷ Byte version ∷ Byte 0 ∷ Double 0
-    ∷ Half executable_file ∷ Half risc_v ∷ Word version ∷ Double text_address ∷ Double file_header_size ∷ Double 0 ∷ Word 0
+    ∷ Half executable_file ∷ Half risc_v ∷ Word version
+    ∷ Double text_address ∷ Double file_header_size ∷ Double 0 ∷ Word 0
     ∷ Half file_header_size ∷ Half program_header_size ∷ Half 3 ∷ Half 0 ∷ Half 0 ∷ Half 0 ∷ []
 
+-- the last field is the alignment
 unfoldable pub program_header : ProgramHeader → List Field
 program_header h =
-    Word h.kind ∷ Word h.flags ∷ Double h.offset ∷ Double h.va ∷ Double h.gpa ∷ Double h.file_size ∷ Double h.memory_size
-    ∷ Double page_size ∷ []
+    Word h.kind ∷ Word h.flags ∷ Double h.offset ∷ Double h.va ∷ Double h.gpa
+    ∷ Double h.file_size ∷ Double h.memory_size ∷ Double page_size ∷ []
 
 -- ---- segments
 
@@ -98,8 +101,10 @@ body_segment size = segment (readable + writable) (2 * page_size) size (2 * page
 -- all headers of a file with a body of this size
 unfoldable pub headers : (body_size : ℕ) → List ℕ
 headers body_size =
-    flat_map field_bytes file_header ++ (flat_map field_bytes (program_header headers_segment)
-    ++ (flat_map field_bytes (program_header text_segment) ++ flat_map field_bytes (program_header (body_segment body_size))))
+    flat_map field_bytes file_header
+    ++ (flat_map field_bytes (program_header headers_segment)
+    ++ (flat_map field_bytes (program_header text_segment)
+    ++ flat_map field_bytes (program_header (body_segment body_size))))
 
 -- ---- the file
 

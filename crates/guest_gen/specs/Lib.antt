@@ -1,3 +1,4 @@
 pub mod Images
 pub mod GuestCode
 pub mod Generated
+pub mod Booting

@@ -32,8 +32,25 @@ const STVEC: u16 = 0x105;
 
 const SEPC: u16 = 0x141;
 
-/// The block device's registers.
+/// The block device.
 const DISK: i64 = 0x1000_1000;
+
+/// Where its registers lie from there.
+const DISK_GPA: i64 = 8;
+
+const DISK_COUNT: i64 = 16;
+
+const DISK_COMMAND: i64 = 20;
+
+/// The command that moves sectors to memory.
+const DISK_TO_MEMORY: i64 = 1;
+
+/// The call that prints a byte.
+const PRINT_CALL: i64 = 1;
+
+const SHUTDOWN_CALL: i64 = 8;
+
+const LETTER_K: i64 = 75;
 
 /// The trap vector's place in the text.
 pub const TRAP_PLACE: usize = 256;
@@ -116,29 +133,32 @@ fn csrw(csr: u16, rs1: u8) -> Instr
 
 /// The kernel's begin, for so many calls.
 #[tactic(auto, unfolding(crate::specs::GuestCode::setup, sv_types::specs::Encoding::fits, sv_types::specs::Encoding::is_shift, sv_types::specs::Encoding::is_shift_32))]
-pub fn setup(n: u64) -> [Instr; 16]
-    requires { n ≤ 1000000 }
-    ensures code { result ≡ spec.setup n }
+pub fn setup(calls: u64) -> [Instr; 16]
+    requires { calls ≤ 1000000 }
+    ensures code { result ≡ spec.setup calls }
     ensures fits { IsTrue (list_all fits result) }
 {
     [
         Instr::Auipc { rd: T0, imm: 0 },
         addi(T0, T0, TRAP_PLACE as i64),
         csrw(STVEC, T0),
-        Instr::Auipc { rd: S1, imm: 4096 },
+        Instr::Auipc {
+            rd: S1,
+            imm: 0x1000,
+        },
         addi(S1, S1, -12),
         Instr::Lui {
             rd: S0,
-            imm: upper(n),
+            imm: upper(calls),
         },
-        addiw(S0, S0, lower(n)),
+        addiw(S0, S0, lower(calls)),
         Instr::Lui { rd: T2, imm: DISK },
         addi(T3, T0, -768),
-        sd(T3, 8, T2),
+        sd(T3, DISK_GPA, T2),
         addi(T4, X0, 2),
-        sw(T4, 16, T2),
-        addi(T4, X0, 1),
-        sw(T4, 20, T2),
+        sw(T4, DISK_COUNT, T2),
+        addi(T4, X0, DISK_TO_MEMORY),
+        sw(T4, DISK_COMMAND, T2),
         csrw(SEPC, S1),
         Instr::Sret,
     ]
@@ -151,7 +171,10 @@ pub fn trap_handler() -> [Instr; 12]
     ensures fits { IsTrue (list_all fits result) }
 {
     [
-        Instr::Lui { rd: T1, imm: 4096 },
+        Instr::Lui {
+            rd: T1,
+            imm: 0x1000,
+        },
         Instr::Op {
             op: OpOp::Add,
             rd: T1,
@@ -168,10 +191,10 @@ pub fn trap_handler() -> [Instr; 12]
         },
         csrw(SEPC, S1),
         Instr::Sret,
-        addi(A0, X0, 75),
-        addi(A7, X0, 1),
+        addi(A0, X0, LETTER_K),
+        addi(A7, X0, PRINT_CALL),
         Instr::Ecall,
-        addi(A7, X0, 8),
+        addi(A7, X0, SHUTDOWN_CALL),
         Instr::Ecall,
     ]
 }

@@ -5,8 +5,10 @@ mod code;
 mod elf;
 mod fields;
 mod guest;
+mod laws;
 #[cfg(test)]
 mod tests;
 
 pub use elf::image;
 pub use guest::generate;
+pub use laws::law_guest_boots;
