@@ -1,0 +1,35 @@
+-- What holds of modules and their pages before each call. This project's own.
+use Rattle.std.specs.Prelude.{◌≡◌, ◌≤◌, List, length, Option, None, IfSome, slice_get, is_some}
+use Rattle.sv_types.specs.Policies.{Rules}
+use Rattle.sv_types.specs.declared.saved.SavedModule.{SavedModule}
+use Rattle.sv_types.specs.declared.wires.Protection.{Protection}
+use Rattle.sv_types.specs.declared.wires.Protection.TheVariants.{Held}
+use Rattle.reference.specs.States.{pages_in_rule, find_module}
+use Rattle.machine_model.specs.Machine.{HostLoad}
+use Rattle.page_guard.specs.Guarded.{IsInRam, AllAre}
+use Rattle.module_gate.specs.Gates.{module_span, AreApproved}
+use Rattle.module_answers.specs.declared.modules.Modules.{Modules}
+use Rattle.module_answers.specs.declared.modules.UnderWay.{UnderWay}
+
+-- a load takes as many pages as the policy says
+abbrev pub TakesItsPages : Rules → UnderWay → Type 0
+TakesItsPages rules u = pages_in_rule (slice_get rules.modules u.load.about.id) ≡ u.load.pages
+
+-- what each call keeps: the gate knows whether a load is under way
+pub record AreJoined (rules : Rules) (modules : Modules) : Type 0 where
+  pub gate : modules.gate.loading ≡ is_some modules.loading
+  pub pages : IfSome modules.loading (TakesItsPages rules)
+
+-- the module under way isn't loaded, and its pages are held
+pub record IsHeld (rules : Rules) (guard : List Protection) (loaded : List SavedModule) (load : HostLoad) : Type 0 where
+  pub inside : IsInRam guard (module_span rules load.about)
+  pub held : AllAre guard (module_span rules load.about) Held
+  pub other : find_module loaded load.about.id ≡ None
+  pub left : load.left ≤ pages_in_rule (slice_get rules.modules load.about.id)
+
+-- what follows from the soundness of the state that the machine stands for
+pub record AreGuarded (rules : Rules) (guard : List Protection) (loaded : List SavedModule) (loading : Option HostLoad)
+    : Type 0 where
+  pub pages : length guard ≡ rules.ram_pages
+  pub approved : AreApproved rules guard loaded
+  pub load : IfSome loading (IsHeld rules guard loaded)

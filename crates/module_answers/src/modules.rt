@@ -1,0 +1,66 @@
+// The gate of modules with the load that is under way.
+
+ghost use Rattle.std.specs.Prelude.{◌≡◌, Some, None, IfOk};
+ghost use Rattle.sv_types.specs.Policies.{rules_of};
+ghost use Rattle.page_guard.specs.Guarded.{IsTheirs};
+ghost use Rattle.module_gate.specs.Gates.{no_modules};
+ghost use Rattle.module_answers.specs.Conditions.{AreJoined, AreGuarded};
+ghost use Rattle.module_answers.specs.Parts.{loading_of};
+
+use host_mem::HostMem;
+use module_gate::{Gate, Load};
+use page_guard::Guard;
+use std::alloc::{AllocError, Global};
+use std::mem;
+use sv_types::Policy;
+
+/// A load under way, with the hart that asked for it.
+pub struct UnderWay {
+    pub hart: u8,
+    pub load: Load,
+}
+
+/// What is loaded, and the load that is under way. It can't be dropped: `end` cancels a load.
+pub struct Modules {
+    pub gate: Gate,
+    pub loading: Option<UnderWay>,
+}
+
+impl Modules {
+    /// No module is loaded, and no load is under way. The room that loads need is taken now.
+    pub fn new(alloc: Global) -> Result<Modules, AllocError>
+        ensures gate { IfOk result (λ modules. modules.gate ≡ no_modules) }
+        ensures loading { IfOk result (λ modules. modules.loading ≡ None) }
+    {
+        let gate = Gate::new(alloc)?;
+        Ok(Modules {
+            gate,
+            loading: None,
+        })
+    }
+
+    /// Frees the pages of a load that is under way, and drops the rest.
+    pub fn end(self, guard: &mut Guard, mem: &mut HostMem, policy: &Policy)
+        requires joined { AreJoined (rules_of policy.now) self }
+        requires guarded { AreGuarded (rules_of policy.now) guard.old self.gate.loaded (loading_of self) }
+        requires theirs { IsTheirs mem.old guard.old }
+        ensures theirs { IsTheirs mem.new guard.new }
+        ensures ram { mem.new.ram ≡ mem.old.ram }
+    {
+        let Modules { mut gate, loading } = self;
+        if let Some(UnderWay { hart: _, load }) = loading {
+            load.cancel(&mut gate, guard, mem);
+        }
+    }
+}
+
+/// A load begins or goes on, where none is under way.
+pub(crate) fn put_load(modules: &mut Modules, hart: u8, load: Load)
+    requires { modules.old.loading ≡ None }
+    ensures { modules.new ≡ record modules.old { loading = Some (record { hart = hart; load = load }) } }
+{
+    let before = mem::replace(&mut modules.loading, Some(UnderWay { hart, load }));
+    let None = before else {
+        unreachable!();
+    };
+}
