@@ -10,5 +10,5 @@ mod tests;
 pub use answers::{
     Trap, answer, demote, pass, return_from_trap, set, start, stay, stop, take_trap,
 };
-pub use seats::{Seat, forget, interrupt, is_named};
+pub use seats::{ALL_HARTS, Seat, forget, interrupt};
 pub use side::{Forbidden, Side};

@@ -16,7 +16,7 @@ use sv_types::has_bit;
 const SOFTWARE_INTERRUPT: u64 = 1 << 2;
 
 /// The base that names all harts, whatever the mask is.
-const ALL_HARTS: u64 = u64::MAX;
+pub const ALL_HARTS: u64 = u64::MAX;
 
 /// A hart and the side that it is on.
 #[derive(Drop)]
@@ -68,9 +68,9 @@ fn set_software(csrs: &mut Csrs)
     csrs.hvip = SOFTWARE_INTERRUPT;
 }
 
-/// Whether a mask and a base name a hart: the hart base + i for each bit i of the mask, or all of them.
+// Whether a mask and a base name a hart: the hart base + i for each bit i of the mask, or all of them.
 #[tactic(auto, unfolding(reference::specs::Calls::mask_names))]
-pub fn is_named(mask: u64, base: u64, which: u64) -> bool
+fn is_named(mask: u64, base: u64, which: u64) -> bool
     ensures { result ≡ mask_names mask base which }
 {
     if base == ALL_HARTS {
