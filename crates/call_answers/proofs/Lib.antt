@@ -1,0 +1,4 @@
+mod Bits
+mod Changed
+mod Chosen
+mod Inputs

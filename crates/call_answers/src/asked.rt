@@ -1,0 +1,55 @@
+// What a call asks.
+
+ghost use Rattle.std.specs.Prelude.{◌≡◌, ◌==◌};
+ghost use Rattle.reference.specs.Calls.{asked_by};
+
+use crate::extensions::MODULES;
+use rv64_exec::Regs;
+use std::marker::Model;
+
+/// What a call asks, as its registers say.
+#[derive(Clone, Copy, Debug, PartialEq, Eq, Drop)]
+pub struct Asked {
+    /// The number of the extension.
+    pub extension: u64,
+    /// The number of the function in the extension.
+    pub function: u64,
+    pub a0: u64,
+    pub a1: u64,
+    pub a2: u64,
+    pub a3: u64,
+}
+
+impl Model for Asked {
+    ghost use Rattle.reference.specs.Calls.{Asked as Call};
+
+    ghost Value = { Call };
+
+    ghost use Rattle.call_answers.specs.Asking.{call_of, fields_of};
+
+    ghost view = { call_of };
+
+    ghost inverse = { fields_of };
+}
+
+impl Asked {
+    /// What the registers of a hart that calls ask.
+    pub fn by(regs: &Regs) -> Asked
+        ensures { result ≡ asked_by regs.now }
+    {
+        Asked {
+            extension: regs.get(17),
+            function: regs.get(16),
+            a0: regs.get(10),
+            a1: regs.get(11),
+            a2: regs.get(12),
+            a3: regs.get(13),
+        }
+    }
+    /// Whether it is a call about modules.
+    pub fn is_about_modules(&self) -> bool
+        ensures { result ≡ (self.now.extension == 0x08534543) }
+    {
+        self.extension == MODULES
+    }
+}

@@ -1,0 +1,154 @@
+// Calls of a hart beside another one, on guarded memory.
+use super::{Asked, serve_call};
+use block_device::Block;
+use device_bus::Devices;
+use gstage_tables::Trees;
+use hart::Hart;
+use hart_answers::{ALL_HARTS, Seat, Side, start};
+use host_mem::HostMem;
+use journal_records::Journal;
+use page_guard::{Entries, Guard};
+use std::test::Fail;
+use sv_types::Verdict;
+
+const ENTRY: u64 = 0x8000_0104;
+
+const HART_STATE: u64 = 0x0048_534D;
+
+// A call of hart 0's, and what its a0 and a1 then are.
+#[derive(Clone, Copy)]
+struct Row {
+    extension: u64,
+    function: u64,
+    a0: u64,
+    a1: u64,
+    code: i64,
+    value: u64,
+}
+
+// What hart 0 asks, one call after another.
+const ROWS: [Row; 9] = [
+    Row {
+        extension: 0x10,
+        function: 3,
+        a0: 0x0853_4543,
+        a1: 0,
+        code: 0,
+        value: 1,
+    },
+    Row {
+        extension: 0x10,
+        function: 7,
+        a0: 0,
+        a1: 0,
+        code: -2,
+        value: 0,
+    },
+    Row {
+        extension: 2,
+        function: 0,
+        a0: 0,
+        a1: 0,
+        code: -1,
+        value: 0,
+    },
+    Row {
+        extension: 0x0073_5049,
+        function: 0,
+        a0: 5,
+        a1: 0,
+        code: -3,
+        value: 0,
+    },
+    Row {
+        extension: HART_STATE,
+        function: 0,
+        a0: u64::MAX,
+        a1: ENTRY,
+        code: -3,
+        value: 0,
+    },
+    Row {
+        extension: HART_STATE,
+        function: 0,
+        a0: 1,
+        a1: 0x8000_0100,
+        code: -5,
+        value: 0,
+    },
+    Row {
+        extension: HART_STATE,
+        function: 0,
+        a0: 1,
+        a1: ENTRY,
+        code: 0,
+        value: 0,
+    },
+    Row {
+        extension: HART_STATE,
+        function: 0,
+        a0: 1,
+        a1: ENTRY,
+        code: -6,
+        value: 0,
+    },
+    Row {
+        extension: 0x0073_5049,
+        function: 0,
+        a0: 0,
+        a1: ALL_HARTS,
+        code: 0,
+        value: 0,
+    },
+];
+
+#[test]
+fn calls_one_after_another(rt: HostRuntime) -> Result<(), Fail> {
+    let size = Trees::table_bytes(16);
+    let mut mem = HostMem::new(rt.alloc(), size, 16)?;
+    assert_eq!(rt; mem.table_bytes(), size);
+    assert_eq!(rt; mem.ram_pages(), 16);
+    let guard = Guard::new(rt.alloc(), &mut mem)?;
+    let entries = Entries::new(rt.alloc(), &[ENTRY])?;
+    let disk = vec![in rt.alloc(); 0u8; 512]?;
+    let mut devices = Devices::new(Block::new(disk));
+    let mut journal = Journal::new(rt.alloc())?;
+    let mut hart = Hart::at_boot(0);
+    let mut side = Side::at_boot(&guard);
+    start(&mut hart, &mut side, &guard, 0, 0x8000_0000, 0);
+    let caller = Seat { hart, side };
+    let other = Seat {
+        hart: Hart::at_boot(1),
+        side: Side::at_boot(&guard),
+    };
+    let mut seats = [caller, other];
+    for row in ROWS {
+        let asked = Asked {
+            extension: row.extension,
+            function: row.function,
+            a0: row.a0,
+            a1: row.a1,
+            a2: 7,
+            a3: 0,
+        };
+        assert!(rt; journal.printed().is_empty() && !asked.is_about_modules());
+        serve_call(
+            0,
+            &mut seats,
+            &guard,
+            &entries,
+            &mut devices,
+            &mut journal,
+            &asked,
+        );
+        let [caller, _] = &seats;
+        let answer = (caller.hart.regs.get(10), caller.hart.regs.get(11));
+        assert_eq!(rt; answer, (row.code.cast_unsigned(), row.value));
+    }
+    let [caller, other] = &seats;
+    assert_eq!(rt; caller.hart.pc, 0x8000_0024);
+    assert_eq!(rt; (caller.hart.csrs.hvip, other.hart.csrs.hvip), (4, 4));
+    assert_eq!(rt; (other.hart.pc, other.hart.regs.get(11)), (ENTRY, 7));
+    assert_eq!(rt; journal.verdict(), Verdict::Running);
+    Ok(())
+}
