@@ -26,13 +26,14 @@ use Rattle.module_answers.proofs.Joined.{update_there}
 
 -- ---- a page
 
-pub counted_is : (rules : Rules) (ram : List ℕ) (load : HostLoad) (left : ℕ) (found : Option ModuleRule) (bytes : List ℕ) → load.left ≤ pages_in_rule found → load.left ≡ suc left
-    → bytes ≡ page_bytes ram (page_of load.about.gpa + (pages_in_rule found - load.left)) → next_counted rules bytes load found ≡ load_counted rules ram load left found
+pub counted_is : (rules : Rules) (ram : List ℕ) (load : HostLoad) (left pages : ℕ) (found : Option ModuleRule) (bytes : List ℕ) → pages_in_rule found ≡ pages → load.left ≤ pages
+    → load.left ≡ suc left → bytes ≡ page_bytes ram (page_of load.about.gpa + (pages - load.left)) → next_counted rules bytes load found ≡ load_counted rules ram load left found
 unfolding next_counted load_counted
-counted_is rules ram load left None bytes few same read = absurd (omega (arith, few, same))
-counted_is rules ram load left (Some rule) bytes few same read =
+counted_is rules ram load left pages None bytes all few same read = absurd (omega (arith, all, few, same))
+counted_is rules ram load left pages (Some rule) bytes all few same read =
     let less : suc left - 1 ≡ left = omega arith in
     ap (λ (b : List ℕ). page_counted rules rule load (rule.pages - load.left) b (load.left - 1)) read
+    ∙ ap (λ (k : ℕ). page_counted rules rule load (rule.pages - load.left) (page_bytes ram (page_of load.about.gpa + (k - load.left))) (load.left - 1)) (sym all)
     ∙ ap (λ (k : ℕ). page_counted rules rule load (rule.pages - k) (page_bytes ram (page_of load.about.gpa + (rule.pages - k))) (k - 1)) same
     ∙ ap (λ (k : ℕ). page_counted rules rule load (rule.pages - suc left) (page_bytes ram (page_of load.about.gpa + (rule.pages - suc left))) k) less
 

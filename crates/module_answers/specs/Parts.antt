@@ -1,14 +1,16 @@
 -- A machine, whatever its other parts are, with those put in that calls about modules see. This project's own.
-use Rattle.std.specs.Prelude.{ℕ, ℤ, Bool, if◌then◌else◌, List, Option, map, option_map, slice_set}
+use Rattle.std.specs.Prelude.{ℕ, ℤ, Bool, if◌then◌else◌, List, Option, Some, None, map, option_map, slice_set}
 use Rattle.sv_types.specs.Policies.{Rules}
 use Rattle.sv_types.specs.Regions.{Region}
 use Rattle.sv_types.specs.declared.wires.Protection.{Protection}
+use Rattle.sv_types.specs.declared.wires.Protection.TheVariants.{Free}
 use Rattle.reference.specs.Calls.{Asked, success}
 use Rattle.reference.specs.ModuleCalls.{refused_by_measure}
 use Rattle.reference.specs.Protections.{is_free}
 use Rattle.reference.specs.States.{Journal}
 use Rattle.machine_model.specs.Machine.{Machine, HostHart, HostLoad}
-use Rattle.module_gate.specs.Gates.{host_load}
+use Rattle.page_guard.specs.Guarded.{with_span}
+use Rattle.module_gate.specs.Gates.{host_load, load_span}
 use Rattle.module_answers.specs.declared.modules.Modules.{Modules}
 use Rattle.module_answers.specs.declared.modules.UnderWay.{UnderWay}
 use Rattle.module_answers.specs.declared.calls.ModuleCall.{ModuleCall}
@@ -47,3 +49,8 @@ asked_of extension call = record {
 -- the code of a decision
 abbrev pub decision : Bool → ℤ
 decision good = if good then success else refused_by_measure
+
+-- the protections with the pages of a load under way, if one is, free again
+abbrev pub without_load : List Protection → Option UnderWay → List Protection
+without_load guard None = guard
+without_load guard (Some u) = with_span guard (load_span u.load) Free

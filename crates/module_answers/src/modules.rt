@@ -5,7 +5,7 @@ ghost use Rattle.sv_types.specs.Policies.{rules_of};
 ghost use Rattle.page_guard.specs.Guarded.{IsTheirs};
 ghost use Rattle.module_gate.specs.Gates.{no_modules};
 ghost use Rattle.module_answers.specs.Conditions.{AreJoined, AreGuarded};
-ghost use Rattle.module_answers.specs.Parts.{loading_of};
+ghost use Rattle.module_answers.specs.Parts.{loading_of, without_load};
 
 use host_mem::HostMem;
 use module_gate::{Gate, Load};
@@ -44,6 +44,7 @@ impl Modules {
         requires joined { AreJoined (rules_of policy.now) self }
         requires guarded { AreGuarded (rules_of policy.now) guard.old self.gate.loaded (loading_of self) }
         requires theirs { IsTheirs mem.old guard.old }
+        ensures guard { guard.new ≡ without_load guard.old self.loading }
         ensures theirs { IsTheirs mem.new guard.new }
         ensures ram { mem.new.ram ≡ mem.old.ram }
     {

@@ -1,7 +1,7 @@
 // The turns of a load under way.
 
-ghost use Rattle.std.specs.Prelude.{◌≡◌, ◌+◌, ◌*◌, ◌<◌, ◌≤◌, ◌%◌, ℕ, suc, true, false, length, IsTrue, slice_get, if◌then◌else◌};
-ghost use Rattle.sv_types.specs.Bytes.{page_size, page_of};
+ghost use Rattle.std.specs.Prelude.{◌≡◌, ◌+◌, ◌-◌, ◌*◌, ◌<◌, ◌≤◌, ◌%◌, ℕ, suc, true, false, length, IsTrue, slice_get, if◌then◌else◌};
+ghost use Rattle.sv_types.specs.Bytes.{page_size, page_of, page_bytes};
 ghost use Rattle.sv_types.specs.Policies.{rules_of, rules_within};
 ghost use Rattle.sv_types.specs.declared.event.Note.TheVariants.{Load as Loaded};
 ghost use Rattle.sv_types.specs.declared.wires.Mode.{Mode as Privilege};
@@ -42,7 +42,24 @@ fn pages_of(policy: &Policy, id: u64) -> u32
     }
 }
 
-// Counts the next page of the module, as RAM has it now.
+// The bytes of the next page of the module, as RAM has them now.
+fn next_page<'a>(load: &Load, mem: &'a HostMem, policy: &Policy) -> &'a [u8]
+    requires policy { pages_in_rule (slice_get (rules_of policy.now).modules load.now.about.id) ≡ load.now.pages }
+    requires left { 0 < load.now.left }
+    requires few { load.now.left ≤ load.now.pages }
+    requires inside { page_size * (page_of load.now.about.gpa + load.now.pages) ≤ length mem.now.ram }
+    ensures bytes { result.now ≡ page_bytes mem.now.ram (page_of load.now.about.gpa + (load.now.pages - load.now.left)) }
+    ensures size { length result.now ≡ page_size }
+{
+    let about = load.about();
+    let first = about.gpa.saturating_sub(RAM_BASE) / PAGE_BYTES;
+    let ram_pages = mem.ram_pages() as u64;
+    prove!(first < ram_pages);
+    let counted = pages_of(policy, about.id) - load.left();
+    mem.page(first as u32 + counted)
+}
+
+// Counts the next page of the module.
 fn count_page(load: &mut Load, mem: &HostMem, policy: &Policy)
     requires within { IsTrue (rules_within (rules_of policy.now)) }
     requires policy { pages_in_rule (slice_get (rules_of policy.now).modules load.old.about.id) ≡ load.old.pages }
@@ -52,12 +69,7 @@ fn count_page(load: &mut Load, mem: &HostMem, policy: &Policy)
     ensures counted { (hart left : ℕ) → load.old.left ≡ suc left → host_load hart load.new ≡ load_counted (rules_of policy.now) mem.now.ram (host_load hart load.old) left (slice_get (rules_of policy.now).modules load.old.about.id) }
     ensures pages { load.new.pages ≡ load.old.pages }
 {
-    let about = load.about();
-    let first = about.gpa.saturating_sub(RAM_BASE) / PAGE_BYTES;
-    let ram_pages = mem.ram_pages() as u64;
-    prove!(first < ram_pages);
-    let counted = pages_of(policy, about.id) - load.left();
-    load.page(policy, mem.page(first as u32 + counted));
+    load.page(policy, next_page(load, mem, policy));
 }
 
 // The decision of a load of which all pages are counted: the module is loaded, or its pages are free again. Says which.
