@@ -44,6 +44,15 @@ impl KernelImage<'_> {
         }
         Ok(text)
     }
+
+    /// For each page the number of the first executable segment in which it lies, or of all segments where there is none.
+    /// Fails where memory is wanting.
+    pub fn page_owners(&self, alloc: Global) -> Result<Vec<usize>, AllocError>
+        ensures pages { IfOk result (λ owners. length owners.items ≡ 65536) }
+        ensures owners { IfOk result (λ owners. (page : ℕ) → page < 65536 → slice_index owners.items page ≡ text_owner page (segments_of self.now)) }
+    {
+        text_owners(alloc, &self.segments)
+    }
 }
 
 /// Pages from the first on, before the end.

@@ -502,6 +502,8 @@ fn text_in_ascending_order(rt: HostRuntime) -> Result<(), Fail> {
     assert_eq!(rt; kernel.entry, 0x8000_1000);
     assert_eq!(rt; kernel.segments.len(), 3);
     assert_eq!(rt; text.len(), 0x3000);
+    let owners = kernel.page_owners(rt.alloc())?;
+    assert_eq!(rt; &owners[..6], [3, 1, 3, 3, 0, 0].as_slice());
     for (i, byte) in text.iter().enumerate() {
         let wanted = if i < 0xFFF {
             i % 251

@@ -1,0 +1,68 @@
+-- Free pages that are held and then approved.
+use Rattle.std.proofs.Common.{◌≡◌, ℕ, zero, suc, ◌+◌, ◌-◌, ◌<◌, ◌≤◌, Bool, true, false, List, [], ◌∷◌, filter, refl, ◌∙◌, ap, arith, slice_set, slice_get, replicate, Some, None}
+use Rattle.std.specs.Prelude.{if◌then◌else◌}
+use Rattle.sv_types.specs.ApprovedPages.{numbers_from}
+use Rattle.sv_types.specs.declared.wires.Protection.{Protection}
+use Rattle.sv_types.specs.declared.wires.Protection.TheVariants.{Free, Held, Approved}
+use Rattle.reference.specs.Protections.{with_pages, with_each}
+use Rattle.page_guard.specs.Guarded.{first_taken}
+
+-- ---- one page
+
+set_twice : (guard : List Protection) (page : ℕ) (p q : Protection) → slice_set (slice_set guard page p) page q ≡ slice_set guard page q
+set_twice [] page p q = refl
+set_twice (x ∷ guard) zero p q = refl
+set_twice (x ∷ guard) (suc page) p q = ap (◌∷◌ x) (set_twice guard page p q)
+
+pub one_set : (guard : List Protection) (page : ℕ) → with_pages (with_pages guard page 1 Held) page 1 Approved ≡ slice_set guard page Approved
+unfolding with_pages
+one_set guard page = let e : page + 0 ≡ page = omega arith in rw e (set_twice guard page Held Approved)
+
+pub none_taken : (guard : List Protection) (page : ℕ) → slice_get guard page ≡ Some Free → first_taken guard (record { first = page; count = 1 }) ≡ None
+unfolding first_taken
+none_taken guard page free = rw free refl
+
+-- the list with a page approved, where a test says so
+abbrev pub approved_where : Bool → List Protection → ℕ → List Protection
+approved_where test guard page = if test then slice_set guard page Approved else guard
+
+-- ---- all pages
+
+pub is_free : (n page : ℕ) → page < n → slice_get (replicate n Free) page ≡ Some Free
+is_free zero page below = absurd (omega arith)
+is_free (suc n) zero below = refl
+is_free (suc n) (suc page) below = is_free n page (omega arith)
+
+other_kept : (guard : List Protection) (page q : ℕ) → page < q → slice_get (slice_set guard page Approved) q ≡ slice_get guard q
+other_kept [] page q before = refl
+other_kept (x ∷ guard) zero zero before = absurd (omega arith)
+other_kept (x ∷ guard) zero (suc q) before = refl
+other_kept (x ∷ guard) (suc page) zero before = absurd (omega arith)
+other_kept (x ∷ guard) (suc page) (suc q) before = other_kept guard page q (omega arith)
+
+-- the pages behind it stay as they are
+pub behind_kept : (test : Bool) (guard : List Protection) (page q : ℕ) → page < q → slice_get (approved_where test guard page) q ≡ slice_get guard q
+behind_kept true guard page q before = other_kept guard page q before
+behind_kept false guard page q before = refl
+
+next_tested : (test : Bool) (guard : List Protection) (page : ℕ) (pages : List ℕ)
+    → with_each guard (if test then page ∷ pages else pages) Approved ≡ with_each (approved_where test guard page) pages Approved
+unfolding with_each
+next_tested true guard page pages = refl
+next_tested false guard page pages = refl
+
+-- the next of the pages that a test picks
+pub next_page : (picks : ℕ → Bool) (guard : List Protection) (page n : ℕ) → page < n
+    → with_each guard (filter picks (numbers_from page (n - page))) Approved
+    ≡ with_each (approved_where (picks page) guard page) (filter picks (numbers_from (page + 1) (n - (page + 1)))) Approved
+next_page picks guard page n before =
+    let e : n - page ≡ suc (n - (page + 1)) = omega arith in
+    ap (λ k. with_each guard (filter picks (numbers_from page k)) Approved) e
+    ∙ next_tested (picks page) guard page (filter picks (numbers_from (page + 1) (n - (page + 1))))
+
+-- none is left
+pub last_page : (picks : ℕ → Bool) (guard : List Protection) (page n : ℕ) → n ≤ page
+    → with_each guard (filter picks (numbers_from page (n - page))) Approved ≡ guard
+unfolding with_each
+last_page picks guard page n past =
+    let e : n - page ≡ 0 = omega arith in ap (λ k. with_each guard (filter picks (numbers_from page k)) Approved) e

@@ -1,0 +1,4 @@
+pub mod Accepted
+mod FreePages
+mod TextPages
+mod Written

@@ -1,0 +1,37 @@
+use Rattle.std.proofs.Common.{◌≡◌, ◌+◌, ◌∙◌, List, ℕ, length, ap, sym, arith, length-append, length-take, replicate, take}
+use Rattle.std.proofs.lemmas.List.{take-replicate, length-replicate}
+use Rattle.sv_types.specs.Regions.{Region}
+use Rattle.image_loader.proofs.Written.{nothing_written, zeros_fit, zeros_put}
+use Rattle.image_loader.proofs.segments.put_zeros.Goals as goal
+
+pub zeros-init : goal.zeros-init
+zeros-init c =
+    let same = nothing_written c.args.mem.now.ram c.args.place in
+    (ap {B = Region} (λ (ram : List ℕ). record { tables = c.args.mem.now.tables; ram = ram }) (sym same), omega arith)
+
+pub copy_in-requires : goal.copy_in-requires
+copy_in-requires c =
+    let same = c.zeros.invariant.0 in
+    let tables : length c.zeros.mem.tables ≡ length c.args.mem.now.tables = ap (λ (r : Region). length r.tables) same in
+    let ram : length c.zeros.mem.ram ≡ length c.args.mem.now.ram =
+    ap (λ (r : Region). length r.ram) same ∙ zeros_fit c.args.mem.now.ram c.args.place c.zeros.done c.args.count c.requires.inside c.zeros.invariant.1 in
+    let base = c.table_bytes.ensures.value in
+    let part = length-take c.min-next.result c.args.zeros.now in
+    let next = c.min-next.ensures in
+    let inside = c.requires.inside in
+    let some = c.zeros.invariant.1 in
+    rw length-append (omega arith)
+
+pub zeros-preserved : goal.zeros-preserved
+zeros-preserved c =
+    let base = c.table_bytes.ensures.value in
+    let inside = c.requires.inside in
+    let next = c.min-next.ensures in
+    let some = c.zeros.invariant.1 in
+    let all : length c.args.zeros.now ≡ 4096 = ap length c.requires.zeros ∙ length-replicate {A = ℕ} 4096 0 in
+    let bytes : take c.min-next.result c.args.zeros.now ≡ replicate c.min-next.result 0 =
+    ap (take c.min-next.result) c.requires.zeros ∙ take-replicate c.min-next.result 4096 0 (omega arith) in (
+      zeros_put c.args.mem.now c.zeros.mem c.copy_in.new.self c.args.place c.zeros.done c.min-next.result
+          (c.table_bytes.result + c.args.place + c.zeros.done) (take c.min-next.result c.args.zeros.now) (omega arith) (omega arith) bytes c.zeros.invariant.0 c.copy_in.ensures.ram,
+      omega arith,
+    )

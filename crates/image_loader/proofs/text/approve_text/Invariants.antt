@@ -1,0 +1,18 @@
+use Rattle.std.proofs.Common.{◌≡◌, ◌-◌, ◌<◌, ◌≤◌, ℕ, filter, length, Some}
+use Rattle.std.specs.Prelude.{slice_get}
+use Rattle.std.specs.List.{list_any}
+use Rattle.sv_types.specs.ApprovedPages.{numbers_from}
+use Rattle.sv_types.specs.Kernel.{is_text_of}
+use Rattle.sv_types.specs.declared.wires.Protection.TheVariants.{Free, Approved}
+use Rattle.reference.specs.Protections.{with_each}
+use Rattle.page_guard.specs.Guarded.{IsTheirs}
+use Rattle.elf64_load.specs.Images.{segments_of}
+use Rattle.image_loader.proofs.text.approve_text.Given as goal
+
+-- the pages from here on are free, and those of the text are left to approve
+abbrev pub invariant-pages : goal.invariant-pages
+invariant-pages l =
+    (with_each l.guard (filter (λ page. list_any (is_text_of page) (segments_of l.image)) (numbers_from l.page (l.pages - l.page))) Approved
+    ≡ with_each l.fn.guard (filter (λ page. list_any (is_text_of page) (segments_of l.image)) (numbers_from 0 l.pages)) Approved)
+    × (((q : ℕ) → l.page ≤ q → q < l.pages → slice_get l.guard q ≡ Some Free)
+    × ((length l.guard ≡ length l.fn.guard) × (IsTheirs l.mem l.guard × (l.mem.ram ≡ l.fn.mem.ram))))

@@ -1,0 +1,12 @@
+//! An image in memory: its segments in guest RAM, and the pages of its text approved.
+#![tactic(auto)]
+
+mod laws;
+mod segments;
+#[cfg(test)]
+mod tests;
+mod text;
+
+pub use laws::law_accepted_segments;
+pub use segments::fill_ram;
+pub use text::approve_text;

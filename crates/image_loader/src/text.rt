@@ -1,0 +1,77 @@
+// The pages of an image's text.
+
+ghost use Rattle.std.specs.Prelude.{◌≡◌, ℕ, ◌+◌, ◌*◌, ◌<◌, ◌≤◌, length, replicate, slice_get, slice_set, slice_index, Some, OnOk, OnErr, nat_lt, if◌then◌else◌};
+ghost use Rattle.sv_types.specs.Bytes.{page_size};
+ghost use Rattle.sv_types.specs.Kernel.{text_pages};
+ghost use Rattle.sv_types.specs.declared.wires.Protection.TheVariants.{Free, Held, Approved};
+ghost use Rattle.reference.specs.Protections.{with_each};
+ghost use Rattle.page_guard.specs.Guarded.{IsTheirs};
+ghost use Rattle.elf64_load.specs.Images.{segments_of, text_owner};
+ghost use Rattle.image_loader.specs.Placed.{ArePlaced};
+
+use elf64_load::KernelImage;
+use host_mem::HostMem;
+use page_guard::Guard;
+use std::alloc::{AllocError, Global};
+use sv_types::Span;
+
+/// Approves the pages of an image's text, where all pages are free. Fails where memory is wanting, and then changes
+/// nothing.
+pub fn approve_text(
+    alloc: Global,
+    guard: &mut Guard,
+    mem: &mut HostMem,
+    image: &KernelImage,
+) -> Result<(), AllocError>
+    requires free { guard.old ≡ replicate (length guard.old) Free }
+    requires theirs { IsTheirs mem.old guard.old }
+    requires placed { ArePlaced (length guard.old) (segments_of image.now) }
+    ensures guard { OnOk result (guard.new ≡ with_each guard.old (text_pages (segments_of image.now)) Approved) }
+    ensures kept { OnErr result ((guard.new ≡ guard.old) × (mem.new ≡ mem.old)) }
+    ensures size { length guard.new ≡ length guard.old }
+    ensures theirs { IsTheirs mem.new guard.new }
+    ensures ram { mem.new.ram ≡ mem.old.ram }
+{
+    let owners = image.page_owners(alloc)?;
+    let segments = image.segments.as_slice();
+    let pages = mem.ram_pages();
+    'pages: for page in 0..pages {
+        let is_text = owners[page] < segments.len();
+        approve_if(is_text, guard, mem, page as u32);
+    }
+    Ok(())
+}
+
+// Approves a free page if it is text.
+fn approve_if(is_text: bool, guard: &mut Guard, mem: &mut HostMem, page: u32)
+    requires free { slice_get guard.old page ≡ Some Free }
+    requires theirs { IsTheirs mem.old guard.old }
+    ensures guard { guard.new ≡ (if is_text then slice_set guard.old page Approved else guard.old) }
+    ensures size { length guard.new ≡ length guard.old }
+    ensures theirs { IsTheirs mem.new guard.new }
+    ensures ram { mem.new.ram ≡ mem.old.ram }
+{
+    if is_text {
+        approve_page(guard, mem, page);
+    }
+}
+
+// Holds a free page and approves it.
+#[tactic(auto, using(crate::proofs::FreePages::one_set, crate::proofs::FreePages::none_taken))]
+fn approve_page(guard: &mut Guard, mem: &mut HostMem, page: u32)
+    requires free { slice_get guard.old page ≡ Some Free }
+    requires theirs { IsTheirs mem.old guard.old }
+    ensures guard { guard.new ≡ slice_set guard.old page Approved }
+    ensures size { length guard.new ≡ length guard.old }
+    ensures theirs { IsTheirs mem.new guard.new }
+    ensures ram { mem.new.ram ≡ mem.old.ram }
+{
+    let span = Span {
+        first: page,
+        count: 1,
+    };
+    let Ok(hold) = guard.hold(mem, span) else {
+        unreachable!();
+    };
+    guard.approve(mem, hold);
+}
