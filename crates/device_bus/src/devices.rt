@@ -64,6 +64,7 @@ impl<D: DiskPort> Devices<D> {
         ensures found { result ≡ is_some (device_store self.old journal.old gpa width value) }
         ensures devices { self.new ≡ devices_stored self.old (device_store self.old journal.old gpa width value) }
         ensures journal { journal.new ≡ journal_stored journal.old (device_store self.old journal.old gpa width value) }
+        ensures counts { journal.new.counts ≡ journal.old.counts }
     {
         match place_at(gpa) {
             Place::Console(offset) => match self.console.store(offset, width, value) {

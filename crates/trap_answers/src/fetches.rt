@@ -19,11 +19,11 @@ use page_guard::{Entries, Guard};
 use sv_types::{Cause, Exit, Mode, PAGE_BYTES, RAM_BASE};
 
 /// The transformed instruction of an implicit read of a first-stage entry.
-const IMPLICIT_READ: u32 = 0x3000;
+pub const IMPLICIT_READ: u32 = 0x3000;
 
-// The guest-physical address of the word whose fetch was refused, where it lies in RAM.
-fn gpa_in_ram(mem: &HostMem, exit: &Exit) -> Option<u64>
-    ensures { result ≡ (if in_ram mem.now.ram (exit_gpa exit.now) 4 then Some (exit_gpa exit.now) else None) }
+/// The guest-physical address of `width` bytes to which an access was refused, where they all lie in RAM.
+pub fn gpa_in_ram(mem: &HostMem, exit: &Exit, width: u64) -> Option<u64>
+    ensures { result ≡ (if in_ram mem.now.ram (exit_gpa exit.now) width then Some (exit_gpa exit.now) else None) }
 {
     let size = PAGE_BYTES * mem.ram_pages() as u64;
     if exit.htval >= 1 << 40 {
@@ -35,7 +35,7 @@ fn gpa_in_ram(mem: &HostMem, exit: &Exit) -> Option<u64>
         exit.stval % 4
     };
     let gpa = 4 * exit.htval + low;
-    if gpa >= RAM_BASE && gpa - RAM_BASE < size && size - (gpa - RAM_BASE) >= 4 {
+    if gpa >= RAM_BASE && gpa - RAM_BASE <= size && size - (gpa - RAM_BASE) >= width {
         Some(gpa)
     } else {
         None
@@ -83,7 +83,7 @@ pub fn serve_fetch(
         Mode::Kernel => {
             if exit.htinst == IMPLICIT_READ {
                 guest_trap(which, hart, side, guard, entries, journal, fault);
-            } else if let Some(gpa) = gpa_in_ram(mem, &exit) {
+            } else if let Some(gpa) = gpa_in_ram(mem, &exit, 4) {
                 demotion(which, hart, side, guard, journal, gpa);
             } else {
                 guest_trap(which, hart, side, guard, entries, journal, fault);

@@ -6,5 +6,5 @@ mod fetches;
 mod tests;
 mod traps;
 
-pub use fetches::serve_fetch;
-pub use traps::serve_trap;
+pub use fetches::{IMPLICIT_READ, gpa_in_ram, serve_fetch};
+pub use traps::{exception, guest_trap, serve_trap};

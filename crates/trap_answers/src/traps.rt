@@ -23,7 +23,7 @@ const SRET: u64 = 0x1020_0073;
 const VIRTUAL: u64 = 22;
 
 /// A trap of the guest: it comes to its handler, or, from user mode to a target that isn't permitted, the machine stops.
-pub(crate) fn guest_trap(
+pub fn guest_trap(
     which: u8,
     hart: &mut Hart,
     side: &mut Side,
@@ -50,7 +50,7 @@ pub(crate) fn guest_trap(
 }
 
 /// An exception with the value that `stval` takes.
-pub(crate) fn exception(cause: Cause, tval: u64) -> Trap
+pub fn exception(cause: Cause, tval: u64) -> Trap
     ensures { result ≡ record { interrupt = false; cause = cause_number cause; tval = tval } }
 {
     Trap {
