@@ -1,5 +1,5 @@
--- A machine, whatever its other parts are, with one hart, the permitted entries, the devices and the journal put in. This
--- project's own.
+-- A machine, whatever its other parts are, with one hart, the permitted entries, the devices and the journal put in.
+-- This project's own.
 use Rattle.std.specs.Prelude.{ℕ, List}
 use Rattle.reference.specs.States.{Devices, Journal}
 use Rattle.machine_model.specs.Machine.{Machine, HostHart}
