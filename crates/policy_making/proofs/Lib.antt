@@ -1,0 +1,6 @@
+pub mod Refused
+pub mod WholePages
+pub mod FewExports
+pub mod FittingSites
+pub mod NamesOnce
+pub mod ExportNames

@@ -1,0 +1,118 @@
+-- The policy of a kernel and its modules: its exports are the names that the modules want, its digests and relocated
+-- fields those of the files. The judgements come in the order of the stages. This project's own.
+use Rattle.std.specs.Prelude.{ℕ, ◌/◌, Bool, ◌&&◌, List, [], ◌∷◌, ◌++◌, length, ◌==◌, if◌then◌else◌}
+use Rattle.std.specs.Prelude.{Option, Some, None, Ok, Err}
+use Rattle.std.specs.BTreeSet.{replace_key}
+use Rattle.std.specs.Cmp.Lexicographic.{slice_cmp}
+use Rattle.std.specs.List.{list_all}
+use Rattle.std.specs.Ordering.{nat_cmp}
+use Rattle.sv_types.specs.Kernel.{kernel_refusal, kernel_segments, text_of}
+use Rattle.sv_types.specs.Measure.{measure}
+use Rattle.sv_types.specs.Policies.{Rules, ModuleRule, rules_within, module_pages_within, place_within, is_aligned}
+use Rattle.sv_types.specs.declared.module.Site.{Site}
+use Rattle.sv_types.specs.declared.policy.Export.{Export}
+use Rattle.reference.specs.Relocations.{masked}
+use Rattle.elf64_sections.specs.Judged.{◌>>=◌, each}
+use Rattle.elf64_load.specs.Exports.{exports_judged}
+use Rattle.elf64_reloc.specs.Modules.{Module, names_judged, module_judged}
+use Rattle.policy_making.specs.Refusals.{Judged, in_image, in_module}
+use Rattle.policy_making.specs.declared.modules.ObjectFile.{ObjectFile}
+use Rattle.policy_making.specs.declared.policy.Settings.{Settings}
+use Rattle.policy_making.specs.declared.refusal.MakingRefusal.TheVariants.{Image, Limits}
+
+-- ---- the kernel
+
+abbrev pub digest_behind : Option ℕ → List ℕ → Judged (List ℕ)
+digest_behind (Some number) kernel = Err (Image number)
+digest_behind None kernel = Ok (measure (text_of (kernel_segments kernel)))
+
+-- the measure of its text
+unfoldable pub kernel_digest : List ℕ → ℕ → Judged (List ℕ)
+kernel_digest kernel ram_pages = digest_behind (kernel_refusal kernel ram_pages) kernel
+
+-- ---- wanted names
+
+-- those of an object stand behind those of the objects before it
+unfoldable pub names_with : List (List ℕ) → List ℕ → Judged (List (List ℕ))
+names_with names object = in_module (names_judged object) >>= λ wanted. Ok (names ++ wanted)
+
+abbrev pub names_from : List (List ℕ) → List ObjectFile → Judged (List (List ℕ))
+names_from names [] = Ok names
+names_from names (o ∷ os) = names_with names o.bytes.items >>= λ more. names_from more os
+
+abbrev pub once_from : List (List ℕ) → List (List ℕ) → List (List ℕ)
+once_from once [] = once
+once_from once (name ∷ names) = once_from (replace_key (slice_cmp nat_cmp) once name) names
+
+-- each once, in the order of their bytes
+abbrev pub each_once : List (List ℕ) → List (List ℕ)
+each_once = once_from []
+
+-- ---- exports
+
+-- the kernel's symbols matter only where a name is wanted
+unfoldable pub exports_for : List ℕ → List (List ℕ) → Judged (List Export)
+exports_for kernel names = if length names == 0 then Ok [] else in_image (exports_judged kernel names)
+
+abbrev pub exports_wanted : List ℕ → List (List ℕ) → Judged (List Export)
+exports_wanted kernel names = exports_for kernel (each_once names)
+
+-- ---- modules
+
+abbrev pub pages_of : List ℕ → ℕ
+pages_of text = length text / 4096
+
+-- the field begins in a module of so many pages, at a multiple of its bytes
+abbrev pub site_fits : ℕ → Site → Bool
+site_fits pages site = place_within pages site.offset && is_aligned site.kind site.offset
+
+abbrev pub module_fits : Module → Bool
+module_fits m = module_pages_within (pages_of m.text) && list_all (site_fits (pages_of m.text)) m.sites
+
+-- the measure is that of the text with each field cleared
+abbrev pub rule_of : List ℕ → Module → ModuleRule
+rule_of name m = record {
+  name = name;
+  pages = pages_of m.text;
+  measure = measure (masked m.text m.sites);
+  sites = m.sites;
+}
+
+abbrev pub rule_within : List ℕ → Module → Judged ModuleRule
+rule_within name m = if module_fits m then Ok (rule_of name m) else Err Limits
+
+unfoldable pub module_made : List Export → ObjectFile → Judged ModuleRule
+module_made exports o = in_module (module_judged o.bytes.items exports) >>= rule_within o.name
+
+abbrev pub modules_made : List Export → List ObjectFile → Judged (List ModuleRule)
+modules_made exports objects = each (module_made exports) [] objects
+
+-- ---- the policy
+
+abbrev pub rules_with : Settings → List ℕ → List Export → List ModuleRule → Rules
+rules_with s digest exports modules = record {
+  format = 1;
+  harts = s.harts;
+  ram_pages = s.ram_pages;
+  entries = s.entries.items;
+  exports = exports;
+  kernel = digest;
+  init = s.init;
+  modules = modules;
+}
+
+-- every value is within its limit, the number of all sites together among them
+abbrev pub within_limits : Rules → Judged Rules
+within_limits r = if rules_within r then Ok r else Err Limits
+
+-- the stages behind those of the kernel and of the wanted names
+unfoldable pub policy_behind : Settings → (kernel digest : List ℕ) → List (List ℕ) → List ObjectFile → Judged Rules
+policy_behind s kernel digest names objects =
+    exports_wanted kernel names >>= λ exports. modules_made exports objects >>= λ modules.
+    within_limits (rules_with s digest exports modules)
+
+-- all stages
+unfoldable pub policy_made : Settings → List ℕ → List ObjectFile → Judged Rules
+policy_made s kernel objects =
+    kernel_digest kernel s.ram_pages >>= λ digest. names_from [] objects >>= λ names.
+    policy_behind s kernel digest names objects

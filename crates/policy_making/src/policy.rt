@@ -1,0 +1,105 @@
+// The policy of a kernel and its modules.
+
+ghost use Rattle.std.specs.Prelude.{◌≡◌, true, Ok, [], IfOk, IfErr};
+ghost use Rattle.sv_types.specs.Policies.{rules_of, rules_within};
+ghost use Rattle.policy_making.specs.Making as spec;
+ghost use Rattle.policy_making.specs.Refusals.{Refuses};
+
+use crate::exports::wanted_exports;
+use crate::kernel::kernel_digest;
+use crate::modules::{ObjectFile, made_modules};
+use crate::names::want_names;
+use crate::refusal::MakingRefusal;
+use policy_limits::within;
+use std::alloc::Global;
+use std::thread::Threads;
+use sv_types::{Name, Policy, Span};
+
+/// What a policy says beside its files.
+#[derive(Drop)]
+pub struct Settings {
+    pub harts: u8,
+    pub ram_pages: u32,
+    pub entries: Vec<u64>,
+    pub init: Option<Span>,
+}
+
+fn within_limits(policy: Policy) -> Result<Policy, MakingRefusal>
+    ensures policy { IfOk result (λ made. spec.within_limits (rules_of policy) ≡ Ok (rules_of made)) }
+    ensures within { IfOk result (λ made. rules_within (rules_of made) ≡ true) }
+    ensures refused { IfErr result (Refuses (spec.within_limits (rules_of policy))) }
+{
+    if within(&policy) {
+        Ok(policy)
+    } else {
+        Err(MakingRefusal::Limits)
+    }
+}
+
+/// The policy of a kernel whose digest is known, and of modules, of which these names are wanted. Refuses the exports, the
+/// objects and a policy that is beyond its limits, and for want of memory. The policy is within its limits.
+#[tactic(auto, unfolding(crate::specs::Making::policy_behind))]
+pub fn policy_behind<R: Threads + Sync>(
+    rt: &R,
+    alloc: Global,
+    settings: Settings,
+    kernel: &[u8],
+    digest: [u8; 32],
+    names: &[Name],
+    objects: &[ObjectFile],
+) -> Result<Policy, MakingRefusal>
+    ensures policy { IfOk result (λ policy. spec.policy_behind settings kernel.now digest names.now objects.now ≡ Ok (rules_of policy)) }
+    ensures within { IfOk result (λ policy. rules_within (rules_of policy) ≡ true) }
+    ensures refused { IfErr result (Refuses (spec.policy_behind settings kernel.now digest names.now objects.now)) }
+{
+    let exports = wanted_exports(alloc, kernel, names)?;
+    let modules = made_modules(rt, alloc, &exports, objects)?;
+    let Settings {
+        harts,
+        ram_pages,
+        entries,
+        init,
+    } = settings;
+    within_limits(Policy {
+        format: 1,
+        harts,
+        ram_pages,
+        entries,
+        exports,
+        kernel: digest,
+        init,
+        modules,
+    })
+}
+
+// The names that all objects want, in their order.
+fn all_names(alloc: Global, objects: &[ObjectFile]) -> Result<Vec<Name>, MakingRefusal>
+    ensures names { IfOk result (λ names. spec.names_from [] objects.now ≡ Ok names.items) }
+    ensures refused { IfErr result (Refuses (spec.names_from [] objects.now)) }
+{
+    let mut names = Vec::new(alloc);
+    'objects: for object in objects {
+        want_names(alloc, &mut names, &object.bytes)?;
+    }
+    Ok(names)
+}
+
+/// The policy of a kernel and of modules, by their files. Refuses for the first fault in the order of the stages: the kernel
+/// by 1 to 15; each object's names; the exports; each object's module; and the limits. Want of memory may come at any
+/// stage. The policy is within its limits.
+#[tactic(auto, unfolding(crate::specs::Making::policy_made))]
+pub fn made_policy<R: Threads + Sync>(
+    rt: &R,
+    alloc: Global,
+    settings: Settings,
+    kernel: &[u8],
+    objects: &[ObjectFile],
+) -> Result<Policy, MakingRefusal>
+    ensures policy { IfOk result (λ policy. spec.policy_made settings kernel.now objects.now ≡ Ok (rules_of policy)) }
+    ensures within { IfOk result (λ policy. rules_within (rules_of policy) ≡ true) }
+    ensures refused { IfErr result (Refuses (spec.policy_made settings kernel.now objects.now)) }
+{
+    let digest = kernel_digest(rt, alloc, kernel, settings.ram_pages)?;
+    let names = all_names(alloc, objects)?;
+    policy_behind(rt, alloc, settings, kernel, digest, &names, objects)
+}
