@@ -1,5 +1,5 @@
--- A machine, whatever its other parts are, with what an answer to a call may change, and the permitted entries, put in. This
--- project's own.
+-- A machine, whatever its other parts are, with the permitted entries and what an answer to a call may change put in.
+-- This project's own.
 use Rattle.std.specs.Prelude.{ℕ, List}
 use Rattle.reference.specs.States.{Devices, Journal}
 use Rattle.machine_model.specs.Machine.{Machine, HostHart}

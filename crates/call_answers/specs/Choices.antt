@@ -1,7 +1,8 @@
 -- The extension of a number, and the answer of each. This project's own.
 use Rattle.std.specs.Prelude.{ℕ, ◌==◌, if◌then◌else◌}
 use Rattle.reference.specs.Calls.{Asked}
-use Rattle.machine_model.specs.HostCalls.{host_set_timer, host_put_char, host_get_char, host_shut_down, host_base, host_timer_call, host_ipi, host_fence, host_hart_call, host_reset, host_refuse}
+use Rattle.machine_model.specs.HostCalls.{host_set_timer, host_put_char, host_get_char, host_shut_down, host_refuse}
+use Rattle.machine_model.specs.HostCalls.{host_base, host_timer_call, host_ipi, host_fence, host_hart_call, host_reset}
 use Rattle.machine_model.specs.Machine.{Machine}
 use Rattle.call_answers.specs.declared.extensions.Extension.{Extension}
 

@@ -24,4 +24,5 @@ replied_code m h code = host_code m h (code_number code)
 
 -- hart h has started another, as it asked
 abbrev pub begun : Machine → (h other : ℕ) → Asked → Machine
-begun m h other ask = with_host (host_code (host_timer m other latest) h success) other (host_started other ask.a1 ask.a2)
+begun m h other ask =
+    with_host (host_code (host_timer m other latest) h success) other (host_started other ask.a1 ask.a2)

@@ -4,7 +4,9 @@ use Rattle.sv_types.specs.Requests.{after_write}
 use Rattle.hart_answers.specs.declared.seats.Seat.{Seat}
 
 abbrev pub forgotten : ℕ → ℕ → Seat → Seat
-forgotten hpa width seat = record seat { hart = record seat.hart { reservation = after_write hpa width seat.hart.reservation } }
+forgotten hpa width seat = record seat {
+  hart = record seat.hart { reservation = after_write hpa width seat.hart.reservation };
+}
 
 abbrev pub notified : Seat → Seat
 notified seat = record seat { hart = record seat.hart { csrs = record seat.hart.csrs { hvip = 4 } } }
