@@ -4,3 +4,4 @@ pub mod FewExports
 pub mod FittingSites
 pub mod NamesOnce
 pub mod ExportNames
+pub mod ExportsWithin

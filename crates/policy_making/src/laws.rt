@@ -1,11 +1,14 @@
 // Laws of the definitions alone. A law takes no argument and does nothing; its clauses are the theorem.
 
-ghost use Rattle.std.specs.Prelude.{◌≡◌, ℕ, Bool, List, Ok, map};
+ghost use Rattle.std.specs.Prelude.{◌≡◌, ◌≤◌, ℕ, Bool, true, List, Ok, length, map};
 ghost use Rattle.std.specs.Cmp.Lexicographic.{slice_cmp};
 ghost use Rattle.std.specs.List.{list_any};
 ghost use Rattle.std.specs.List.Sorted.{IsStrictlySortedBy};
 ghost use Rattle.std.specs.Ordering.{nat_cmp};
-ghost use Rattle.policy_making.specs.Making.{each_once, exports_wanted};
+ghost use Rattle.policy_making.specs.Making.{each_once, exports_wanted, rules_with};
+ghost use Rattle.policy_making.specs.Ranges.{settings_within};
+ghost use Rattle.policy_making.specs.declared.policy.Settings.{Settings};
+ghost use Rattle.sv_types.specs.Policies.{ModuleRule, rules_within, modules_within};
 ghost use Rattle.sv_types.specs.declared.policy.Export.{Export};
 
 /// Exports have the names that are wanted, each once: the names rise in the order of their bytes, and what some wanted name
@@ -14,4 +17,9 @@ pub fn law_exports_of_names()
     ensures exported { (kernel : List ℕ) (names : List (List ℕ)) (exports : List Export) → exports_wanted kernel names ≡ Ok exports → map (λ e. e.name) exports ≡ each_once names }
     ensures rising { (names : List (List ℕ)) → IsStrictlySortedBy (slice_cmp nat_cmp) (each_once names) }
     ensures same { (names : List (List ℕ)) (test : List ℕ → Bool) → list_any test (each_once names) ≡ list_any test names }
+{}
+
+/// Where the words are in their ranges, only modules can take a policy of wanted exports beyond its limits.
+pub fn law_limits_of_modules()
+    ensures { (s : Settings) (digest kernel : List ℕ) (names : List (List ℕ)) (exports : List Export) (modules : List ModuleRule) → settings_within s ≡ true → exports_wanted kernel names ≡ Ok exports → length modules ≤ 64 → rules_within (rules_with s digest exports modules) ≡ modules_within (length exports) modules }
 {}
