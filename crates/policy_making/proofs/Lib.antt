@@ -5,3 +5,4 @@ pub mod FittingSites
 pub mod NamesOnce
 pub mod ExportNames
 pub mod ExportsWithin
+pub mod ModulesWithin

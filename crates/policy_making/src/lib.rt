@@ -12,7 +12,7 @@ mod refusal;
 
 pub use exports::wanted_exports;
 pub use kernel::kernel_digest;
-pub use laws::{law_exports_of_names, law_limits_of_modules};
+pub use laws::{law_exports_of_names, law_within_limits};
 pub use modules::{ObjectFile, made_modules};
 pub use names::want_names;
 pub use policy::{Settings, made_policy, policy_behind};
