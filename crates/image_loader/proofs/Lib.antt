@@ -1,4 +1,6 @@
 pub mod Accepted
 mod FreePages
+mod LastWhole
+mod Loaded
 mod TextPages
 mod Written

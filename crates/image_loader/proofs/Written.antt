@@ -1,16 +1,14 @@
 -- Bytes written one behind the other.
-use Rattle.std.proofs.Common.{◌≡◌, ℕ, zero, suc, ◌+◌, ◌-◌, ◌<◌, ◌≤◌, List, [], ◌∷◌, ◌++◌, refl, map, length, take, drop, sym, ◌∙◌, ap, arith, length-append, append_assoc, replicate}
+use Rattle.std.proofs.Common.{◌≡◌, ℕ, zero, suc, ◌+◌, ◌-◌, ◌<◌, ◌≤◌, List, [], ◌∷◌, ◌++◌, refl, get_or, inl, inr, Bool, true, false, length-take, length, take, drop, sym, ◌∙◌, ap, arith, length-append, append_assoc, replicate}
 use Rattle.std.proofs.Math.Seq.{drop-append-add}
 use Rattle.std.proofs.lemmas.List.{drop-drop, take-append-drop, length-replicate}
-use Rattle.std.specs.List.{All, slice_index_or}
-use Rattle.std.proofs.lemmas.List.Elements.{All-head, All-tail}
-use Rattle.sv_types.specs.Bytes.{overwrite, ram_place}
+use Rattle.std.specs.Prelude.{max, min, ◌*◌, ◌/◌, ◌==◌, nat_le, nat_lt, ◌&&◌, if◌then◌else◌}
+use Rattle.std.proofs.lemmas.Bool.Decides.{nat_tests}
+use Rattle.sv_types.specs.Bytes.{overwrite, padded, part}
 use Rattle.sv_types.specs.Kernel.{LoadedSegment, with_segment}
 use Rattle.sv_types.specs.Regions.{Region}
-use Rattle.sv_types.proofs.ByteLemmas.{take_front, length_before, length_overwrite}
-use Rattle.elf64_load.specs.Images.{segment_of}
-use Rattle.elf64_load.specs.declared.image.Segment.{Segment}
-use Rattle.elf64_load.proofs.LoadedBytes.{length_with_segment}
+use Rattle.sv_types.proofs.ByteLemmas.{lt_or_le, take_front, length_before, length_overwrite}
+use Rattle.elf64_load.proofs.LoadedBytes.{length_with_segment, length_padded, at_before, at_written, at_behind, at_padded, at_part}
 use Rattle.image_loader.specs.Placed.{IsPlaced}
 
 -- what is written behind bytes that were written is written with them
@@ -71,37 +69,78 @@ zeros_put old m new place done next at bytes fits at_is bytes_is m_is copied =
     rw (e, r, bytes_is) (more_zeros old.ram place done next fits) in
     copied (omega arith) ∙ rw (made, t) refl
 
-pub segment_put : (old m new : Region) (s : LoadedSegment) (at : ℕ) → IsPlaced (length old.ram) s → at ≡ length old.tables + ram_place s.gpa
-    → (length old.tables ≤ at → m ≡ record { tables = old.tables; ram = overwrite old.ram (at - length old.tables) s.bytes })
-    → new ≡ record { tables = m.tables; ram = overwrite m.ram (ram_place s.gpa + length s.bytes) (replicate (s.memory - length s.bytes) 0) }
-    → new ≡ record { tables = old.tables; ram = with_segment old.ram s }
-segment_put old m new s at placed at_is copied padded_to =
-    let m_is = copied (omega arith) in
-    let e : at - length old.tables ≡ ram_place s.gpa = omega arith in
-    let t : m.tables ≡ old.tables = ap (λ (r : Region). r.tables) m_is in
-    let r : m.ram ≡ overwrite old.ram (ram_place s.gpa) s.bytes = ap (λ (r : Region). r.ram) m_is ∙ ap (λ n. overwrite old.ram n s.bytes) e in
-    let zeros = replicate (s.memory - length s.bytes) 0 in
-    let size : length zeros ≡ s.memory - length s.bytes = length-replicate (s.memory - length s.bytes) 0 in
-    let inside = placed.inside in
-    let short = placed.short in
-    let made : overwrite m.ram (ram_place s.gpa + length s.bytes) zeros ≡ with_segment old.ram s =
-    rw r (overwrite_joined old.ram s.bytes zeros (ram_place s.gpa) (omega arith)) in
-    padded_to ∙ rw (made, t) refl
-
-pub bytes_fit : (old m : Region) (s : LoadedSegment) (at : ℕ) → IsPlaced (length old.ram) s → at ≡ length old.tables + ram_place s.gpa
-    → (length old.tables ≤ at → m ≡ record { tables = old.tables; ram = overwrite old.ram (at - length old.tables) s.bytes })
-    → length m.ram ≡ length old.ram
-bytes_fit old m s at placed at_is copied =
-    let inside = placed.inside in
-    let short = placed.short in
-    ap (λ (r : Region). length r.ram) (copied (omega arith)) ∙ length_overwrite old.ram s.bytes (at - length old.tables) (omega arith)
-
 pub segment_fits : (ram : List ℕ) (s : LoadedSegment) → IsPlaced (length ram) s → length (with_segment ram s) ≡ length ram
 segment_fits ram s placed = length_with_segment ram s (record { inside = placed.inside; short = placed.short })
 
--- ---- one of all segments
+-- ---- a part of a segment
 
-pub placed_at : (size : ℕ) (ss : List Segment) (i : ℕ) (d : Segment) → i < length ss → All (IsPlaced size) (map segment_of ss) → IsPlaced size (segment_of (slice_index_or ss i d))
-placed_at size [] i d before all = absurd (omega arith)
-placed_at size (s ∷ ss) zero d before all = All-head (IsPlaced size) (segment_of s) (map segment_of ss) all
-placed_at size (s ∷ ss) (suc i) d before all = placed_at size ss i d (omega arith) (All-tail (IsPlaced size) (segment_of s) (map segment_of ss) all)
+pub part_put : (old m new : Region) (place at from count filled : ℕ) (bytes piece : List ℕ) → length piece ≡ filled → place + count ≤ length old.ram → at ≡ length old.tables + place
+    → piece ≡ part bytes from count
+    → (length old.tables ≤ at → m ≡ record { tables = old.tables; ram = overwrite old.ram (at - length old.tables) piece })
+    → new ≡ record { tables = m.tables; ram = overwrite m.ram (place + filled) (replicate (count - filled) 0) }
+    → new ≡ record { tables = old.tables; ram = overwrite old.ram place (padded (part bytes from count) count) }
+part_put old m new place at from count filled bytes piece filled_is fits at_is piece_is copied zeros_put =
+    let m_is = copied (omega arith) in
+    let e : at - length old.tables ≡ place = omega arith in
+    let t : m.tables ≡ old.tables = ap (λ (r : Region). r.tables) m_is in
+    let r : m.ram ≡ overwrite old.ram place piece = ap (λ (r : Region). r.ram) m_is ∙ ap (λ n. overwrite old.ram n piece) e in
+    let short : length (part bytes from count) ≤ count = let most = length-take count (drop from bytes) in omega arith in
+    let few : length piece ≤ count = let same = ap length piece_is in omega arith in
+    let size : length {A = ℕ} (replicate (count - length piece) 0) ≡ count - length piece = length-replicate (count - length piece) 0 in
+    let made : overwrite m.ram (place + filled) (replicate (count - filled) 0) ≡ overwrite old.ram place (padded (part bytes from count) count) =
+    rw (sym filled_is, r) (overwrite_joined old.ram piece (replicate (count - length piece) 0) place (omega arith))
+    ∙ ap (λ (xs : List ℕ). overwrite old.ram place (padded xs count)) piece_is in
+    zeros_put ∙ rw (made, t) refl
+
+pub part_size : (old m : Region) (place at : ℕ) (piece : List ℕ) → place + length piece ≤ length old.ram → at ≡ length old.tables + place
+    → (length old.tables ≤ at → m ≡ record { tables = old.tables; ram = overwrite old.ram (at - length old.tables) piece })
+    → length m.ram ≡ length old.ram
+part_size old m place at piece fits at_is copied =
+    ap (λ (r : Region). length r.ram) (copied (omega arith)) ∙ length_overwrite old.ram piece (at - length old.tables) (omega arith)
+
+pub padded_fits : (ram bytes : List ℕ) (place from count : ℕ) → place + count ≤ length ram
+    → length (overwrite ram place (padded (part bytes from count) count)) ≡ length ram
+padded_fits ram bytes place from count fits =
+    let most = length-take count (drop from bytes) in
+    let size : length (padded (part bytes from count) count) ≡ count = length_padded (part bytes from count) count (omega arith) in
+    length_overwrite ram (padded (part bytes from count) count) place (omega arith)
+
+-- the bytes of a list with a part written in it
+pub part_byte : (ram bytes : List ℕ) (place start count at : ℕ) → place ≤ start → start + count ≤ length ram
+    → (b : Bool) → b ≡ (nat_le start at && nat_lt at (start + count))
+    → get_or (overwrite ram start (padded (part bytes (start - place) count) count)) at 0 ≡ (if b then get_or bytes (at - place) 0 else get_or ram at 0)
+part_byte ram bytes place start count at order fits b is =
+    let piece = part bytes (start - place) count in
+    let most = length-take count (drop (start - place) bytes) in
+    let size : length (padded piece count) ≡ count = length_padded piece count (omega arith) in
+    elim (lt_or_le at start) [
+      | inl before ↦
+          let test : (nat_le start at && nat_lt at (start + count)) ≡ false = grind (arith, nat_tests) in
+          rw (is, test) (at_before ram (padded piece count) start at (omega arith) before)
+      | inr from ↦ elim (lt_or_le at (start + count)) [
+        | inl inside ↦
+            let test : (nat_le start at && nat_lt at (start + count)) ≡ true = grind (arith, nat_tests) in
+            let e : start - place + (at - start) ≡ at - place = omega arith in
+            rw (is, test) (at_written ram (padded piece count) start at (omega arith) from (omega arith) ∙ at_padded piece count (at - start)
+            ∙ at_part bytes (start - place) count (at - start) (omega arith) ∙ ap (λ n. get_or bytes n 0) e)
+        | inr behind ↦
+            let test : (nat_le start at && nat_lt at (start + count)) ≡ false = grind (arith, nat_tests) in
+            rw (is, test) (at_behind ram (padded piece count) start at (omega arith) (omega arith))
+      ]
+    ]
+
+pub in_piece : (place memory page start end at : ℕ) → start ≡ max place (4096 * page) → end ≡ min (place + memory) (4096 * page + 4096) → start < end
+    → (at / 4096 == page && (nat_le place at && nat_lt at (place + memory))) ≡ (nat_le start at && nat_lt at (start + (end - start)))
+in_piece place memory page start end at start_is end_is some = elim (lt_or_le at start) [
+  | inl before ↦
+      let right : (nat_le start at && nat_lt at (start + (end - start))) ≡ false = grind (arith, nat_tests) in
+      let left : (at / 4096 == page && (nat_le place at && nat_lt at (place + memory))) ≡ false = grind (arith, nat_tests) in left ∙ sym right
+  | inr from ↦ elim (lt_or_le at end) [
+    | inl inside ↦
+        let right : (nat_le start at && nat_lt at (start + (end - start))) ≡ true = grind (arith, nat_tests) in
+        let left : (at / 4096 == page && (nat_le place at && nat_lt at (place + memory))) ≡ true = grind (arith, nat_tests) in left ∙ sym right
+    | inr behind ↦
+        let right : (nat_le start at && nat_lt at (start + (end - start))) ≡ false = grind (arith, nat_tests) in
+        let left : (at / 4096 == page && (nat_le place at && nat_lt at (place + memory))) ≡ false = grind (arith, nat_tests) in left ∙ sym right
+  ]
+]

@@ -2,6 +2,7 @@
 #![tactic(auto)]
 
 mod laws;
+mod owners;
 mod segments;
 #[cfg(test)]
 mod tests;

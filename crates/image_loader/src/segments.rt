@@ -1,11 +1,15 @@
-// The segments of an image in guest RAM.
+// The segments of an image in guest RAM. Each page is written from the last segment that covers it whole, and after it
+// from the later ones that begin or end in it: in time of the pages of RAM and the segments.
 
-ghost use Rattle.std.specs.Prelude.{◌≡◌, ◌+◌, ◌*◌, ◌≤◌, length, replicate, IfOk, OnOk};
-ghost use Rattle.sv_types.specs.Bytes.{page_size, overwrite};
-ghost use Rattle.sv_types.specs.Kernel.{segments_ram, with_segment};
+ghost use Rattle.std.specs.List.{All};
+ghost use Rattle.std.specs.Prelude.{◌≡◌, ℕ, ◌+◌, ◌-◌, ◌*◌, ◌/◌, ◌<◌, ◌≤◌, ◌==◌, ◌&&◌, false, nat_le, nat_lt, map, length, replicate, slice_index, slice_index_or, if◌then◌else◌, IfOk, OnOk};
+ghost use Rattle.sv_types.specs.Bytes.{page_size, overwrite, padded, part, ram_place};
+ghost use Rattle.sv_types.specs.Kernel.{segments_ram};
 ghost use Rattle.elf64_load.specs.Images.{segment_of, segments_of};
 ghost use Rattle.image_loader.specs.Placed.{IsPlaced, ArePlaced};
+ghost use Rattle.image_loader.specs.Whole.{byte_of, covers, has_byte, loaded_byte, segment_at, IsLastWhole};
 
+use crate::owners::last_owners;
 use elf64_load::{KernelImage, Segment};
 use host_mem::HostMem;
 use std::alloc::{AllocError, Global};
@@ -26,9 +30,10 @@ pub fn fill_ram(
     ensures size { length mem.new.ram ≡ length mem.old.ram }
 {
     let zeros = zeros_of(alloc, PAGE_BYTES as usize)?;
-    'segments: for segment in &image.segments {
-        put_segment(mem, segment, &zeros);
-    }
+    let segments = image.segments.as_slice();
+    let owners = last_owners(alloc, segments, mem.ram_pages())?;
+    put_owned(mem, segments, &owners, &zeros);
+    put_edges(mem, segments, &owners, &zeros);
     Ok(())
 }
 
@@ -39,18 +44,38 @@ fn zeros_of(alloc: Global, count: usize) -> Result<Vec<u8>, AllocError>
     vec![in alloc; 0; count]
 }
 
-// Puts a segment's bytes into RAM, and zeros behind them.
-#[tactic(auto, using(crate::proofs::Written::overwrite_joined))]
-fn put_segment(mem: &mut HostMem, segment: &Segment, zeros: &[u8])
+// Puts into a page the bytes that a segment has there, and zeros behind them.
+fn put_piece(mem: &mut HostMem, segment: &Segment, page: usize, zeros: &[u8])
     requires zeros { zeros.now ≡ replicate 4096 0 }
     requires placed { IsPlaced (length mem.old.ram) (segment_of segment.now) }
-    ensures ram { mem.new ≡ record mem.old { ram = with_segment mem.old.ram (segment_of segment.now) } }
+    requires page { page_size * page + page_size ≤ length mem.old.ram }
+    requires few { length mem.old.ram ≤ page_size * 65536 }
+    ensures bytes { (at : ℕ) → slice_index_or mem.new.ram at 0 ≡ (if at / page_size == page && has_byte (segment_of segment.now) at then byte_of (segment_of segment.now) at else slice_index_or mem.old.ram at 0) }
+    ensures tables { mem.new.tables ≡ mem.old.tables }
     ensures size { length mem.new.ram ≡ length mem.old.ram }
 {
     let place = segment.gpa.saturating_sub(RAM_BASE) as usize;
-    let filled = segment.bytes.len();
-    mem.copy_in(mem.table_bytes() + place, segment.bytes);
-    put_zeros(mem, place + filled, segment.memory as usize - filled, zeros);
+    let page_start = PAGE_BYTES as usize * page;
+    let start = place.max(page_start);
+    let end = (place + segment.memory as usize).min(page_start + PAGE_BYTES as usize);
+    if start < end {
+        put_part(mem, start, segment.bytes, start - place, end - start, zeros);
+    }
+}
+
+// Puts `count` bytes at a place in RAM: those from `from` on, with zeros behind them.
+fn put_part(mem: &mut HostMem, place: usize, bytes: &[u8], from: usize, count: usize, zeros: &[u8])
+    requires zeros { zeros.now ≡ replicate 4096 0 }
+    requires inside { place + count ≤ length mem.old.ram }
+    requires from { from ≤ length mem.old.ram }
+    ensures { mem.new ≡ record mem.old { ram = overwrite mem.old.ram place (padded (part bytes.now from count) count) } }
+{
+    let base = mem.table_bytes();
+    let start = from.min(bytes.len());
+    let end = (from + count).min(bytes.len());
+    let filled = end - start;
+    mem.copy_in(base + place, &bytes[start..end]);
+    put_zeros(mem, place + filled, count - filled, zeros);
 }
 
 // Puts so many zeros at a place in RAM.
@@ -65,5 +90,91 @@ fn put_zeros(mem: &mut HostMem, place: usize, count: usize, zeros: &[u8])
         let next = (count - done).min(zeros.len());
         mem.copy_in(start + done, &zeros[..next]);
         done += next;
+    }
+}
+
+// Puts a page of the segment before `owner`, where there is one.
+fn put_owner(mem: &mut HostMem, segments: &[Segment], owner: usize, page: usize, zeros: &[u8])
+    requires zeros { zeros.now ≡ replicate 4096 0 }
+    requires placed { All (IsPlaced (length mem.old.ram)) (map segment_of segments.now) }
+    requires owner { owner ≤ length segments.now }
+    requires page { page_size * page + page_size ≤ length mem.old.ram }
+    requires few { length mem.old.ram ≤ page_size * 65536 }
+    ensures bytes { (at : ℕ) → slice_index_or mem.new.ram at 0 ≡ (if nat_lt 0 owner && (at / page_size == page && has_byte (segment_at (map segment_of segments.now) (owner - 1)) at) then byte_of (segment_at (map segment_of segments.now) (owner - 1)) at else slice_index_or mem.old.ram at 0) }
+    ensures tables { mem.new.tables ≡ mem.old.tables }
+    ensures size { length mem.new.ram ≡ length mem.old.ram }
+{
+    if owner > 0 {
+        put_piece(mem, &segments[owner - 1], page, zeros);
+    }
+}
+
+// Puts each page of the last segment that covers it whole.
+fn put_owned(mem: &mut HostMem, segments: &[Segment], owners: &[usize], zeros: &[u8])
+    requires zeros { zeros.now ≡ replicate 4096 0 }
+    requires ram { length mem.old.ram ≡ page_size * length owners.now }
+    requires placed { All (IsPlaced (length mem.old.ram)) (map segment_of segments.now) }
+    requires few { length owners.now ≤ 65536 }
+    requires blank { (at : ℕ) → slice_index_or mem.old.ram at 0 ≡ 0 }
+    requires owners { (page : ℕ) → page < length owners.now → IsLastWhole (map segment_of segments.now) (length segments.now) page (slice_index owners.now page) }
+    ensures bytes { (at : ℕ) → at < length mem.old.ram → slice_index_or mem.new.ram at 0 ≡ loaded_byte (length mem.old.ram) (map segment_of segments.now) (slice_index owners.now (at / page_size)) at }
+    ensures tables { mem.new.tables ≡ mem.old.tables }
+    ensures size { length mem.new.ram ≡ length mem.old.ram }
+{
+    'pages: for page in 0..owners.len() {
+        put_owner(mem, segments, owners[page], page, zeros);
+    }
+}
+
+// Puts a segment's bytes into a page where it is due.
+fn put_due(is_due: bool, mem: &mut HostMem, segment: &Segment, page: usize, zeros: &[u8])
+    requires zeros { zeros.now ≡ replicate 4096 0 }
+    requires placed { IsPlaced (length mem.old.ram) (segment_of segment.now) }
+    requires page { page_size * page + page_size ≤ length mem.old.ram }
+    requires few { length mem.old.ram ≤ page_size * 65536 }
+    ensures bytes { (at : ℕ) → slice_index_or mem.new.ram at 0 ≡ (if is_due && (at / page_size == page && has_byte (segment_of segment.now) at) then byte_of (segment_of segment.now) at else slice_index_or mem.old.ram at 0) }
+    ensures tables { mem.new.tables ≡ mem.old.tables }
+    ensures size { length mem.new.ram ≡ length mem.old.ram }
+{
+    if is_due {
+        put_piece(mem, segment, page, zeros);
+    }
+}
+
+// Puts a segment into the pages in which it begins and ends, where these have no later owner.
+fn put_edge(mem: &mut HostMem, segment: &Segment, number: usize, owners: &[usize], zeros: &[u8])
+    requires zeros { zeros.now ≡ replicate 4096 0 }
+    requires ram { length mem.old.ram ≡ page_size * length owners.now }
+    requires placed { IsPlaced (length mem.old.ram) (segment_of segment.now) }
+    requires few { length owners.now ≤ 65536 }
+    requires whole { (page : ℕ) → page < length owners.now → slice_index owners.now page ≤ number → covers page (segment_of segment.now) ≡ false }
+    ensures bytes { (at : ℕ) → slice_index_or mem.new.ram at 0 ≡ (if nat_le (slice_index owners.now (at / page_size)) number && has_byte (segment_of segment.now) at then byte_of (segment_of segment.now) at else slice_index_or mem.old.ram at 0) }
+    ensures tables { mem.new.tables ≡ mem.old.tables }
+    ensures size { length mem.new.ram ≡ length mem.old.ram }
+{
+    if segment.memory == 0 {
+        return;
+    }
+    let place = segment.gpa.saturating_sub(RAM_BASE) as usize;
+    let first = place / PAGE_BYTES as usize;
+    let last = (place + segment.memory as usize - 1) / PAGE_BYTES as usize;
+    put_due(owners[first] <= number, mem, segment, first, zeros);
+    put_due(owners[last] <= number, mem, segment, last, zeros);
+}
+
+// Puts each segment, in order, into the pages in which it begins and ends.
+fn put_edges(mem: &mut HostMem, segments: &[Segment], owners: &[usize], zeros: &[u8])
+    requires zeros { zeros.now ≡ replicate 4096 0 }
+    requires ram { length mem.old.ram ≡ page_size * length owners.now }
+    requires placed { All (IsPlaced (length mem.old.ram)) (map segment_of segments.now) }
+    requires few { length owners.now ≤ 65536 }
+    requires owners { (page : ℕ) → page < length owners.now → IsLastWhole (map segment_of segments.now) (length segments.now) page (slice_index owners.now page) }
+    requires bytes { (at : ℕ) → at < length mem.old.ram → slice_index_or mem.old.ram at 0 ≡ loaded_byte (length mem.old.ram) (map segment_of segments.now) (slice_index owners.now (at / page_size)) at }
+    ensures bytes { (at : ℕ) → at < length mem.old.ram → slice_index_or mem.new.ram at 0 ≡ loaded_byte (length mem.old.ram) (map segment_of segments.now) (length segments.now) at }
+    ensures tables { mem.new.tables ≡ mem.old.tables }
+    ensures size { length mem.new.ram ≡ length mem.old.ram }
+{
+    'segments: for i in 0..segments.len() {
+        put_edge(mem, &segments[i], i, owners, zeros);
     }
 }

@@ -1,11 +1,28 @@
-use Rattle.std.proofs.Common.{◌<◌, length, ap, arith}
-use Rattle.image_loader.proofs.Written.{placed_at}
+use Rattle.std.proofs.Common.{◌≡◌, ◌*◌, ◌∙◌, ℕ, List, length, map, ap, sym, arith}
+use Rattle.std.proofs.lemmas.List.{length-map, length-replicate}
+use Rattle.sv_types.specs.Bytes.{page_size}
+use Rattle.sv_types.specs.Kernel.{LoadedSegment, segments_ram}
+use Rattle.sv_types.specs.Regions.{Region}
+use Rattle.elf64_load.specs.Images.{segment_of, segments_of}
+use Rattle.elf64_load.specs.declared.image.Segment.{Segment}
+use Rattle.image_loader.specs.Whole.{loaded_byte}
+use Rattle.image_loader.proofs.Loaded.{all_loaded}
 use Rattle.image_loader.proofs.segments.fill_ram.Goals as goal
 
-pub put_segment-requires-clause-placed : goal.put_segment-requires-clause-placed
-put_segment-requires-clause-placed c =
-    let items = c.deref-segment-items.ensures.value in
-    let size = ap length items in
-    let before = c.segments-test.true in
-    let inside : c.segments.segment-index < length c.args.image.now.segments.items = omega arith in
-    rw (c.segments.invariant.1.1, items) (placed_at _ c.args.image.now.segments.items c.segments.segment-index _ inside c.requires.placed)
+pub returns-clause-ram : goal.returns-clause-ram
+unfolding segments_ram
+returns-clause-ram c =
+    let segments = c.as_slice-segments.result.now in
+    let ss = segments_of c.args.image.now in
+    let same : map segment_of segments ≡ ss = ap (λ (xs : List Segment). map segment_of xs) c.as_slice-segments.ensures.value in
+    let size = page_size * c.args.ram_pages in
+    let all : length segments ≡ length ss = sym (length-map segments segment_of) ∙ ap length same in
+    let before : length c.args.mem.now.ram ≡ size = ap length c.requires.zeros ∙ length-replicate {A = ℕ} size 0 in
+    let between : length c.put_owned.new.mem.ram ≡ size = c.put_owned.ensures.size ∙ before in
+    let ram = all_loaded size ss (length segments) c.put_edges.new.mem.ram all c.requires.placed (c.put_edges.ensures.size ∙ between)
+    (λ at below. c.put_edges.ensures.bytes at (omega arith)
+    ∙ ap (λ (n : ℕ). loaded_byte n (map segment_of segments) (length segments) at) between
+    ∙ ap (λ (xs : List LoadedSegment). loaded_byte size xs (length segments) at) same) in
+    let tables = c.put_edges.ensures.tables ∙ c.put_owned.ensures.tables in
+    ap {B = Region} (λ (xs : List ℕ). record { tables = c.put_edges.new.mem.tables; ram = xs }) ram
+    ∙ ap {B = Region} (λ (xs : List ℕ). record { tables = xs; ram = segments_ram ss c.args.ram_pages }) tables
