@@ -1,0 +1,42 @@
+-- A hart, and a cache, among all.
+use Rattle.std.proofs.Common.{◌≡◌, ℕ, zero, suc, ◌<◌, ◌⊎◌, inl, inr, List, [], ◌∷◌, length, refl, ap, sym, ◌∙◌, arith, subst, slice_set}
+use Rattle.std.specs.Prelude.{Option, Some, None, slice_get, slice_index_or}
+use Rattle.sv_types.specs.declared.cached.CacheLine.{CacheLine}
+use Rattle.hart_answers.specs.Hosts.{host_at, hosts_of}
+use Rattle.hart_answers.specs.declared.seats.Seat.{Seat}
+use Rattle.machine.specs.Attempts.{hart_in, IsUsable, AreUsable}
+
+pub host_there : (seats : List Seat) (h : ℕ) (d : Seat) → h < length seats → hart_in (hosts_of seats) h ≡ host_at (slice_index_or seats h d)
+host_there [] h d below = absurd (omega arith)
+host_there (x ∷ seats) zero d below = refl
+host_there (x ∷ seats) (suc h) d below = host_there seats h d (omega arith)
+
+-- ---- caches
+
+abbrev pub Lines : Type 0
+Lines = List (Option CacheLine)
+
+there : (caches : List Lines) (h : ℕ) (d : Lines) → h < length caches → slice_get caches h ≡ Some (slice_index_or caches h d)
+there [] h d below = absurd (omega arith)
+there (x ∷ caches) zero d below = refl
+there (x ∷ caches) (suc h) d below = there caches h d (omega arith)
+
+pub usable_there : (tables : List ℕ) (caches : List Lines) (h : ℕ) (d : Lines) → AreUsable tables caches → h < length caches
+    → IsUsable tables (slice_index_or caches h d)
+usable_there tables caches h d are below = are.each h (slice_index_or caches h d) (there caches h d below)
+
+either : (caches : List Lines) (h i : ℕ) (new lines : Lines) → slice_get (slice_set caches h new) i ≡ Some lines → (new ≡ lines) ⊎ (slice_get caches i ≡ Some lines)
+either [] h i new lines e = inr e
+either (x ∷ caches) zero zero new lines e = inl (cc)
+either (x ∷ caches) zero (suc i) new lines e = inr e
+either (x ∷ caches) (suc h) zero new lines e = inr e
+either (x ∷ caches) (suc h) (suc i) new lines e = either caches h i new lines e
+
+pub usable_set : (tables after : List ℕ) (caches : List Lines) (h : ℕ) (new : Lines) → AreUsable tables caches → after ≡ tables → IsUsable after new
+    → AreUsable after (slice_set caches h new)
+usable_set tables after caches h new are same is = record {
+  each = λ i lines e. elim (either caches h i new lines e) [
+    | inl at ↦ subst (λ (l : Lines). IsUsable after l) at is
+    | inr old ↦ subst (λ (t : List ℕ). IsUsable t lines) (sym same) (are.each i lines old)
+  ];
+}

@@ -1,0 +1,28 @@
+use Rattle.std.proofs.Common.{◌≡◌, ◌<◌, ℕ, length, refl, sym, ◌∙◌, ap, subst}
+use Rattle.sv_types.specs.HardwareAttempt.{attempt}
+use Rattle.machine_model.specs.Machine.{HostHart, running, all_forget}
+use Rattle.hart_answers.proofs.Hosts.{hosts_set}
+use Rattle.hart_answers.specs.Hosts.{host_at, hosts_of}
+use Rattle.std.specs.Prelude.{slice_set, List}
+use Rattle.machine.proofs.Hosts.{host_there, usable_there, usable_set}
+use Rattle.machine.proofs.attempts.attempt.Goals as goal
+
+pub attempt_in_seat-outcome-requires-clause-usable : goal.attempt_in_seat-outcome-requires-clause-usable
+attempt_in_seat-outcome-requires-clause-usable c =
+    usable_there c.args.mem.now.tables c.args.caches.now c.args.which c.index-caches-which.result c.requires.usable
+    (subst (λ (n : ℕ). c.args.which < n) (sym c.requires.number) c.requires.there)
+
+pub returns-clause-harts : goal.returns-clause-harts
+returns-clause-harts c =
+    let there = host_there c.args.seats.now c.args.which c.index-seats-which.result c.requires.there in
+    c.forget_wrote.ensures.hosts
+    ∙ ap (all_forget c.attempt_in_seat-outcome.result)
+    (sym (hosts_set c.args.seats.now c.args.which c.attempt_in_seat-outcome.new.seat)
+    ∙ ap (slice_set (hosts_of c.args.seats.now) c.args.which)
+    (c.attempt_in_seat-outcome.ensures.host
+    ∙ ap (λ (host : HostHart). running (attempt c.args.mem.now host.core c.args.lines.now).core) (sym there)))
+
+pub returns-clause-usable : goal.returns-clause-usable
+returns-clause-usable c =
+    usable_set c.args.mem.now.tables c.attempt_in_seat-outcome.new.mem.tables c.args.caches.now c.args.which c.attempt_in_seat-outcome.new.cache
+    c.requires.usable c.attempt_in_seat-outcome.ensures.tables c.attempt_in_seat-outcome.ensures.usable

@@ -1,0 +1,37 @@
+-- What an attempt of a hart asks for, and the caches of second-stage walks. This project's own.
+use Rattle.std.specs.Prelude.{◌≡◌, ◌%◌, ℕ, true, false, List, length, Option, replicate, Some, slice_get, slice_index_or}
+use Rattle.sv_types.specs.CachedWalks.{CacheAgrees, UnderViews}
+use Rattle.sv_types.specs.HardwareAttempt.{attempt}
+use Rattle.sv_types.specs.HypervisorRegisters.{registers_at_boot}
+use Rattle.sv_types.specs.Regions.{Region}
+use Rattle.sv_types.specs.SecondStage.{WalksApart}
+use Rattle.sv_types.specs.declared.cached.CacheLine.{CacheLine}
+use Rattle.sv_types.specs.declared.wires.Lines.{Lines}
+use Rattle.sv_types.specs.declared.wires.Mode.TheVariants.{Kernel}
+use Rattle.machine_model.specs.Machine.{HostHart}
+use Rattle.machine_model.specs.StandsFor.{hregs_in}
+
+-- a stopped hart, past the end of all harts
+abbrev pub nobody : HostHart
+nobody = record {
+  core = record { registers = replicate 32 0; pc = 0; csrs = registers_at_boot; hregs = hregs_in Kernel; reservation = Option.None };
+  started = false;
+}
+
+abbrev pub hart_in : List HostHart → ℕ → HostHart
+hart_in harts h = slice_index_or harts h nobody
+
+-- a hart may make an attempt, which writes no byte behind RAM
+pub record IsReady (region : Region) (host : HostHart) (lines : Lines) : Type 0 where
+  pub started : host.started ≡ true
+  pub aligned : host.core.pc % 4 ≡ 0
+  pub apart : WalksApart region host.core.hregs.hgatp
+  pub ram : length (attempt region host.core lines).region.ram ≡ length region.ram
+
+-- a cache that agrees with the tables, all of whose lines are of the views
+pub record IsUsable (tables : List ℕ) (lines : List (Option CacheLine)) : Type 0 where
+  pub agrees : CacheAgrees tables lines
+  pub views : UnderViews lines
+
+pub record AreUsable (tables : List ℕ) (caches : List (List (Option CacheLine))) : Type 0 where
+  pub each : (h : ℕ) (lines : List (Option CacheLine)) → slice_get caches h ≡ Some lines → IsUsable tables lines

@@ -1,0 +1,80 @@
+// One attempt of a hart, and what its write takes from the others.
+
+ghost use Rattle.std.specs.Prelude.{◌≡◌, ◌+◌, ◌-◌, ◌<◌, ◌%◌, ◌^◌, length, slice_set};
+ghost use Rattle.sv_types.specs.HardwareAttempt.{attempt};
+ghost use Rattle.machine_model.specs.Machine.{running, all_forget};
+ghost use Rattle.hart_answers.specs.Hosts.{host_at, hosts_of};
+ghost use Rattle.machine.specs.Attempts.{hart_in, IsReady, IsUsable, AreUsable};
+
+use gstage_cache::Cache;
+use hart::Cpu;
+use hart_answers::{Seat, forget};
+use host_mem::HostMem;
+use sv_types::{Lines, Outcome};
+
+// An attempt of a hart on its side, with its cache.
+fn attempt_in_seat(
+    cpu: &mut Cpu,
+    seat: &mut Seat,
+    cache: &mut Cache,
+    mem: &mut HostMem,
+    lines: &Lines,
+) -> Outcome
+    requires count { cpu.old < 2 ^ 64 - 1 }
+    requires ready { IsReady mem.old (host_at seat.old) lines.now }
+    requires usable { IsUsable mem.old.tables cache.old }
+    ensures counted { cpu.new ≡ cpu.old + 1 }
+    ensures host { host_at seat.new ≡ running (attempt mem.old (host_at seat.old).core lines.now).core }
+    ensures region { mem.new ≡ (attempt mem.old (host_at seat.old).core lines.now).region }
+    ensures outcome { result ≡ (attempt mem.old (host_at seat.old).core lines.now).outcome }
+    ensures aligned { seat.new.hart.pc % 4 ≡ 0 }
+    ensures tables { mem.new.tables ≡ mem.old.tables }
+    ensures ram { length mem.new.ram ≡ length mem.old.ram }
+    ensures usable { IsUsable mem.new.tables cache.new }
+{
+    let regs = seat.side.registers();
+    cpu.attempt(&mut seat.hart, &regs, cache, mem, lines)
+}
+
+/// One attempt of a hart among all harts, each with its cache.
+#[tactic(auto)]
+pub(crate) fn attempt(
+    cpu: &mut Cpu,
+    seats: &mut [Seat],
+    caches: &mut [Cache],
+    which: u8,
+    mem: &mut HostMem,
+    lines: &Lines,
+) -> Outcome
+    requires there { which < length seats.old }
+    requires number { length caches.old ≡ length seats.old }
+    requires count { cpu.old < 2 ^ 64 - 1 }
+    requires ready { IsReady mem.old (hart_in (hosts_of seats.old) which) lines.now }
+    requires usable { AreUsable mem.old.tables caches.old }
+    ensures counted { cpu.new ≡ cpu.old + 1 }
+    ensures harts { hosts_of seats.new ≡ all_forget result (slice_set (hosts_of seats.old) which (running (attempt mem.old (hart_in (hosts_of seats.old) which).core lines.now).core)) }
+    ensures region { mem.new ≡ (attempt mem.old (hart_in (hosts_of seats.old) which).core lines.now).region }
+    ensures outcome { result ≡ (attempt mem.old (hart_in (hosts_of seats.old) which).core lines.now).outcome }
+    ensures seats { length seats.new ≡ length seats.old }
+    ensures caches { length caches.new ≡ length caches.old }
+    ensures tables { mem.new.tables ≡ mem.old.tables }
+    ensures ram { length mem.new.ram ≡ length mem.old.ram }
+    ensures usable { AreUsable mem.new.tables caches.new }
+{
+    let seat = &mut seats[which as usize];
+    let cache = &mut caches[which as usize];
+    let outcome = attempt_in_seat(cpu, seat, cache, mem, lines);
+    forget_wrote(seats, outcome);
+    outcome
+}
+
+// Clears the reservations that an attempt's write touches.
+#[tactic(auto, unfolding(machine_model::specs::Machine::all_forget))]
+fn forget_wrote(seats: &mut [Seat], outcome: Outcome)
+    ensures hosts { hosts_of seats.new ≡ all_forget outcome (hosts_of seats.old) }
+    ensures number { length seats.new ≡ length seats.old }
+{
+    if let Outcome::Retired { wrote: Some(wrote) } = outcome {
+        forget(seats, wrote.hpa, wrote.width);
+    }
+}

@@ -1,0 +1,4 @@
+//! The machine: harts with the hypervisor extension, host memory, devices, and SecVisor above them.
+#![tactic(auto)]
+
+mod attempts;
