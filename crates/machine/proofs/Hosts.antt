@@ -1,7 +1,9 @@
 -- A hart, and a cache, among all.
-use Rattle.std.proofs.Common.{◌≡◌, ℕ, zero, suc, ◌<◌, ◌⊎◌, inl, inr, List, [], ◌∷◌, length, refl, ap, sym, ◌∙◌, arith, subst, slice_set}
+use Rattle.std.proofs.Common.{◌≡◌, ℕ, zero, suc, ◌<◌, ◌⊎◌, inl, inr, List, [], ◌∷◌, length, map, refl, ap, sym, ◌∙◌, arith, subst, slice_set}
 use Rattle.std.specs.Prelude.{Option, Some, None, slice_get, slice_index_or}
 use Rattle.sv_types.specs.declared.cached.CacheLine.{CacheLine}
+use Rattle.sv_types.specs.declared.outcome.Outcome.{Outcome}
+use Rattle.machine_model.specs.Machine.{HostHart, forgets, all_forget}
 use Rattle.hart_answers.specs.Hosts.{host_at, hosts_of}
 use Rattle.hart_answers.specs.declared.seats.Seat.{Seat}
 use Rattle.machine.specs.Attempts.{hart_in, IsUsable, AreUsable}
@@ -40,3 +42,30 @@ usable_set tables after caches h new are same is = record {
     | inr old ↦ subst (λ (t : List ℕ). IsUsable t lines) (sym same) (are.each i lines old)
   ];
 }
+
+-- ---- pcs
+
+pc_kept : (harts : List HostHart) (h hpa width : ℕ) → h < length harts → (hart_in (map (forgets hpa width) harts) h).core.pc ≡ (hart_in harts h).core.pc
+pc_kept [] h hpa width below = absurd (omega arith)
+pc_kept (x ∷ harts) zero hpa width below = refl
+pc_kept (x ∷ harts) (suc h) hpa width below = pc_kept harts h hpa width (omega arith)
+
+pc_set : (seats : List Seat) (h : ℕ) (new : Seat) → h < length seats → (hart_in (hosts_of (slice_set seats h new)) h).core.pc ≡ new.hart.pc
+pc_set [] h new below = absurd (omega arith)
+pc_set (x ∷ seats) zero new below = refl
+pc_set (x ∷ seats) (suc h) new below = pc_set seats h new (omega arith)
+
+set_number : (seats : List Seat) (h : ℕ) (new : Seat) → h < length seats → h < length (hosts_of (slice_set seats h new))
+set_number [] h new below = absurd (omega arith)
+set_number (x ∷ seats) zero new below = omega arith
+set_number (x ∷ seats) (suc h) new below = let k = set_number seats h new (omega arith) in omega (arith, k)
+
+-- the pc of a hart that was put in, whatever a write takes from all
+pub pc_there : (o : Outcome) (seats : List Seat) (h : ℕ) (new : Seat) → h < length seats
+    → (hart_in (all_forget o (hosts_of (slice_set seats h new))) h).core.pc ≡ new.hart.pc
+unfolding all_forget
+pc_there (Outcome.Retired (Some wrote)) seats h new below =
+    pc_kept (hosts_of (slice_set seats h new)) h wrote.hpa wrote.width (set_number seats h new below) ∙ pc_set seats h new below
+pc_there (Outcome.Retired None) seats h new below = pc_set seats h new below
+pc_there Outcome.GuestTrap seats h new below = pc_set seats h new below
+pc_there (Outcome.Exit exit) seats h new below = pc_set seats h new below

@@ -1,2 +1,4 @@
 pub mod Hosts
+pub mod Turns
 pub mod Seated
+pub mod BeatsFit

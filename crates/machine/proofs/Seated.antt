@@ -11,7 +11,10 @@ use Rattle.hart_answers.proofs.Hosts.{hosts_length, hosts_set, hosts_same}
 use Rattle.hart_answers.specs.Hosts.{host_at, hosts_of}
 use Rattle.hart_answers.specs.declared.seats.Seat.{Seat}
 use Rattle.trap_answers.specs.Answered.{answered}
+use Rattle.machine_model.specs.Steps.{WithTables}
+use Rattle.page_guard.specs.Guarded.{IsTheirs}
 use Rattle.machine.proofs.Hosts.{host_there}
+use Rattle.machine.proofs.Turns.{stays}
 use Rattle.machine.specs.Attempts.{hart_in}
 use Rattle.machine.specs.Parts.{machine_of_parts}
 use Rattle.machine.specs.declared.parts.Parts.TheInside.{Inside}
@@ -52,11 +55,14 @@ module _ (p : Inside) (h : ℕ) (old : Seat) (is : old ≡ slice_index_or p.seat
       ∙ ap (f whole (host_at old)) (sym (same_mode old.side))
       ∙ ap (λ (host : HostHart). f whole host host.core.hregs.mode) (mine below)
 
-  -- the same, of the machine that a contract sees
+  -- the same, of the machine that a contract sees, whose tables stay
   pub answers : (f : Machine → HostHart → Mode → Machine) (new : Seat) (journal : Journal) (now : Machine) → whole ≡ now → h < length now.harts
+      → IsTheirs p.mem p.guard → length p.guard ≡ p.policy.ram_pages
       → answered whole p.entries h (host_at new) journal ≡ f (answered whole p.entries h (host_at old) p.journal) (host_at old) old.side
-      → machine_of_parts (record p { seats = with_item p.seats h new; journal = journal })
-      ≡ f now (hart_in now.harts h) (hart_in now.harts h).core.hregs.mode
-  answers f new journal now is below made =
-      subst (λ (m : Machine). machine_of_parts (record p { seats = with_item p.seats h new; journal = journal }) ≡ f m (hart_in m.harts h) (hart_in m.harts h).core.hregs.mode) is
-      (one_hart f new journal (subst (λ (m : Machine). h < length m.harts) (sym is) below) made)
+      → WithTables now (f now (hart_in now.harts h) (hart_in now.harts h).core.hregs.mode)
+      (machine_of_parts (record p { seats = with_item p.seats h new; journal = journal }))
+  answers f new journal now is below theirs pages made =
+      subst (λ (m : Machine). WithTables m (f m (hart_in m.harts h) (hart_in m.harts h).core.hregs.mode) (machine_of_parts (record p { seats = with_item p.seats h new; journal = journal }))) is
+      (stays whole (f whole (hart_in whole.harts h) (hart_in whole.harts h).core.hregs.mode) (machine_of_parts (record p { seats = with_item p.seats h new; journal = journal }))
+      (record { region = refl; protections = refl })
+      (one_hart f new journal (subst (λ (m : Machine). h < length m.harts) (sym is) below) made) theirs pages)

@@ -1,3 +1,4 @@
 pub mod Attempts
+pub mod Beats
 pub mod Parts
 pub mod Turns

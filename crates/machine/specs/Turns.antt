@@ -1,11 +1,16 @@
 -- What a turn does beside its attempt. This project's own.
-use Rattle.std.specs.Prelude.{◌≡◌, ℕ}
+use Rattle.std.specs.Prelude.{◌≡◌, ℕ, true, false, IsTrue}
+use Rattle.sv_types.specs.Policies.{rules_within}
 use Rattle.sv_types.specs.declared.outcome.Outcome.{Outcome}
 use Rattle.sv_types.specs.declared.wires.Mode.TheVariants.{Kernel}
 use Rattle.reference.specs.Counting.{counted, count_retired, count_trap}
+use Rattle.reference.specs.Devices.{lines_at}
+use Rattle.machine_model.specs.HardwareEvent.{is_loading}
 use Rattle.machine_model.specs.HostExits.{served_exit}
 use Rattle.machine_model.specs.Machine.{Machine}
 use Rattle.machine_model.specs.Steps.{WithTables}
+use Rattle.module_answers.specs.Conditions.{AreGuarded}
+use Rattle.machine.specs.Attempts.{hart_in, IsReady}
 
 -- host memory and protections stay
 pub record HasPagesOf (before after : Machine) : Type 0 where
@@ -17,3 +22,17 @@ abbrev pub Finished : Outcome → Machine → ℕ → Machine → Type 0
 Finished (Outcome.Retired wrote) m h after = after ≡ record m { journal = counted count_retired m.journal }
 Finished Outcome.GuestTrap m h after = after ≡ record m { journal = counted (count_trap Kernel) m.journal }
 Finished (Outcome.Exit exit) m h after = WithTables m (served_exit m h exit) after
+
+-- what an answer about modules relies on
+pub record IsGuarded (m : Machine) : Type 0 where
+  pub within : IsTrue (rules_within m.rules)
+  pub modules : AreGuarded m.rules m.protections m.loaded m.loading
+
+-- hart h makes an attempt in its turn
+pub record Attempts (m : Machine) (h : ℕ) : Type 0 where
+  pub started : (hart_in m.harts h).started ≡ true
+  pub free : is_loading m.loading h ≡ false
+
+-- where it does, it may
+abbrev pub MayAttempt : Machine → ℕ → Type 0
+MayAttempt m h = Attempts m h → IsReady m.region (hart_in m.harts h) (lines_at m.devices h)

@@ -55,6 +55,7 @@ pub(crate) fn attempt(
     ensures harts { hosts_of seats.new ≡ all_forget result (slice_set (hosts_of seats.old) which (running (attempt mem.old (hart_in (hosts_of seats.old) which).core lines.now).core)) }
     ensures region { mem.new ≡ (attempt mem.old (hart_in (hosts_of seats.old) which).core lines.now).region }
     ensures outcome { result ≡ (attempt mem.old (hart_in (hosts_of seats.old) which).core lines.now).outcome }
+    ensures aligned { (hart_in (hosts_of seats.new) which).core.pc % 4 ≡ 0 }
     ensures seats { length seats.new ≡ length seats.old }
     ensures caches { length caches.new ≡ length caches.old }
     ensures tables { mem.new.tables ≡ mem.old.tables }

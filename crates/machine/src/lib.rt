@@ -2,4 +2,5 @@
 #![tactic(auto)]
 
 mod attempts;
+mod beats;
 mod parts;

@@ -1,28 +1,42 @@
 // The parts of the machine, and what an event does to them.
 
-ghost use Rattle.std.specs.Prelude.{◌≡◌, ◌-◌, ◌<◌, ◌%◌, ◌^◌, length};
+ghost use Rattle.std.specs.Prelude.{◌≡◌, ◌-◌, ◌<◌, ◌%◌, ◌^◌, true, length, slice_get};
 ghost use Rattle.reference.specs.Devices.{lines_at};
 ghost use Rattle.machine_model.specs.Machine.{after_attempt};
-ghost use Rattle.machine_model.specs.HardwareEvent.{attempted};
+ghost use Rattle.machine_model.specs.HardwareEvent.{attempted, is_loading};
 ghost use Rattle.machine_model.specs.HostEvents.{event_served};
-ghost use Rattle.machine_model.specs.HostHarts.{served_fetch, served_trap};
+ghost use Rattle.machine_model.specs.HostCalls.{served_call};
+ghost use Rattle.machine_model.specs.HostExits.{host_exit, served_load_turn};
+ghost use Rattle.machine_model.specs.HostHarts.{served_access, served_fetch, served_trap};
 ghost use Rattle.reference.specs.Counting.{MayCount};
-ghost use Rattle.sv_types.specs.declared.event.Event.TheVariants.{Key, Tick};
+ghost use Rattle.sv_types.specs.declared.event.Event.TheVariants.{Beat, Key, Tick};
+ghost use Rattle.machine_model.specs.Steps.{IsTurn, TurnServed, WithTables};
 ghost use Rattle.machine.specs.Attempts.{hart_in, IsReady};
-ghost use Rattle.machine.specs.Turns.{HasPagesOf};
+ghost use Rattle.machine.specs.Turns.{IsGuarded, MayAttempt, Finished};
 
 use crate::attempts::attempt;
+use crate::beats::beat_disk;
 use block_device::Block;
 use device_bus::Devices;
+use dma_guard::Beaten;
 use gstage_cache::Cache;
 use hart::Cpu;
-use hart_answers::Seat;
+use hart_answers::{Seat, forget};
 use host_mem::HostMem;
 use journal_records::Journal;
 use module_answers::Modules;
 use page_guard::{Entries, Guard};
 use std::marker::Model;
-use sv_types::{Exit, Outcome, Policy};
+use sv_types::{Exit, Mode, Outcome, Policy, RAM_BASE};
+
+/// The causes of exits: a call from kernel mode, a refused fetch, load and store.
+const CALL: u64 = 10;
+
+const FETCH: u64 = 20;
+
+const LOAD: u64 = 21;
+
+const STORE: u64 = 23;
 
 /// Harts with their sides and caches, host memory, devices, and what SecVisor guards and records. Contracts see the machine.
 pub(crate) struct Parts {
@@ -61,6 +75,8 @@ impl Parts {
         requires ready { IsReady self.old.region (hart_in self.old.harts which) (lines_at self.old.devices which) }
         ensures machine { self.new ≡ after_attempt self.old which (attempted self.old which (hart_in self.old.harts which)) }
         ensures outcome { result ≡ (attempted self.old which (hart_in self.old.harts which)).outcome }
+        ensures aligned { (hart_in self.new.harts which).core.pc % 4 ≡ 0 }
+        ensures number { length self.new.harts ≡ length self.old.harts }
     {
         let lines = self.devices.lines(which);
         attempt(
@@ -79,8 +95,7 @@ impl Parts {
         requires there { which < length self.old.harts }
         requires aligned { (hart_in self.old.harts which).core.pc % 4 ≡ 0 }
         requires counts { MayCount self.old.journal.counts }
-        ensures machine { self.new ≡ served_trap self.old which (hart_in self.old.harts which) (hart_in self.old.harts which).core.hregs.mode exit }
-        ensures pages { HasPagesOf self.old self.new }
+        ensures { WithTables self.old (served_trap self.old which (hart_in self.old.harts which) (hart_in self.old.harts which).core.hregs.mode exit) self.new }
     {
         let seat = &mut self.seats[which as usize];
         trap_answers::serve_trap(
@@ -100,8 +115,7 @@ impl Parts {
         requires there { which < length self.old.harts }
         requires aligned { (hart_in self.old.harts which).core.pc % 4 ≡ 0 }
         requires counts { MayCount self.old.journal.counts }
-        ensures machine { self.new ≡ served_fetch self.old which (hart_in self.old.harts which) (hart_in self.old.harts which).core.hregs.mode exit }
-        ensures pages { HasPagesOf self.old self.new }
+        ensures { WithTables self.old (served_fetch self.old which (hart_in self.old.harts which) (hart_in self.old.harts which).core.hregs.mode exit) self.new }
     {
         let seat = &mut self.seats[which as usize];
         trap_answers::serve_fetch(
@@ -114,6 +128,149 @@ impl Parts {
             &mut self.journal,
             exit,
         );
+    }
+
+    /// The answer to an access that was refused, or that reaches a device.
+    pub(crate) fn serve_access(&mut self, which: u8, exit: Exit)
+        requires there { which < length self.old.harts }
+        requires aligned { (hart_in self.old.harts which).core.pc % 4 ≡ 0 }
+        requires counts { MayCount self.old.journal.counts }
+        requires room { length self.old.journal.printed < 4096 }
+        ensures { WithTables self.old (served_access self.old which (hart_in self.old.harts which) (hart_in self.old.harts which).core.hregs.mode exit) self.new }
+    {
+        let seat = &mut self.seats[which as usize];
+    }
+
+    /// The answer to a call from kernel mode.
+    pub(crate) fn serve_call(&mut self, which: u8)
+        requires there { which < length self.old.harts }
+        requires counts { MayCount self.old.journal.counts }
+        requires room { length self.old.journal.printed < 4096 }
+        requires guarded { IsGuarded self.old }
+        ensures { WithTables self.old (served_call self.old which (hart_in self.old.harts which)) self.new }
+    {
+        let seat = &mut self.seats[which as usize];
+    }
+
+    // An exit of a hart that is there.
+    #[tactic(auto, unfolding(machine_model::specs::HostExits::host_exit))]
+    fn serve_host_exit(&mut self, which: u8, exit: Exit)
+        requires there { which < length self.old.harts }
+        requires aligned { (hart_in self.old.harts which).core.pc % 4 ≡ 0 }
+        requires counts { MayCount self.old.journal.counts }
+        requires room { length self.old.journal.printed < 4096 }
+        requires guarded { IsGuarded self.old }
+        ensures { WithTables self.old (host_exit self.old which (hart_in self.old.harts which) (hart_in self.old.harts which).core.hregs.mode exit) self.new }
+    {
+        if exit.interrupt {
+            self.serve_trap(which, exit);
+        } else if exit.cause == CALL {
+            self.serve_call(which);
+        } else if exit.cause == FETCH {
+            self.serve_fetch(which, exit);
+        } else if exit.cause == LOAD {
+            self.serve_access(which, exit);
+        } else if exit.cause == STORE {
+            self.serve_access(which, exit);
+        } else {
+            self.serve_trap(which, exit);
+        }
+    }
+
+    // What follows an attempt.
+    #[tactic(auto, using(crate::proofs::Turns::served_there))]
+    fn finish(&mut self, which: u8, outcome: Outcome)
+        requires there { which < length self.old.harts }
+        requires aligned { (hart_in self.old.harts which).core.pc % 4 ≡ 0 }
+        requires counts { MayCount self.old.journal.counts }
+        requires room { length self.old.journal.printed < 4096 }
+        requires guarded { IsGuarded self.old }
+        ensures { Finished outcome self.old which self.new }
+    {
+        match outcome {
+            Outcome::Retired { wrote: _ } => self.journal.count_retired(),
+            Outcome::GuestTrap => self.journal.count_trap(Mode::Kernel),
+            Outcome::Exit(exit) => self.serve_host_exit(which, exit),
+        }
+    }
+
+    // A load of a hart is under way.
+    #[tactic(auto, unfolding(machine_model::specs::HardwareEvent::is_loading))]
+    fn is_loading(&self, which: u8) -> bool
+        ensures { result ≡ is_loading self.now.loading which }
+    {
+        match &self.modules.loading {
+            Some(under_way) => under_way.hart == which,
+            None => false,
+        }
+    }
+
+    // A load under way goes on.
+    fn serve_load_turn(&mut self, which: u8)
+        requires there { which < length self.old.harts }
+        requires loading { is_loading self.old.loading which ≡ true }
+        requires counts { MayCount self.old.journal.counts }
+        requires guarded { IsGuarded self.old }
+        ensures { WithTables self.old (served_load_turn self.old which) self.new }
+    {
+        let seat = &mut self.seats[which as usize];
+    }
+
+    // A turn of a hart, the count of turns raised already.
+    #[tactic(auto)]
+    fn serve_turn(&mut self, which: u8)
+        requires count { self.old.attempts < 2 ^ 64 - 1 }
+        requires counts { MayCount self.old.journal.counts }
+        requires room { length self.old.journal.printed < 4096 }
+        requires guarded { IsGuarded self.old }
+        requires ready { MayAttempt self.old which }
+        ensures { TurnServed self.old which (slice_get self.old.harts which) self.new }
+    {
+        if which as usize >= self.seats.len() {
+            return;
+        }
+        if !self.seats[which as usize].hart.started {
+            return;
+        }
+        if self.is_loading(which) {
+            self.serve_load_turn(which);
+            return;
+        }
+        let outcome = self.attempt(which);
+        self.finish(which, outcome);
+    }
+
+    /// A turn of a hart, which is counted.
+    #[tactic(auto)]
+    pub(crate) fn turn(&mut self, which: u8)
+        requires turns { self.old.journal.counts.turns < 2 ^ 64 - 1 }
+        requires count { self.old.attempts < 2 ^ 64 - 1 }
+        requires counts { MayCount self.old.journal.counts }
+        requires room { length self.old.journal.printed < 4096 }
+        requires guarded { IsGuarded self.old }
+        requires ready { MayAttempt self.old which }
+        ensures { IsTurn self.old which self.new }
+    {
+        self.journal.count_turn();
+        self.serve_turn(which);
+    }
+
+    /// One beat of the block device.
+    #[tactic(auto, unfolding(machine_model::specs::HostEvents::event_served, machine_model::specs::HostEvents::beat_served, machine_model::specs::HostEvents::after_host_move))]
+    pub(crate) fn beat(&mut self)
+        requires beats { self.old.journal.counts.beats < 2 ^ 64 - 1 }
+        requires counts { MayCount self.old.journal.counts }
+        ensures { self.new ≡ event_served self.old Beat }
+    {
+        self.journal.count_beat();
+        match beat_disk(&mut self.devices, self.guard.dma(), &mut self.mem) {
+            Beaten::Wrote { gpa, len } => {
+                let hpa = self.mem.table_bytes() as u64 + (gpa - RAM_BASE);
+                forget(&mut self.seats, hpa, len as u8);
+            }
+            Beaten::Denied { gpa } => self.journal.deny(gpa),
+            Beaten::Idle | Beaten::Read { gpa: _ } | Beaten::Range => {}
+        }
     }
 
     /// A byte of input, which is dropped where there is no room.

@@ -1,10 +1,11 @@
-use Rattle.std.proofs.Common.{◌≡◌, ◌<◌, ℕ, length, refl, sym, ◌∙◌, ap, subst}
+use Rattle.std.proofs.Common.{◌≡◌, ◌<◌, ◌%◌, ℕ, length, refl, sym, ◌∙◌, ap, subst}
 use Rattle.sv_types.specs.HardwareAttempt.{attempt}
 use Rattle.machine_model.specs.Machine.{HostHart, running, all_forget}
 use Rattle.hart_answers.proofs.Hosts.{hosts_set}
 use Rattle.hart_answers.specs.Hosts.{host_at, hosts_of}
 use Rattle.std.specs.Prelude.{slice_set, List}
-use Rattle.machine.proofs.Hosts.{host_there, usable_there, usable_set}
+use Rattle.machine.proofs.Hosts.{host_there, pc_there, usable_there, usable_set}
+use Rattle.machine.specs.Attempts.{hart_in}
 use Rattle.machine.proofs.attempts.attempt.Goals as goal
 
 pub attempt_in_seat-outcome-requires-clause-usable : goal.attempt_in_seat-outcome-requires-clause-usable
@@ -26,3 +27,10 @@ pub returns-clause-usable : goal.returns-clause-usable
 returns-clause-usable c =
     usable_set c.args.mem.now.tables c.attempt_in_seat-outcome.new.mem.tables c.args.caches.now c.args.which c.attempt_in_seat-outcome.new.cache
     c.requires.usable c.attempt_in_seat-outcome.ensures.tables c.attempt_in_seat-outcome.ensures.usable
+
+pub returns-clause-aligned : goal.returns-clause-aligned
+returns-clause-aligned c =
+    subst (λ (pc : ℕ). pc % 4 ≡ 0)
+    (sym (ap (λ (harts : List HostHart). (hart_in harts c.args.which).core.pc) c.forget_wrote.ensures.hosts
+    ∙ pc_there c.attempt_in_seat-outcome.result c.args.seats.now c.args.which c.attempt_in_seat-outcome.new.seat c.requires.there))
+    c.attempt_in_seat-outcome.ensures.aligned

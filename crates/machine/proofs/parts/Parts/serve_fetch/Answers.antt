@@ -4,9 +4,10 @@ use Rattle.machine.proofs.Seated.{answers}
 use Rattle.machine.specs.Parts.{machine_of_parts}
 use Rattle.machine.proofs.parts.Parts.serve_fetch.Goals as goal
 
-pub returns-clause-machine : goal.returns-clause-machine
-returns-clause-machine c =
+pub returns : goal.returns
+returns c =
     answers c.self.inside c.args.which c.index_mut-seat.result.now c.index_mut-seat.ensures.value c.self.invariant.entries
     (λ m host mode. served_fetch m c.args.which host mode c.args.exit)
     (record { hart = c.serve_fetch.new.hart; side = c.serve_fetch.new.side }) c.serve_fetch.new.journal c.args.self.now c.self.view_is c.requires.there
+    c.self.invariant.theirs c.self.invariant.pages
     (c.serve_fetch.ensures.machine (machine_of_parts c.self.inside) refl)

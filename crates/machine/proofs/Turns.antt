@@ -1,0 +1,84 @@
+-- Answers to exits, and turns.
+use Rattle.std.proofs.Common.{◌≡◌, ℕ, zero, suc, ◌<◌, ◌≤◌, Bool, true, false, List, [], ◌∷◌, length, refl, sym, ◌∙◌, ap, subst, arith}
+use Rattle.std.specs.Prelude.{Option, Some, None, slice_get}
+use Rattle.sv_types.specs.SecondStage.{AreViews}
+use Rattle.sv_types.specs.Regions.{Region}
+use Rattle.sv_types.specs.declared.outcome.Outcome.{Outcome}
+use Rattle.sv_types.specs.declared.wires.Exit.{Exit}
+use Rattle.sv_types.specs.declared.wires.Protection.{Protection}
+use Rattle.reference.specs.Protections.{protection_at}
+use Rattle.reference.specs.Counting.{counted}
+use Rattle.machine_model.specs.HardwareEvent.{attempted, is_loading}
+use Rattle.machine_model.specs.HostExits.{host_exit, served_exit, served_by, served_load_turn}
+use Rattle.machine_model.specs.Machine.{Machine, HostHart, count_outcome}
+use Rattle.machine_model.specs.Steps.{AreTables, WithTables, TurnServed, HartServed, StartedServed, OutcomeServed, left_by}
+use Rattle.page_guard.specs.Guarded.{IsTheirs}
+use Rattle.machine.specs.Attempts.{hart_in, nobody}
+use Rattle.machine.specs.Turns.{HasPagesOf, Finished}
+
+-- where memory and protections stay, the tables may stay
+pub stays : (m served after : Machine) → HasPagesOf m after → after ≡ served → IsTheirs m.region m.protections → length m.protections ≡ m.rules.ram_pages
+    → WithTables m served after
+stays m served after has e theirs pages = record {
+  tables = m.region.tables;
+  are = record {
+    size = refl;
+    views = subst (λ (guard : List Protection). AreViews m.region.tables m.rules.ram_pages (protection_at guard)) (sym has.protections ∙ ap (λ (x : Machine). x.protections) e)
+        (subst (λ (n : ℕ). AreViews m.region.tables n (protection_at m.protections)) pages theirs.views);
+  };
+  same = e ∙ sym (ap (λ (r : Region). record served { region = record served.region { tables = r.tables } }) (sym has.region ∙ ap (λ (x : Machine). x.region) e));
+}
+
+there : (harts : List HostHart) (h : ℕ) → h < length harts → slice_get harts h ≡ Some (hart_in harts h)
+there [] h below = absurd (omega arith)
+there (x ∷ harts) zero below = refl
+there (x ∷ harts) (suc h) below = there harts h (omega arith)
+
+-- the answer to an exit of a hart that is there
+pub served_there : (m : Machine) (h : ℕ) (exit : Exit) → h < length m.harts
+    → served_exit m h exit ≡ host_exit m h (hart_in m.harts h) (hart_in m.harts h).core.hregs.mode exit
+unfolding served_exit served_by
+served_there m h exit below = ap (served_by m h exit) (there m.harts h below)
+
+-- ---- turns
+
+pub past_end : (harts : List HostHart) (h : ℕ) → length harts ≤ h → slice_get harts h ≡ None
+past_end [] h past = refl
+past_end (x ∷ harts) zero past = absurd (omega arith)
+past_end (x ∷ harts) (suc h) past = past_end harts h (omega arith)
+
+-- no hart is there
+pub turn_past : (m : Machine) (h : ℕ) → length m.harts ≤ h → TurnServed m h (slice_get m.harts h) m
+turn_past m h past = subst (λ (x : Option HostHart). TurnServed m h x m) (sym (past_end m.harts h past)) refl
+
+served_started : (m after : Machine) (h : ℕ) (b : Bool) → h < length m.harts → (hart_in m.harts h).started ≡ b → HartServed b m h (hart_in m.harts h) after
+    → TurnServed m h (slice_get m.harts h) after
+served_started m after h b below e served =
+    subst (λ (x : Option HostHart). TurnServed m h x after) (sym (there m.harts h below))
+    (subst (λ (b : Bool). HartServed b m h (hart_in m.harts h) after) (sym e) served)
+
+-- it is stopped
+pub turn_stopped : (m : Machine) (h : ℕ) → h < length m.harts → (hart_in m.harts h).started ≡ false → TurnServed m h (slice_get m.harts h) m
+turn_stopped m h below e = served_started m m h false below e refl
+
+-- its load goes on
+pub turn_loads : (m after : Machine) (h : ℕ) → h < length m.harts → (hart_in m.harts h).started ≡ true → is_loading m.loading h ≡ true
+    → WithTables m (served_load_turn m h) after → TurnServed m h (slice_get m.harts h) after
+turn_loads m after h below e loads served =
+    served_started m after h true below e (subst (λ (b : Bool). StartedServed b m h (hart_in m.harts h) after) (sym loads) served)
+
+outcome_served : (m after : Machine) (h : ℕ) (host : HostHart) (o : Outcome) → (attempted m h host).outcome ≡ o → Finished o (left_by m h host) h after
+    → OutcomeServed o m h host after
+outcome_served m after h host (Outcome.Retired wrote) e served =
+    subst (λ (o : Outcome). after ≡ record (left_by m h host) { journal = counted (count_outcome o) m.journal }) (sym e) served
+outcome_served m after h host Outcome.GuestTrap e served =
+    subst (λ (o : Outcome). after ≡ record (left_by m h host) { journal = counted (count_outcome o) m.journal }) (sym e) served
+outcome_served m after h host (Outcome.Exit exit) e served = served
+
+-- it makes an attempt
+pub turn_attempts : (m after : Machine) (h : ℕ) (o : Outcome) → h < length m.harts → (hart_in m.harts h).started ≡ true → is_loading m.loading h ≡ false
+    → o ≡ (attempted m h (hart_in m.harts h)).outcome → Finished o (left_by m h (hart_in m.harts h)) h after → TurnServed m h (slice_get m.harts h) after
+turn_attempts m after h o below e free is served =
+    served_started m after h true below e (subst (λ (b : Bool). StartedServed b m h (hart_in m.harts h) after) (sym free)
+    (subst (λ (o : Outcome). OutcomeServed o m h (hart_in m.harts h) after) is
+    (outcome_served m after h (hart_in m.harts h) o (sym is) served)))

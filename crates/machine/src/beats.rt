@@ -1,0 +1,23 @@
+// A beat of the block device.
+
+ghost use Rattle.std.specs.Prelude.{◌≡◌, length};
+ghost use Rattle.reference.specs.Disk.{disk_beat, is_writable};
+ghost use Rattle.dma_guard.specs.Transfers.{told, after_move};
+ghost use Rattle.machine.specs.Beats.{ToldInRam};
+
+use block_device::Block;
+use device_bus::Devices;
+use dma_guard::{Beaten, DmaGuard};
+use host_mem::HostMem;
+
+/// One beat of the block device, which writes RAM alone.
+pub(crate) fn beat_disk(devices: &mut Devices<Block>, dma: &DmaGuard, mem: &mut HostMem) -> Beaten
+    ensures devices { devices.new ≡ record devices.old { disk = (disk_beat devices.old.disk mem.old.ram (is_writable dma.now)).disk } }
+    ensures told { result ≡ told (disk_beat devices.old.disk mem.old.ram (is_writable dma.now)).move }
+    ensures memory { mem.new ≡ after_move mem.old (disk_beat devices.old.disk mem.old.ram (is_writable dma.now)).move }
+    ensures inside { ToldInRam mem.old.ram result }
+    ensures tables { mem.new.tables ≡ mem.old.tables }
+    ensures size { length mem.new.ram ≡ length mem.old.ram }
+{
+    devices.beat(dma, mem)
+}
