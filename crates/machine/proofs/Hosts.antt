@@ -1,5 +1,5 @@
 -- A hart, and a cache, among all.
-use Rattle.std.proofs.Common.{◌≡◌, ℕ, zero, suc, ◌<◌, ◌⊎◌, inl, inr, List, [], ◌∷◌, length, map, refl, ap, sym, ◌∙◌, arith, subst, slice_set}
+use Rattle.std.proofs.Common.{◌≡◌, ℕ, zero, suc, ◌<◌, ◌⊎◌, inl, inr, List, [], ◌∷◌, length, map, refl, ap, sym, ◌∙◌, arith, subst, slice_set, Bool}
 use Rattle.std.specs.Prelude.{Option, Some, None, slice_get, slice_index_or}
 use Rattle.sv_types.specs.declared.cached.CacheLine.{CacheLine}
 use Rattle.sv_types.specs.declared.outcome.Outcome.{Outcome}
@@ -69,3 +69,7 @@ pc_there (Outcome.Retired (Some wrote)) seats h new below =
 pc_there (Outcome.Retired None) seats h new below = pc_set seats h new below
 pc_there Outcome.GuestTrap seats h new below = pc_set seats h new below
 pc_there (Outcome.Exit exit) seats h new below = pc_set seats h new below
+
+pub started_there : (seats : List Seat) (h : ℕ) (d : Seat) (b : Bool) → h < length seats → d ≡ slice_index_or seats h d → d.hart.started ≡ b
+    → (hart_in (hosts_of seats) h).started ≡ b
+started_there seats h d b below is e = ap (λ (x : HostHart). x.started) (host_there seats h d below) ∙ sym (ap (λ (s : Seat). s.hart.started) is) ∙ e

@@ -1,6 +1,6 @@
 -- What an attempt of a hart asks for, and the caches of second-stage walks. This project's own.
-use Rattle.std.specs.Prelude.{◌≡◌, ◌%◌, ℕ, true, false, List, length, Option, replicate, Some, slice_get, slice_index_or}
-use Rattle.sv_types.specs.CachedWalks.{CacheAgrees, UnderViews}
+use Rattle.std.specs.Prelude.{◌≡◌, ◌%◌, ℕ, zero, suc, true, false, List, [], ◌∷◌, length, Option, replicate, Some, slice_get, slice_index_or}
+use Rattle.sv_types.specs.CachedWalks.{CacheAgrees, UnderViews, no_lines}
 use Rattle.sv_types.specs.HardwareAttempt.{attempt}
 use Rattle.sv_types.specs.HypervisorRegisters.{registers_at_boot}
 use Rattle.sv_types.specs.Regions.{Region}
@@ -35,3 +35,9 @@ pub record IsUsable (tables : List ℕ) (lines : List (Option CacheLine)) : Type
 
 pub record AreUsable (tables : List ℕ) (caches : List (List (Option CacheLine))) : Type 0 where
   pub each : (h : ℕ) (lines : List (Option CacheLine)) → slice_get caches h ≡ Some lines → IsUsable tables lines
+
+-- the first n caches emptied
+unfoldable pub first_emptied : ℕ → List (List (Option CacheLine)) → List (List (Option CacheLine))
+first_emptied zero caches = caches
+first_emptied (suc n) [] = []
+first_emptied (suc n) (lines ∷ caches) = no_lines ∷ first_emptied n caches

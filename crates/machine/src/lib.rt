@@ -3,4 +3,5 @@
 
 mod attempts;
 mod beats;
+mod caches;
 mod parts;

@@ -16,6 +16,7 @@ ghost use Rattle.machine.specs.Turns.{IsGuarded, MayAttempt, Finished};
 
 use crate::attempts::attempt;
 use crate::beats::beat_disk;
+use crate::caches::fence;
 use block_device::Block;
 use device_bus::Devices;
 use dma_guard::Beaten;
@@ -24,7 +25,7 @@ use hart::Cpu;
 use hart_answers::{Seat, forget};
 use host_mem::HostMem;
 use journal_records::Journal;
-use module_answers::Modules;
+use module_answers::{Modules, serve_load_turn};
 use page_guard::{Entries, Guard};
 use std::marker::Model;
 use sv_types::{Exit, Mode, Outcome, Policy, RAM_BASE};
@@ -213,7 +214,16 @@ impl Parts {
         requires guarded { IsGuarded self.old }
         ensures { WithTables self.old (served_load_turn self.old which) self.new }
     {
-        let seat = &mut self.seats[which as usize];
+        let changed = serve_load_turn(
+            which,
+            &mut self.seats[which as usize].hart,
+            &mut self.guard,
+            &mut self.mem,
+            &self.policy,
+            &mut self.modules,
+            &mut self.journal,
+        );
+        fence(&mut self.caches, changed);
     }
 
     // A turn of a hart, the count of turns raised already.
