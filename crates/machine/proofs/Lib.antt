@@ -3,4 +3,8 @@ pub mod Emptied
 pub mod Turns
 pub mod Seated
 pub mod Moduled
+pub mod Called
 pub mod BeatsFit
+pub mod TurnGains
+pub mod Ready
+pub mod Stepped

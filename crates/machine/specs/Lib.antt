@@ -1,4 +1,5 @@
 pub mod Attempts
 pub mod Beats
+pub mod Machines
 pub mod Parts
 pub mod Turns

@@ -4,4 +4,7 @@
 mod attempts;
 mod beats;
 mod caches;
+mod machine;
 mod parts;
+
+pub use machine::Machine;

@@ -1,16 +1,19 @@
 // The parts of the machine, and what an event does to them.
 
-ghost use Rattle.std.specs.Prelude.{◌≡◌, ◌-◌, ◌<◌, ◌%◌, ◌^◌, true, length, slice_get};
+ghost use Rattle.std.specs.Prelude.{◌≡◌, ◌≢◌, ℕ, ◌+◌, ◌-◌, ◌<◌, ◌%◌, ◌^◌, true, length, slice_get};
 ghost use Rattle.reference.specs.Devices.{lines_at};
 ghost use Rattle.machine_model.specs.Machine.{after_attempt};
 ghost use Rattle.machine_model.specs.HardwareEvent.{attempted, is_loading};
 ghost use Rattle.machine_model.specs.HostEvents.{event_served};
-ghost use Rattle.machine_model.specs.HostCalls.{served_call};
+ghost use Rattle.machine_model.specs.HostCalls.{host_call_of, served_call};
 ghost use Rattle.machine_model.specs.HostExits.{host_exit, served_load_turn};
 ghost use Rattle.machine_model.specs.HostHarts.{served_access, served_fetch, served_trap};
-ghost use Rattle.reference.specs.Counting.{MayCount};
+ghost use Rattle.reference.specs.Calls.{asked_by};
+ghost use Rattle.reference.specs.Counting.{CountsAtMost, MayCount};
 ghost use Rattle.sv_types.specs.declared.event.Event.TheVariants.{Beat, Key, Tick};
-ghost use Rattle.machine_model.specs.Steps.{IsTurn, TurnServed, WithTables};
+ghost use Rattle.sv_types.specs.declared.event.Verdict.TheVariants.{Running};
+ghost use Rattle.machine_model.specs.Reaches.{without_first_printed};
+ghost use Rattle.machine_model.specs.Steps.{IsStep, IsTurn, TurnServed, WithTables};
 ghost use Rattle.machine.specs.Attempts.{hart_in, IsReady};
 ghost use Rattle.machine.specs.Turns.{IsGuarded, MayAttempt, Finished};
 
@@ -18,6 +21,7 @@ use crate::attempts::attempt;
 use crate::beats::beat_disk;
 use crate::caches::fence;
 use block_device::Block;
+use call_answers::Asked;
 use device_bus::Devices;
 use dma_guard::Beaten;
 use gstage_cache::Cache;
@@ -25,10 +29,10 @@ use hart::Cpu;
 use hart_answers::{Seat, forget};
 use host_mem::HostMem;
 use journal_records::Journal;
-use module_answers::{Modules, serve_load_turn};
+use module_answers::{ModuleCall, Modules, serve_load_turn, serve_module_call};
 use page_guard::{Entries, Guard};
 use std::marker::Model;
-use sv_types::{Exit, Mode, Outcome, Policy, RAM_BASE};
+use sv_types::{Event, Exit, Mode, Outcome, Policy, RAM_BASE, Verdict};
 
 /// The causes of exits: a call from kernel mode, a refused fetch, load and store.
 const CALL: u64 = 10;
@@ -142,15 +146,76 @@ impl Parts {
         let seat = &mut self.seats[which as usize];
     }
 
-    /// The answer to a call from kernel mode.
-    pub(crate) fn serve_call(&mut self, which: u8)
+    // What the registers of a hart ask.
+    #[tactic(auto, using(hart_answers::proofs::Hosts::hosts_length, crate::proofs::Called::registers_there))]
+    fn asked(&self, which: u8) -> Asked
+        requires there { which < length self.now.harts }
+        ensures { result ≡ asked_by (hart_in self.now.harts which).core.registers }
+    {
+        Asked::by(&self.seats[which as usize].hart.regs)
+    }
+
+    // The answer to a call about modules.
+    fn serve_module_call(&mut self, which: u8, asked: &Asked)
+        requires there { which < length self.old.harts }
+        requires counts { MayCount self.old.journal.counts }
+        requires guarded { IsGuarded self.old }
+        requires modules { asked.now.extension ≡ 0x08534543 }
+        ensures { WithTables self.old (host_call_of self.old which asked.now) self.new }
+    {
+        let call = ModuleCall {
+            function: asked.function,
+            id: asked.a0,
+            gpa: asked.a1,
+            va: asked.a2,
+            data_va: asked.a3,
+        };
+        let changed = serve_module_call(
+            which,
+            &mut self.seats[which as usize].hart,
+            &mut self.guard,
+            &mut self.mem,
+            &self.policy,
+            &mut self.modules,
+            &mut self.journal,
+            &call,
+        );
+        fence(&mut self.caches, changed);
+    }
+
+    // The answer to any other call.
+    #[tactic(auto, using(hart_answers::proofs::Hosts::hosts_length))]
+    fn serve_other_call(&mut self, which: u8, asked: &Asked)
+        requires there { which < length self.old.harts }
+        requires room { length self.old.journal.printed < 4096 }
+        requires others { asked.now.extension ≢ 0x08534543 }
+        ensures { WithTables self.old (host_call_of self.old which asked.now) self.new }
+    {
+        call_answers::serve_call(
+            which,
+            &mut self.seats,
+            &self.guard,
+            &self.entries,
+            &mut self.devices,
+            &mut self.journal,
+            asked,
+        );
+    }
+
+    // The answer to a call from kernel mode.
+    fn serve_call(&mut self, which: u8)
         requires there { which < length self.old.harts }
         requires counts { MayCount self.old.journal.counts }
         requires room { length self.old.journal.printed < 4096 }
         requires guarded { IsGuarded self.old }
         ensures { WithTables self.old (served_call self.old which (hart_in self.old.harts which)) self.new }
     {
-        let seat = &mut self.seats[which as usize];
+        let asked = self.asked(which);
+        if asked.is_about_modules() {
+            self.serve_module_call(which, &asked);
+        } else {
+            self.serve_other_call(which, &asked);
+        }
     }
 
     // An exit of a hart that is there.
@@ -304,5 +369,61 @@ impl Parts {
     {
         self.journal.count_tick();
         self.devices.tick(n);
+    }
+
+    /// One event. A machine that has ended stays as it is.
+    #[tactic(auto, unfolding(machine_model::specs::Steps::IsStep))]
+    pub(crate) fn step(&mut self, event: Event)
+        requires room { length self.old.journal.printed < 4096 }
+        requires counts { CountsAtMost (2 ^ 64 - 2) self.old.journal.counts }
+        requires attempts { self.old.attempts < 2 ^ 64 - 1 }
+        requires guarded { IsGuarded self.old }
+        requires ready { self.old.journal.verdict ≡ Running → (h : ℕ) → MayAttempt self.old h }
+        ensures { IsStep self.old event self.new }
+    {
+        if self.journal.verdict() != Verdict::Running {
+            return;
+        }
+        match event {
+            Event::Turn(which) => self.turn(which),
+            Event::Beat => self.beat(),
+            Event::Key(byte) => self.key(byte),
+            Event::Tick(n) => self.tick(n),
+        }
+    }
+
+    pub(crate) fn verdict(&self) -> Verdict
+        ensures { result ≡ self.now.journal.verdict }
+    {
+        self.journal.verdict()
+    }
+
+    /// Takes the printed bytes away.
+    pub(crate) fn clear_printed(&mut self)
+        requires { self.old.cleared + length self.old.journal.printed < 2 ^ 64 }
+        ensures { self.new ≡ without_first_printed self.old (length self.old.journal.printed) }
+    {
+        self.cleared += self.journal.printed().len() as u64;
+        self.journal.clear_printed();
+    }
+
+    /// Drops the parts; a load under way frees its pages.
+    pub(crate) fn end(self)
+        requires { IsGuarded self }
+    {
+        let Parts {
+            policy,
+            entries: _,
+            mut mem,
+            seats: _,
+            caches: _,
+            mut guard,
+            modules,
+            devices: _,
+            journal: _,
+            cpu: _,
+            cleared: _,
+        } = self;
+        modules.end(&mut guard, &mut mem, &policy);
     }
 }

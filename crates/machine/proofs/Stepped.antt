@@ -1,0 +1,152 @@
+-- A step of the machine: what it stands for, and how far its own counts move.
+use Rattle.std.proofs.Common.{◌≡◌, ℕ, ◌+◌, ◌-◌, ◌≤◌, List, length, map, drop, refl, sym, ◌∙◌, ap, subst, arith, Bool, true, false}
+use Rattle.std.specs.Prelude.{Option, Some, None, slice_get, if◌then◌else◌}
+use Rattle.std.proofs.lemmas.List.{length-drop}
+use Rattle.sv_types.specs.Console.{has_room}
+use Rattle.sv_types.specs.declared.event.Event.{Event}
+use Rattle.sv_types.specs.declared.event.Event.TheVariants.{Turn, Beat, Key, Tick}
+use Rattle.sv_types.specs.declared.event.Verdict.{Verdict}
+use Rattle.sv_types.specs.declared.event.Verdict.TheVariants.{Running, Shutdown, Stopped}
+use Rattle.sv_types.specs.declared.outcome.Outcome.{Outcome}
+use Rattle.reference.specs.Counting.{count, counted, count_turn, count_beat, count_key, count_tick, count_dropped}
+use Rattle.reference.specs.Disk.{disk_beat, is_writable, Beaten, Move, Idle, FromRam, IntoRam, DeniedAt, OutsideRam}
+use Rattle.reference.specs.Run.{step}
+use Rattle.reference.specs.States.{State, Journal}
+use Rattle.reference.specs.Turn.{turn}
+use Rattle.run_laws.proofs.Growth.{Gains}
+use Rattle.machine_model.specs.HardwareEvent.{IsEvent, HappensUnder, TurnOf, HartTurn, StartedTurn, AfterOutcome, SameButForCounts, Answers, attempted, is_loading}
+use Rattle.machine_model.specs.HostEvents.{event_served, beat_served, key_served, tick_served, after_host_move, with_host_disk}
+use Rattle.machine_model.specs.Machine.{Machine, HostHart, raised, after_attempt}
+use Rattle.machine_model.specs.StandsFor.{StandsFor, Unseen, IsRightFor, machine_of}
+use Rattle.machine_model.specs.Steps.{IsStep, StepsUnder}
+use Rattle.answer_laws.proofs.LawsHold.{running}
+use Rattle.answer_laws.proofs.TurnsServed.{step_law}
+use Rattle.machine.proofs.TurnGains.{turn_gains}
+
+-- ---- the two laws of a step
+
+pub step_stands : (m after : Machine) (e : Event) → IsStep m e after → (r : State) → StandsFor m r → StandsFor after (step r e)
+step_stands m after e steps r stands = (step_law m after r e stands steps).0
+
+pub step_happens : (m after : Machine) (r : State) (e : Event) → StandsFor m r → IsStep m e after → IsEvent m e after
+step_happens m after r e stands steps = (step_law m after r e stands steps).1
+
+-- ---- attempts: one at most in a turn
+
+outcome_attempts : (m after : Machine) (h : ℕ) (host : HostHart) (o : Outcome) → AfterOutcome o m h (attempted m h host) after → after.attempts ≤ m.attempts + 1
+outcome_attempts m after h host (Outcome.Retired wrote) k = let same : after.attempts ≡ m.attempts + 1 = ap (λ (x : Machine). x.attempts) k.same in omega (arith, same)
+outcome_attempts m after h host Outcome.GuestTrap k = let same : after.attempts ≡ m.attempts + 1 = ap (λ (x : Machine). x.attempts) k.same in omega (arith, same)
+outcome_attempts m after h host (Outcome.Exit exit) k = let same : after.attempts ≡ m.attempts + 1 = ap (λ (x : Machine). x.attempts) k.same in omega (arith, same)
+
+started_attempts : (m after : Machine) (h : ℕ) (host : HostHart) (loads : Bool) → StartedTurn loads m h host after → after.attempts ≤ m.attempts + 1
+started_attempts m after h host true k = let same : after.attempts ≡ m.attempts = ap (λ (x : Machine). x.attempts) k.same in omega (arith, same)
+started_attempts m after h host false k = outcome_attempts m after h host (attempted m h host).outcome k
+
+hart_attempts : (m after : Machine) (h : ℕ) (host : HostHart) (started : Bool) → HartTurn started m h host after → after.attempts ≤ m.attempts + 1
+hart_attempts m after h host true k = started_attempts m after h host (is_loading m.loading h) k
+hart_attempts m after h host false k = let same : after.attempts ≡ m.attempts = ap (λ (x : Machine). x.attempts) k.same in omega (arith, same)
+
+turn_attempts : (m after : Machine) (h : ℕ) (x : Option HostHart) → TurnOf m h x after → after.attempts ≤ m.attempts + 1
+turn_attempts m after h None k = let same : after.attempts ≡ m.attempts = ap (λ (x : Machine). x.attempts) k.same in omega (arith, same)
+turn_attempts m after h (Some host) k = hart_attempts m after h host host.started k
+
+-- ---- what the invariant says of two machines
+
+pub record Bounded (m : Machine) : Type 0 where
+  pub attempts : m.attempts ≤ m.journal.counts.turns
+  pub printed : m.cleared + length m.journal.printed ≤ m.journal.counts.turns
+
+-- beats, keys and time leave these as they are
+pub record LeavesCounts (before after : Machine) : Type 0 where
+  pub attempts : after.attempts ≡ before.attempts
+  pub turns : after.journal.counts.turns ≡ before.journal.counts.turns
+  pub cleared : after.cleared ≡ before.cleared
+  pub printed : after.journal.printed ≡ before.journal.printed
+
+move_leaves : (m : Machine) (x : Move) → LeavesCounts m (after_host_move m x)
+unfolding after_host_move
+move_leaves m Idle = record { attempts = refl; turns = refl; cleared = refl; printed = refl }
+move_leaves m (FromRam gpa) = record { attempts = refl; turns = refl; cleared = refl; printed = refl }
+move_leaves m (IntoRam gpa bytes) = record { attempts = refl; turns = refl; cleared = refl; printed = refl }
+move_leaves m (DeniedAt gpa) = record { attempts = refl; turns = refl; cleared = refl; printed = refl }
+move_leaves m OutsideRam = record { attempts = refl; turns = refl; cleared = refl; printed = refl }
+
+beat_leaves : (m : Machine) → LeavesCounts m (beat_served m)
+unfolding beat_served
+beat_leaves m =
+    let b : Beaten = disk_beat m.devices.disk m.region.ram (is_writable m.dma) in
+    let k = move_leaves (with_host_disk m b.disk) b.move in
+    record { attempts = k.attempts; turns = k.turns; cleared = k.cleared; printed = k.printed }
+
+abbrev pub JournalLeft : Journal → Journal → Type 0
+JournalLeft old new = (new.counts.turns ≡ old.counts.turns) × (new.printed ≡ old.printed)
+
+room_leaves : (j : Journal) (room : Bool) → JournalLeft j (if room then j else counted count_dropped j)
+room_leaves j true = (refl, refl)
+room_leaves j false = (refl, refl)
+
+key_leaves : (m : Machine) (byte : ℕ) → LeavesCounts m (key_served m byte)
+unfolding key_served
+key_leaves m byte = let k = room_leaves m.journal (has_room m.devices.console) in record { attempts = refl; turns = k.0; cleared = refl; printed = k.1 }
+
+tick_leaves : (m : Machine) (n : ℕ) → LeavesCounts m (tick_served m n)
+unfolding tick_served
+tick_leaves m n = record { attempts = refl; turns = refl; cleared = refl; printed = refl }
+
+left_bounded : (m after : Machine) → LeavesCounts m after → Bounded m → Bounded after
+left_bounded m after k b = record {
+  attempts = subst (λ (n : ℕ). n ≤ after.journal.counts.turns) (sym k.attempts) (subst (λ (n : ℕ). m.attempts ≤ n) (sym k.turns) b.attempts);
+  printed = subst (λ (n : ℕ). n + length after.journal.printed ≤ after.journal.counts.turns) (sym k.cleared)
+      (subst (λ (xs : List ℕ). m.cleared + length xs ≤ after.journal.counts.turns) (sym k.printed) (subst (λ (n : ℕ). m.cleared + length m.journal.printed ≤ n) (sym k.turns) b.printed));
+}
+
+-- ---- a turn
+
+counts_of : (m : Machine) (r : State) → StandsFor m r → m.journal.counts.turns ≡ r.journal.counts.turns
+unfolding machine_of
+counts_of m r stands = ap (λ (x : Machine). x.journal.counts.turns) stands.same
+
+printed_by : (o : Unseen) (r : State) → IsRightFor o r → (machine_of o r).cleared + length (machine_of o r).journal.printed ≡ length r.journal.printed
+unfolding machine_of
+printed_by o r p = let n = length-drop o.cleared r.journal.printed in let below = p.cleared in omega (arith, n, below)
+
+printed_of : (m : Machine) (r : State) → StandsFor m r → m.cleared + length m.journal.printed ≡ length r.journal.printed
+printed_of m r stands =
+    subst (λ (x : Machine). x.cleared + length x.journal.printed ≡ length r.journal.printed) (sym stands.same) (printed_by stands.unseen r stands.unseen_is_right)
+
+turn_bounded : (m after : Machine) (r : State) (h : ℕ) → StandsFor m r → m.journal.verdict ≡ Running → StandsFor after (step r (Turn h)) → IsEvent m (Turn h) after
+    → Bounded m → Bounded after
+unfolding IsEvent machine_of
+turn_bounded m after r h stands on behind event b =
+    let verdict : r.journal.verdict ≡ Running = sym (ap (λ (x : Machine). x.journal.verdict) stands.same) ∙ on in
+    let next : StandsFor after (turn (count r count_turn) h) = subst (StandsFor after) (running r h verdict) behind in
+    let gains : Gains (count r count_turn) (turn (count r count_turn) h) = turn_gains (count r count_turn) h in
+    let turns : after.journal.counts.turns ≡ m.journal.counts.turns + 1 =
+    counts_of after (turn (count r count_turn) h) next ∙ gains.rises.turns ∙ ap (λ (n : ℕ). n + 1) (sym (counts_of m r stands)) in
+    let one : after.attempts ≤ m.attempts + 1 = turn_attempts m after h (slice_get m.harts h) (subst (λ (v : Verdict). HappensUnder v m (Turn h) after) on event) in
+    let old = printed_of m r stands in
+    let new = printed_of after (turn (count r count_turn) h) next in
+    let more = gains.prints.console in
+    let a = b.attempts in
+    let p = b.printed in
+    record { attempts = omega (arith, turns, one, a); printed = omega (arith, turns, old, new, more, p) }
+
+-- ---- each event
+
+bounded_by : (m after : Machine) (r : State) (e : Event) (v : Verdict) → m.journal.verdict ≡ v → StandsFor m r → StandsFor after (step r e) → IsEvent m e after
+    → StepsUnder v m e after → Bounded m → Bounded after
+unfolding event_served
+bounded_by m after r (Turn h) Running on stands behind event steps b = turn_bounded m after r h stands on behind event b
+bounded_by m after r Beat Running on stands behind event steps b =
+    subst Bounded (sym steps) (left_bounded (raised m count_beat) (beat_served (raised m count_beat)) (beat_leaves (raised m count_beat)) (record { attempts = b.attempts; printed = b.printed }))
+bounded_by m after r (Key byte) Running on stands behind event steps b =
+    subst Bounded (sym steps) (left_bounded (raised m count_key) (key_served (raised m count_key) byte) (key_leaves (raised m count_key) byte) (record { attempts = b.attempts; printed = b.printed }))
+bounded_by m after r (Tick n) Running on stands behind event steps b =
+    subst Bounded (sym steps) (left_bounded (raised m count_tick) (tick_served (raised m count_tick) n) (tick_leaves (raised m count_tick) n) (record { attempts = b.attempts; printed = b.printed }))
+bounded_by m after r e Shutdown on stands behind event steps b = subst Bounded (sym steps) b
+bounded_by m after r e (Stopped rule hart at) on stands behind event steps b = subst Bounded (sym steps) b
+
+pub step_bounded : (m after : Machine) (r : State) (e : Event) → StandsFor m r → IsStep m e after → Bounded m → Bounded after
+unfolding IsStep
+step_bounded m after r e stands steps b =
+    bounded_by m after r e m.journal.verdict refl stands (step_law m after r e stands steps).0 (step_law m after r e stands steps).1 steps b

@@ -1,0 +1,31 @@
+use Rattle.std.proofs.Common.{◌≡◌, ℕ, List, length, sym, ◌∙◌, subst, rules}
+use Rattle.std.proofs.lemmas.List.{with_items_is}
+use Rattle.machine_model.specs.HostCalls.{host_module_call}
+use Rattle.machine_model.specs.Machine.{Machine}
+use Rattle.machine_model.specs.Steps.{WithTables}
+use Rattle.machine.proofs.Called.{module_call_is}
+use Rattle.machine.proofs.Emptied.{usable_after}
+use Rattle.machine.proofs.Hosts.{Lines}
+use Rattle.machine.proofs.Moduled.{module_answers}
+use Rattle.machine.specs.Attempts.{AreUsable}
+use Rattle.machine.specs.Parts.{machine_of_parts}
+use Rattle.machine.proofs.parts.Parts.serve_module_call.Goals as goal
+
+pub invariant_of-self : goal.invariant_of-self
+invariant_of-self c =
+    let answer = c.serve_module_call-changed in
+    let same = with_items_is c.self.inside.caches c.fence.new.caches (c.fence.ensures.number ∙ c.deref_mut.ensures.len) in
+    record {
+      entries = c.self.invariant.entries;
+      few = search rules;
+      caches = search rules;
+      theirs = answer.ensures.theirs;
+      usable = subst (λ (caches : List Lines). AreUsable answer.new.mem.tables caches) (sym same)
+          (usable_after answer.result c.self.inside.mem answer.new.mem c.self.inside.caches.items c.deref_mut.result.now c.fence.new.caches c.deref_mut.ensures.value
+          c.self.invariant.usable answer.ensures.kept c.fence.ensures.usable c.fence.ensures.kept);
+      pages = answer.ensures.size ∙ c.self.invariant.pages;
+      modules = answer.ensures.joined;
+    }
+
+pub returns : goal.returns
+returns c = ?

@@ -1,0 +1,108 @@
+// The machine.
+
+ghost use Rattle.std.specs.Prelude.{◌≡◌, ◌-◌, ◌<◌, ◌^◌, [], length};
+ghost use Rattle.reference.specs.Counting.{CountsAtMost};
+ghost use Rattle.reference.specs.Run.{step};
+ghost use Rattle.reference.specs.States.{State};
+ghost use Rattle.machine_model.specs.HardwareEvent.{IsEvent};
+ghost use Rattle.machine_model.specs.Reaches.{Cleared};
+ghost use Rattle.machine_model.specs.StandsFor.{StandsFor};
+ghost use Rattle.machine_model.specs.Steps.{IsStep};
+
+use crate::parts::Parts;
+use std::marker::Model;
+use sv_types::{Counts, Event, Note, Verdict};
+
+/// Harts with the hypervisor extension, host memory and devices, under SecVisor. Contracts see the machine. It can't be
+/// dropped: `end` frees what a load under way holds.
+pub struct Machine {
+    parts: Parts,
+}
+
+impl Model for Machine {
+    ghost use Rattle.machine_model.specs.Machine.{Machine as Whole};
+
+    ghost Value = { Whole };
+
+    ghost use Rattle.machine.specs.Machines.{IsFit};
+
+    ghost view = { λ m. m.parts };
+
+    ghost invariant = { IsFit };
+}
+
+impl Machine {
+    /// One event. The machine stands for the reference machine's state after it, and changes no more than the event may.
+    #[tactic(auto, using(crate::proofs::Stepped::step_stands, crate::proofs::Stepped::step_happens))]
+    pub fn step(&mut self, event: Event)
+        requires room { length self.old.journal.printed < 4096 }
+        requires counts { CountsAtMost (2 ^ 64 - 2) self.old.journal.counts }
+        ensures stands { (r : State) → StandsFor self.old r → StandsFor self.new (step r event) }
+        ensures event { IsEvent self.old event self.new }
+    {
+        self.make_step(event);
+    }
+
+    // One event, as the hardware and SecVisor make it.
+    fn make_step(&mut self, event: Event)
+        requires room { length self.old.journal.printed < 4096 }
+        requires counts { CountsAtMost (2 ^ 64 - 2) self.old.journal.counts }
+        ensures { IsStep self.old event self.new }
+    {
+        self.parts.step(event);
+    }
+
+    pub fn verdict(&self) -> Verdict
+        ensures { result ≡ self.now.journal.verdict }
+    {
+        self.parts.verdict()
+    }
+
+    pub fn counts(&self) -> Counts
+        ensures { result ≡ self.now.journal.counts }
+    {
+        self.parts.journal.counts()
+    }
+
+    /// The first 4,096 notes.
+    pub fn journal(&self) -> &[Note]
+        ensures { result.now ≡ self.now.journal.notes }
+    {
+        self.parts.journal.notes()
+    }
+
+    /// The printed bytes that weren't taken away.
+    pub fn printed(&self) -> &[u8]
+        ensures { result.now ≡ self.now.journal.printed }
+    {
+        self.parts.journal.printed()
+    }
+
+    /// Takes the printed bytes away.
+    pub fn clear_printed(&mut self)
+        ensures cleared { Cleared self.old self.new }
+        ensures printed { self.new.journal.printed ≡ [] }
+    {
+        self.parts.clear_printed();
+    }
+
+    /// The bytes of the disk.
+    pub fn disk(&self) -> &[u8]
+        ensures { result.now ≡ self.now.devices.disk.bytes }
+    {
+        self.parts.devices.disk()
+    }
+
+    /// The attempts that were made.
+    pub fn attempts(&self) -> u64
+        ensures { result ≡ self.now.attempts }
+    {
+        self.parts.cpu.count()
+    }
+
+    /// Drops the machine.
+    pub fn end(self) {
+        let Machine { parts } = self;
+        parts.end();
+    }
+}
