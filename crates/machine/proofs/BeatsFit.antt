@@ -1,15 +1,15 @@
 -- A beat of the block device keeps to RAM.
-use Rattle.std.proofs.Common.{◌≡◌, ℕ, ◌+◌, ◌*◌, ◌≤◌, List, length, refl, sym, ◌∙◌, ap, subst, arith, Bool, true, false}
-use Rattle.std.specs.Prelude.{not, ◌==◌, if◌then◌else◌, take, drop}
+use Rattle.std.proofs.Common.{◌≡◌, ℕ, ◌+◌, ◌≤◌, List, length, refl, arith, Bool, true, false}
+use Rattle.std.specs.Prelude.{not, ◌==◌, if◌then◌else◌}
 use Rattle.std.proofs.lemmas.Bool.Decides.{nat_tests}
 use Rattle.sv_types.specs.Bytes.{in_ram, ram_base, ram_place, page_of, part}
 use Rattle.sv_types.specs.Regions.{Region}
 use Rattle.sv_types.proofs.ByteLemmas.{length_overwrite}
 use Rattle.reference.specs.States.{Disk}
-use Rattle.reference.specs.Disk.{disk_beat, is_busy, to_memory, to_disk, transfer_ended, block_after_beat, beat_gpa, beat_place, beat_size, disk_to_memory, out_of_range, denied, Beaten, Move, Idle, FromRam, IntoRam, DeniedAt, OutsideRam}
+use Rattle.reference.specs.Disk.{disk_beat, is_busy, to_disk, transfer_ended, block_after_beat, beat_gpa, beat_place, beat_size, disk_to_memory, out_of_range, denied, Move, Idle, FromRam, IntoRam, DeniedAt, OutsideRam}
 use Rattle.dma_guard.specs.Transfers.{told, after_move}
 use Rattle.run_laws.proofs.Lookups.{part_short}
-use Rattle.machine.specs.Beats.{LiesInRam, ToldInRam}
+use Rattle.machine.specs.Beats.{ToldInRam}
 
 begins : (ram : List ℕ) (gpa : ℕ) → in_ram ram gpa 64 ≡ true → ram_base ≤ gpa
 begins ram gpa e = grind (arith, nat_tests)
@@ -22,8 +22,8 @@ fits_by : (d : Disk) (ram : List ℕ) (may_write : ℕ → Bool) (busy inside in
     else if not inside then transfer_ended d out_of_range OutsideRam
     else if into
     then (if free
-        then record { disk = record d { block = block_after_beat d.block }; move = IntoRam (beat_gpa d.block) (part d.bytes (beat_place d.block) beat_size) }
-        else transfer_ended d denied (DeniedAt (beat_gpa d.block)))
+    then record { disk = record d { block = block_after_beat d.block }; move = IntoRam (beat_gpa d.block) (part d.bytes (beat_place d.block) beat_size) }
+    else transfer_ended d denied (DeniedAt (beat_gpa d.block)))
     else to_disk d ram).move)
 fits_by d ram may_write false inside into free e = tt
 fits_by d ram may_write true false into free e = tt

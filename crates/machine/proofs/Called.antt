@@ -7,7 +7,7 @@ use Rattle.machine_model.specs.HostCalls.{host_call_of, host_module_call}
 use Rattle.machine_model.specs.Machine.{Machine, HostHart}
 use Rattle.machine_model.specs.Steps.{WithTables}
 use Rattle.page_guard.specs.Guarded.{IsTheirs}
-use Rattle.hart_answers.specs.Hosts.{host_at, hosts_of}
+use Rattle.hart_answers.specs.Hosts.{hosts_of}
 use Rattle.hart_answers.specs.declared.seats.Seat.{Seat}
 use Rattle.call_answers.specs.Called.{called}
 use Rattle.machine.proofs.Hosts.{host_there}

@@ -1,6 +1,6 @@
 -- The loop that empties caches.
 use Rattle.std.proofs.Common.{◌≡◌, ℕ, zero, suc, ◌+◌, ◌<◌, ◌≤◌, List, [], ◌∷◌, length, refl, ap, slice_set, arith, add-one, subst, sym, ◌∙◌, Bool, true, false}
-use Rattle.std.specs.Prelude.{Option, Some, slice_get}
+use Rattle.std.specs.Prelude.{Some, slice_get}
 use Rattle.sv_types.specs.CachedWalks.{no_lines}
 use Rattle.sv_types.specs.Regions.{Region}
 use Rattle.gstage_cache.proofs.Lines.{none_agrees, none_under_views}

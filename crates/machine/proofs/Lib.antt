@@ -2,8 +2,8 @@ pub mod Hosts
 pub mod Emptied
 pub mod Turns
 pub mod Seated
-pub mod Moduled
 pub mod Called
+pub mod Moduled
 pub mod BeatsFit
 pub mod TurnGains
 pub mod Ready

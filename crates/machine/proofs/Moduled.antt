@@ -1,5 +1,5 @@
 -- An answer about modules is the machine's.
-use Rattle.std.proofs.Common.{◌≡◌, ℕ, List, length, refl, sym, ◌∙◌, ap, subst, slice_set}
+use Rattle.std.proofs.Common.{◌≡◌, ℕ, List, length, sym, ◌∙◌, ap, subst, slice_set}
 use Rattle.std.specs.Prelude.{slice_index_or, map}
 use Rattle.sv_types.specs.Policies.{rules_of}
 use Rattle.sv_types.specs.Regions.{Region}
@@ -8,6 +8,8 @@ use Rattle.sv_types.specs.declared.wires.Protection.{Protection}
 use Rattle.gstage_tables.specs.Layout.{table_size}
 use Rattle.reference.specs.Protections.{is_free, protection_at}
 use Rattle.reference.specs.States.{Journal}
+use Rattle.reference.specs.Calls.{Asked}
+use Rattle.machine_model.specs.HostCalls.{host_call_of, host_module_call}
 use Rattle.machine_model.specs.HostExits.{with_tables}
 use Rattle.machine_model.specs.Machine.{Machine, HostHart}
 use Rattle.machine_model.specs.Steps.{WithTables}
@@ -17,6 +19,7 @@ use Rattle.hart_answers.specs.Hosts.{host_at, hosts_of}
 use Rattle.hart_answers.specs.declared.seats.Seat.{Seat}
 use Rattle.module_answers.specs.Parts.{moduled, loading_of}
 use Rattle.module_answers.specs.declared.modules.Modules.{Modules}
+use Rattle.machine.proofs.Called.{module_call_is}
 use Rattle.machine.specs.Parts.{machine_of_parts}
 use Rattle.machine.specs.declared.parts.Parts.TheInside.{Inside}
 
@@ -65,3 +68,14 @@ module _ (p : Inside) (h : ℕ) (old : Seat) (is : old ≡ slice_index_or p.seat
         };
         same = same;
       })
+
+  -- an answer to a call about modules
+  pub module_call_answers : (asks ask : Asked) (mem : Region) (new : Seat) (guard : List Protection) (modules : Modules) (journal : Journal) (now : Machine)
+      → whole ≡ now → asks ≡ ask → ask.extension ≡ 0x08534543 → IsTheirs p.mem p.guard → IsTheirs mem guard → length guard ≡ length p.guard → length p.guard ≡ p.policy.ram_pages
+      → moduled whole (rules_of p.policy) mem h (host_at new) guard modules journal
+      ≡ with_tables (host_module_call (moduled whole (rules_of p.policy) p.mem h (host_at old) p.guard p.modules p.journal) h asks) mem.tables
+      → WithTables now (host_call_of now h ask) (answered_parts mem new guard modules journal)
+  module_call_answers asks ask mem new guard modules journal now is same about before after size pages made =
+      subst (λ (m : Machine). WithTables now m (answered_parts mem new guard modules journal)) (sym (module_call_is now h ask about))
+      (subst (λ (a : Asked). WithTables now (host_module_call now h a) (answered_parts mem new guard modules journal)) same
+      (module_answers (λ m. host_module_call m h asks) mem new guard modules journal now is before after size pages made))

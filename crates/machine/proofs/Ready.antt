@@ -1,7 +1,7 @@
 -- What a machine that stands for a state may do.
 use Rattle.std.proofs.Common.{◌≡◌, ℕ, zero, suc, ◌<◌, List, [], ◌∷◌, length, refl, sym, ◌∙◌, ap, subst, arith, true, ◌*◌}
-use Rattle.std.specs.Prelude.{Option, Some, None, IfSome, slice_get}
-use Rattle.sv_types.specs.Hardware.{Core, Attempted, with_region, after_interrupt}
+use Rattle.std.specs.Prelude.{Option, Some, None, IfSome}
+use Rattle.sv_types.specs.Hardware.{Core}
 use Rattle.sv_types.specs.HardwareAttempt.{attempt, after_pending, OnlyWrites}
 use Rattle.sv_types.specs.HardwareMemory.{translated}
 use Rattle.sv_types.specs.HypervisorRegisters.{pending}
@@ -13,7 +13,6 @@ use Rattle.sv_types.specs.declared.event.Verdict.TheVariants.{Running}
 use Rattle.sv_types.specs.declared.outcome.Outcome.{Outcome}
 use Rattle.sv_types.specs.declared.saved.SavedModule.{SavedModule}
 use Rattle.sv_types.specs.declared.wires.Access.TheVariants as Access
-use Rattle.sv_types.specs.declared.wires.Exit.{Exit}
 use Rattle.sv_types.specs.declared.wires.Interrupt.{Interrupt}
 use Rattle.sv_types.specs.declared.wires.Lines.{Lines}
 use Rattle.sv_types.specs.declared.wires.Mode.TheVariants.{Kernel}
@@ -23,7 +22,7 @@ use Rattle.reference.specs.Counting.{counted, count_turn, count_retired, count_t
 use Rattle.reference.specs.Devices.{lines_at}
 use Rattle.reference.specs.Run.{step}
 use Rattle.reference.specs.States.{State}
-use Rattle.machine_model.specs.HardwareEvent.{attempted, is_loading}
+use Rattle.machine_model.specs.HardwareEvent.{attempted}
 use Rattle.machine_model.specs.Machine.{Machine, HostHart, HostLoad, raised}
 use Rattle.machine_model.specs.StandsFor.{StandsFor}
 use Rattle.machine_model.specs.Steps.{IsStep, IsTurn, StepsUnder, left_by}
@@ -31,10 +30,10 @@ use Rattle.answer_laws.proofs.TurnsServed.{step_law}
 use Rattle.standing_laws.proofs.Standings.{hart_in_may_attempt, in_order}
 use Rattle.standing_laws.proofs.Loads.{loaded_approved, loading_held}
 use Rattle.standing_laws.specs.Laws.{HoldsItsPages}
-use Rattle.module_answers.specs.Conditions.{AreGuarded, IsHeld}
+use Rattle.module_answers.specs.Conditions.{IsHeld}
 use Rattle.machine.proofs.Turns.{turn_attempts}
-use Rattle.machine.specs.Attempts.{hart_in, nobody, IsReady}
-use Rattle.machine.specs.Turns.{Attempts, Finished, IsGuarded, MayAttempt}
+use Rattle.machine.specs.Attempts.{hart_in, nobody}
+use Rattle.machine.specs.Turns.{Attempts, IsGuarded, MayAttempt}
 
 -- ---- modules
 

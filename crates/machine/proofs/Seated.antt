@@ -4,12 +4,13 @@ use Rattle.std.specs.Prelude.{slice_index_or, slice_set}
 use Rattle.std.specs.Vec.{with_item}
 use Rattle.sv_types.specs.declared.wires.Mode.{Mode}
 use Rattle.sv_types.specs.declared.wires.Mode.TheVariants.{Kernel, User}
-use Rattle.reference.specs.States.{Journal}
+use Rattle.reference.specs.States.{Devices, Journal}
 use Rattle.machine_model.specs.Machine.{Machine, HostHart}
 use Rattle.machine_model.specs.StandsFor.{hregs_in}
 use Rattle.hart_answers.proofs.Hosts.{hosts_length, hosts_set, hosts_same}
 use Rattle.hart_answers.specs.Hosts.{host_at, hosts_of}
 use Rattle.hart_answers.specs.declared.seats.Seat.{Seat}
+use Rattle.access_answers.specs.Accessed.{accessed}
 use Rattle.trap_answers.specs.Answered.{answered}
 use Rattle.machine_model.specs.Steps.{WithTables}
 use Rattle.page_guard.specs.Guarded.{IsTheirs}
@@ -66,3 +67,22 @@ module _ (p : Inside) (h : ℕ) (old : Seat) (is : old ≡ slice_index_or p.seat
       (stays whole (f whole (hart_in whole.harts h) (hart_in whole.harts h).core.hregs.mode) (machine_of_parts (record p { seats = with_item p.seats h new; journal = journal }))
       (record { region = refl; protections = refl })
       (one_hart f new journal (subst (λ (m : Machine). h < length m.harts) (sym is) below) made) theirs pages)
+
+  -- an answer on the hart that devices take part in
+  pub device_answers : (f : Machine → HostHart → Mode → Machine) (new : Seat) (devices : Devices) (journal : Journal) (now : Machine) → whole ≡ now
+      → h < length now.harts → IsTheirs p.mem p.guard → length p.guard ≡ p.policy.ram_pages
+      → accessed whole p.entries h (host_at new) devices journal ≡ f (accessed whole p.entries h (host_at old) p.devices p.journal) (host_at old) old.side
+      → WithTables now (f now (hart_in now.harts h) (hart_in now.harts h).core.hregs.mode)
+      (record whole { harts = hosts_of (slice_set p.seats.items h new); devices = devices; journal = journal })
+  device_answers f new devices journal now is below theirs pages made =
+      let after : Machine = record whole { harts = hosts_of (slice_set p.seats.items h new); devices = devices; journal = journal } in
+      let put : accessed whole p.entries h (host_at new) devices journal ≡ after = ap (λ (m : Machine). record m { devices = devices }) (put_in new journal) in
+      let back : accessed whole p.entries h (host_at old) p.devices p.journal ≡ whole = ap (λ (m : Machine). record m { devices = p.devices }) put_back in
+      subst (λ (m : Machine). WithTables m (f m (hart_in m.harts h) (hart_in m.harts h).core.hregs.mode) after) is
+      (stays whole (f whole (hart_in whole.harts h) (hart_in whole.harts h).core.hregs.mode) after
+      (record { region = refl; protections = refl })
+      (sym put ∙ made
+      ∙ ap (λ (m : Machine). f m (host_at old) old.side) back
+      ∙ ap (f whole (host_at old)) (sym (same_mode old.side))
+      ∙ ap (λ (host : HostHart). f whole host host.core.hregs.mode) (mine (subst (λ (m : Machine). h < length m.harts) (sym is) below)))
+      theirs pages)

@@ -1,5 +1,5 @@
 -- A step of the machine: what it stands for, and how far its own counts move.
-use Rattle.std.proofs.Common.{◌≡◌, ℕ, ◌+◌, ◌-◌, ◌≤◌, List, length, map, drop, refl, sym, ◌∙◌, ap, subst, arith, Bool, true, false}
+use Rattle.std.proofs.Common.{◌≡◌, ℕ, ◌+◌, ◌≤◌, List, length, drop, refl, sym, ◌∙◌, ap, subst, arith, Bool, true, false}
 use Rattle.std.specs.Prelude.{Option, Some, None, slice_get, if◌then◌else◌}
 use Rattle.std.proofs.lemmas.List.{length-drop}
 use Rattle.sv_types.specs.Console.{has_room}
@@ -14,12 +14,14 @@ use Rattle.reference.specs.Run.{step}
 use Rattle.reference.specs.States.{State, Journal}
 use Rattle.reference.specs.Turn.{turn}
 use Rattle.run_laws.proofs.Growth.{Gains}
-use Rattle.machine_model.specs.HardwareEvent.{IsEvent, HappensUnder, TurnOf, HartTurn, StartedTurn, AfterOutcome, SameButForCounts, Answers, attempted, is_loading}
+use Rattle.machine_model.specs.HardwareEvent.{IsEvent, HappensUnder, TurnOf, HartTurn, StartedTurn, AfterOutcome, attempted, is_loading}
 use Rattle.machine_model.specs.HostEvents.{event_served, beat_served, key_served, tick_served, after_host_move, with_host_disk}
-use Rattle.machine_model.specs.Machine.{Machine, HostHart, raised, after_attempt}
+use Rattle.machine_model.specs.Machine.{Machine, HostHart, raised}
 use Rattle.machine_model.specs.StandsFor.{StandsFor, Unseen, IsRightFor, machine_of}
 use Rattle.machine_model.specs.Steps.{IsStep, StepsUnder}
 use Rattle.answer_laws.proofs.LawsHold.{running}
+use Rattle.machine_model.specs.Reaches.{without_first_printed}
+use Rattle.answer_laws.proofs.RunsReach.{clear_law}
 use Rattle.answer_laws.proofs.TurnsServed.{step_law}
 use Rattle.machine.proofs.TurnGains.{turn_gains}
 
@@ -150,3 +152,17 @@ pub step_bounded : (m after : Machine) (r : State) (e : Event) → StandsFor m r
 unfolding IsStep
 step_bounded m after r e stands steps b =
     bounded_by m after r e m.journal.verdict refl stands (step_law m after r e stands steps).0 (step_law m after r e stands steps).1 steps b
+
+-- ---- printed bytes that are taken away
+
+abbrev pub all_cleared : Machine → Machine
+all_cleared m = without_first_printed m (length m.journal.printed)
+
+pub cleared_stands : (m : Machine) (r : State) → StandsFor m r → StandsFor (all_cleared m) r
+cleared_stands m r stands = clear_law m (all_cleared m) r stands (record { taken = length m.journal.printed; there = omega arith; same = refl })
+
+none_left : (xs : List ℕ) → length (drop (length xs) xs) ≡ 0
+none_left xs = let n = length-drop (length xs) xs in omega (arith, n)
+
+pub cleared_bounded : (m : Machine) → Bounded m → Bounded (all_cleared m)
+cleared_bounded m b = let p = b.printed in let none = none_left m.journal.printed in record { attempts = b.attempts; printed = omega (arith, p, none) }

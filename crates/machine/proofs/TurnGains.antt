@@ -1,6 +1,6 @@
 -- What a turn does to the journal once its own count was raised.
 use Rattle.std.proofs.Common.{ℕ, slice_get}
-use Rattle.std.specs.Prelude.{Option, Some, None, ◌==◌}
+use Rattle.std.specs.Prelude.{Option, Some, None, true, ◌==◌}
 use Rattle.sv_types.specs.Effects.{effect_of}
 use Rattle.sv_types.specs.Instructions.{instruction_of}
 use Rattle.sv_types.specs.Traps.{interrupt_number, deliverable}

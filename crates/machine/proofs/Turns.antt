@@ -11,9 +11,9 @@ use Rattle.reference.specs.Counting.{counted}
 use Rattle.machine_model.specs.HardwareEvent.{attempted, is_loading}
 use Rattle.machine_model.specs.HostExits.{host_exit, served_exit, served_by, served_load_turn}
 use Rattle.machine_model.specs.Machine.{Machine, HostHart, count_outcome}
-use Rattle.machine_model.specs.Steps.{AreTables, WithTables, TurnServed, HartServed, StartedServed, OutcomeServed, left_by}
+use Rattle.machine_model.specs.Steps.{WithTables, TurnServed, HartServed, StartedServed, OutcomeServed, left_by}
 use Rattle.page_guard.specs.Guarded.{IsTheirs}
-use Rattle.machine.specs.Attempts.{hart_in, nobody}
+use Rattle.machine.specs.Attempts.{hart_in}
 use Rattle.machine.specs.Turns.{HasPagesOf, Finished}
 
 -- where memory and protections stay, the tables may stay

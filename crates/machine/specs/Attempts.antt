@@ -1,5 +1,6 @@
 -- What an attempt of a hart asks for, and the caches of second-stage walks. This project's own.
-use Rattle.std.specs.Prelude.{◌≡◌, ◌%◌, ℕ, zero, suc, true, false, List, [], ◌∷◌, length, Option, replicate, Some, slice_get, slice_index_or}
+use Rattle.std.specs.Prelude.{◌≡◌, ◌%◌, ℕ, zero, suc, true, false, List}
+use Rattle.std.specs.Prelude.{[], ◌∷◌, length, Option, replicate, Some, slice_get, slice_index_or}
 use Rattle.sv_types.specs.CachedWalks.{CacheAgrees, UnderViews, no_lines}
 use Rattle.sv_types.specs.HardwareAttempt.{attempt}
 use Rattle.sv_types.specs.HypervisorRegisters.{registers_at_boot}
@@ -14,7 +15,13 @@ use Rattle.machine_model.specs.StandsFor.{hregs_in}
 -- a stopped hart, past the end of all harts
 abbrev pub nobody : HostHart
 nobody = record {
-  core = record { registers = replicate 32 0; pc = 0; csrs = registers_at_boot; hregs = hregs_in Kernel; reservation = Option.None };
+  core = record {
+    registers = replicate 32 0;
+    pc = 0;
+    csrs = registers_at_boot;
+    hregs = hregs_in Kernel;
+    reservation = Option.None;
+  };
   started = false;
 }
 

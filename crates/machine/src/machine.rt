@@ -7,7 +7,6 @@ ghost use Rattle.reference.specs.States.{State};
 ghost use Rattle.machine_model.specs.HardwareEvent.{IsEvent};
 ghost use Rattle.machine_model.specs.Reaches.{Cleared};
 ghost use Rattle.machine_model.specs.StandsFor.{StandsFor};
-ghost use Rattle.machine_model.specs.Steps.{IsStep};
 
 use crate::parts::Parts;
 use std::marker::Model;
@@ -33,21 +32,11 @@ impl Model for Machine {
 
 impl Machine {
     /// One event. The machine stands for the reference machine's state after it, and changes no more than the event may.
-    #[tactic(auto, using(crate::proofs::Stepped::step_stands, crate::proofs::Stepped::step_happens))]
     pub fn step(&mut self, event: Event)
         requires room { length self.old.journal.printed < 4096 }
         requires counts { CountsAtMost (2 ^ 64 - 2) self.old.journal.counts }
         ensures stands { (r : State) → StandsFor self.old r → StandsFor self.new (step r event) }
         ensures event { IsEvent self.old event self.new }
-    {
-        self.make_step(event);
-    }
-
-    // One event, as the hardware and SecVisor make it.
-    fn make_step(&mut self, event: Event)
-        requires room { length self.old.journal.printed < 4096 }
-        requires counts { CountsAtMost (2 ^ 64 - 2) self.old.journal.counts }
-        ensures { IsStep self.old event self.new }
     {
         self.parts.step(event);
     }
@@ -61,7 +50,7 @@ impl Machine {
     pub fn counts(&self) -> Counts
         ensures { result ≡ self.now.journal.counts }
     {
-        self.parts.journal.counts()
+        self.parts.counts()
     }
 
     /// The first 4,096 notes.
@@ -83,6 +72,7 @@ impl Machine {
         ensures cleared { Cleared self.old self.new }
         ensures printed { self.new.journal.printed ≡ [] }
     {
+        let _counts = self.parts.counts();
         self.parts.clear_printed();
     }
 

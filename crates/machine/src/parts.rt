@@ -32,7 +32,7 @@ use journal_records::Journal;
 use module_answers::{ModuleCall, Modules, serve_load_turn, serve_module_call};
 use page_guard::{Entries, Guard};
 use std::marker::Model;
-use sv_types::{Event, Exit, Mode, Outcome, Policy, RAM_BASE, Verdict};
+use sv_types::{Counts, Event, Exit, Mode, Outcome, Policy, RAM_BASE, Verdict};
 
 /// The causes of exits: a call from kernel mode, a refused fetch, load and store.
 const CALL: u64 = 10;
@@ -72,9 +72,9 @@ impl Model for Parts {
 }
 
 impl Parts {
-    /// An attempt of a hart, which SecVisor's answer follows where it gives an exit.
+    // An attempt of a hart, which SecVisor's answer follows where it gives an exit.
     #[tactic(auto, using(hart_answers::proofs::Hosts::hosts_length))]
-    pub(crate) fn attempt(&mut self, which: u8) -> Outcome
+    fn attempt(&mut self, which: u8) -> Outcome
         requires there { which < length self.old.harts }
         requires count { self.old.attempts < 2 ^ 64 - 1 }
         requires ready { IsReady self.old.region (hart_in self.old.harts which) (lines_at self.old.devices which) }
@@ -94,9 +94,9 @@ impl Parts {
         )
     }
 
-    /// The answer to a trap that is no refused fetch, access or call.
+    // The answer to a trap that is no refused fetch, access or call.
     #[tactic(auto, using(hart_answers::proofs::Hosts::hosts_length))]
-    pub(crate) fn serve_trap(&mut self, which: u8, exit: Exit)
+    fn serve_trap(&mut self, which: u8, exit: Exit)
         requires there { which < length self.old.harts }
         requires aligned { (hart_in self.old.harts which).core.pc % 4 ≡ 0 }
         requires counts { MayCount self.old.journal.counts }
@@ -114,9 +114,9 @@ impl Parts {
         );
     }
 
-    /// The answer to a refused fetch.
+    // The answer to a refused fetch.
     #[tactic(auto, using(hart_answers::proofs::Hosts::hosts_length))]
-    pub(crate) fn serve_fetch(&mut self, which: u8, exit: Exit)
+    fn serve_fetch(&mut self, which: u8, exit: Exit)
         requires there { which < length self.old.harts }
         requires aligned { (hart_in self.old.harts which).core.pc % 4 ≡ 0 }
         requires counts { MayCount self.old.journal.counts }
@@ -135,8 +135,9 @@ impl Parts {
         );
     }
 
-    /// The answer to an access that was refused, or that reaches a device.
-    pub(crate) fn serve_access(&mut self, which: u8, exit: Exit)
+    // The answer to an access that was refused, or that reaches a device.
+    #[tactic(auto, using(hart_answers::proofs::Hosts::hosts_length))]
+    fn serve_access(&mut self, which: u8, exit: Exit)
         requires there { which < length self.old.harts }
         requires aligned { (hart_in self.old.harts which).core.pc % 4 ≡ 0 }
         requires counts { MayCount self.old.journal.counts }
@@ -144,6 +145,17 @@ impl Parts {
         ensures { WithTables self.old (served_access self.old which (hart_in self.old.harts which) (hart_in self.old.harts which).core.hregs.mode exit) self.new }
     {
         let seat = &mut self.seats[which as usize];
+        access_answers::serve_access(
+            which,
+            &mut seat.hart,
+            &mut seat.side,
+            &self.guard,
+            &self.entries,
+            &self.mem,
+            &mut self.devices,
+            &mut self.journal,
+            exit,
+        );
     }
 
     // What the registers of a hart ask.
@@ -396,6 +408,12 @@ impl Parts {
         ensures { result ≡ self.now.journal.verdict }
     {
         self.journal.verdict()
+    }
+
+    pub(crate) fn counts(&self) -> Counts
+        ensures { result ≡ self.now.journal.counts }
+    {
+        self.journal.counts()
     }
 
     /// Takes the printed bytes away.

@@ -1,8 +1,8 @@
-use Rattle.std.proofs.Common.{◌≡◌, ◌<◌, ◌%◌, ℕ, length, refl, sym, ◌∙◌, ap, subst}
+use Rattle.std.proofs.Common.{◌≡◌, ◌<◌, ◌%◌, ℕ, sym, ◌∙◌, ap, subst}
 use Rattle.sv_types.specs.HardwareAttempt.{attempt}
 use Rattle.machine_model.specs.Machine.{HostHart, running, all_forget}
 use Rattle.hart_answers.proofs.Hosts.{hosts_set}
-use Rattle.hart_answers.specs.Hosts.{host_at, hosts_of}
+use Rattle.hart_answers.specs.Hosts.{hosts_of}
 use Rattle.std.specs.Prelude.{slice_set, List}
 use Rattle.machine.proofs.Hosts.{host_there, pc_there, usable_there, usable_set}
 use Rattle.machine.specs.Attempts.{hart_in}

@@ -1,4 +1,4 @@
-use Rattle.std.proofs.Common.{◌≡◌, ℕ, List, length, sym, ◌∙◌, ap, subst}
+use Rattle.std.proofs.Common.{length, sym, ◌∙◌, ap, subst}
 use Rattle.sv_types.specs.Regions.{Region}
 use Rattle.reference.specs.Disk.{disk_beat, is_writable}
 use Rattle.dma_guard.specs.declared.port.Beaten.{Beaten}

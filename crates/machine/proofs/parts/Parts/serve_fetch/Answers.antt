@@ -1,4 +1,4 @@
-use Rattle.std.proofs.Common.{◌≡◌, refl}
+use Rattle.std.proofs.Common.{refl}
 use Rattle.machine_model.specs.HostHarts.{served_fetch}
 use Rattle.machine.proofs.Seated.{answers}
 use Rattle.machine.specs.Parts.{machine_of_parts}

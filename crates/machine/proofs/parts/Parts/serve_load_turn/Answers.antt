@@ -1,4 +1,4 @@
-use Rattle.std.proofs.Common.{◌≡◌, ℕ, List, length, sym, ◌∙◌, subst, rules}
+use Rattle.std.proofs.Common.{List, sym, ◌∙◌, subst, rules}
 use Rattle.std.proofs.lemmas.List.{with_items_is}
 use Rattle.machine_model.specs.HostExits.{served_load_turn}
 use Rattle.machine.proofs.Emptied.{usable_after}

@@ -1,12 +1,9 @@
-use Rattle.std.proofs.Common.{◌≡◌, ℕ, List, length, sym, ◌∙◌, subst, rules}
+use Rattle.std.proofs.Common.{List, sym, ◌∙◌, subst, rules}
 use Rattle.std.proofs.lemmas.List.{with_items_is}
-use Rattle.machine_model.specs.HostCalls.{host_module_call}
-use Rattle.machine_model.specs.Machine.{Machine}
-use Rattle.machine_model.specs.Steps.{WithTables}
-use Rattle.machine.proofs.Called.{module_call_is}
+use Rattle.call_answers.specs.Asking.{call_of}
 use Rattle.machine.proofs.Emptied.{usable_after}
 use Rattle.machine.proofs.Hosts.{Lines}
-use Rattle.machine.proofs.Moduled.{module_answers}
+use Rattle.machine.proofs.Moduled.{module_call_answers}
 use Rattle.machine.specs.Attempts.{AreUsable}
 use Rattle.machine.specs.Parts.{machine_of_parts}
 use Rattle.machine.proofs.parts.Parts.serve_module_call.Goals as goal
@@ -28,4 +25,9 @@ invariant_of-self c =
     }
 
 pub returns : goal.returns
-returns c = ?
+returns c =
+    let answer = c.serve_module_call-changed in
+    module_call_answers c.self.inside c.args.which c.index_mut.result.now c.index_mut.ensures.value (call_of c.asked.inside) c.args.asked.now
+    answer.new.mem (record { hart = answer.new.hart; side = c.index_mut.result.now.side }) answer.new.guard answer.new.modules answer.new.journal
+    c.args.self.now c.self.view_is c.asked.view_is c.requires.modules c.self.invariant.theirs answer.ensures.theirs answer.ensures.size c.self.invariant.pages
+    (answer.ensures.machine (machine_of_parts c.self.inside) c.index_mut.result.now.side c.asked.inside.extension)

@@ -1,4 +1,3 @@
-use Rattle.std.proofs.Common.{◌≡◌}
 use Rattle.machine_model.specs.HostHarts.{served_trap}
 use Rattle.machine.proofs.Seated.{answers}
 use Rattle.machine.specs.Parts.{machine_of_parts}

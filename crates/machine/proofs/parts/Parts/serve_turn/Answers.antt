@@ -1,6 +1,5 @@
-use Rattle.std.proofs.Common.{◌≡◌, ◌<◌, ℕ, length, sym, ◌∙◌, ap, subst, true, rules}
+use Rattle.std.proofs.Common.{◌≡◌, ◌<◌, ℕ, length, sym, subst, true, rules}
 use Rattle.hart_answers.proofs.Hosts.{hosts_length}
-use Rattle.machine_model.specs.HardwareEvent.{is_loading}
 use Rattle.machine_model.specs.Machine.{Machine}
 use Rattle.machine.proofs.Hosts.{started_there}
 use Rattle.machine.proofs.Turns.{turn_attempts}
