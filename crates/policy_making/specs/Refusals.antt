@@ -1,4 +1,4 @@
--- Why no policy is made: the first fault of the kernel's image, of a module's object, or of the policy. This project's own.
+-- Why no policy is made: the first fault of the kernel, of an object, or of the policy. This project's own.
 use Rattle.std.specs.Prelude.{◌≡◌, ◌≢◌, Result, Ok, Err}
 use Rattle.elf64_load.specs.declared.read.ElfRefusal.{ElfRefusal}
 use Rattle.elf64_load.specs.declared.read.ElfRefusal.TheVariants as OfElf
