@@ -18,7 +18,8 @@ loaded_byte size ss k at = slice_index_or (fold with_segment (replicate size 0) 
 
 -- all bytes of a page do
 abbrev pub covers : ℕ → LoadedSegment → Bool
-covers page s = nat_le (ram_place s.gpa) (page_size * page) && nat_le (page_size * page + page_size) (ram_place s.gpa + s.memory)
+covers page s =
+    nat_le (ram_place s.gpa) (page_size * page) && nat_le (page_size * page + page_size) (ram_place s.gpa + s.memory)
 
 -- a segment of nothing
 abbrev pub nothing : LoadedSegment

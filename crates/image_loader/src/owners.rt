@@ -46,7 +46,8 @@ fn pages_of_none(alloc: Global, pages: usize) -> Result<Vec<usize>, AllocError>
     vec![in alloc; 0; pages]
 }
 
-/// For each page how many segments there are up to and with the last that covers it whole; 0 where none does.
+/// For each page how many segments there are up to and with the last that covers it whole; 0 where none does. Each
+/// segment fills its row of the table, whatever the others do.
 pub fn last_owners(
     alloc: Global,
     segments: &[Segment],

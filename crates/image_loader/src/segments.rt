@@ -1,5 +1,5 @@
 // The segments of an image in guest RAM. Each page is written from the last segment that covers it whole, and after it
-// from the later ones that begin or end in it: in time of the pages of RAM and the segments.
+// from the later ones that begin or end in it, so that segments over one another aren't each written.
 
 ghost use Rattle.std.specs.List.{All};
 ghost use Rattle.std.specs.Prelude.{◌≡◌, ℕ, ◌+◌, ◌-◌, ◌*◌, ◌/◌, ◌<◌, ◌≤◌, ◌==◌, ◌&&◌, false, nat_le, nat_lt, map, length, replicate, slice_index, slice_index_or, if◌then◌else◌, IfOk, OnOk};

@@ -1,6 +1,6 @@
 // Files with a page of text and data behind it, loaded into four pages of RAM.
 
-ghost use Rattle.std.specs.Prelude.{◌≡◌, length, IfOk};
+ghost use Rattle.std.specs.Prelude.{◌≡◌, ◌*◌, ◌≤◌, length, IfOk};
 
 use super::{approve_text, fill_ram};
 use elf64_load::{ElfRefusal, read_kernel};
@@ -88,12 +88,13 @@ fn file_of(alloc: Global, parts: &[Part]) -> Result<Vec<u8>, AllocError> {
 }
 
 // RAM with the segments of a file.
-fn filled(alloc: Global, file: &[u8]) -> Result<HostMem, ElfRefusal>
-    ensures { IfOk result (λ mem. length mem.ram ≡ 16384) }
+fn filled(alloc: Global, file: &[u8], ram_pages: u32) -> Result<HostMem, ElfRefusal>
+    requires { ram_pages ≤ 65536 }
+    ensures { IfOk result (λ mem. length mem.ram ≡ 4096 * ram_pages) }
 {
-    let image = read_kernel(alloc, file, RAM_PAGES)?;
-    let mut mem = HostMem::new(alloc, 4096, RAM_PAGES as usize)?;
-    fill_ram(alloc, &mut mem, &image, RAM_PAGES)?;
+    let image = read_kernel(alloc, file, ram_pages)?;
+    let mut mem = HostMem::new(alloc, 4096, ram_pages as usize)?;
+    fill_ram(alloc, &mut mem, &image, ram_pages)?;
     Ok(mem)
 }
 
@@ -182,7 +183,7 @@ fn later_segments_win(rt: HostRuntime) -> Result<(), Fail> {
     for row in table {
         let Row { what, parts, bytes } = row;
         let file = file_of(rt.alloc(), &parts)?;
-        let mem = filled(rt.alloc(), &file)?;
+        let mem = filled(rt.alloc(), &file, RAM_PAGES)?;
         assert_eq!(rt; &mem.ram()[..16], BYTES.as_slice(), "text: {what}");
         assert_eq!(rt; &mem.ram()[0x1000..0x1008], bytes.as_slice(), "{what}");
     }
@@ -201,5 +202,27 @@ fn pages_of_text_are_approved(rt: HostRuntime) -> Result<(), Fail> {
     approve_text(rt.alloc(), &mut guard, &mut mem, &image)?;
     assert_eq!(rt; guard.protection(0), Protection::Approved);
     assert_eq!(rt; guard.protection(1), Protection::Free);
+    Ok(())
+}
+
+// The most segments that a file can name, all but the text over the whole of the largest RAM behind it. What they name
+// are the bytes of a program header.
+#[test]
+fn as_many_segments_as_can_be(rt: HostRuntime) -> Result<(), Fail> {
+    let behind = Part {
+        place: 0x1000,
+        filled: 16,
+        memory: 0x0FFF_F000,
+        ..NOTHING
+    };
+    let mut file = Vec::new(rt.alloc());
+    file.extend_from_slice(&HEADER)?;
+    file.extend_from_slice(&[0xFF, 0xFF, 0, 0, 0, 0, 0, 0])?;
+    push_header(&mut file, &TEXT)?;
+    for _ in 1..0xFFFF {
+        push_header(&mut file, &behind)?;
+    }
+    let mem = filled(rt.alloc(), &file, 65_536)?;
+    assert_eq!(rt; &mem.ram()[0x1000..0x1005], [1, 0, 0, 0, 6].as_slice());
     Ok(())
 }

@@ -9,4 +9,4 @@ fill_ram-requires-clause-zeros c = ap (λ (r : Region). r.ram) c.in_ok-mem.ensur
 
 pub fill_ram-requires-clause-placed : goal.fill_ram-requires-clause-placed
 fill_ram-requires-clause-placed c =
-    image_placed c.args.file.now 4 (segments_of c.in_ok-image.image) c.in_ok-image.ensures.accepted c.in_ok-image.ensures.segments
+    image_placed c.args.file.now c.args.ram_pages (segments_of c.in_ok-image.image) c.in_ok-image.ensures.accepted c.in_ok-image.ensures.segments
