@@ -1,3 +1,4 @@
+pub mod Starting
 pub mod Hosts
 pub mod Emptied
 pub mod Turns

@@ -3,8 +3,11 @@
 
 mod attempts;
 mod beats;
+mod boot;
 mod caches;
 mod machine;
 mod parts;
+mod start;
 
+pub use boot::BootRefusal;
 pub use machine::Machine;

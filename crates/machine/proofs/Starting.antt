@@ -1,0 +1,138 @@
+-- Harts and caches before the first event, and the pages that are approved then.
+use Rattle.std.proofs.Common.{◌≡◌, ℕ, zero, suc, ◌+◌, ◌-◌, ◌<◌, ◌≤◌, Bool, true, false, List, [], ◌∷◌, ◌++◌, length, map, replicate, refl, sym, ◌∙◌, ap, arith, subst, not, drop}
+use Rattle.std.specs.Prelude.{◌*◌, ◌/◌, find, is_some, Option, Some, None, IfSome, slice_get}
+use Rattle.std.proofs.lemmas.List.{drop-replicate, replicate_more}
+use Rattle.gstage_cache.proofs.Lines.{none_agrees, none_under_views}
+use Rattle.page_guard.specs.Guarded.{first_taken}
+use Rattle.page_guard.proofs.Spans.{all_free_at}
+use Rattle.hart_answers.specs.Hosts.{host_at, hosts_of}
+use Rattle.hart_answers.specs.declared.seats.Seat.{Seat}
+use Rattle.machine_model.specs.Machine.{Machine, HostHart}
+use Rattle.module_answers.specs.Conditions.{AreJoined, TakesItsPages}
+use Rattle.module_answers.specs.declared.modules.Modules.{Modules}
+use Rattle.module_answers.specs.declared.modules.UnderWay.{UnderWay}
+use Rattle.module_gate.specs.Gates.{Records, no_modules}
+use Rattle.reference.specs.Protections.{is_free, protection_at}
+use Rattle.reference.specs.Start.{flat_rules}
+use Rattle.start_laws.specs.Starts.{host_at_boot, hosts_at_boot, machine_at_boot, flat_machine, flat_protections, flat_ram}
+use Rattle.sv_types.specs.ApprovedPages.{numbers_from}
+use Rattle.sv_types.specs.Bytes.{overwrite, padded, ram_base}
+use Rattle.sv_types.specs.Policies.{Rules}
+use Rattle.sv_types.specs.Regions.{Region, host_bytes}
+use Rattle.sv_types.specs.SecondStage.{with_ram}
+use Rattle.sv_types.specs.declared.module.Span.{Span}
+use Rattle.sv_types.specs.declared.wires.Protection.{Protection}
+use Rattle.sv_types.specs.declared.wires.Protection.TheVariants.{Free}
+use Rattle.sv_types.specs.CachedWalks.{no_lines}
+use Rattle.sv_types.specs.declared.cached.CacheLine.{CacheLine}
+use Rattle.machine.specs.Attempts.{IsUsable, AreUsable}
+
+-- ---- harts
+
+hosts_more : (seats : List Seat) (next : Seat) → hosts_of (seats ++ next ∷ []) ≡ hosts_of seats ++ host_at next ∷ []
+hosts_more [] next = refl
+hosts_more (x ∷ seats) next = ap (λ (hosts : List HostHart). host_at x ∷ hosts) (hosts_more seats next)
+
+pub length_next : (seats : List Seat) (next : Seat) → length (seats ++ next ∷ []) ≡ length seats + 1
+length_next [] next = refl
+length_next (x ∷ seats) next = let n = length_next seats next in omega (arith, n)
+
+-- one more stopped hart
+pub next_seated : (seats : List Seat) (next : Seat) (harts entry : ℕ) → 1 ≤ harts → hosts_of seats ≡ hosts_at_boot harts entry → host_at next ≡ host_at_boot 0 false
+    → hosts_of (seats ++ next ∷ []) ≡ hosts_at_boot (harts + 1) entry
+next_seated seats next harts entry some before is =
+    let others : (harts - 1) + 1 ≡ (harts + 1) - 1 = omega arith in
+    hosts_more seats next
+    ∙ ap (λ (hosts : List HostHart). hosts ++ host_at next ∷ []) before
+    ∙ ap (λ (host : HostHart). hosts_at_boot harts entry ++ host ∷ []) is
+    ∙ ap (λ (hosts : List HostHart). host_at_boot entry true ∷ hosts) (replicate_more (harts - 1) (host_at_boot 0 false))
+    ∙ ap (λ (n : ℕ). host_at_boot entry true ∷ replicate n (host_at_boot 0 false)) others
+
+-- ---- caches
+
+of_empty : (n h : ℕ) (lines : List (Option CacheLine)) → slice_get (replicate {A = List (Option CacheLine)} n no_lines) h ≡ Some lines → no_lines ≡ lines
+of_empty zero h lines e = absurd (cc)
+of_empty (suc n) zero lines e = cc
+of_empty (suc n) (suc h) lines e = of_empty n h lines e
+
+length_replicated : (n : ℕ) → length (replicate {A = List (Option CacheLine)} n no_lines) ≡ n
+length_replicated zero = refl
+length_replicated (suc n) = let k = length_replicated n in omega (arith, k)
+
+-- empty caches agree with any tables
+pub empty_usable : (tables : List ℕ) (n : ℕ) (caches : List (List (Option CacheLine))) → caches ≡ replicate n no_lines → AreUsable tables caches
+empty_usable tables n caches is = subst (λ (caches : List (List (Option CacheLine))). AreUsable tables caches) (sym is) (record {
+  each = λ h lines e. subst (λ (lines : List (Option CacheLine)). IsUsable tables lines) (of_empty n h lines e)
+      (record { agrees = none_agrees tables; views = none_under_views });
+})
+
+-- as many as harts
+pub length_empty : (n : ℕ) (caches : List (List (Option CacheLine))) → caches ≡ replicate n no_lines → length caches ≡ n
+length_empty n caches is = ap (λ (caches : List (List (Option CacheLine))). length caches) is ∙ length_replicated n
+
+-- ---- modules
+
+pub none_joined : (rules : Rules) (modules : Modules) → modules.gate ≡ no_modules → modules.loading ≡ None → AreJoined rules modules
+none_joined rules modules gate loading = record {
+  gate = ap (λ (g : Records). g.loading) gate ∙ ap (λ (u : Option UnderWay). is_some u) (sym loading);
+  pages = subst (λ (u : Option UnderWay). IfSome u (TakesItsPages rules)) (sym loading) (record {});
+}
+
+-- ---- plain pages
+
+length_zeros : (n : ℕ) → length (replicate {A = ℕ} n 0) ≡ n
+length_zeros zero = refl
+length_zeros (suc n) = let k = length_zeros n in omega (arith, k)
+
+length_both : (n k : ℕ) → length (replicate {A = ℕ} n 0 ++ replicate {A = ℕ} k 0) ≡ n + k
+length_both zero k = let m = length_zeros k in omega (arith, m)
+length_both (suc n) k = let m = length_both n k in omega (arith, m)
+
+-- RAM has room for the pages
+pub pages_fit : (r : Region) (tables n : ℕ) (pages : List ℕ) → r ≡ record { tables = replicate tables 0; ram = replicate n 0 } → length pages ≤ n
+    → tables + length pages ≤ length (host_bytes r)
+pages_fit r tables n pages fresh few =
+    let size : length (host_bytes r) ≡ tables + n = ap (λ (r : Region). length (host_bytes r)) fresh ∙ length_both tables n in
+    omega arith
+
+pub tables_sized : (r : Region) (tables n : ℕ) → r ≡ record { tables = replicate tables 0; ram = replicate n 0 } → length r.tables ≡ tables
+tables_sized r tables n fresh = ap (λ (r : Region). length r.tables) fresh ∙ length_zeros tables
+
+over_zeros : (n : ℕ) (pages : List ℕ) → overwrite (replicate n 0) 0 pages ≡ padded pages n
+unfolding overwrite
+over_zeros n pages =
+    let same : 0 + length pages ≡ length pages = omega arith in
+    ap (λ (k : ℕ). pages ++ drop k (replicate n 0)) same ∙ ap (λ (rest : List ℕ). pages ++ rest) (drop-replicate (length pages) n 0)
+
+-- pages copied to the start of RAM, which was zeros
+pub pages_copied : (before after : Region) (tables n : ℕ) (pages : List ℕ) → before ≡ record { tables = replicate tables 0; ram = replicate n 0 }
+    → (length before.tables ≤ tables → after ≡ record before { ram = overwrite before.ram (tables - length before.tables) pages }) → after.ram ≡ padded pages n
+pages_copied before after tables n pages fresh copied =
+    let size = tables_sized before tables n fresh in
+    let none : tables - length before.tables ≡ 0 = omega arith in
+    ap (λ (r : Region). r.ram) (copied (omega arith))
+    ∙ ap (λ (k : ℕ). overwrite before.ram k pages) none
+    ∙ ap (λ (r : Region). overwrite r.ram 0 pages) fresh
+    ∙ over_zeros n pages
+
+none_found : (test : ℕ → Bool) (pages : List ℕ) → ((page : ℕ) → test page ≡ false) → find test pages ≡ None
+none_found test [] never = refl
+none_found test (page ∷ pages) never = rw (never page) (none_found test pages never)
+
+-- where all pages are free, none is taken
+pub none_taken : (guard : List Protection) (n : ℕ) (span : Span) → guard ≡ replicate n Free → first_taken guard span ≡ None
+unfolding first_taken
+none_taken guard n span is =
+    ap (λ (guard : List Protection). find (λ page. not (is_free (protection_at guard page))) (numbers_from span.first span.count)) is
+    ∙ none_found (λ page. not (is_free (protection_at (replicate n Free) page))) (numbers_from span.first span.count) (λ page. ap (λ (p : Protection). not (is_free p)) (all_free_at n page))
+
+-- a machine at boot, of plain pages
+pub flat_made : (m : Machine) (rules : Rules) (region : Region) (guard : List Protection) (pages digest : List ℕ) → m ≡ machine_at_boot rules region ram_base guard []
+    → rules ≡ flat_rules digest → region.ram ≡ flat_ram pages → guard ≡ flat_protections pages → m ≡ flat_machine m.region.tables pages digest
+unfolding machine_at_boot flat_machine
+flat_made m rules region guard pages digest made same ram approved =
+    made
+    ∙ ap (λ (rules : Rules). machine_at_boot rules region ram_base guard []) same
+    ∙ ap (λ (ram : List ℕ). machine_at_boot (flat_rules digest) (with_ram region.tables ram) ram_base guard []) ram
+    ∙ ap (λ (guard : List Protection). machine_at_boot (flat_rules digest) (with_ram region.tables (flat_ram pages)) ram_base guard []) approved
+    ∙ ap (λ (tables : List ℕ). flat_machine tables pages digest) (sym (ap (λ (m : Machine). m.region.tables) made))

@@ -1,0 +1,7 @@
+use Rattle.std.proofs.Common.{◌≡◌, replicate}
+use Rattle.sv_types.specs.CachedWalks.{no_lines}
+use Rattle.machine.proofs.start.empty_caches.Given as goal
+
+-- the caches so far
+abbrev pub invariant-made : goal.invariant-made
+invariant-made l = l.caches.items ≡ replicate l.counter no_lines

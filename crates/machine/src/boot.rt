@@ -1,0 +1,32 @@
+// Why a machine isn't booted.
+ghost use Rattle.std.specs.Prelude.{◌≡◌};
+ghost use Rattle.machine.specs.declared.boot.BootRefusal.TheVariants.{Memory};
+
+use std::alloc::{AllocError, AllocFailed};
+
+/// Why a machine isn't booted.
+#[derive(Clone, Copy, Debug, PartialEq, Eq, Drop)]
+pub enum BootRefusal {
+    /// The pages measure to another digest than the one that is wanted.
+    Measure { found: [u8; 32], wanted: [u8; 32] },
+    /// The hart would begin at an address that isn't permitted.
+    Entry { entry: u64 },
+    /// Memory was wanting.
+    Memory,
+}
+
+impl From<AllocError> for BootRefusal {
+    ghost from_gives = { λ _ e. e ≡ Memory };
+
+    fn from(_: AllocError) -> Self {
+        BootRefusal::Memory
+    }
+}
+
+impl<T: Drop> From<AllocFailed<T>> for BootRefusal {
+    ghost from_gives = { λ _ e. e ≡ Memory };
+
+    fn from(_: AllocFailed<T>) -> Self {
+        BootRefusal::Memory
+    }
+}

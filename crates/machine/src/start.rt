@@ -1,0 +1,238 @@
+// The machine before its first event.
+
+ghost use Rattle.std.specs.Prelude.{◌≡◌, ◌≤◌, ◌*◌, ◌/◌, ◌%◌, ◌↔◌, length, replicate, true, false, IfOk, OnOk, IfErr, IsTrue};
+ghost use Rattle.sv_types.specs.Bytes.{page_size};
+ghost use Rattle.sv_types.specs.Boot.{flat_ram_pages};
+ghost use Rattle.sv_types.specs.CachedWalks.{no_lines};
+ghost use Rattle.sv_types.specs.Measure.{measure};
+ghost use Rattle.sv_types.specs.Policies.{rules_of};
+ghost use Rattle.gstage_tables.specs.Layout.{table_size};
+ghost use Rattle.page_guard.specs.Guarded.{IsTheirs};
+ghost use Rattle.hart_answers.specs.Hosts.{host_at, hosts_of};
+ghost use Rattle.reference.specs.Start.{flat_rules, flat_start};
+ghost use Rattle.machine_model.specs.Reaches.{IsNew};
+ghost use Rattle.start_laws.specs.Starts.{host_at_boot, hosts_at_boot, machine_at_boot, first_approved, flat_ram, flat_machine, IsGuarded};
+ghost use Rattle.machine.specs.Boot.{RefusesFlat};
+
+use crate::boot::BootRefusal;
+use crate::parts::Parts;
+use block_device::Block;
+use device_bus::Devices;
+use gstage_cache::Cache;
+use gstage_tables::Trees;
+use hart::{Cpu, Hart};
+use hart_answers::{Seat, Side};
+use host_mem::HostMem;
+use journal_records::Journal;
+use module_answers::Modules;
+use page_guard::{Entries, Guard};
+use page_measure::{Silent, measure};
+use std::alloc::{AllocError, Global};
+use std::thread::Threads;
+use sv_types::{Policy, RAM_BASE, Span};
+
+/// The pages of RAM of a machine of plain pages, and the bytes of a page.
+const FLAT_PAGES: usize = 16;
+
+const PAGE_BYTES: usize = 4096;
+
+/// The permitted entries of a machine of plain pages.
+const FLAT_ENTRIES: [u64; 2] = [0x8000_0000, 0x8000_0100];
+
+impl Parts {
+    /// A machine under a policy, with pages that are guarded already: hart 0 begins at an entry, the others are stopped.
+    #[tactic(auto, using(crate::proofs::Starting::empty_usable, crate::proofs::Starting::length_empty, crate::proofs::Starting::none_joined), unfolding(start_laws::specs::Starts::machine_at_boot))]
+    pub(crate) fn at_boot(
+        alloc: Global,
+        policy: Policy,
+        mem: HostMem,
+        guard: Guard,
+        disk: Vec<u8>,
+        entry: u64,
+    ) -> Result<Parts, AllocError>
+        requires theirs { IsTheirs mem guard }
+        requires pages { length guard ≡ policy.ram_pages }
+        requires one { 1 ≤ policy.harts }
+        requires four { policy.harts ≤ 4 }
+        requires sectors { length disk.items % 512 ≡ 0 }
+        ensures { IfOk result (λ p. p ≡ machine_at_boot (rules_of policy) mem entry guard disk.items) }
+    {
+        let entries = Entries::new(alloc, &policy.entries)?;
+        let seats = seats_at_boot(alloc, &guard, policy.harts, entry)?;
+        let caches = empty_caches(alloc, policy.harts)?;
+        let journal = Journal::new(alloc)?;
+        let modules = Modules::new(alloc)?;
+        Ok(Parts {
+            policy,
+            entries,
+            mem,
+            seats,
+            caches,
+            guard,
+            modules,
+            devices: Devices::new(Block::new(disk)),
+            journal,
+            cpu: Cpu::new(),
+            cleared: 0,
+        })
+    }
+
+    /// A machine of 16 pages of RAM with these pages at their start, all of them approved, where the hart begins. It has
+    /// one hart, no modules and an empty disk. The pages are measured first: the SHA-256 of the pages' SHA-256 digests
+    /// has to be the digest that is wanted.
+    pub(crate) fn flat<R: Threads + Sync>(
+        rt: &R,
+        alloc: Global,
+        pages: &[u8],
+        wanted: [u8; 32],
+    ) -> Result<Parts, BootRefusal>
+        requires whole { length pages.now % 4096 ≡ 0 }
+        requires size { length pages.now ≤ 65536 }
+        ensures start { IfOk result (λ p. p ≡ flat_machine p.region.tables pages.now wanted) }
+        ensures new { IfOk result (λ p. IsNew p (flat_start pages.now wanted)) }
+        ensures guarded { IfOk result IsGuarded }
+        ensures measured { OnOk result (measure pages.now ≡ wanted) }
+        ensures refused { IfErr result (RefusesFlat pages.now wanted) }
+    {
+        judge_measure(rt, alloc, pages, wanted)?;
+        Ok(assemble(alloc, pages, wanted)?)
+    }
+}
+
+// ---- harts
+
+fn seat_at_boot(guard: &Guard, id: u8) -> Seat
+    ensures { host_at result ≡ host_at_boot 0 false }
+{
+    Seat {
+        hart: Hart::at_boot(id),
+        side: Side::at_boot(guard),
+    }
+}
+
+fn first_seat(guard: &Guard, entry: u64) -> Seat
+    ensures { host_at result ≡ host_at_boot entry true }
+{
+    let mut hart = Hart::at_boot(0);
+    hart.pc = entry;
+    hart.started = true;
+    Seat {
+        hart,
+        side: Side::at_boot(guard),
+    }
+}
+
+fn seats_at_boot(
+    alloc: Global,
+    guard: &Guard,
+    harts: u8,
+    entry: u64,
+) -> Result<Vec<Seat>, AllocError>
+    requires { 1 ≤ harts }
+    ensures hosts { IfOk result (λ seats. hosts_of seats.items ≡ hosts_at_boot harts entry) }
+    ensures number { IfOk result (λ seats. length seats.items ≡ harts) }
+{
+    let mut seats = Vec::new(alloc);
+    seats.push(first_seat(guard, entry))?;
+    'seated: for id in 1..harts {
+        seats.push(seat_at_boot(guard, id))?;
+    }
+    Ok(seats)
+}
+
+fn empty_caches(alloc: Global, harts: u8) -> Result<Vec<Cache>, AllocError>
+    ensures { IfOk result (λ caches. caches.items ≡ replicate harts no_lines) }
+{
+    let mut caches = Vec::new(alloc);
+    'made: for _ in 0..harts {
+        caches.push(Cache::new())?;
+    }
+    Ok(caches)
+}
+
+// ---- plain pages
+
+fn judge_measure<R: Threads + Sync>(
+    rt: &R,
+    alloc: Global,
+    pages: &[u8],
+    wanted: [u8; 32],
+) -> Result<(), BootRefusal>
+    requires { length pages.now % 4096 ≡ 0 }
+    ensures measured { OnOk result (measure pages.now ≡ wanted) }
+    ensures refused { IfErr result (RefusesFlat pages.now wanted) }
+{
+    let found = measure(rt, alloc, pages, &Silent)?;
+    if is_same(&found, &wanted) {
+        Ok(())
+    } else {
+        Err(BootRefusal::Measure { found, wanted })
+    }
+}
+
+fn is_same(a: &[u8; 32], b: &[u8; 32]) -> bool
+    ensures { IsTrue result ↔ (a.now ≡ b.now) }
+{
+    a.as_slice() == b.as_slice()
+}
+
+#[tactic(auto, using(crate::proofs::Starting::flat_made))]
+fn assemble(alloc: Global, pages: &[u8], wanted: [u8; 32]) -> Result<Parts, AllocError>
+    requires whole { length pages.now % 4096 ≡ 0 }
+    requires size { length pages.now ≤ 65536 }
+    ensures start { IfOk result (λ p. p ≡ flat_machine p.region.tables pages.now wanted) }
+    ensures guarded { IfOk result IsGuarded }
+{
+    let policy = flat_policy(alloc, wanted)?;
+    let mut mem = flat_region(alloc, pages)?;
+    let guard = approved_start(alloc, &mut mem, (pages.len() / PAGE_BYTES) as u32)?;
+    let _tables = mem.table_bytes();
+    Parts::at_boot(alloc, policy, mem, guard, Vec::new(alloc), RAM_BASE)
+}
+
+fn flat_policy(alloc: Global, wanted: [u8; 32]) -> Result<Policy, AllocError>
+    ensures { IfOk result (λ policy. rules_of policy ≡ flat_rules wanted) }
+{
+    let entries = FLAT_ENTRIES.as_slice().to_vec(alloc)?;
+    Ok(Policy {
+        format: 1,
+        harts: 1,
+        ram_pages: FLAT_PAGES as u32,
+        entries,
+        exports: Vec::new(alloc),
+        kernel: wanted,
+        init: None,
+        modules: Vec::new(alloc),
+    })
+}
+
+// A region of 16 pages of RAM with pages at their start, and room for its tables.
+fn flat_region(alloc: Global, pages: &[u8]) -> Result<HostMem, AllocError>
+    requires { length pages.now ≤ 65536 }
+    ensures tables { IfOk result (λ m. length m.tables ≡ table_size flat_ram_pages) }
+    ensures ram { IfOk result (λ m. m.ram ≡ flat_ram pages.now) }
+{
+    let tables = Trees::table_bytes(FLAT_PAGES);
+    let mut mem = HostMem::new(alloc, tables, FLAT_PAGES)?;
+    mem.copy_in(tables, pages);
+    Ok(mem)
+}
+
+// So many pages at the start of RAM held and then approved, all others free.
+#[tactic(auto, using(crate::proofs::Starting::none_taken))]
+fn approved_start(alloc: Global, mem: &mut HostMem, count: u32) -> Result<Guard, AllocError>
+    requires ram { length mem.old.ram ≡ page_size * flat_ram_pages }
+    requires tables { length mem.old.tables ≡ table_size flat_ram_pages }
+    requires few { count ≤ flat_ram_pages }
+    ensures guard { IfOk result (λ g. g ≡ first_approved count) }
+    ensures theirs { IfOk result (λ g. IsTheirs mem.new g) }
+    ensures ram { mem.new.ram ≡ mem.old.ram }
+{
+    let mut guard = Guard::new(alloc, mem)?;
+    let span = Span { first: 0, count };
+    let Ok(hold) = guard.hold(mem, span) else {
+        unreachable!()
+    };
+    guard.approve(mem, hold);
+    Ok(guard)
+}
