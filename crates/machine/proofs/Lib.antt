@@ -1,4 +1,5 @@
 pub mod Starting
+pub mod ImageStarting
 pub mod Hosts
 pub mod Emptied
 pub mod Turns

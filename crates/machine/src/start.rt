@@ -152,7 +152,8 @@ fn empty_caches(alloc: Global, harts: u8) -> Result<Vec<Cache>, AllocError>
 
 // ---- plain pages
 
-fn judge_measure<R: Threads + Sync>(
+/// Refuses pages whose measure isn't the one that is wanted.
+pub(crate) fn judge_measure<R: Threads + Sync>(
     rt: &R,
     alloc: Global,
     pages: &[u8],

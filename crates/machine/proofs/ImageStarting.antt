@@ -1,0 +1,104 @@
+-- A kernel's image before the first event.
+use Rattle.std.proofs.Common.{◌≡◌, ℕ, zero, suc, ◌+◌, ◌-◌, ◌*◌, ◌%◌, ◌≤◌, Bool, true, false, ◌&&◌, IsTrue, List, [], ◌∷◌, ◌++◌, length, take, drop, replicate, refl, sym, ◌∙◌, ap, arith, subst}
+use Rattle.std.specs.Prelude.{Option, Some, None, find, flat_map, nat_le}
+use Rattle.std.proofs.lemmas.Bool.Decides.{nat_tests}
+use Rattle.std.proofs.lemmas.Bool.{and_left, and_right}
+use Rattle.elf64_load.specs.Images.{segments_of}
+use Rattle.elf64_load.specs.declared.image.KernelImage.{KernelImage}
+use Rattle.machine_model.specs.Machine.{Machine}
+use Rattle.machine_model.specs.Reaches.{IsNew}
+use Rattle.reference.specs.Start.{AreWords, boot_start}
+use Rattle.reference.specs.Protections.{with_each}
+use Rattle.reference.specs.States.{has_number}
+use Rattle.sv_types.specs.ApprovedPages.{numbers_from}
+use Rattle.sv_types.specs.Bytes.{padded, part}
+use Rattle.sv_types.specs.Kernel.{LoadedSegment, filled_part, header_entry, is_text_of, kernel_segments, segments_ram, text_page, text_page_in, text_of, text_pages}
+use Rattle.sv_types.specs.Measure.{measure}
+use Rattle.sv_types.specs.Policies.{Rules, rules_within}
+use Rattle.sv_types.specs.Regions.{Region}
+use Rattle.sv_types.specs.SecondStage.{with_ram}
+use Rattle.sv_types.specs.declared.wires.Protection.{Protection}
+use Rattle.sv_types.specs.declared.wires.Protection.TheVariants.{Free, Approved}
+use Rattle.start_laws.proofs.StartsStand.{image_start_law}
+use Rattle.start_laws.specs.Starts.{machine_at_boot, image_machine, image_protections, IsGuarded}
+use Rattle.machine.specs.Boot.{IsImageOf, image_text, ram_of_image, guard_of_image, machine_of_image, RefusesFlat, RefusesImage}
+use Rattle.machine.specs.declared.boot.BootRefusal.{BootRefusal}
+use Rattle.machine.specs.declared.boot.BootRefusal.TheVariants.{Measure, Entry, Memory}
+
+-- ---- the text is of whole pages
+
+length_append : (a b : List ℕ) → length (a ++ b) ≡ length a + length b
+length_append [] b = omega arith
+length_append (x ∷ a) b = let k = length_append a b in omega (arith, k)
+
+length_zeros : (n : ℕ) → length (replicate {A = ℕ} n 0) ≡ n
+length_zeros zero = refl
+length_zeros (suc n) = let k = length_zeros n in omega (arith, k)
+
+short_take : (n : ℕ) (bytes : List ℕ) → length (take n bytes) ≤ n
+short_take zero bytes = omega arith
+short_take (suc n) [] = omega arith
+short_take (suc n) (x ∷ bytes) = let k = short_take n bytes in omega (arith, k)
+
+padded_whole : (bytes : List ℕ) (size : ℕ) → length bytes ≤ size → length (padded bytes size) ≡ size
+padded_whole bytes size short =
+    let both = length_append bytes (replicate (size - length bytes) 0) in
+    let zeros = length_zeros (size - length bytes) in
+    omega (arith, both, zeros)
+
+page_whole : (page : ℕ) (o : Option LoadedSegment) → length (text_page_in page o) % 4096 ≡ 0
+page_whole page None = refl
+page_whole page (Some s) = ap (λ (n : ℕ). n % 4096) (padded_whole (filled_part page s) 4096 (short_take 4096 _))
+
+pages_whole : (ss : List LoadedSegment) (pages : List ℕ) → length (flat_map (text_page ss) pages) % 4096 ≡ 0
+pages_whole ss [] = refl
+pages_whole ss (page ∷ pages) =
+    let both = length_append (text_page ss page) (flat_map (text_page ss) pages) in
+    let first = page_whole page (find (is_text_of page) ss) in
+    let rest = pages_whole ss pages in
+    omega (arith, both, first, rest)
+
+pub text_whole : (image : KernelImage) (text : List ℕ) → text ≡ text_of (segments_of image) → length text % 4096 ≡ 0
+unfolding text_of
+text_whole image text is = ap (λ (text : List ℕ). length text % 4096) is ∙ pages_whole (segments_of image) (numbers_from 0 65536)
+
+-- ---- refusals
+
+pub image_refused : (image : KernelImage) (rules : Rules) (text : List ℕ) (e : BootRefusal) → text ≡ text_of (segments_of image) → RefusesFlat text rules.kernel e → RefusesImage image rules e
+image_refused image rules text (Measure found asked) is refused = subst (λ (text : List ℕ). RefusesFlat text rules.kernel (Measure found asked)) is refused
+image_refused image rules text (Entry entry) is refused = absurd refused
+image_refused image rules text Memory is refused = refused
+
+-- ---- limits
+
+pub harts_within : (rules : Rules) → IsTrue (rules_within rules) → (1 ≤ rules.harts) × (rules.harts ≤ 4)
+harts_within rules within = grind (arith, nat_tests)
+
+pub pages_within : (rules : Rules) → IsTrue (rules_within rules) → rules.ram_pages ≤ 65536
+pages_within rules within = grind (arith, nat_tests)
+
+-- ---- the machine
+
+pub image_made : (m : Machine) (rules : Rules) (image : KernelImage) (region : Region) (guard : List Protection) (disk : List ℕ) → m ≡ machine_at_boot rules region image.entry guard disk
+    → region.ram ≡ ram_of_image image rules.ram_pages → guard ≡ guard_of_image image rules.ram_pages → m ≡ machine_of_image m.region.tables rules image disk
+unfolding machine_at_boot
+image_made m rules image region guard disk made ram approved =
+    made
+    ∙ ap (λ (ram : List ℕ). machine_at_boot rules (with_ram region.tables ram) image.entry guard disk) ram
+    ∙ ap (λ (guard : List Protection). machine_at_boot rules (with_ram region.tables (ram_of_image image rules.ram_pages)) image.entry guard disk) approved
+    ∙ ap (λ (tables : List ℕ). machine_of_image tables rules image disk) (sym (ap (λ (m : Machine). m.region.tables) made))
+
+image_same : (tables : List ℕ) (rules : Rules) (image : KernelImage) (file disk : List ℕ) → IsImageOf file rules.ram_pages image
+    → machine_of_image tables rules image disk ≡ image_machine tables rules file disk
+unfolding image_machine
+image_same tables rules image file disk is =
+    ap (λ (ss : List LoadedSegment). machine_at_boot rules (with_ram tables (segments_ram ss rules.ram_pages)) image.entry (with_each (replicate rules.ram_pages Free) (text_pages ss) Approved) disk) is.segments
+    ∙ ap (λ (entry : ℕ). machine_at_boot rules (with_ram tables (segments_ram (kernel_segments file) rules.ram_pages)) entry (image_protections rules file) disk) is.entry
+
+-- it stands for the start of the image's file
+pub image_new : (m : Machine) (rules : Rules) (image : KernelImage) (file disk : List ℕ) → IsTrue (rules_within rules) → AreWords rules.entries
+    → has_number rules.entries image.entry ≡ true → IsGuarded m → m ≡ machine_of_image m.region.tables rules image disk
+    → IsImageOf file rules.ram_pages image → IsNew m (boot_start rules file disk)
+image_new m rules image file disk within words permitted guarded made is =
+    image_start_law m rules file disk within words is.accepted (ap (has_number rules.entries) (sym is.entry) ∙ permitted) guarded
+    (made ∙ image_same m.region.tables rules image file disk is)

@@ -1,0 +1,127 @@
+// The machine of a kernel's image before its first event.
+
+ghost use Rattle.std.specs.Prelude.{◌≡◌, ℕ, ◌≤◌, ◌*◌, ◌%◌, List, length, true, IfOk, OnOk, IfErr, IsTrue};
+ghost use Rattle.sv_types.specs.Bytes.{page_size};
+ghost use Rattle.sv_types.specs.Measure.{measure};
+ghost use Rattle.sv_types.specs.Policies.{rules_of, rules_within};
+ghost use Rattle.sv_types.specs.Regions.{most_ram_pages};
+ghost use Rattle.gstage_tables.specs.Layout.{table_size};
+ghost use Rattle.page_guard.specs.Guarded.{IsTheirs};
+ghost use Rattle.elf64_load.specs.Images.{segments_of};
+ghost use Rattle.image_loader.specs.Placed.{ArePlaced};
+ghost use Rattle.reference.specs.Start.{boot_start};
+ghost use Rattle.reference.specs.States.{has_number};
+ghost use Rattle.machine_model.specs.Reaches.{IsNew};
+ghost use Rattle.start_laws.specs.Starts.{image_machine, IsGuarded};
+ghost use Rattle.machine.specs.Boot.{IsImageOf, image_text, ram_of_image, guard_of_image, machine_of_image, RefusesImage};
+
+use crate::boot::BootRefusal;
+use crate::parts::Parts;
+use crate::start::judge_measure;
+use elf64_load::KernelImage;
+use gstage_tables::Trees;
+use host_mem::HostMem;
+use image_loader::{approve_text, fill_ram};
+use page_guard::Guard;
+use std::alloc::{AllocError, Global};
+use std::thread::Threads;
+use sv_types::Policy;
+
+impl Parts {
+    /// A machine of a kernel's image under a policy: the image's segments in RAM, its text approved, and hart 0 at its
+    /// entry. First the text is measured against the policy, and the entry has to be one of the policy's.
+    pub(crate) fn boot<R: Threads + Sync>(
+        rt: &R,
+        alloc: Global,
+        image: &KernelImage,
+        policy: Policy,
+        disk: Vec<u8>,
+    ) -> Result<Parts, BootRefusal>
+        requires within { IsTrue (rules_within (rules_of policy)) }
+        requires placed { ArePlaced policy.ram_pages (segments_of image.now) }
+        requires sectors { length disk.items % 512 ≡ 0 }
+        ensures made { IfOk result (λ p. p ≡ machine_of_image p.region.tables (rules_of policy) image.now disk.items) }
+        ensures new { (file : List ℕ) → IsImageOf file policy.ram_pages image.now → IfOk result (λ p. IsNew p (boot_start (rules_of policy) file disk.items)) }
+        ensures guarded { IfOk result IsGuarded }
+        ensures measured { OnOk result (measure (image_text image.now) ≡ policy.kernel) }
+        ensures permitted { OnOk result (has_number policy.entries.items image.now.entry ≡ true) }
+        ensures refused { IfErr result (RefusesImage image.now (rules_of policy)) }
+    {
+        judge_image(rt, alloc, image, &policy)?;
+        Ok(assemble(alloc, image, policy, disk)?)
+    }
+}
+
+// The text, which is given back behind this, has the policy's measure, and the entry is permitted.
+#[tactic(auto, using(crate::proofs::ImageStarting::text_whole, crate::proofs::ImageStarting::image_refused))]
+fn judge_image<R: Threads + Sync>(
+    rt: &R,
+    alloc: Global,
+    image: &KernelImage,
+    policy: &Policy,
+) -> Result<(), BootRefusal>
+    ensures measured { OnOk result (measure (image_text image.now) ≡ policy.now.kernel) }
+    ensures permitted { OnOk result (has_number policy.now.entries.items image.now.entry ≡ true) }
+    ensures refused { IfErr result (RefusesImage image.now (rules_of policy.now)) }
+{
+    let text = image.text(alloc)?;
+    judge_measure(rt, alloc, &text, policy.kernel)?;
+    if policy.entries.contains(&image.entry) {
+        Ok(())
+    } else {
+        Err(BootRefusal::Entry { entry: image.entry })
+    }
+}
+
+#[tactic(auto, using(crate::proofs::ImageStarting::image_made, crate::proofs::ImageStarting::harts_within, crate::proofs::ImageStarting::pages_within))]
+fn assemble(
+    alloc: Global,
+    image: &KernelImage,
+    policy: Policy,
+    disk: Vec<u8>,
+) -> Result<Parts, AllocError>
+    requires within { IsTrue (rules_within (rules_of policy)) }
+    requires placed { ArePlaced policy.ram_pages (segments_of image.now) }
+    requires sectors { length disk.items % 512 ≡ 0 }
+    ensures made { IfOk result (λ p. p ≡ machine_of_image p.region.tables (rules_of policy) image.now disk.items) }
+    ensures guarded { IfOk result IsGuarded }
+{
+    let mut mem = image_region(alloc, image, policy.ram_pages)?;
+    let guard = image_guard(alloc, &mut mem, image, policy.ram_pages)?;
+    let _tables = mem.table_bytes();
+    Parts::at_boot(alloc, policy, mem, guard, disk, image.entry)
+}
+
+// A region of so many pages of RAM with the image's segments, and room for its tables.
+#[tactic(auto, using(crate::proofs::Starting::tables_sized))]
+fn image_region(alloc: Global, image: &KernelImage, ram_pages: u32) -> Result<HostMem, AllocError>
+    requires few { ram_pages ≤ most_ram_pages }
+    requires placed { ArePlaced ram_pages (segments_of image.now) }
+    ensures tables { IfOk result (λ m. length m.tables ≡ table_size ram_pages) }
+    ensures ram { IfOk result (λ m. m.ram ≡ ram_of_image image.now ram_pages) }
+    ensures size { IfOk result (λ m. length m.ram ≡ page_size * ram_pages) }
+{
+    let tables = Trees::table_bytes(ram_pages as usize);
+    let mut mem = HostMem::new(alloc, tables, ram_pages as usize)?;
+    fill_ram(alloc, &mut mem, image, ram_pages)?;
+    Ok(mem)
+}
+
+// The pages of the image's text held and then approved, all others free.
+fn image_guard(
+    alloc: Global,
+    mem: &mut HostMem,
+    image: &KernelImage,
+    ram_pages: u32,
+) -> Result<Guard, AllocError>
+    requires size { length mem.old.ram ≡ page_size * ram_pages }
+    requires tables { length mem.old.tables ≡ table_size ram_pages }
+    requires placed { ArePlaced ram_pages (segments_of image.now) }
+    ensures guard { IfOk result (λ g. g ≡ guard_of_image image.now ram_pages) }
+    ensures theirs { IfOk result (λ g. IsTheirs mem.new g) }
+    ensures ram { mem.new.ram ≡ mem.old.ram }
+{
+    let mut guard = Guard::new(alloc, mem)?;
+    approve_text(alloc, &mut guard, mem, image)?;
+    Ok(guard)
+}
