@@ -1,8 +1,8 @@
 -- A kernel's image before the first event.
-use Rattle.std.proofs.Common.{◌≡◌, ℕ, zero, suc, ◌+◌, ◌-◌, ◌*◌, ◌%◌, ◌≤◌, Bool, true, false, ◌&&◌, IsTrue, List, [], ◌∷◌, ◌++◌, length, take, drop, replicate, refl, sym, ◌∙◌, ap, arith, subst}
-use Rattle.std.specs.Prelude.{Option, Some, None, find, flat_map, nat_le}
+use Rattle.std.proofs.Common.{get_or, ◌==◌, ◌^◌, ◌<◌, inl, inr, ◌≡◌, ℕ, zero, suc, ◌+◌, ◌-◌, ◌%◌, ◌≤◌, true, IsTrue, List, [], ◌∷◌, ◌++◌, length, take, replicate, refl, sym, ◌∙◌, ap, arith, subst}
+use Rattle.std.specs.Prelude.{Option, Some, None, find, flat_map}
 use Rattle.std.proofs.lemmas.Bool.Decides.{nat_tests}
-use Rattle.std.proofs.lemmas.Bool.{and_left, and_right}
+use Rattle.std.proofs.lemmas.Bool.{cases_Bool}
 use Rattle.elf64_load.specs.Images.{segments_of}
 use Rattle.elf64_load.specs.declared.image.KernelImage.{KernelImage}
 use Rattle.machine_model.specs.Machine.{Machine}
@@ -11,9 +11,8 @@ use Rattle.reference.specs.Start.{AreWords, boot_start}
 use Rattle.reference.specs.Protections.{with_each}
 use Rattle.reference.specs.States.{has_number}
 use Rattle.sv_types.specs.ApprovedPages.{numbers_from}
-use Rattle.sv_types.specs.Bytes.{padded, part}
-use Rattle.sv_types.specs.Kernel.{LoadedSegment, filled_part, header_entry, is_text_of, kernel_segments, segments_ram, text_page, text_page_in, text_of, text_pages}
-use Rattle.sv_types.specs.Measure.{measure}
+use Rattle.sv_types.specs.Bytes.{padded}
+use Rattle.sv_types.specs.Kernel.{LoadedSegment, filled_part, is_text_of, kernel_segments, segments_ram, text_page, text_page_in, text_of, text_pages}
 use Rattle.sv_types.specs.Policies.{Rules, rules_within}
 use Rattle.sv_types.specs.Regions.{Region}
 use Rattle.sv_types.specs.SecondStage.{with_ram}
@@ -21,7 +20,7 @@ use Rattle.sv_types.specs.declared.wires.Protection.{Protection}
 use Rattle.sv_types.specs.declared.wires.Protection.TheVariants.{Free, Approved}
 use Rattle.start_laws.proofs.StartsStand.{image_start_law}
 use Rattle.start_laws.specs.Starts.{machine_at_boot, image_machine, image_protections, IsGuarded}
-use Rattle.machine.specs.Boot.{IsImageOf, image_text, ram_of_image, guard_of_image, machine_of_image, RefusesFlat, RefusesImage}
+use Rattle.machine.specs.Boot.{IsImageOf, ram_of_image, guard_of_image, machine_of_image, RefusesFlat, RefusesImage}
 use Rattle.machine.specs.declared.boot.BootRefusal.{BootRefusal}
 use Rattle.machine.specs.declared.boot.BootRefusal.TheVariants.{Measure, Entry, Memory}
 
@@ -76,6 +75,17 @@ harts_within rules within = grind (arith, nat_tests)
 
 pub pages_within : (rules : Rules) → IsTrue (rules_within rules) → rules.ram_pages ≤ 65536
 pages_within rules within = grind (arith, nat_tests)
+
+word_at : (entries : List ℕ) (entry : ℕ) → ((i : ℕ) → get_or entries i 0 < 2 ^ 64) → has_number entries entry ≡ true → entry < 2 ^ 64
+word_at [] entry fits there = absurd (cc there)
+word_at (x ∷ entries) entry fits there = elim (cases_Bool (x == entry)) [
+  | inl same ↦ let first = fits 0 in grind (arith, nat_tests)
+  | inr other ↦ word_at entries entry (λ i. fits (suc i)) (grind (arith, nat_tests))
+]
+
+-- numbers of 64 bits
+pub are_words : (entries : List ℕ) → ((i : ℕ) → get_or entries i 0 < 2 ^ 64) → AreWords entries
+are_words entries fits = λ entry there. word_at entries entry fits there
 
 -- ---- the machine
 

@@ -1,6 +1,6 @@
 -- Harts and caches before the first event, and the pages that are approved then.
-use Rattle.std.proofs.Common.{◌≡◌, ℕ, zero, suc, ◌+◌, ◌-◌, ◌<◌, ◌≤◌, Bool, true, false, List, [], ◌∷◌, ◌++◌, length, map, replicate, refl, sym, ◌∙◌, ap, arith, subst, not, drop}
-use Rattle.std.specs.Prelude.{◌*◌, ◌/◌, find, is_some, Option, Some, None, IfSome, slice_get}
+use Rattle.std.proofs.Common.{◌≡◌, ℕ, zero, suc, ◌+◌, ◌-◌, ◌≤◌, Bool, true, false, List, [], ◌∷◌, ◌++◌, length, replicate, refl, sym, ◌∙◌, ap, arith, subst, not, drop}
+use Rattle.std.specs.Prelude.{find, is_some, Option, Some, None, IfSome, slice_get}
 use Rattle.std.proofs.lemmas.List.{drop-replicate, replicate_more}
 use Rattle.gstage_cache.proofs.Lines.{none_agrees, none_under_views}
 use Rattle.page_guard.specs.Guarded.{first_taken}

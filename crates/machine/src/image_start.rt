@@ -9,7 +9,7 @@ ghost use Rattle.gstage_tables.specs.Layout.{table_size};
 ghost use Rattle.page_guard.specs.Guarded.{IsTheirs};
 ghost use Rattle.elf64_load.specs.Images.{segments_of};
 ghost use Rattle.image_loader.specs.Placed.{ArePlaced};
-ghost use Rattle.reference.specs.Start.{boot_start};
+ghost use Rattle.reference.specs.Start.{boot_start, AreWords};
 ghost use Rattle.reference.specs.States.{has_number};
 ghost use Rattle.machine_model.specs.Reaches.{IsNew};
 ghost use Rattle.start_laws.specs.Starts.{image_machine, IsGuarded};
@@ -62,15 +62,23 @@ fn judge_image<R: Threads + Sync>(
 ) -> Result<(), BootRefusal>
     ensures measured { OnOk result (measure (image_text image.now) ≡ policy.now.kernel) }
     ensures permitted { OnOk result (has_number policy.now.entries.items image.now.entry ≡ true) }
+    ensures words { OnOk result (AreWords policy.now.entries.items) }
     ensures refused { IfErr result (RefusesImage image.now (rules_of policy.now)) }
 {
     let text = image.text(alloc)?;
     judge_measure(rt, alloc, &text, policy.kernel)?;
-    if policy.entries.contains(&image.entry) {
+    if is_permitted(&policy.entries, image.entry) {
         Ok(())
     } else {
         Err(BootRefusal::Entry { entry: image.entry })
     }
+}
+
+fn is_permitted(entries: &[u64], entry: u64) -> bool
+    ensures permitted { result ≡ has_number entries.now entry }
+    ensures words { AreWords entries.now }
+{
+    entries.contains(&entry)
 }
 
 #[tactic(auto, using(crate::proofs::ImageStarting::image_made, crate::proofs::ImageStarting::harts_within, crate::proofs::ImageStarting::pages_within))]

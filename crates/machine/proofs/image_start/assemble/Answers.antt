@@ -1,6 +1,5 @@
 use Rattle.std.proofs.Common.{◌≡◌, ◌∙◌}
 use Rattle.std.proofs.lemmas.Result.{IfOk-weaker}
-use Rattle.machine_model.specs.Machine.{Machine}
 use Rattle.start_laws.specs.Starts.{machine_at_boot}
 use Rattle.sv_types.specs.Policies.{rules_of}
 use Rattle.machine.specs.Boot.{machine_of_image}
