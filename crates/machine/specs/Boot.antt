@@ -29,6 +29,11 @@ pub record IsImageOf (file : List ℕ) (ram_pages : ℕ) (image : KernelImage) :
   pub entry : image.entry ≡ header_entry file
   pub segments : segments_of image ≡ kernel_segments file
 
+-- some file is
+pub record IsRead (ram_pages : ℕ) (image : KernelImage) : Type 0 where
+  pub file : List ℕ
+  pub is : IsImageOf file ram_pages image
+
 abbrev pub image_text : KernelImage → List ℕ
 image_text image = text_of (segments_of image)
 

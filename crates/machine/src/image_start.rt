@@ -1,6 +1,6 @@
 // The machine of a kernel's image before its first event.
 
-ghost use Rattle.std.specs.Prelude.{◌≡◌, ℕ, ◌≤◌, ◌*◌, ◌%◌, List, length, true, IfOk, OnOk, IfErr, IsTrue};
+ghost use Rattle.std.specs.Prelude.{◌≡◌, [], ℕ, ◌≤◌, ◌*◌, ◌%◌, List, length, true, IfOk, OnOk, IfErr, IsTrue};
 ghost use Rattle.sv_types.specs.Bytes.{page_size};
 ghost use Rattle.sv_types.specs.Measure.{measure};
 ghost use Rattle.sv_types.specs.Policies.{rules_of, rules_within};
@@ -30,6 +30,7 @@ use sv_types::Policy;
 impl Parts {
     /// A machine of a kernel's image under a policy: the image's segments in RAM, its text approved, and hart 0 at its
     /// entry. First the text is measured against the policy, and the entry has to be one of the policy's.
+    #[tactic(auto, unfolding(start_laws::specs::Starts::machine_at_boot))]
     pub(crate) fn boot<R: Threads + Sync>(
         rt: &R,
         alloc: Global,
@@ -42,6 +43,7 @@ impl Parts {
         requires sectors { length disk.items % 512 ≡ 0 }
         ensures made { IfOk result (λ p. p ≡ machine_of_image p.region.tables (rules_of policy) image.now disk.items) }
         ensures new { (file : List ℕ) → IsImageOf file policy.ram_pages image.now → IfOk result (λ p. IsNew p (boot_start (rules_of policy) file disk.items)) }
+        ensures silent { IfOk result (λ p. p.journal.printed ≡ []) }
         ensures guarded { IfOk result IsGuarded }
         ensures measured { OnOk result (measure (image_text image.now) ≡ policy.kernel) }
         ensures permitted { OnOk result (has_number policy.entries.items image.now.entry ≡ true) }

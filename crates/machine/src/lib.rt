@@ -7,6 +7,7 @@ mod boot;
 mod caches;
 mod image_start;
 mod machine;
+mod machine_start;
 mod parts;
 mod start;
 

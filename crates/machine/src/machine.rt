@@ -15,7 +15,7 @@ use sv_types::{Counts, Event, Note, Verdict};
 /// Harts with the hypervisor extension, host memory and devices, under SecVisor. Contracts see the machine. It can't be
 /// dropped: `end` frees what a load under way holds.
 pub struct Machine {
-    parts: Parts,
+    pub(crate) parts: Parts,
 }
 
 impl Model for Machine {

@@ -1,6 +1,6 @@
 // The machine before its first event.
 
-ghost use Rattle.std.specs.Prelude.{◌≡◌, ◌≤◌, ◌*◌, ◌/◌, ◌%◌, ◌↔◌, length, replicate, true, false, IfOk, OnOk, IfErr, IsTrue};
+ghost use Rattle.std.specs.Prelude.{◌≡◌, [], ◌≤◌, ◌*◌, ◌/◌, ◌%◌, ◌↔◌, length, replicate, true, false, IfOk, OnOk, IfErr, IsTrue};
 ghost use Rattle.sv_types.specs.Bytes.{page_size};
 ghost use Rattle.sv_types.specs.Boot.{flat_ram_pages};
 ghost use Rattle.sv_types.specs.CachedWalks.{no_lines};
@@ -80,6 +80,7 @@ impl Parts {
     /// A machine of 16 pages of RAM with these pages at their start, all of them approved, where the hart begins. It has
     /// one hart, no modules and an empty disk. The pages are measured first: the SHA-256 of the pages' SHA-256 digests
     /// has to be the digest that is wanted.
+    #[tactic(auto, unfolding(start_laws::specs::Starts::machine_at_boot, start_laws::specs::Starts::flat_machine))]
     pub(crate) fn flat<R: Threads + Sync>(
         rt: &R,
         alloc: Global,
@@ -90,6 +91,7 @@ impl Parts {
         requires size { length pages.now ≤ 65536 }
         ensures start { IfOk result (λ p. p ≡ flat_machine p.region.tables pages.now wanted) }
         ensures new { IfOk result (λ p. IsNew p (flat_start pages.now wanted)) }
+        ensures silent { IfOk result (λ p. p.journal.printed ≡ []) }
         ensures guarded { IfOk result IsGuarded }
         ensures measured { OnOk result (measure pages.now ≡ wanted) }
         ensures refused { IfErr result (RefusesFlat pages.now wanted) }

@@ -1,0 +1,60 @@
+// A machine before its first event.
+
+ghost use Rattle.std.specs.Prelude.{◌≡◌, ℕ, ◌≤◌, ◌%◌, List, length, true, IfOk, OnOk, IfErr, IsTrue};
+ghost use Rattle.sv_types.specs.Measure.{measure};
+ghost use Rattle.sv_types.specs.Policies.{rules_of, rules_within};
+ghost use Rattle.reference.specs.Start.{flat_start, boot_start};
+ghost use Rattle.reference.specs.States.{has_number};
+ghost use Rattle.machine_model.specs.Reaches.{IsNew};
+ghost use Rattle.machine.specs.Boot.{IsImageOf, IsRead, image_text, RefusesFlat, RefusesImage};
+
+use crate::boot::BootRefusal;
+use crate::machine::Machine;
+use crate::parts::Parts;
+use elf64_load::KernelImage;
+use std::alloc::Global;
+use std::thread::Threads;
+use sv_types::Policy;
+
+impl Machine {
+    /// A machine of 16 pages of RAM with these pages at their start, all of them approved, where the hart begins. It has
+    /// one hart, no modules and an empty disk. The pages are measured first: the SHA-256 of the pages' SHA-256 digests
+    /// has to be the digest that is wanted.
+    #[tactic(auto, using(crate::proofs::NewFit::new_fit))]
+    pub fn flat<R: Threads + Sync>(
+        rt: &R,
+        alloc: Global,
+        pages: &[u8],
+        wanted: [u8; 32],
+    ) -> Result<Machine, BootRefusal>
+        requires whole { length pages.now % 4096 ≡ 0 }
+        requires size { length pages.now ≤ 65536 }
+        ensures new { IfOk result (λ m. IsNew m (flat_start pages.now wanted)) }
+        ensures measured { OnOk result (measure pages.now ≡ wanted) }
+        ensures refused { IfErr result (RefusesFlat pages.now wanted) }
+    {
+        let parts = Parts::flat(rt, alloc, pages, wanted)?;
+        Ok(Machine { parts })
+    }
+    /// A machine of a kernel's image under a policy: the image's segments in RAM, its text approved, and hart 0 at its
+    /// entry. First the text is measured against the policy, and the entry has to be one of the policy's.
+    #[tactic(auto, using(crate::proofs::NewFit::image_fit))]
+    pub fn boot<R: Threads + Sync>(
+        rt: &R,
+        alloc: Global,
+        image: &KernelImage,
+        policy: Policy,
+        disk: Vec<u8>,
+    ) -> Result<Machine, BootRefusal>
+        requires within { IsTrue (rules_within (rules_of policy)) }
+        requires read { IsRead policy.ram_pages image.now }
+        requires sectors { length disk.items % 512 ≡ 0 }
+        ensures new { (file : List ℕ) → IsImageOf file policy.ram_pages image.now → IfOk result (λ m. IsNew m (boot_start (rules_of policy) file disk.items)) }
+        ensures measured { OnOk result (measure (image_text image.now) ≡ policy.kernel) }
+        ensures permitted { OnOk result (has_number policy.entries.items image.now.entry ≡ true) }
+        ensures refused { IfErr result (RefusesImage image.now (rules_of policy)) }
+    {
+        let parts = Parts::boot(rt, alloc, image, policy, disk)?;
+        Ok(Machine { parts })
+    }
+}
