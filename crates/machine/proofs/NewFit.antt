@@ -1,22 +1,22 @@
 -- A machine that has just started is fit for its first event.
-use Rattle.std.proofs.Common.{◌≡◌, ◌+◌, ◌≤◌, List, [], ℕ, length, ap, arith}
+use Rattle.std.proofs.Common.{◌≡◌, ◌+◌, ◌≤◌, List, ℕ, length, ap, arith}
 use Rattle.elf64_load.specs.Images.{segments_of}
 use Rattle.elf64_load.specs.declared.image.KernelImage.{KernelImage}
 use Rattle.image_loader.proofs.Accepted.{image_placed}
 use Rattle.image_loader.specs.Placed.{ArePlaced}
 use Rattle.reference.specs.Start.{boot_start}
-use Rattle.reference.specs.States.{State}
+use Rattle.reference.specs.States.{State, Journal}
 use Rattle.sv_types.specs.Policies.{Rules}
 use Rattle.machine_model.specs.Reaches.{IsNew}
-use Rattle.machine.specs.Boot.{IsImageOf, IsRead}
+use Rattle.machine.specs.Boot.{journal_at_boot, IsImageOf, IsRead}
 use Rattle.machine.specs.Machines.{IsFit}
 use Rattle.machine.specs.declared.machine.Machine.TheInside.{Inside}
 
-pub new_fit : (m : Inside) (start : State) → IsNew m.parts start → m.parts.journal.printed ≡ [] → IsFit m
+pub new_fit : (m : Inside) (start : State) → IsNew m.parts start → m.parts.journal ≡ journal_at_boot → IsFit m
 new_fit m start new none =
     let attempts = new.attempts in
     let cleared = new.cleared in
-    let printed : length m.parts.journal.printed ≡ 0 = ap (λ (bytes : List ℕ). length bytes) none in
+    let printed : length m.parts.journal.printed ≡ 0 = ap (λ (j : Journal). length j.printed) none in
     record { state = start; stands = new.stands; attempts = omega arith; printed = omega arith }
 
 -- an image that was read lies in RAM
@@ -24,5 +24,5 @@ pub read_placed : (ram_pages : ℕ) (image : KernelImage) → IsRead ram_pages i
 read_placed ram_pages image read = image_placed read.file ram_pages (segments_of image) read.is.accepted read.is.segments
 
 pub image_fit : (m : Inside) (rules : Rules) (ram_pages : ℕ) (image : KernelImage) (disk : List ℕ) → IsRead ram_pages image
-    → ((file : List ℕ) → IsImageOf file ram_pages image → IsNew m.parts (boot_start rules file disk)) → m.parts.journal.printed ≡ [] → IsFit m
+    → ((file : List ℕ) → IsImageOf file ram_pages image → IsNew m.parts (boot_start rules file disk)) → m.parts.journal ≡ journal_at_boot → IsFit m
 image_fit m rules ram_pages image disk read new none = new_fit m (boot_start rules read.file disk) (new read.file read.is) none

@@ -1,13 +1,15 @@
 -- When booting is refused, and the machine of a kernel's image. This project's own.
-use Rattle.std.specs.Prelude.{◌≡◌, ◌≢◌, ℕ, false, List, None, replicate}
+use Rattle.std.specs.Prelude.{◌≡◌, ◌≢◌, ℕ, false, List, [], None, replicate}
+use Rattle.sv_types.specs.Boot.{no_counts}
 use Rattle.sv_types.specs.Kernel.{header_entry, kernel_refusal, kernel_segments, segments_ram, text_of, text_pages}
 use Rattle.sv_types.specs.Measure.{measure}
 use Rattle.sv_types.specs.Policies.{Rules}
 use Rattle.sv_types.specs.SecondStage.{with_ram}
+use Rattle.sv_types.specs.declared.event.Verdict.TheVariants.{Running}
 use Rattle.sv_types.specs.declared.wires.Protection.{Protection}
 use Rattle.sv_types.specs.declared.wires.Protection.TheVariants.{Free, Approved}
 use Rattle.reference.specs.Protections.{with_each}
-use Rattle.reference.specs.States.{has_number}
+use Rattle.reference.specs.States.{Journal, has_number}
 use Rattle.machine_model.specs.Machine.{Machine}
 use Rattle.elf64_load.specs.Images.{segments_of}
 use Rattle.elf64_load.specs.declared.image.KernelImage.{KernelImage}
@@ -20,6 +22,10 @@ abbrev pub RefusesFlat : List ℕ → List ℕ → BootRefusal → Type 0
 RefusesFlat pages wanted (Measure found asked) = (found ≡ measure pages) × (asked ≡ wanted) × (found ≢ wanted)
 RefusesFlat pages wanted (Entry entry) = ⊥
 RefusesFlat pages wanted Memory = Unit {0}
+
+-- nothing is recorded, and the machine runs
+abbrev pub journal_at_boot : Journal
+journal_at_boot = record { printed = []; notes = []; counts = no_counts; verdict = Running }
 
 -- ---- a kernel's image
 

@@ -1,6 +1,6 @@
 // The machine of a kernel's image before its first event.
 
-ghost use Rattle.std.specs.Prelude.{◌≡◌, [], ℕ, ◌≤◌, ◌*◌, ◌%◌, List, length, true, IfOk, OnOk, IfErr, IsTrue};
+ghost use Rattle.std.specs.Prelude.{◌≡◌, ℕ, ◌≤◌, ◌*◌, ◌%◌, List, length, true, IfOk, OnOk, IfErr, IsTrue};
 ghost use Rattle.sv_types.specs.Bytes.{page_size};
 ghost use Rattle.sv_types.specs.Measure.{measure};
 ghost use Rattle.sv_types.specs.Policies.{rules_of, rules_within};
@@ -13,7 +13,7 @@ ghost use Rattle.reference.specs.Start.{boot_start, AreWords};
 ghost use Rattle.reference.specs.States.{has_number};
 ghost use Rattle.machine_model.specs.Reaches.{IsNew};
 ghost use Rattle.start_laws.specs.Starts.{image_machine, IsGuarded};
-ghost use Rattle.machine.specs.Boot.{IsImageOf, image_text, ram_of_image, guard_of_image, machine_of_image, RefusesImage};
+ghost use Rattle.machine.specs.Boot.{journal_at_boot, IsImageOf, image_text, ram_of_image, guard_of_image, machine_of_image, RefusesImage};
 
 use crate::boot::BootRefusal;
 use crate::parts::Parts;
@@ -43,7 +43,7 @@ impl Parts {
         requires sectors { length disk.items % 512 ≡ 0 }
         ensures made { IfOk result (λ p. p ≡ machine_of_image p.region.tables (rules_of policy) image.now disk.items) }
         ensures new { (file : List ℕ) → IsImageOf file policy.ram_pages image.now → IfOk result (λ p. IsNew p (boot_start (rules_of policy) file disk.items)) }
-        ensures silent { IfOk result (λ p. p.journal.printed ≡ []) }
+        ensures journal { IfOk result (λ p. p.journal ≡ journal_at_boot) }
         ensures guarded { IfOk result IsGuarded }
         ensures measured { OnOk result (measure (image_text image.now) ≡ policy.kernel) }
         ensures permitted { OnOk result (has_number policy.entries.items image.now.entry ≡ true) }

@@ -6,7 +6,7 @@ ghost use Rattle.sv_types.specs.Policies.{rules_of, rules_within};
 ghost use Rattle.reference.specs.Start.{flat_start, boot_start};
 ghost use Rattle.reference.specs.States.{has_number};
 ghost use Rattle.machine_model.specs.Reaches.{IsNew};
-ghost use Rattle.machine.specs.Boot.{IsImageOf, IsRead, image_text, RefusesFlat, RefusesImage};
+ghost use Rattle.machine.specs.Boot.{journal_at_boot, IsImageOf, IsRead, image_text, RefusesFlat, RefusesImage};
 
 use crate::boot::BootRefusal;
 use crate::machine::Machine;
@@ -30,6 +30,7 @@ impl Machine {
         requires whole { length pages.now % 4096 ≡ 0 }
         requires size { length pages.now ≤ 65536 }
         ensures new { IfOk result (λ m. IsNew m (flat_start pages.now wanted)) }
+        ensures journal { IfOk result (λ m. m.journal ≡ journal_at_boot) }
         ensures measured { OnOk result (measure pages.now ≡ wanted) }
         ensures refused { IfErr result (RefusesFlat pages.now wanted) }
     {
@@ -50,6 +51,7 @@ impl Machine {
         requires read { IsRead policy.ram_pages image.now }
         requires sectors { length disk.items % 512 ≡ 0 }
         ensures new { (file : List ℕ) → IsImageOf file policy.ram_pages image.now → IfOk result (λ m. IsNew m (boot_start (rules_of policy) file disk.items)) }
+        ensures journal { IfOk result (λ m. m.journal ≡ journal_at_boot) }
         ensures measured { OnOk result (measure (image_text image.now) ≡ policy.kernel) }
         ensures permitted { OnOk result (has_number policy.entries.items image.now.entry ≡ true) }
         ensures refused { IfErr result (RefusesImage image.now (rules_of policy)) }

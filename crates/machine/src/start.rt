@@ -1,6 +1,6 @@
 // The machine before its first event.
 
-ghost use Rattle.std.specs.Prelude.{◌≡◌, [], ◌≤◌, ◌*◌, ◌/◌, ◌%◌, ◌↔◌, length, replicate, true, false, IfOk, OnOk, IfErr, IsTrue};
+ghost use Rattle.std.specs.Prelude.{◌≡◌, ◌≤◌, ◌*◌, ◌/◌, ◌%◌, ◌↔◌, length, replicate, true, false, IfOk, OnOk, IfErr, IsTrue};
 ghost use Rattle.sv_types.specs.Bytes.{page_size};
 ghost use Rattle.sv_types.specs.Boot.{flat_ram_pages};
 ghost use Rattle.sv_types.specs.CachedWalks.{no_lines};
@@ -12,7 +12,7 @@ ghost use Rattle.hart_answers.specs.Hosts.{host_at, hosts_of};
 ghost use Rattle.reference.specs.Start.{flat_rules, flat_start};
 ghost use Rattle.machine_model.specs.Reaches.{IsNew};
 ghost use Rattle.start_laws.specs.Starts.{host_at_boot, hosts_at_boot, machine_at_boot, first_approved, flat_ram, flat_machine, IsGuarded};
-ghost use Rattle.machine.specs.Boot.{RefusesFlat};
+ghost use Rattle.machine.specs.Boot.{journal_at_boot, RefusesFlat};
 
 use crate::boot::BootRefusal;
 use crate::parts::Parts;
@@ -91,7 +91,7 @@ impl Parts {
         requires size { length pages.now ≤ 65536 }
         ensures start { IfOk result (λ p. p ≡ flat_machine p.region.tables pages.now wanted) }
         ensures new { IfOk result (λ p. IsNew p (flat_start pages.now wanted)) }
-        ensures silent { IfOk result (λ p. p.journal.printed ≡ []) }
+        ensures journal { IfOk result (λ p. p.journal ≡ journal_at_boot) }
         ensures guarded { IfOk result IsGuarded }
         ensures measured { OnOk result (measure pages.now ≡ wanted) }
         ensures refused { IfErr result (RefusesFlat pages.now wanted) }
