@@ -1,11 +1,13 @@
 -- A machine that has just started is fit for its first event.
-use Rattle.std.proofs.Common.{◌≡◌, ◌+◌, ◌≤◌, List, ℕ, length, ap, arith}
+use Rattle.std.proofs.Common.{◌≡◌, List, ℕ, length, ap, arith}
 use Rattle.elf64_load.specs.Images.{segments_of}
 use Rattle.elf64_load.specs.declared.image.KernelImage.{KernelImage}
 use Rattle.image_loader.proofs.Accepted.{image_placed}
 use Rattle.image_loader.specs.Placed.{ArePlaced}
 use Rattle.reference.specs.Start.{boot_start}
 use Rattle.reference.specs.States.{State, Journal}
+use Rattle.std.specs.Prelude.{None}
+use Rattle.sv_types.specs.Kernel.{header_entry, kernel_refusal, kernel_segments}
 use Rattle.sv_types.specs.Policies.{Rules}
 use Rattle.machine_model.specs.Reaches.{IsNew}
 use Rattle.machine.specs.Boot.{journal_at_boot, IsImageOf, IsRead}
@@ -18,6 +20,11 @@ new_fit m start new none =
     let cleared = new.cleared in
     let printed : length m.parts.journal.printed ≡ 0 = ap (λ (j : Journal). length j.printed) none in
     record { state = start; stands = new.stands; attempts = omega arith; printed = omega arith }
+
+-- what reading a file gives
+pub is_read : (file : List ℕ) (ram_pages : ℕ) (image : KernelImage) → kernel_refusal file ram_pages ≡ None → image.entry ≡ header_entry file
+    → segments_of image ≡ kernel_segments file → IsRead ram_pages image
+is_read file ram_pages image accepted entry segments = record { file = file; is = record { accepted = accepted; entry = entry; segments = segments } }
 
 -- an image that was read lies in RAM
 pub read_placed : (ram_pages : ℕ) (image : KernelImage) → IsRead ram_pages image → ArePlaced ram_pages (segments_of image)

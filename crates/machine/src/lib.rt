@@ -10,6 +10,8 @@ mod machine;
 mod machine_start;
 mod parts;
 mod start;
+#[cfg(test)]
+mod tests;
 
 pub use boot::BootRefusal;
 pub use machine::Machine;
