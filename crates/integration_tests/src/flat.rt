@@ -152,28 +152,28 @@ const ROWS: [Row; 8] = [
         counts: "\nnotes 0\nturns 5 beats 0 keys 0 ticks 0\nretired 4 traps 0 enters 0 leaves 0 demotes 0\n",
         verdict: "verdict stopped write hart 0 turn 5 pc 0x0000000080000010 gpa 0x0000000080000000\n",
     },
-    // A jump out of the approved page.
+    // A jump out of the approved page leaves kernel mode, and the zeros there trap to an entry that isn't permitted.
     Row {
         words: &[0x0000106F],
         events: "10",
         status: Status::Stopped,
-        counts: "\nnotes 0\nturns 2 beats 0 keys 0 ticks 0\nretired 1 traps 0 enters 0 leaves 0 demotes 0\n",
-        verdict: "verdict stopped outside hart 0 turn 2 pc 0x0000000080001000\n",
+        counts: "\ndemote hart 0 turn 2 pc 0x0000000080001000 gpa 0x0000000080001000\nnotes 1\nturns 3 beats 0 keys 0 ticks 0\nretired 1 traps 0 enters 0 leaves 0 demotes 1\n",
+        verdict: "verdict stopped entry hart 0 turn 3 target 0x0000000000000000\n",
     },
-    // EBREAK, and a load.
+    // EBREAK, and a load from no page, are traps of the kernel's own.
     Row {
         words: &[0x00100073],
         events: "1",
-        status: Status::Stopped,
-        counts: "\nnotes 0\nturns 1 beats 0 keys 0 ticks 0\nretired 0 traps 0 enters 0 leaves 0 demotes 0\n",
-        verdict: "verdict stopped word hart 0 turn 1 pc 0x0000000080000000 word 0x00100073\n",
+        status: Status::Ended,
+        counts: "\nnotes 0\nturns 1 beats 0 keys 0 ticks 0\nretired 0 traps 1 enters 0 leaves 0 demotes 0\n",
+        verdict: "verdict ended\n",
     },
     Row {
         words: &[0x00002003],
         events: "1",
-        status: Status::Stopped,
-        counts: "\nnotes 0\nturns 1 beats 0 keys 0 ticks 0\nretired 0 traps 0 enters 0 leaves 0 demotes 0\n",
-        verdict: "verdict stopped word hart 0 turn 1 pc 0x0000000080000000 word 0x00002003\n",
+        status: Status::Ended,
+        counts: "\nnotes 0\nturns 1 beats 0 keys 0 ticks 0\nretired 0 traps 1 enters 0 leaves 0 demotes 0\n",
+        verdict: "verdict ended\n",
     },
 ];
 

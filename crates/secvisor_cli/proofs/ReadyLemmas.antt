@@ -3,14 +3,15 @@ use Rattle.std.proofs.Common.{◌≡◌, ◌≢◌, ℕ, List, [], true, false, 
 use Rattle.std.specs.Str.{bytes_eq}
 use Rattle.std.proofs.lemmas.Slice.Eq.{bytes_eq-Decides}
 use Rattle.sv_types.specs.declared.event.Event.{Event}
-use Rattle.thin_machine.specs.States.{State}
-use Rattle.thin_machine.specs.Run.{CountsAtMost}
+use Rattle.reference.specs.Counting.{CountsAtMost}
+use Rattle.machine_model.specs.Machine.{Machine}
+use Rattle.machine_model.specs.Reaches.{IsNew}
 use Rattle.sv_types.specs.Measure.{measure}
 use Rattle.sv_types.specs.Boot.{no_counts}
-use Rattle.thin_machine.specs.Start.{flat_start, boot_state}
+use Rattle.reference.specs.Start.{start, flat_start}
 use Rattle.outside.specs.Outside.{FilesState}
-use Rattle.thin_machine.specs.declared.boot.BootRefusal.{BootRefusal}
-use Rattle.thin_machine.specs.Boot.{RefusesFlat}
+use Rattle.machine.specs.declared.boot.BootRefusal.{BootRefusal}
+use Rattle.machine.specs.Boot.{RefusesFlat}
 use Rattle.secvisor_cli.specs.declared.refusal.Part.{Part}
 use Rattle.secvisor_cli.specs.declared.refusal.Refusal.{Refusal}
 use Rattle.secvisor_cli.specs.declared.refusal.Refusal.TheVariants.{ReadFault, File, Measure}
@@ -19,6 +20,7 @@ use Rattle.secvisor_cli.specs.declared.ready.Stop.{Stop}
 use Rattle.secvisor_cli.specs.declared.ready.Stop.TheVariants.{Refused, Memory}
 use Rattle.secvisor_cli.specs.Plans.{Due, Refuse, RunFrom, Plan, End, Found, Faulty, Missing, Longer, Held, found_plan, read_part, measure_judged, pages_judged, is_whole_pages}
 use Rattle.secvisor_cli.specs.Reading.{FoundAs}
+use Rattle.secvisor_cli.proofs.Standing.{counts_are, printed_few}
 use Rattle.secvisor_cli.specs.Ready.{unread, PartRead, stop_of, IsReady, Prepares}
 
 -- ---- any plan
@@ -75,25 +77,41 @@ bytes_eq-same xs = search (rules, bytes_eq-Decides)
 bytes_eq-other : (xs ys : List ℕ) → xs ≢ ys → bytes_eq xs ys ≡ false
 bytes_eq-other xs ys other = search (rules, bytes_eq-Decides)
 
-measured_run : (pages wanted : List ℕ) (events : List Event) → measure pages ≡ wanted → measure_judged pages wanted events ≡ RunFrom (flat_start pages) events
+measured_run : (pages wanted : List ℕ) (events : List Event) → measure pages ≡ wanted → measure_judged pages wanted events ≡ RunFrom (flat_start pages wanted) events
 unfolding measure_judged
 measured_run pages wanted events same =
-    ap (λ b. if b then RunFrom (flat_start pages) events else Refuse (Measure (measure pages) wanted))
+    ap (λ b. if b then RunFrom (flat_start pages wanted) events else Refuse (Measure (measure pages) wanted))
     (ap (λ (w : List ℕ). bytes_eq (measure pages) w) (sym same) ∙ bytes_eq-same (measure pages))
 
 measured_other : (pages wanted : List ℕ) (events : List Event) → measure pages ≢ wanted → measure_judged pages wanted events ≡ Refuse (Measure (measure pages) wanted)
 unfolding measure_judged
 measured_other pages wanted events other =
-    ap (λ b. if b then RunFrom (flat_start pages) events else Refuse (Measure (measure pages) wanted)) (bytes_eq-other (measure pages) wanted other)
+    ap (λ b. if b then RunFrom (flat_start pages wanted) events else Refuse (Measure (measure pages) wanted)) (bytes_eq-other (measure pages) wanted other)
 
 -- a booted machine that has made no event
-pub fresh_flat : (pages : List ℕ) (m : State) → m ≡ flat_start pages → CountsAtMost 0 m.counts × (m.printed ≡ [])
-unfolding flat_start boot_state
-fresh_flat pages m is =
-    let none : CountsAtMost 0 no_counts = record { turns = omega arith; beats = omega arith; keys = omega arith; ticks = omega arith; retired = omega arith } in
-    (subst (λ c. CountsAtMost 0 c) (sym (ap (λ (r : State). r.counts) is)) none, ap (λ (r : State). r.printed) is)
+pub fresh_flat : (pages wanted : List ℕ) (m : Machine) → IsNew m (flat_start pages wanted) → CountsAtMost 0 m.journal.counts × (m.journal.printed ≡ [])
+unfolding flat_start start
+fresh_flat pages wanted m new =
+    let none : CountsAtMost 0 no_counts = record {
+      turns = omega arith;
+      beats = omega arith;
+      keys = omega arith;
+      ticks = omega arith;
+      retired = omega arith;
+      traps = omega arith;
+      enters = omega arith;
+      leaves = omega arith;
+      demotes = omega arith;
+      denied = omega arith;
+      dropped = omega arith;
+      loads = omega arith;
+      unloads = omega arith;
+      refused = omega arith;
+      notes = omega arith;
+    } in
+    (subst (λ c. CountsAtMost 0 c) (sym (counts_are m (flat_start pages wanted) new.stands)) none, printed_few m (flat_start pages wanted) new.stands refl)
 
-pub booted_ready : (pages wanted : List ℕ) (events : List Event) (result : Result Ready Stop) → measure pages ≡ wanted → IsReady (RunFrom (flat_start pages) events) result →
+pub booted_ready : (pages wanted : List ℕ) (events : List Event) (result : Result Ready Stop) → measure pages ≡ wanted → IsReady (RunFrom (flat_start pages wanted) events) result →
     IsReady (measure_judged pages wanted events) result
 booted_ready pages wanted events result same ready = subst (λ (d : Due). IsReady d result) (sym (measured_run pages wanted events same)) ready
 
@@ -101,7 +119,7 @@ booted_ready pages wanted events result same ready = subst (λ (d : Due). IsRead
 boot_wants : (pages wanted : List ℕ) (events : List Event) → IsReady (measure_judged pages wanted events) (Err Memory)
 unfolding measure_judged
 boot_wants pages wanted events =
-    elim (bytes_eq (measure pages) wanted) as (λ b. IsReady (if b then RunFrom (flat_start pages) events else Refuse (Measure (measure pages) wanted)) (Err Memory)) [
+    elim (bytes_eq (measure pages) wanted) as (λ b. IsReady (if b then RunFrom (flat_start pages wanted) events else Refuse (Measure (measure pages) wanted)) (Err Memory)) [
       | true ↦ refl
       | false ↦ refl
     ]

@@ -4,14 +4,16 @@ use Rattle.std.specs.Result.{is_ok}
 use Rattle.std.specs.List.{list_any}
 use Rattle.std.specs.Str.{bytes_eq}
 use Rattle.sv_types.specs.declared.event.Event.{Event}
-use Rattle.thin_machine.specs.declared.event.Verdict.{Verdict}
-use Rattle.thin_machine.specs.declared.event.Verdict.TheVariants.{Running, Shutdown, Stopped}
+use Rattle.sv_types.specs.declared.event.Verdict.{Verdict}
+use Rattle.sv_types.specs.declared.event.Verdict.TheVariants.{Running, Shutdown, Stopped}
 use Rattle.sv_types.specs.declared.status.Status.{Status}
-use Rattle.thin_machine.specs.Start.{flat_start}
+use Rattle.reference.specs.Start.{flat_start}
 use Rattle.sv_types.specs.Measure.{measure}
-use Rattle.thin_machine.specs.Output.{run_status}
-use Rattle.thin_machine.specs.States.{State}
-use Rattle.thin_machine.specs.Run.{run}
+use Rattle.sv_types.specs.Output.{run_status}
+use Rattle.reference.specs.States.{State}
+use Rattle.reference.specs.Run.{run}
+use Rattle.machine_model.specs.Machine.{Machine}
+use Rattle.machine_model.specs.Reaches.{IsNew}
 use Rattle.sv_types.specs.Schedule.{first_events}
 use Rattle.outside.specs.Outside.{FilesState, SinkState}
 use Rattle.outside.proofs.SinkLemmas.{prefix_none}
@@ -45,7 +47,7 @@ wanting_writes due bytes sink = record {
   memory = λ e. refl;
 }
 
-wanting_bench : (due : Due) (sink : SinkState) (bench : Option State) → BenchAfter (IsErrOf {T = Status} (Err Memory) Memory) due sink sink bench bench
+wanting_bench : (due : Due) (sink : SinkState) (bench : Option Machine) → BenchAfter (IsErrOf {T = Status} (Err Memory) Memory) due sink sink bench bench
 wanting_bench (Refuse refusal) sink bench = refl
 wanting_bench (RunFrom start events) sink bench = inl (refl, refl, refl)
 
@@ -53,7 +55,7 @@ wants_due : (due : Due) → IsReady due (Err stop.Memory) → IsTrue (may_want d
 wants_due (Refuse refusal) it = it
 wants_due (RunFrom start events) it = it
 
-pub wanting_answers : (reached : Option Due) (sink : SinkState) (bench : Option State) → IsReadyWhere reached (Err stop.Memory) → AnswersReached reached sink sink bench bench (Err Memory)
+pub wanting_answers : (reached : Option Due) (sink : SinkState) (bench : Option Machine) → IsReadyWhere reached (Err stop.Memory) → AnswersReached reached sink sink bench bench (Err Memory)
 wanting_answers None sink bench it = (refl, refl, refl)
 wanting_answers (Some due) sink bench it = record {
   writes = wanting_writes (status_due due) (bytes_due due) sink;
@@ -68,33 +70,32 @@ is_fresh None ready it = absurd (cc it)
 is_fresh (Some (Refuse refusal)) ready it = absurd it
 is_fresh (Some (RunFrom start events)) ready it = it.2
 
-pub ready_answers : (reached : Option Due) (ready : Ready) (old new : SinkState) (b0 b1 : Option State) (result : Result Status Trouble) → IsReadyWhere reached (Ok ready) →
-    Answers (RunFrom ready.machine (first_events ready.events ready.script)) old new b0 b1 result → AnswersReached reached old new b0 b1 result
+pub ready_answers : (reached : Option Due) (ready : Ready) (old new : SinkState) (b0 b1 : Option Machine) (result : Result Status Trouble) → IsReadyWhere reached (Ok ready) →
+    ((start : State) → IsNew ready.machine start → Answers (RunFrom start (first_events ready.events ready.script)) old new b0 b1 result) → AnswersReached reached old new b0 b1 result
 ready_answers None ready old new b0 b1 result it a = absurd (cc it)
 ready_answers (Some (Refuse refusal)) ready old new b0 b1 result it a = absurd it
 ready_answers (Some (RunFrom start events)) ready old new b0 b1 result it a =
-    subst (λ (es : List Event). Answers (RunFrom start es) old new b0 b1 result) it.1
-    (subst (λ (m : State). Answers (RunFrom m (first_events ready.events ready.script)) old new b0 b1 result) it.0 a)
+    subst (λ (es : List Event). Answers (RunFrom start es) old new b0 b1 result) it.1 (a start it.0)
 
-pub refused_answers : (reached : Option Due) (given : Refusal) (old new : SinkState) (bench : Option State) (result : Result Status Trouble) → IsReadyWhere reached (Err (Refused given)) →
+pub refused_answers : (reached : Option Due) (given : Refusal) (old new : SinkState) (bench : Option Machine) (result : Result Status Trouble) → IsReadyWhere reached (Err (Refused given)) →
     Writes (refusal_status given) (refusal_line given) old new result → (IsErrOf result Memory → IsTrue (takes_memory given)) → AnswersReached reached old new bench bench result
 refused_answers None given old new bench result it w wants = absurd (cc it)
 refused_answers (Some (Refuse refusal)) given old new bench result it w wants =
     subst (λ (r : Refusal). Answers (Refuse r) old new bench bench result) it (record { writes = w; wants = wants; bench = refl })
 refused_answers (Some (RunFrom start events)) given old new bench result it w wants = absurd it
 
-pub performs : (plan : Plan) (f0 f1 : FilesState) (ready : Result Ready Stop) (old new : SinkState) (b0 b1 : Option State) (result : Result Status Trouble) → (p : Prepares plan f0 f1 ready) →
+pub performs : (plan : Plan) (f0 f1 : FilesState) (ready : Result Ready Stop) (old new : SinkState) (b0 b1 : Option Machine) (result : Result Status Trouble) → (p : Prepares plan f0 f1 ready) →
     AnswersReached p.reached old new b0 b1 result → Performs plan (outside f0 old b0) (outside f1 new b1) result
 performs plan f0 f1 ready old new b0 b1 result p a = record { reached = p.reached; follows = p.follows; answers = a }
 
 -- ---- the status
 
-bench_under : (P Q : Type 0) (due : Due) (old new : SinkState) (b0 b1 : Option State) → (P → Q) → (Q → P) → BenchAfter P due old new b0 b1 → BenchAfter Q due old new b0 b1
+bench_under : (P Q : Type 0) (due : Due) (old new : SinkState) (b0 b1 : Option Machine) → (P → Q) → (Q → P) → BenchAfter P due old new b0 b1 → BenchAfter Q due old new b0 b1
 bench_under P Q (Refuse refusal) old new b0 b1 f g bench = bench
 bench_under P Q (RunFrom start events) old new b0 b1 f g (inl none) = inl (f none.0, none.1, none.2)
 bench_under P Q (RunFrom start events) old new b0 b1 f g (inr some) =
     let r = some.2 in
-    inr (some.0, some.1, record { done = r.done; left = r.left; split = r.split; cleared = r.cleared; stands = r.stands; rest = r.rest; quiet = λ q. r.quiet (g q) })
+    inr (some.0, some.1, record { done = r.done; left = r.left; split = r.split; cleared = r.cleared; stands = r.stands; first = r.first; reaches = r.reaches; rest = r.rest; quiet = λ q. r.quiet (g q) })
 
 no_write_fault : IsTrue (is_answer Status.WriteFault) → ⊥
 no_write_fault h = cc h
@@ -105,7 +106,7 @@ no_memory h = cc h
 is_no : (s t : Status) → IsTrue (is_answer s) → (IsTrue (is_answer t) → ⊥) → s ≡ t → ⊥
 is_no s t proper never is = never (subst (λ (u : Status). IsTrue (is_answer u)) is proper)
 
-meets_ok : (due : Due) (old new : SinkState) (b0 b1 : Option State) (s : Status) → Answers due old new b0 b1 (Ok s) → Meets due old new b0 b1 s
+meets_ok : (due : Due) (old new : SinkState) (b0 b1 : Option Machine) (s : Status) → Answers due old new b0 b1 (Ok s) → Meets due old new b0 b1 s
 meets_ok due old new b0 b1 s a = record {
   status = λ _. a.writes.status;
   whole = λ _. a.writes.whole;
@@ -116,7 +117,7 @@ meets_ok due old new b0 b1 s a = record {
   bench = bench_under _ _ due old new b0 b1 (λ e. absurd (cc e)) (λ is. absurd (is_no s Status.Memory a.writes.proper no_memory is)) a.bench;
 }
 
-meets_write : (due : Due) (old new : SinkState) (b0 b1 : Option State) → Answers due old new b0 b1 (Err Write) → Meets due old new b0 b1 Status.WriteFault
+meets_write : (due : Due) (old new : SinkState) (b0 b1 : Option Machine) → Answers due old new b0 b1 (Err Write) → Meets due old new b0 b1 Status.WriteFault
 meets_write due old new b0 b1 a = record {
   status = λ t. absurd (cc t);
   whole = λ t. absurd (cc t);
@@ -127,7 +128,7 @@ meets_write due old new b0 b1 a = record {
   bench = bench_under _ _ due old new b0 b1 (λ e. absurd (cc e)) (λ e. absurd (cc e)) a.bench;
 }
 
-meets_memory : (due : Due) (old new : SinkState) (b0 b1 : Option State) → Answers due old new b0 b1 (Err Memory) → Meets due old new b0 b1 Status.Memory
+meets_memory : (due : Due) (old new : SinkState) (b0 b1 : Option Machine) → Answers due old new b0 b1 (Err Memory) → Meets due old new b0 b1 Status.Memory
 meets_memory due old new b0 b1 a = record {
   status = λ t. absurd (cc t);
   whole = λ t. absurd (cc t);
@@ -138,19 +139,19 @@ meets_memory due old new b0 b1 a = record {
   bench = bench_under _ _ due old new b0 b1 (λ _. refl) (λ _. refl) a.bench;
 }
 
-reached_ok : (reached : Option Due) (old new : SinkState) (b0 b1 : Option State) (s : Status) → AnswersReached reached old new b0 b1 (Ok s) → MeetsReached reached old new b0 b1 s
+reached_ok : (reached : Option Due) (old new : SinkState) (b0 b1 : Option Machine) (s : Status) → AnswersReached reached old new b0 b1 (Ok s) → MeetsReached reached old new b0 b1 s
 reached_ok None old new b0 b1 s a = absurd (cc a.0)
 reached_ok (Some due) old new b0 b1 s a = meets_ok due old new b0 b1 s a
 
-reached_write : (reached : Option Due) (old new : SinkState) (b0 b1 : Option State) → AnswersReached reached old new b0 b1 (Err Write) → MeetsReached reached old new b0 b1 Status.WriteFault
+reached_write : (reached : Option Due) (old new : SinkState) (b0 b1 : Option Machine) → AnswersReached reached old new b0 b1 (Err Write) → MeetsReached reached old new b0 b1 Status.WriteFault
 reached_write None old new b0 b1 a = absurd (cc a.0)
 reached_write (Some due) old new b0 b1 a = meets_write due old new b0 b1 a
 
-reached_memory : (reached : Option Due) (old new : SinkState) (b0 b1 : Option State) → AnswersReached reached old new b0 b1 (Err Memory) → MeetsReached reached old new b0 b1 Status.Memory
+reached_memory : (reached : Option Due) (old new : SinkState) (b0 b1 : Option Machine) → AnswersReached reached old new b0 b1 (Err Memory) → MeetsReached reached old new b0 b1 Status.Memory
 reached_memory None old new b0 b1 a = (refl, a.1, a.2)
 reached_memory (Some due) old new b0 b1 a = meets_memory due old new b0 b1 a
 
-reached_settled : (reached : Option Due) (old new : SinkState) (b0 b1 : Option State) (result : Result Status Trouble) → AnswersReached reached old new b0 b1 result →
+reached_settled : (reached : Option Due) (old new : SinkState) (b0 b1 : Option Machine) (result : Result Status Trouble) → AnswersReached reached old new b0 b1 result →
     MeetsReached reached old new b0 b1 (settled result)
 reached_settled reached old new b0 b1 (Ok s) a = reached_ok reached old new b0 b1 s a
 reached_settled reached old new b0 b1 (Err Write) a = reached_write reached old new b0 b1 a
@@ -161,7 +162,7 @@ headline plan old new result p = record { reached = p.reached; follows = p.follo
 
 -- ---- the sink
 
-meets_writes : (due : Due) (old new : SinkState) (b0 b1 : Option State) (s : Status) → Meets due old new b0 b1 s → (s ≡ Status.WriteFault) ⊎ (s ≢ Status.WriteFault) → old.faults ≤ new.faults
+meets_writes : (due : Due) (old new : SinkState) (b0 b1 : Option Machine) (s : Status) → Meets due old new b0 b1 s → (s ≡ Status.WriteFault) ⊎ (s ≢ Status.WriteFault) → old.faults ≤ new.faults
 meets_writes due old new b0 b1 s m (inl is) = let rose = m.write is in omega arith
 meets_writes due old new b0 b1 s m (inr never) = let same = m.no_write never in omega arith
 
@@ -175,7 +176,7 @@ write_fault_or_not Status.ReadFault = inr (λ e. cc e)
 write_fault_or_not Status.Memory = inr (λ e. cc e)
 write_fault_or_not Status.Ended = inr (λ e. cc e)
 
-reached_writes : (reached : Option Due) (old new : SinkState) (b0 b1 : Option State) (s : Status) → MeetsReached reached old new b0 b1 s → old.faults ≤ new.faults
+reached_writes : (reached : Option Due) (old new : SinkState) (b0 b1 : Option Machine) (s : Status) → MeetsReached reached old new b0 b1 s → old.faults ≤ new.faults
 reached_writes None old new b0 b1 s m = let same : new.faults ≡ old.faults = ap (λ (k : SinkState). k.faults) m.1 in omega arith
 reached_writes (Some due) old new b0 b1 s m = meets_writes due old new b0 b1 s m (write_fault_or_not s)
 
@@ -200,8 +201,8 @@ run_no_read_fault (Stopped rule hart turn) = λ e. cc e
 measure_no_read_fault : (pages wanted : List ℕ) (events : List Event) → status_due (measure_judged pages wanted events) ≢ Status.ReadFault
 unfolding measure_judged
 measure_no_read_fault pages wanted events =
-    elim (bytes_eq (measure pages) wanted) as (λ b. status_due (if b then RunFrom (flat_start pages) events else Refuse (Measure (measure pages) wanted)) ≢ Status.ReadFault) [
-      | true ↦ run_no_read_fault (run (flat_start pages) events).verdict
+    elim (bytes_eq (measure pages) wanted) as (λ b. status_due (if b then RunFrom (flat_start pages wanted) events else Refuse (Measure (measure pages) wanted)) ≢ Status.ReadFault) [
+      | true ↦ run_no_read_fault (run (flat_start pages wanted) events).journal.verdict
       | false ↦ λ e. cc e
     ]
 
@@ -231,7 +232,7 @@ unfolding judged
 judged_found_faults words =
     words_found_faults (list_any has_dash words) (is_flat words) (flat_file words) (digest_of (word_at words 2)) (number_within 0 most_events (word_at words 3))
 
-reached_fault : (plan : Plan) (reached : Option Due) (f0 f1 : FilesState) (old new : SinkState) (b0 b1 : Option State) → HasFoundFaults plan → Follows plan f0 f1 reached →
+reached_fault : (plan : Plan) (reached : Option Due) (f0 f1 : FilesState) (old new : SinkState) (b0 b1 : Option Machine) → HasFoundFaults plan → Follows plan f0 f1 reached →
     MeetsReached reached old new b0 b1 Status.ReadFault → HasFault plan f0 f1
 reached_fault plan None f0 f1 old new b0 b1 never follows m = absurd (cc m.0)
 reached_fault plan (Some due) f0 f1 old new b0 b1 never follows m = read_fault plan f0 f1 due never follows (sym (m.status refl))

@@ -2,50 +2,54 @@
 use Rattle.std.specs.Prelude.{◌≡◌, ◌≢◌, ◌<◌, ◌⊎◌, ℕ, List, [], ◌++◌, length, Bool, true, false, IsTrue, Option, Some, None, Result, Ok, Err, OnOk, IfOk, IsErrOf}
 use Rattle.sv_types.specs.declared.event.Event.{Event}
 use Rattle.sv_types.specs.declared.status.Status.{Status}
-use Rattle.thin_machine.specs.Output.{output}
-use Rattle.thin_machine.specs.States.{State}
-use Rattle.thin_machine.specs.Run.{run}
+use Rattle.reference.specs.States.{State}
+use Rattle.reference.specs.Run.{run}
+use Rattle.machine_model.specs.Machine.{Machine}
+use Rattle.machine_model.specs.Reaches.{Reaches}
 use Rattle.outside.specs.Outside.{FilesState, SinkState, after_taking, TookPrefix, BreaksOff}
 use Rattle.secvisor_cli.specs.declared.trouble.Trouble.{Trouble}
 use Rattle.secvisor_cli.specs.declared.trouble.Trouble.TheVariants.{Write, Memory}
 use Rattle.secvisor_cli.specs.Refusals.{takes_memory}
 use Rattle.secvisor_cli.specs.Plans.{Due, Refuse, RunFrom, Plan, bytes_due, status_due}
 use Rattle.secvisor_cli.specs.Reading.{Follows}
-use Rattle.secvisor_cli.specs.Standing.{Stands}
+use Rattle.secvisor_cli.specs.Standing.{Stands, machine_output}
 
 -- what stands outside the program: the files, the sink, and the machine on the bench
 pub record Outside : Type 0 where
   pub files : FilesState
   pub sink : SinkState
-  pub bench : Option State
+  pub bench : Option Machine
 
-abbrev pub outside : FilesState → SinkState → Option State → Outside
+abbrev pub outside : FilesState → SinkState → Option Machine → Outside
 outside files sink bench = record { files = files; sink = sink; bench = bench }
 
 -- ---- the run
 
 -- The machine stands after all of the events, fewer than 4,096 bytes of its console weren't taken, and of these and the
--- report the sink took a prefix; or else a write of the console failed while 4,096 bytes stood there.
-pub record Reaches (wanting : Type 0) (start : State) (events : List Event) (machine : State) (old new : SinkState) : Type 0 where
+-- report the sink took a prefix; or else a write of the console failed while 4,096 bytes stood there. By the events that it
+-- made it came there from one that had just started.
+pub record RunsTo (wanting : Type 0) (start : State) (events : List Event) (machine : Machine) (old new : SinkState) : Type 0 where
   pub done : List Event
   pub left : List Event
   pub split : done ++ left ≡ events
   -- the console bytes that the sink took before
   pub cleared : List ℕ
   pub stands : Stands machine cleared (run start done)
+  pub first : Machine
+  pub reaches : Reaches first start done machine
   pub rest :
-      ((left ≡ []) × (length machine.printed < 4096) × TookPrefix (after_taking old cleared) new (output machine))
-      ⊎ ((length machine.printed ≡ 4096) × BreaksOff (after_taking old cleared) new machine.printed)
+      ((left ≡ []) × (length machine.journal.printed < 4096) × TookPrefix (after_taking old cleared) new (machine_output machine))
+      ⊎ ((length machine.journal.printed ≡ 4096) × BreaksOff (after_taking old cleared) new machine.journal.printed)
   -- nothing is written where memory was wanting
   pub quiet : wanting → new ≡ after_taking old cleared
 
 -- The bench: as it was where nothing is to be booted, or where memory was wanting before anything was written; else the
 -- machine that the run left.
-abbrev pub BenchAfter : (wanting : Type 0) → Due → SinkState → SinkState → Option State → Option State → Type 0
+abbrev pub BenchAfter : (wanting : Type 0) → Due → SinkState → SinkState → Option Machine → Option Machine → Type 0
 BenchAfter wanting (Refuse refusal) old new bench_old bench_new = bench_new ≡ bench_old
 BenchAfter wanting (RunFrom start events) old new bench_old bench_new =
     (wanting × (new ≡ old) × (bench_new ≡ bench_old))
-    ⊎ ((machine : State) × (bench_new ≡ Some machine) × Reaches wanting start events machine old new)
+    ⊎ ((machine : Machine) × (bench_new ≡ Some machine) × RunsTo wanting start events machine old new)
 
 -- words are refused without asking for memory
 abbrev pub may_want : Due → Bool
@@ -80,13 +84,13 @@ pub record Writes (due : Status) (bytes : List ℕ) (old new : SinkState) (resul
   pub write : IsErrOf result Write → old.faults < new.faults
   pub memory : IsErrOf result Memory → new.faults ≡ old.faults
 
-pub record Answers (due : Due) (old new : SinkState) (bench_old bench_new : Option State) (result : Result Status Trouble) : Type 0 where
+pub record Answers (due : Due) (old new : SinkState) (bench_old bench_new : Option Machine) (result : Result Status Trouble) : Type 0 where
   pub writes : Writes (status_due due) (bytes_due due) old new result
   pub wants : IsErrOf result Memory → IsTrue (may_want due)
   pub bench : BenchAfter (IsErrOf result Memory) due old new bench_old bench_new
 
 -- the same where memory was wanting for a read: nothing happened
-abbrev pub AnswersReached : Option Due → SinkState → SinkState → Option State → Option State → Result Status Trouble → Type 0
+abbrev pub AnswersReached : Option Due → SinkState → SinkState → Option Machine → Option Machine → Result Status Trouble → Type 0
 AnswersReached None old new bench_old bench_new result = IsErrOf result Memory × (new ≡ old) × (bench_new ≡ bench_old)
 AnswersReached (Some due) old new bench_old bench_new result = Answers due old new bench_old bench_new result
 
@@ -97,7 +101,7 @@ pub record Performs (plan : Plan) (old new : Outside) (result : Result Status Tr
   pub answers : AnswersReached reached old.sink new.sink old.bench new.bench result
 
 -- The status and all bytes that are due, unless a write failed or memory was wanting.
-pub record Meets (due : Due) (old new : SinkState) (bench_old bench_new : Option State) (answer : Status) : Type 0 where
+pub record Meets (due : Due) (old new : SinkState) (bench_old bench_new : Option Machine) (answer : Status) : Type 0 where
   pub status : IsTrue (is_answer answer) → answer ≡ status_due due
   pub whole : IsTrue (is_answer answer) → new ≡ after_taking old (bytes_due due)
   -- never more than a prefix of these bytes
@@ -109,7 +113,7 @@ pub record Meets (due : Due) (old new : SinkState) (bench_old bench_new : Option
   pub wants : answer ≡ Status.Memory → IsTrue (may_want due)
   pub bench : BenchAfter (answer ≡ Status.Memory) due old new bench_old bench_new
 
-abbrev pub MeetsReached : Option Due → SinkState → SinkState → Option State → Option State → Status → Type 0
+abbrev pub MeetsReached : Option Due → SinkState → SinkState → Option Machine → Option Machine → Status → Type 0
 MeetsReached None old new bench_old bench_new answer = (answer ≡ Status.Memory) × (new ≡ old) × (bench_new ≡ bench_old)
 MeetsReached (Some due) old new bench_old bench_new answer = Meets due old new bench_old bench_new answer
 

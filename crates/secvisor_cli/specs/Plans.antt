@@ -6,11 +6,12 @@ use Rattle.sv_types.specs.declared.event.Event.{Event}
 use Rattle.sv_types.specs.declared.status.Status.{Status}
 use Rattle.sv_types.specs.Bytes.{page_size}
 use Rattle.sv_types.specs.Boot.{flat_ram_pages}
-use Rattle.thin_machine.specs.Start.{flat_start}
+use Rattle.reference.specs.Start.{flat_start}
 use Rattle.sv_types.specs.Measure.{measure}
-use Rattle.thin_machine.specs.Output.{output, run_status}
-use Rattle.thin_machine.specs.States.{State}
-use Rattle.thin_machine.specs.Run.{run}
+use Rattle.sv_types.specs.Output.{run_status}
+use Rattle.reference.specs.Report.{output}
+use Rattle.reference.specs.States.{State}
+use Rattle.reference.specs.Run.{run}
 use Rattle.sv_types.specs.Schedule.{Schedule, first_events}
 use Rattle.secvisor_cli.specs.declared.refusal.Part.{Part}
 use Rattle.secvisor_cli.specs.declared.refusal.Refusal.{Refusal}
@@ -31,7 +32,7 @@ bytes_due (RunFrom start events) = output (run start events)
 
 abbrev pub status_due : Due → Status
 status_due (Refuse refusal) = refusal_status refusal
-status_due (RunFrom start events) = run_status (run start events).verdict
+status_due (RunFrom start events) = run_status (run start events).journal.verdict
 
 -- ---- plans
 
@@ -65,7 +66,7 @@ read_part part name limit next = Read name limit (found_plan part next)
 -- the pages are measured before anything runs
 unfoldable pub measure_judged : List ℕ → List ℕ → List Event → Due
 measure_judged pages wanted events =
-    if bytes_eq (measure pages) wanted then RunFrom (flat_start pages) events else Refuse (Measure (measure pages) wanted)
+    if bytes_eq (measure pages) wanted then RunFrom (flat_start pages wanted) events else Refuse (Measure (measure pages) wanted)
 
 -- whole pages, at least one
 abbrev pub is_whole_pages : List ℕ → Bool

@@ -1,10 +1,11 @@
 -- What is made ready of a command, before anything is written.
 use Rattle.std.specs.Prelude.{◌≡◌, ◌≤◌, ◌^◌, ℕ, List, [], IsTrue, Option, Some, None, Result, Ok, Err, IsErrOf, Vec}
 use Rattle.std.specs.declared.alloc.Global.{Global}
-use Rattle.thin_machine.specs.Run.{CountsAtMost}
+use Rattle.reference.specs.Counting.{CountsAtMost}
+use Rattle.machine_model.specs.Reaches.{IsNew}
 use Rattle.sv_types.specs.Schedule.{first_events}
 use Rattle.outside.specs.Outside.{FilesState, after_asking}
-use Rattle.thin_machine.specs.declared.boot.BootRefusal.{BootRefusal}
+use Rattle.machine.specs.declared.boot.BootRefusal.{BootRefusal}
 use Rattle.secvisor_cli.specs.declared.refusal.Part.{Part}
 use Rattle.secvisor_cli.specs.declared.refusal.Refusal.{Refusal}
 use Rattle.secvisor_cli.specs.declared.refusal.Refusal.TheVariants.{ReadFault, File}
@@ -14,6 +15,7 @@ use Rattle.secvisor_cli.specs.declared.ready.Stop.TheVariants.{Refused, Memory}
 use Rattle.secvisor_cli.specs.Plans.{Due, Refuse, RunFrom, Plan, Found, Faulty, Missing, Longer, Held}
 use Rattle.secvisor_cli.specs.Reading.{Follows, FoundAs}
 use Rattle.secvisor_cli.specs.Answers.{may_want}
+use Rattle.secvisor_cli.specs.Standing.{HasState}
 
 -- the refusal of a part that isn't read
 abbrev pub unread : Part → Found → Option Refusal
@@ -37,12 +39,13 @@ stop_of BootRefusal.Memory = Memory
 -- a machine that has made no event, and the events that it is to make
 pub record IsFresh (ready : Ready) : Type 0 where
   pub events : ready.events ≤ 2 ^ 32
-  pub counts : CountsAtMost 0 ready.machine.counts
-  pub console : ready.machine.printed ≡ []
+  pub state : HasState ready.machine
+  pub counts : CountsAtMost 0 ready.machine.journal.counts
+  pub console : ready.machine.journal.printed ≡ []
 
 -- what is due is ready, or refused, or memory was wanting
 abbrev pub IsReady : Due → Result Ready Stop → Type 0
-IsReady (RunFrom start events) (Ok ready) = (ready.machine ≡ start) × (first_events ready.events ready.script ≡ events) × IsFresh ready
+IsReady (RunFrom start events) (Ok ready) = IsNew ready.machine start × (first_events ready.events ready.script ≡ events) × IsFresh ready
 IsReady (Refuse refusal) (Ok ready) = ⊥
 IsReady (Refuse refusal) (Err (Refused given)) = given ≡ refusal
 IsReady (RunFrom start events) (Err (Refused given)) = ⊥

@@ -1,8 +1,13 @@
 // The answer to the words.
 ghost use Rattle.std.specs.Prelude.{◌≡◌, ◌<◌, ◌≤◌, ◌-◌, ◌^◌, ◌⊎◌, ℕ, List, Option, [], map, string_bytes, Ok, IsTrue, IsErrOf, false};
 ghost use Rattle.std.specs.Result.{is_ok};
-ghost use Rattle.thin_machine.specs.Output.{output, run_status};
-ghost use Rattle.thin_machine.specs.Run.{CountsAtMost, run};
+ghost use Rattle.sv_types.specs.Output.{run_status};
+ghost use Rattle.reference.specs.Counting.{CountsAtMost};
+ghost use Rattle.reference.specs.Report.{output};
+ghost use Rattle.reference.specs.Run.{run};
+ghost use Rattle.reference.specs.States.{State};
+ghost use Rattle.machine_model.specs.Reaches.{IsNew};
+ghost use Rattle.secvisor_cli.specs.Standing.{HasState, machine_output};
 ghost use Rattle.sv_types.specs.Schedule.{first_events};
 ghost use Rattle.secvisor_cli.specs.Refusals.{refusal_line, refusal_status, takes_memory};
 ghost use Rattle.secvisor_cli.specs.CommandLine.{judged};
@@ -10,21 +15,21 @@ ghost use Rattle.secvisor_cli.specs.Words.{command_of, IsInRange};
 ghost use Rattle.secvisor_cli.specs.Plans.{RunFrom, plan_of};
 ghost use Rattle.secvisor_cli.specs.Reading.{MayFollow, IsNamed};
 ghost use Rattle.secvisor_cli.specs.Ready.{Prepares, IsFresh};
-ghost use Rattle.secvisor_cli.specs.Answers.{outside, Writes, Answers, Performs, Reaches, Headline, settled};
+ghost use Rattle.secvisor_cli.specs.Answers.{outside, Writes, Answers, Performs, RunsTo, Headline, settled};
 
 use crate::flat::prepare_flat;
 use crate::ready::{Ready, Stop};
 use crate::refusal::Refusal;
-use crate::report::report;
 use crate::run::run;
 use crate::trouble::Trouble;
 use crate::words::{Command, judge};
+use machine::Machine;
 use outside::{Files, Sink, write_all};
+use report::{report, status_of};
 use script::Script;
 use std::alloc::Global;
 use std::thread::Threads;
 use sv_types::Status;
-use thin_machine::{Machine, Verdict};
 
 /// What a run leaves behind: the machine, where one was booted.
 #[derive(Drop)]
@@ -160,8 +165,8 @@ fn run_on_bench<O: Sink>(
     requires is_open { IsTrue (O.state out.old).is_open }
     requires count { (O.state out.old).faults < 2 ^ 64 - 1 }
     requires fresh { IsFresh ready }
-    ensures { Answers (RunFrom ready.machine (first_events ready.events ready.script)) (O.state out.old) (O.state out.new)
-        bench.old.machine bench.new.machine result }
+    ensures { (start : State) → IsNew ready.machine start → Answers (RunFrom start (first_events ready.events ready.script))
+        (O.state out.old) (O.state out.new) bench.old.machine bench.new.machine result }
 {
     let Ready {
         mut machine,
@@ -184,11 +189,13 @@ fn run_and_report<O: Sink>(
     requires is_open { IsTrue (O.state out.old).is_open }
     requires count { (O.state out.old).faults < 2 ^ 64 - 1 }
     requires events { events ≤ 2 ^ 32 }
-    requires counts { CountsAtMost 0 machine.old.counts }
-    requires console { machine.old.printed ≡ [] }
-    ensures writes { let last = run machine.old (first_events events script) in
-        Writes (run_status last.verdict) (output last) (O.state out.old) (O.state out.new) result }
-    ensures machine { Reaches (IsErrOf result Trouble.Memory) machine.old (first_events events script) machine.new (O.state out.old) (O.state out.new) }
+    requires state { HasState machine.old }
+    requires counts { CountsAtMost 0 machine.old.journal.counts }
+    requires console { machine.old.journal.printed ≡ [] }
+    ensures writes { (start : State) → IsNew machine.old start → let last = run start (first_events events script) in
+        Writes (run_status last.journal.verdict) (output last) (O.state out.old) (O.state out.new) result }
+    ensures machine { (start : State) → IsNew machine.old start →
+        RunsTo (IsErrOf result Trouble.Memory) start (first_events events script) machine.new (O.state out.old) (O.state out.new) }
 {
     run(machine, script, events, out)?;
     finish(alloc, machine, out)
@@ -198,25 +205,16 @@ fn run_and_report<O: Sink>(
 fn finish<O: Sink>(alloc: Global, machine: &Machine, out: &mut O) -> Result<Status, Trouble>
     requires is_open { IsTrue (O.state out.old).is_open }
     requires count { (O.state out.old).faults < 2 ^ 64 - 1 }
-    ensures writes { Writes (run_status machine.now.verdict) (output machine.now) (O.state out.old) (O.state out.new) result }
+    ensures writes { Writes (run_status machine.now.journal.verdict) (machine_output machine.now) (O.state out.old) (O.state out.new) result }
     ensures quiet { IsErrOf result Trouble.Memory → O.state out.new ≡ O.state out.old }
 {
-    let text = report(alloc, machine.verdict(), &machine.counts())?;
+    let text = report(
+        alloc,
+        machine.journal(),
+        machine.verdict(),
+        &machine.counts(),
+    )?;
     write_all(out, machine.printed())?;
     write_all(out, text.as_str().as_bytes())?;
     Ok(status_of(machine.verdict()))
-}
-
-fn status_of(verdict: Verdict) -> Status
-    ensures { result ≡ run_status verdict }
-{
-    match verdict {
-        Verdict::Running => Status::Ended,
-        Verdict::Shutdown => Status::Done,
-        Verdict::Stopped {
-            rule: _,
-            hart: _,
-            turn: _,
-        } => Status::Stopped,
-    }
 }

@@ -8,11 +8,11 @@ use crate::parts::read_part;
 use crate::ready::{Ready, Stop};
 use crate::refusal::{Part, Refusal};
 use crate::words::Flat;
+use machine::Machine;
 use outside::Files;
 use script::rounds;
 use std::alloc::Global;
 use std::thread::Threads;
-use thin_machine::Machine;
 
 const MOST_FLAT_BYTES: usize = 65536;
 

@@ -6,7 +6,6 @@ mod flat;
 mod parts;
 mod ready;
 mod refusal;
-mod report;
 mod run;
 mod trouble;
 mod words;

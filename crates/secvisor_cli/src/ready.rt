@@ -4,8 +4,8 @@ ghost use Rattle.secvisor_cli.specs.declared.ready.Stop.TheVariants.{Refused};
 ghost use Rattle.secvisor_cli.specs.Ready.{stop_of};
 
 use crate::refusal::Refusal;
+use machine::{BootRefusal, Machine};
 use script::Script;
-use thin_machine::{BootRefusal, Machine};
 
 /// A booted machine, and the events that it is to make: the first `events` of the script, or all where there are fewer.
 #[derive(Drop)]

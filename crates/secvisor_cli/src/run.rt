@@ -1,27 +1,29 @@
 // A machine's run, with its console.
 ghost use Rattle.std.specs.Prelude.{◌≡◌, ◌<◌, ◌≤◌, ◌-◌, ◌^◌, [], length, IsTrue, OnOk, OnErr};
-ghost use Rattle.thin_machine.specs.Run.{CountsAtMost};
+ghost use Rattle.reference.specs.Counting.{CountsAtMost};
 ghost use Rattle.sv_types.specs.Schedule.{first_events};
 ghost use Rattle.outside.specs.Outside.{BreaksOff};
-ghost use Rattle.secvisor_cli.specs.Console.{Flushed, HasRun, RunBroke};
+ghost use Rattle.secvisor_cli.specs.Standing.{HasState};
+ghost use Rattle.secvisor_cli.specs.Console.{Flushed, HasTaken, HasRunFromStart, RunBrokeFromStart};
 
+use machine::Machine;
 use outside::{Failed, Sink, write_all};
 use script::Script;
-use thin_machine::{Machine, Verdict};
+use sv_types::Verdict;
 
 const CONSOLE_ROOM: usize = 4096;
 
 /// Writes the console's bytes where 4,096 of them stand.
-#[tactic(auto, unfolding(crate::specs::Standing::TakesAway))]
+#[tactic(auto, using(crate::proofs::Standing::flushed_all, crate::proofs::Standing::flushed_none))]
 fn flush_full<O: Sink>(machine: &mut Machine, out: &mut O) -> Result<(), Failed>
     requires is_open { IsTrue (O.state out.old).is_open }
     requires count { (O.state out.old).faults < 2 ^ 64 - 1 }
-    requires room { length machine.old.printed ≤ 4096 }
+    requires room { length machine.old.journal.printed ≤ 4096 }
     ensures flushed { OnOk result (Flushed machine.old machine.new (O.state out.old) (O.state out.new)) }
-    ensures room { OnOk result (length machine.new.printed < 4096) }
+    ensures room { OnOk result (length machine.new.journal.printed < 4096) }
     ensures machine { OnErr result (machine.new ≡ machine.old) }
-    ensures full { OnErr result (length machine.old.printed ≡ 4096) }
-    ensures failed { OnErr result (BreaksOff (O.state out.old) (O.state out.new) machine.old.printed) }
+    ensures full { OnErr result (length machine.old.journal.printed ≡ 4096) }
+    ensures failed { OnErr result (BreaksOff (O.state out.old) (O.state out.new) machine.old.journal.printed) }
 {
     if machine.printed().len() == CONSOLE_ROOM {
         write_all(out, machine.printed())?;
@@ -41,11 +43,13 @@ pub fn run<O: Sink>(
     requires is_open { IsTrue (O.state out.old).is_open }
     requires count { (O.state out.old).faults < 2 ^ 64 - 1 }
     requires events { events ≤ 2 ^ 32 }
-    requires counts { CountsAtMost 0 machine.old.counts }
-    requires console { machine.old.printed ≡ [] }
-    ensures all { OnOk result (HasRun machine.old (first_events events script) machine.new (O.state out.old) (O.state out.new)) }
-    ensures room { OnOk result (length machine.new.printed < 4096) }
-    ensures some { OnErr result (RunBroke machine.old (first_events events script) machine.new (O.state out.old) (O.state out.new)) }
+    requires state { HasState machine.old }
+    requires counts { CountsAtMost 0 machine.old.journal.counts }
+    requires console { machine.old.journal.printed ≡ [] }
+    ensures all { OnOk result (HasRunFromStart machine.old (first_events events script) machine.new (O.state out.old) (O.state out.new)) }
+    ensures taken { OnOk result (HasTaken (O.state out.old) (O.state out.new)) }
+    ensures room { OnOk result (length machine.new.journal.printed < 4096) }
+    ensures some { OnErr result (RunBrokeFromStart machine.old (first_events events script) machine.new (O.state out.old) (O.state out.new)) }
 {
     'events: for i in 0..events {
         if machine.verdict() != Verdict::Running {

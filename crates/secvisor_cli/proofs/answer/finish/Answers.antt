@@ -1,11 +1,12 @@
-use Rattle.std.proofs.Common.{◌++◌, IsTrue, subst, sym, rules, ◌∙◌, ap}
+use Rattle.std.proofs.Common.{List, IsTrue, subst, sym, rules, ◌∙◌, ap}
 use Rattle.sv_types.specs.declared.event.Counts.{Counts}
-use Rattle.thin_machine.specs.declared.event.Verdict.{Verdict}
+use Rattle.sv_types.specs.declared.event.Note.{Note}
+use Rattle.sv_types.specs.declared.event.Verdict.{Verdict}
 use Rattle.sv_types.specs.declared.status.Status.{Status}
 use Rattle.secvisor_cli.specs.Answers.{is_answer}
 use Rattle.secvisor_cli.proofs.EndLemmas.{run_is_answer}
-use Rattle.sv_types.specs.Output.{line_feed}
-use Rattle.thin_machine.specs.Output.{report_lines}
+use Rattle.reference.specs.Report.{report}
+use Rattle.report.specs.Journals.{journal_with}
 use Rattle.outside.proofs.SinkLemmas.{prefix_whole}
 use Rattle.secvisor_cli.proofs.EndLemmas.{finish_broke, finish_whole}
 use Rattle.secvisor_cli.proofs.answer.finish.Goals as goal
@@ -13,8 +14,9 @@ use Rattle.secvisor_cli.proofs.answer.finish.Goals as goal
 pub returns-in_err-write_all-2-clause-writes : goal.returns-in_err-write_all-2-clause-writes
 returns-in_err-write_all-2-clause-writes g c =
     let text = c.as_bytes.ensures.value ∙ c.as_str.ensures.value ∙ c.in_ok-text.ensures
-    ∙ ap (λ (v : Verdict). line_feed ++ report_lines v c.counts.result) c.verdict.ensures
-    ∙ ap (λ (n : Counts). line_feed ++ report_lines c.args.machine.now.verdict n) c.counts.ensures in
+    ∙ ap (λ (notes : List Note). report (journal_with notes c.verdict.result c.counts.result)) c.journal.ensures
+    ∙ ap (λ (v : Verdict). report (journal_with c.args.machine.now.journal.notes v c.counts.result)) c.verdict.ensures
+    ∙ ap (λ (n : Counts). report (journal_with c.args.machine.now.journal.notes c.args.machine.now.journal.verdict n)) c.counts.ensures in
     let both = finish_broke c.args.machine.now _ _ _ _ _ c.in_ok-write_all.ensures.whole c.printed.ensures c.in_err-write_all-2.ensures.failed text in
     record {
       status = search rules;
@@ -28,8 +30,9 @@ returns-in_err-write_all-2-clause-writes g c =
 pub returns-clause-writes : goal.returns-clause-writes
 returns-clause-writes g c =
     let text = c.as_bytes.ensures.value ∙ c.as_str.ensures.value ∙ c.in_ok-text.ensures
-    ∙ ap (λ (v : Verdict). line_feed ++ report_lines v c.counts.result) c.verdict.ensures
-    ∙ ap (λ (n : Counts). line_feed ++ report_lines c.args.machine.now.verdict n) c.counts.ensures in
+    ∙ ap (λ (notes : List Note). report (journal_with notes c.verdict.result c.counts.result)) c.journal.ensures
+    ∙ ap (λ (v : Verdict). report (journal_with c.args.machine.now.journal.notes v c.counts.result)) c.verdict.ensures
+    ∙ ap (λ (n : Counts). report (journal_with c.args.machine.now.journal.notes c.args.machine.now.journal.verdict n)) c.counts.ensures in
     let all = finish_whole c.args.machine.now _ _ _ _ _ c.in_ok-write_all.ensures.whole c.printed.ensures c.in_ok-write_all-2.ensures.whole text in
     record {
       status = search rules;

@@ -4,21 +4,25 @@ use Rattle.secvisor_cli.proofs.answer.run_and_report.Goals as goal
 
 pub returns-in_err-run-clause-writes : goal.returns-in_err-run-clause-writes
 returns-in_err-run-clause-writes g c =
-    let some = c.in_err-run.ensures.some in
+    λ start new.
+    let some = c.in_err-run.ensures.some start new in
     record {
       status = search rules;
       proper = search rules;
       whole = search rules;
-      prefix = broke_prefix c.args.machine.now _ c.run.new.machine _ _ some;
+      prefix = broke_prefix c.args.machine.now start _ c.run.new.machine _ _ some;
       write = λ _. some.broke.faults;
       memory = search rules;
     }
 
 pub returns-in_err-run-clause-machine : goal.returns-in_err-run-clause-machine
-returns-in_err-run-clause-machine g c = broke_reaches _ c.args.machine.now _ c.run.new.machine _ _ (search rules) c.in_err-run.ensures.some
+returns-in_err-run-clause-machine g c = λ start new.
+    broke_reaches _ c.args.machine.now start _ c.run.new.machine _ _ (search rules) new (c.in_err-run.ensures.some start new)
 
 pub returns-clause-writes : goal.returns-clause-writes
-returns-clause-writes g c = ran_writes c.args.machine.now c.run.new.machine _ _ _ _ _ c.in_ok-run.ensures.all c.finish.ensures.writes
+returns-clause-writes g c = λ start new.
+    ran_writes c.args.machine.now start c.run.new.machine _ _ _ _ _ (c.in_ok-run.ensures.all start new) c.finish.ensures.writes
 
 pub returns-clause-machine : goal.returns-clause-machine
-returns-clause-machine g c = ran_reaches c.args.machine.now _ c.run.new.machine _ _ _ _ c.in_ok-run.ensures.all c.in_ok-run.ensures.room c.finish.ensures.writes.prefix c.finish.ensures.quiet
+returns-clause-machine g c = λ start new.
+    ran_reaches c.args.machine.now start _ c.run.new.machine _ _ _ _ new (c.in_ok-run.ensures.all start new) c.in_ok-run.ensures.room c.finish.ensures.writes.prefix c.finish.ensures.quiet

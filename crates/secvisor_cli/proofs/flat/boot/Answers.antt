@@ -12,8 +12,9 @@ returns-in_err-machine g c =
 
 pub returns : goal.returns
 returns g c =
-    let fresh = fresh_flat c.args.pages.now c.in_ok-machine.machine c.in_ok-machine.ensures.start in
-    let it : IsFresh (record { machine = c.in_ok-machine.machine; script = c.rounds-script.result; events = c.args.events }) = record { events = c.requires.events; counts = fresh.0; console = fresh.1 } in
+    let new = c.in_ok-machine.ensures.new in
+    let fresh = fresh_flat c.args.pages.now c.args.wanted c.in_ok-machine.machine new in
+    let it : IsFresh (record { machine = c.in_ok-machine.machine; script = c.rounds-script.result; events = c.args.events }) = record { events = c.requires.events; state = record { state = _; stands = new.stands }; counts = fresh.0; console = fresh.1 } in
     let events : first_events c.args.events c.rounds-script.result ≡ flat_events c.args.events = ap (λ (s : Schedule). first_events c.args.events s) c.rounds-script.ensures in
     booted_ready c.args.pages.now c.args.wanted (flat_events c.args.events) (Ok (record { machine = c.in_ok-machine.machine; script = c.rounds-script.result; events = c.args.events }))
-    c.in_ok-machine.ensures.measured (c.in_ok-machine.ensures.start, events, it)
+    c.in_ok-machine.ensures.measured (new, events, it)
