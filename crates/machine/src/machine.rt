@@ -12,8 +12,8 @@ use crate::parts::Parts;
 use std::marker::Model;
 use sv_types::{Counts, Event, Note, Verdict};
 
-/// Harts with the hypervisor extension, host memory and devices, under SecVisor. Contracts see the machine. It can't be
-/// dropped: `end` frees what a load under way holds.
+/// Harts with the hypervisor extension, host memory and devices, under SecVisor. Contracts see the machine. It can be
+/// dropped at any moment.
 pub struct Machine {
     pub(crate) parts: Parts,
 }
@@ -89,9 +89,11 @@ impl Machine {
     {
         self.parts.cpu.count()
     }
+}
 
-    /// Drops the machine.
-    pub fn end(self) {
+impl Drop for Machine {
+    // A load under way frees its pages.
+    fn drop(self) {
         let Machine { parts } = self;
         parts.end();
     }

@@ -1,4 +1,0 @@
-pub mod RunLemmas
-pub mod Growth
-mod PageLemmas
-mod EffectLemmas
