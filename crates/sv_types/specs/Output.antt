@@ -25,9 +25,6 @@ hexadecimal_bytes (b ∷ bs) = digit_char (b / 16) ∷ digit_char (b % 16) ∷ h
 unfoldable pub address_text : ℕ → List ℕ
 address_text a = codes "0x" ++ hexadecimal 16 a
 
-unfoldable pub word_text : ℕ → List ℕ
-word_text w = codes "0x" ++ hexadecimal 8 w
-
 -- ---- counts
 
 unfoldable pub notes_line : Counts → List ℕ

@@ -73,7 +73,3 @@ by_width width n numeral is =
 -- a number of 64 bits, by 16 digits
 pub sixteen_digits : (n : ℕ) → n < 2 ^ 64 → padded_integral (format_spec 32 0 4 16 (2 ^ 64 - 1)) false [] (digits 16 false n) ≡ hexadecimal 16 n
 sixteen_digits n small = by_width 16 n (digits 16 false n) (shown 15 n (omega arith) (omega arith))
-
--- a number of 32 bits, by 8
-pub eight_digits : (n : ℕ) → n < 2 ^ 32 → padded_integral (format_spec 32 0 4 8 (2 ^ 64 - 1)) false [] (digits 16 false n) ≡ hexadecimal 8 n
-eight_digits n small = by_width 8 n (digits 16 false n) (shown 7 n (omega arith) (omega arith))

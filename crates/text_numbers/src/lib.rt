@@ -1,4 +1,4 @@
-//! Numbers as text: whole ones by decimal digits, addresses, words and digests by hexadecimal ones.
+//! Numbers as text: whole ones by decimal digits, addresses and digests by hexadecimal ones.
 #![tactic(auto)]
 
 mod addresses;
@@ -11,4 +11,4 @@ mod tests;
 pub use addresses::address_of;
 pub use decimals::number_within;
 pub use digests::digest_of;
-pub use printed::{address_text, digest_text, word_text};
+pub use printed::{address_text, digest_text};

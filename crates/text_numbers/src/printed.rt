@@ -1,4 +1,4 @@
-// Addresses, words and digests as they are printed.
+// Addresses and digests as they are printed.
 
 ghost use Rattle.std.specs.Prelude.{◌≡◌, IfOk, string_bytes};
 ghost use Rattle.sv_types.specs.Output as spec;
@@ -11,14 +11,6 @@ pub fn address_text(alloc: Global, address: u64) -> Result<String, AllocError>
     ensures { IfOk result (λ t. string_bytes t ≡ spec.address_text address) }
 {
     format!(in alloc; "0x{address:016x}")
-}
-
-/// `0x` and the 8 hexadecimal digits of an instruction word, in lower case.
-#[tactic(auto, using(crate::proofs::HexadecimalPrinted::eight_digits), unfolding(sv_types::specs::Output::word_text))]
-pub fn word_text(alloc: Global, word: u32) -> Result<String, AllocError>
-    ensures { IfOk result (λ t. string_bytes t ≡ spec.word_text word) }
-{
-    format!(in alloc; "0x{word:08x}")
 }
 
 /// The 64 hexadecimal digits of a digest, in lower case.

@@ -1,4 +1,4 @@
-use super::{address_of, address_text, digest_of, digest_text, number_within, word_text};
+use super::{address_of, address_text, digest_of, digest_text, number_within};
 use std::test::Fail;
 
 const MOST: u64 = u64::MAX;
@@ -243,8 +243,6 @@ fn printed_texts(rt: HostRuntime) -> Result<(), Fail> {
         address_text(rt.alloc(), MOST)?.as_str(),
         "0xffffffffffffffff"
     );
-    assert_eq!(rt; word_text(rt.alloc(), 0x73)?.as_str(), "0x00000073");
-    assert_eq!(rt; word_text(rt.alloc(), u32::MAX)?.as_str(), "0xffffffff");
     assert_eq!(rt;
         digest_text(rt.alloc(), &BYTES)?.as_str(),
         "00112233445566778899aabbccddeeff00112233445566778899aabbccddeeff"
