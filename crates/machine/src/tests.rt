@@ -19,18 +19,9 @@ fn plain_pages_start_where_their_measure_is_wanted(rt: HostRuntime) -> Result<()
     let pages = zeros_of(rt.alloc(), 8192)?;
     let wanted = measure(&rt, rt.alloc(), &pages, &Silent)?;
     let machine = Machine::flat(&rt, rt.alloc(), &pages, wanted)?;
-    let verdict = machine.verdict();
-    let attempts = machine.attempts();
-    machine.end();
-    assert_eq!(rt; verdict, Verdict::Running);
-    assert_eq!(rt; attempts, 0);
-    let refusal = match Machine::flat(&rt, rt.alloc(), &pages, [7; 32]) {
-        Ok(machine) => {
-            machine.end();
-            None
-        }
-        Err(refusal) => Some(refusal),
-    };
+    assert_eq!(rt; machine.verdict(), Verdict::Running);
+    assert_eq!(rt; machine.attempts(), 0);
+    let refusal = Machine::flat(&rt, rt.alloc(), &pages, [7; 32]).err();
     assert_eq!(rt;
         refusal,
         Some(BootRefusal::Measure {

@@ -466,7 +466,7 @@ fn module_text(alloc: Global, name: &str, sites: u32) -> Result<String, AllocErr
 // So many sites of the third module, and the number that refuses the policy, 0 where it is good.
 #[derive(Clone, Copy, Drop)]
 struct SitesRow {
-    sites: usize,
+    sites: u32,
     number: u8,
 }
 
