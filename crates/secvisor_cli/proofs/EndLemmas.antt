@@ -131,6 +131,20 @@ ran_writes first start m events old mid new (Err e) ran w =
       memory = λ is. w.memory is ∙ ap (λ (k : SinkState). k.faults) ran.taken;
     }
 
+-- a run's end under another word for want of memory
+pub runs_under : (P Q : Type 0) (start : State) (events : List Event) (m : Machine) (old new : SinkState) → (Q → P) → RunsTo P start events m old new → RunsTo Q start events m old new
+runs_under P Q start events m old new back r = record {
+  done = r.done;
+  left = r.left;
+  split = r.split;
+  cleared = r.cleared;
+  stands = r.stands;
+  first = r.first;
+  reaches = r.reaches;
+  rest = r.rest;
+  quiet = λ q. r.quiet (back q);
+}
+
 -- the status of a run is neither a write fault nor want of memory
 pub run_is_answer : (v : Verdict) → IsTrue (is_answer (run_status v))
 run_is_answer Running = refl

@@ -2,8 +2,8 @@
 use Rattle.std.proofs.Common.{◌≡◌, ◌≢◌, ℕ, ◌<◌, ◌≤◌, List, [], ◌∷◌, Bool, IsTrue, refl, sym, ◌∙◌, ap, subst, arith, inl, inr, ◌⊎◌, Option, Some, None}
 use Rattle.sv_types.specs.declared.status.Status.{Status}
 use Rattle.outside.specs.Outside.{FilesState, after_asking}
-use Rattle.secvisor_cli.specs.Plans.{Due, Plan, End, Read, Found, Faulty, Missing, Longer, Held, status_due}
-use Rattle.secvisor_cli.specs.Reading.{MayFollow, FoundAs, Follows, IsNamed}
+use Rattle.secvisor_cli.specs.Plans.{Due, Saving, saves_due, Plan, End, Read, Found, Faulty, Missing, Longer, Held, status_due}
+use Rattle.secvisor_cli.specs.Reading.{MayFollow, MaySave, FoundAs, Follows, IsNamed, IsUnder, SavesUnder}
 
 -- ---- one read
 
@@ -99,8 +99,45 @@ read_fault (Read name limit next) old new due never (inl wanting) is = absurd (c
 read_fault (Read name limit next) old new due never (inr it) is =
     fault_by name limit next old it.1 new due it.0 it.2 never (follows_keeps (next it.0) it.1 new (Some due) it.3) (λ h. read_fault (next it.0) it.1 new due h it.3 is)
 
+-- ---- what may be saved at the end
+
+-- the count of reads says nothing of what may be asked for
+save_at_count : (asked : Option Saving) (files : FilesState) (n : ℕ) → MaySave asked files → MaySave asked (record files { read_faults = n })
+save_at_count None files n may = tt
+save_at_count (Some saving) files n may = may
+
+follow_at_count : (plan : Plan) (files : FilesState) (n : ℕ) → MayFollow plan files → MayFollow plan (record files { read_faults = n })
+follow_at_count (End due) files n may = save_at_count (saves_due due) files n may
+follow_at_count (Read name limit next) files n may = (may.0, λ found. follow_at_count (next found) (after_asking name files) n (may.1 found))
+
+follow_found : (plan : Plan) (old now : FilesState) (name : List ℕ) (limit : ℕ) (found : Found) → FoundAs old now name limit found → MayFollow plan (after_asking name old) → MayFollow plan now
+follow_found plan old now name limit Faulty it may = subst (λ (f : FilesState). MayFollow plan f) (sym it.1) (follow_at_count plan (after_asking name old) now.read_faults may)
+follow_found plan old now name limit Missing it may = subst (λ (f : FilesState). MayFollow plan f) (sym it.2) may
+follow_found plan old now name limit Longer it may = subst (λ (f : FilesState). MayFollow plan f) (sym it.1) may
+follow_found plan old now name limit (Held bytes) it may = subst (λ (f : FilesState). MayFollow plan f) (sym it.2) may
+
+pub may_save : (plan : Plan) (old read : FilesState) (due : Due) → MayFollow plan old → Follows plan old read (Some due) → MaySave (saves_due due) read
+may_save (End it) old read due may follows =
+    subst (λ (d : Due). MaySave (saves_due d) read) (sym (due_same due it follows.0))
+    (subst (λ (f : FilesState). MaySave (saves_due it) f) (sym follows.1) may)
+may_save (Read name limit next) old read due may (inl wanting) = absurd (cc wanting.0)
+may_save (Read name limit next) old read due may (inr it) =
+    may_save (next it.0) it.1 read due (follow_found (next it.0) old it.1 name limit it.0 it.2 (may.1 it.0)) it.3
+
+-- what is due at the end is saved under a name of the plan
+pub saves_under : (plan : Plan) (old read : FilesState) (due : Due) (name : List ℕ) → Follows plan old read (Some due) → IsUnder (saves_due due) name → SavesUnder plan name
+saves_under (End it) old read due name follows under = subst (λ (d : Due). IsUnder (saves_due d) name) (due_same due it follows.0) under
+saves_under (Read asked limit next) old read due name (inl wanting) under = absurd (cc wanting.0)
+saves_under (Read asked limit next) old read due name (inr it) under = (it.0, saves_under (next it.0) it.1 read due name it.3 under)
+
 -- ---- files of which any name may be asked for
 
-pub may_follow : (plan : Plan) (files : FilesState) → ((names : List (List ℕ)) → IsTrue (files.permits names)) → MayFollow plan files
-may_follow (End due) files all = tt
-may_follow (Read name limit next) files all = (all (name ∷ []), λ found. may_follow (next found) (after_asking name files) (λ names. all (name ∷ names)))
+may_save_any : (asked : Option Saving) (files : FilesState) → ((name bytes : List ℕ) → IsTrue (files.permits_save name bytes)) → MaySave asked files
+may_save_any None files saves = tt
+may_save_any (Some saving) files saves = saves saving.name saving.bytes
+
+pub may_follow : (plan : Plan) (files : FilesState) → ((names : List (List ℕ)) → IsTrue (files.permits names)) →
+    ((name bytes : List ℕ) → IsTrue (files.permits_save name bytes)) → MayFollow plan files
+may_follow (End due) files all saves = may_save_any (saves_due due) files saves
+may_follow (Read name limit next) files all saves =
+    (all (name ∷ []), λ found. may_follow (next found) (after_asking name files) (λ names. all (name ∷ names)) saves)

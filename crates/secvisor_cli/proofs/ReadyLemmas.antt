@@ -1,14 +1,21 @@
 -- What is made ready, by the plan's shape.
-use Rattle.std.proofs.Common.{◌≡◌, ◌≢◌, ℕ, List, [], true, false, refl, sym, ◌∙◌, ap, subst, arith, rules, inl, inr, Some, None, Result, Ok, Err, IsErrAnd, if◌then◌else◌}
+use Rattle.std.proofs.Common.{◌≡◌, ◌≢◌, ◌+◌, ◌%◌, ℕ, suc, List, ◌∷◌, ◌++◌, map, length, append_assoc, [], true, false, refl, sym, ◌∙◌, ap, subst, arith, rules, inl, inr, Some, None, Result, Ok, Err, IsErrAnd, if◌then◌else◌}
+use Rattle.std.specs.Option.{option_copied}
 use Rattle.std.specs.Str.{bytes_eq}
+use Rattle.std.proofs.lemmas.List.{append-nil}
 use Rattle.std.proofs.lemmas.Slice.Eq.{bytes_eq-Decides}
 use Rattle.sv_types.specs.declared.event.Event.{Event}
+use Rattle.sv_types.specs.Policies.{Rules}
 use Rattle.reference.specs.Counting.{CountsAtMost}
+use Rattle.reference.specs.States.{State}
 use Rattle.machine_model.specs.Machine.{Machine}
 use Rattle.machine_model.specs.Reaches.{IsNew}
+use Rattle.sv_types.specs.ApprovedPages.{numbers_from}
+use Rattle.sv_types.specs.Schedule.{Schedule, first_events}
+use Rattle.guest_gen.specs.Generated.{generated_image, generated_policy}
 use Rattle.sv_types.specs.Measure.{measure}
 use Rattle.sv_types.specs.Boot.{no_counts}
-use Rattle.reference.specs.Start.{start, flat_start}
+use Rattle.reference.specs.Start.{start, flat_start, boot_start}
 use Rattle.outside.specs.Outside.{FilesState}
 use Rattle.machine.specs.declared.boot.BootRefusal.{BootRefusal}
 use Rattle.machine.specs.Boot.{RefusesFlat}
@@ -18,7 +25,8 @@ use Rattle.secvisor_cli.specs.declared.refusal.Refusal.TheVariants.{ReadFault, F
 use Rattle.secvisor_cli.specs.declared.ready.Ready.{Ready}
 use Rattle.secvisor_cli.specs.declared.ready.Stop.{Stop}
 use Rattle.secvisor_cli.specs.declared.ready.Stop.TheVariants.{Refused, Memory}
-use Rattle.secvisor_cli.specs.Plans.{Due, Refuse, RunFrom, Plan, End, Found, Faulty, Missing, Longer, Held, found_plan, read_part, measure_judged, pages_judged, is_whole_pages}
+use Rattle.secvisor_cli.specs.CommandLine.{most_events}
+use Rattle.secvisor_cli.specs.Plans.{Due, Refuse, RunFrom, Plan, End, Found, Faulty, Missing, Longer, Held, found_plan, read_part, measure_judged, pages_judged, is_whole_pages, gen_disk, gen_due}
 use Rattle.secvisor_cli.specs.Reading.{FoundAs}
 use Rattle.secvisor_cli.proofs.Standing.{counts_are, printed_few}
 use Rattle.secvisor_cli.specs.Ready.{unread, PartRead, stop_of, IsReady, Prepares}
@@ -77,41 +85,50 @@ bytes_eq-same xs = search (rules, bytes_eq-Decides)
 bytes_eq-other : (xs ys : List ℕ) → xs ≢ ys → bytes_eq xs ys ≡ false
 bytes_eq-other xs ys other = search (rules, bytes_eq-Decides)
 
-measured_run : (pages wanted : List ℕ) (events : List Event) → measure pages ≡ wanted → measure_judged pages wanted events ≡ RunFrom (flat_start pages wanted) events
+measured_run : (pages wanted : List ℕ) (events : List Event) → measure pages ≡ wanted → measure_judged pages wanted events ≡ RunFrom (flat_start pages wanted) events None
 unfolding measure_judged
 measured_run pages wanted events same =
-    ap (λ b. if b then RunFrom (flat_start pages wanted) events else Refuse (Measure (measure pages) wanted))
+    ap (λ b. if b then RunFrom (flat_start pages wanted) events None else Refuse (Measure (measure pages) wanted))
     (ap (λ (w : List ℕ). bytes_eq (measure pages) w) (sym same) ∙ bytes_eq-same (measure pages))
 
 measured_other : (pages wanted : List ℕ) (events : List Event) → measure pages ≢ wanted → measure_judged pages wanted events ≡ Refuse (Measure (measure pages) wanted)
 unfolding measure_judged
 measured_other pages wanted events other =
-    ap (λ b. if b then RunFrom (flat_start pages wanted) events else Refuse (Measure (measure pages) wanted)) (bytes_eq-other (measure pages) wanted other)
+    ap (λ b. if b then RunFrom (flat_start pages wanted) events None else Refuse (Measure (measure pages) wanted)) (bytes_eq-other (measure pages) wanted other)
 
 -- a booted machine that has made no event
+none_counted : CountsAtMost 0 no_counts
+none_counted = record {
+  turns = omega arith;
+  beats = omega arith;
+  keys = omega arith;
+  ticks = omega arith;
+  retired = omega arith;
+  traps = omega arith;
+  enters = omega arith;
+  leaves = omega arith;
+  demotes = omega arith;
+  denied = omega arith;
+  dropped = omega arith;
+  loads = omega arith;
+  unloads = omega arith;
+  refused = omega arith;
+  notes = omega arith;
+}
+
+fresh_state : (s : State) (m : Machine) → s.journal.counts ≡ no_counts → s.journal.printed ≡ [] → IsNew m s → CountsAtMost 0 m.journal.counts × (m.journal.printed ≡ [])
+fresh_state s m counts printed new =
+    (subst (λ c. CountsAtMost 0 c) (sym (counts_are m s new.stands ∙ counts)) none_counted, printed_few m s new.stands printed)
+
 pub fresh_flat : (pages wanted : List ℕ) (m : Machine) → IsNew m (flat_start pages wanted) → CountsAtMost 0 m.journal.counts × (m.journal.printed ≡ [])
 unfolding flat_start start
-fresh_flat pages wanted m new =
-    let none : CountsAtMost 0 no_counts = record {
-      turns = omega arith;
-      beats = omega arith;
-      keys = omega arith;
-      ticks = omega arith;
-      retired = omega arith;
-      traps = omega arith;
-      enters = omega arith;
-      leaves = omega arith;
-      demotes = omega arith;
-      denied = omega arith;
-      dropped = omega arith;
-      loads = omega arith;
-      unloads = omega arith;
-      refused = omega arith;
-      notes = omega arith;
-    } in
-    (subst (λ c. CountsAtMost 0 c) (sym (counts_are m (flat_start pages wanted) new.stands)) none, printed_few m (flat_start pages wanted) new.stands refl)
+fresh_flat pages wanted m new = fresh_state (flat_start pages wanted) m refl refl new
 
-pub booted_ready : (pages wanted : List ℕ) (events : List Event) (result : Result Ready Stop) → measure pages ≡ wanted → IsReady (RunFrom (flat_start pages wanted) events) result →
+pub fresh_boot : (rules : Rules) (file disk : List ℕ) (m : Machine) → IsNew m (boot_start rules file disk) → CountsAtMost 0 m.journal.counts × (m.journal.printed ≡ [])
+unfolding boot_start start
+fresh_boot rules file disk m new = fresh_state (boot_start rules file disk) m refl refl new
+
+pub booted_ready : (pages wanted : List ℕ) (events : List Event) (result : Result Ready Stop) → measure pages ≡ wanted → IsReady (RunFrom (flat_start pages wanted) events None) result →
     IsReady (measure_judged pages wanted events) result
 booted_ready pages wanted events result same ready = subst (λ (d : Due). IsReady d result) (sym (measured_run pages wanted events same)) ready
 
@@ -119,7 +136,7 @@ booted_ready pages wanted events result same ready = subst (λ (d : Due). IsRead
 boot_wants : (pages wanted : List ℕ) (events : List Event) → IsReady (measure_judged pages wanted events) (Err Memory)
 unfolding measure_judged
 boot_wants pages wanted events =
-    elim (bytes_eq (measure pages) wanted) as (λ b. IsReady (if b then RunFrom (flat_start pages wanted) events else Refuse (Measure (measure pages) wanted)) (Err Memory)) [
+    elim (bytes_eq (measure pages) wanted) as (λ b. IsReady (if b then RunFrom (flat_start pages wanted) events None else Refuse (Measure (measure pages) wanted)) (Err Memory)) [
       | true ↦ refl
       | false ↦ refl
     ]
@@ -142,3 +159,47 @@ pub part_of_pages : (bytes wanted : List ℕ) (events : List Event) → is_whole
 unfolding pages_judged
 part_of_pages bytes wanted events part =
     subst (λ b. IsReady (if b then measure_judged bytes wanted events else Refuse (File Part.Flat 1)) (Err (Refused (File Part.Flat 1)))) (sym part) refl
+
+-- ---- gen
+
+pub gen_ready : (calls : ℕ) (ready : Ready) → IsNew ready.machine (boot_start (generated_policy calls) (generated_image calls) gen_disk) →
+    ready.events ≡ most_events → ready.script ≡ Schedule.Weave 0 → ready.save ≡ None → IsReady (gen_due calls) (Ok ready)
+unfolding gen_due
+gen_ready calls ready new events script save =
+    let fresh = fresh_boot (generated_policy calls) (generated_image calls) gen_disk ready.machine new in (
+      new,
+      ap (λ (n : ℕ). first_events n ready.script) events ∙ ap (λ (s : Schedule). first_events most_events s) script,
+      ap option_copied save,
+      record {
+        events = omega arith;
+        state = record { state = _; stands = new.stands };
+        counts = fresh.0;
+        console = fresh.1;
+      },
+    )
+
+pub gen_wants : (calls : ℕ) → IsReady (gen_due calls) (Err Memory)
+unfolding gen_due
+gen_wants calls = refl
+
+-- ---- the disk of the generated guest
+
+-- the bytes of so many places from one on
+unfoldable pub bytes_from : ℕ → ℕ → List ℕ
+bytes_from place count = map (λ p. p % 256) (numbers_from place count)
+
+pub disk_begun : bytes_from 0 1024 ≡ gen_disk
+unfolding bytes_from gen_disk
+disk_begun = refl
+
+pub disk_more : (items : List ℕ) (place left : ℕ) → items ++ bytes_from place (suc left) ≡ gen_disk → (items ++ (place % 256) ∷ []) ++ bytes_from (place + 1) left ≡ gen_disk
+unfolding bytes_from
+disk_more items place left whole = append_assoc items ((place % 256) ∷ []) (bytes_from (place + 1) left) ∙ whole
+
+pub disk_all : (items : List ℕ) (place : ℕ) → items ++ bytes_from place 0 ≡ gen_disk → items ≡ gen_disk
+unfolding bytes_from
+disk_all items place whole = sym (append-nil items) ∙ whole
+
+pub disk_sectors : length gen_disk % 512 ≡ 0
+unfolding gen_disk
+disk_sectors = refl

@@ -197,6 +197,10 @@ stands_printed m r cleared s =
 pub stands_verdict : (m : Machine) (r : State) (cleared : List ℕ) → Stands m cleared r → m.journal.verdict ≡ r.journal.verdict
 stands_verdict m r cleared s = verdict_is m r s.stands
 
+pub stands_disk : (m : Machine) (r : State) (cleared : List ℕ) → Stands m cleared r → m.devices.disk.bytes ≡ r.devices.disk.bytes
+unfolding machine_of
+stands_disk m r cleared s = ap (λ (x : Machine). x.devices.disk.bytes) s.stands.same
+
 -- all that is printed of the state, in two parts
 pub stands_output : (m : Machine) (r : State) (cleared : List ℕ) → Stands m cleared r → cleared ++ machine_output m ≡ output r
 stands_output m r cleared s =

@@ -1,5 +1,6 @@
 -- From what is ready to what is answered, and from the answer with its trouble to the status.
-use Rattle.std.proofs.Common.{◌≡◌, ◌≢◌, ℕ, ◌≤◌, List, Bool, true, false, IsTrue, refl, sym, ap, subst, arith, inl, inr, ◌⊎◌, Option, Some, None, Result, Ok, Err, IsErrOf, if◌then◌else◌}
+use Rattle.std.proofs.Common.{◌≡◌, ◌≢◌, ℕ, ◌≤◌, List, Bool, true, false, IsTrue, refl, sym, ◌∙◌, ap, subst, arith, inl, inr, ◌⊎◌, Option, Some, None, Result, Ok, Err, IsErrOf, if◌then◌else◌}
+use Rattle.std.specs.Option.{option_copied}
 use Rattle.std.specs.Result.{is_ok}
 use Rattle.std.specs.List.{list_any}
 use Rattle.std.specs.Str.{bytes_eq}
@@ -7,14 +8,15 @@ use Rattle.sv_types.specs.declared.event.Event.{Event}
 use Rattle.sv_types.specs.declared.event.Verdict.{Verdict}
 use Rattle.sv_types.specs.declared.event.Verdict.TheVariants.{Running, Shutdown, Stopped}
 use Rattle.sv_types.specs.declared.status.Status.{Status}
-use Rattle.reference.specs.Start.{flat_start}
+use Rattle.reference.specs.Start.{flat_start, boot_start}
+use Rattle.guest_gen.specs.Generated.{generated_image, generated_policy}
 use Rattle.sv_types.specs.Measure.{measure}
 use Rattle.sv_types.specs.Output.{run_status}
 use Rattle.reference.specs.States.{State}
 use Rattle.reference.specs.Run.{run}
 use Rattle.machine_model.specs.Machine.{Machine}
 use Rattle.machine_model.specs.Reaches.{IsNew}
-use Rattle.sv_types.specs.Schedule.{first_events}
+use Rattle.sv_types.specs.Schedule.{Schedule, first_events}
 use Rattle.outside.specs.Outside.{FilesState, SinkState}
 use Rattle.outside.proofs.SinkLemmas.{prefix_none}
 use Rattle.secvisor_cli.specs.declared.refusal.Refusal.{Refusal}
@@ -28,12 +30,14 @@ use Rattle.secvisor_cli.specs.declared.trouble.Trouble.{Trouble}
 use Rattle.secvisor_cli.specs.declared.trouble.Trouble.TheVariants.{Write, Memory}
 use Rattle.secvisor_cli.specs.Refusals.{refusal_line, refusal_status, takes_memory}
 use Rattle.sv_types.specs.Numbers.{number_within, digest_of}
-use Rattle.secvisor_cli.specs.CommandLine.{Command, has_dash, word_at, most_events, flat_file, flat_words, is_flat, judged}
-use Rattle.secvisor_cli.specs.Plans.{Due, Refuse, RunFrom, Plan, bytes_due, status_due, found_plan, flat_plan, plan_of, measure_judged, pages_judged, is_whole_pages, flat_events}
-use Rattle.secvisor_cli.specs.Reading.{Follows}
-use Rattle.secvisor_cli.specs.Ready.{IsReady, IsReadyWhere, IsFresh, Prepares}
-use Rattle.secvisor_cli.specs.Answers.{Outside, outside, Writes, Answers, AnswersReached, Performs, Meets, MeetsReached, Headline, BenchAfter, is_answer, may_want, settled}
-use Rattle.secvisor_cli.proofs.PlanLemmas.{HasFoundFaults, HasFault, read_fault}
+use Rattle.secvisor_cli.specs.CommandLine.{Command, has_dash, word_at, most_events, most_calls, flat_file, flat_words, is_flat, gen_words, is_gen, judged}
+use Rattle.secvisor_cli.specs.Plans.{Due, Refuse, RunFrom, Saving, saves_due, Plan, End, bytes_due, status_due, found_plan, flat_plan, plan_of, measure_judged, pages_judged, is_whole_pages, flat_events, gen_due, gen_disk}
+use Rattle.secvisor_cli.specs.Reading.{Follows, MayFollow, MaySave, SavesUnder}
+use Rattle.secvisor_cli.specs.Ready.{IsReady, IsReadyWhere, IsFresh, MaySaveRun, Prepares}
+use Rattle.secvisor_cli.specs.Answers.{Outside, outside, Writes, SavedBehind, Answers, AnswersReached, Performs, MeetsSaves, Meets, MeetsReached, Headline, BenchAfter, may_want, settled}
+use Rattle.secvisor_cli.proofs.EndLemmas.{runs_under}
+use Rattle.secvisor_cli.proofs.PlanLemmas.{HasFoundFaults, HasFault, Keeps, follows_keeps, may_save, read_fault, saves_under}
+use Rattle.secvisor_cli.proofs.SaveLemmas.{Changes, Wrote, changes, unchanged, not_saved, no_memory, wrote, meets_saves, meets_faults}
 
 -- ---- want of memory
 
@@ -49,16 +53,22 @@ wanting_writes due bytes sink = record {
 
 wanting_bench : (due : Due) (sink : SinkState) (bench : Option Machine) → BenchAfter (IsErrOf {T = Status} (Err Memory) Memory) due sink sink bench bench
 wanting_bench (Refuse refusal) sink bench = refl
-wanting_bench (RunFrom start events) sink bench = inl (refl, refl, refl)
+wanting_bench (RunFrom start events save) sink bench = inl (refl, refl, refl)
 
 wants_due : (due : Due) → IsReady due (Err stop.Memory) → IsTrue (may_want due)
 wants_due (Refuse refusal) it = it
-wants_due (RunFrom start events) it = it
+wants_due (RunFrom start events save) it = it
 
-pub wanting_answers : (reached : Option Due) (sink : SinkState) (bench : Option Machine) → IsReadyWhere reached (Err stop.Memory) → AnswersReached reached sink sink bench bench (Err Memory)
-wanting_answers None sink bench it = (refl, refl, refl)
-wanting_answers (Some due) sink bench it = record {
+wanting_saves : (asked : Option Saving) (files : FilesState) → SavedBehind asked files files (Err Memory) (Err Memory)
+wanting_saves asked files = not_saved asked files Memory
+
+pub wanting_answers : (reached : Option Due) (files : FilesState) (sink : SinkState) (bench : Option Machine) → IsReadyWhere reached (Err stop.Memory) →
+    AnswersReached reached (outside files sink bench) (outside files sink bench) (Err Memory)
+wanting_answers None files sink bench it = (refl, refl)
+wanting_answers (Some due) files sink bench it = record {
+  written = Err Memory;
   writes = wanting_writes (status_due due) (bytes_due due) sink;
+  saves = wanting_saves (saves_due due) files;
   wants = λ _. wants_due due it;
   bench = wanting_bench due sink bench;
 }
@@ -68,103 +78,120 @@ wanting_answers (Some due) sink bench it = record {
 pub is_fresh : (reached : Option Due) (ready : Ready) → IsReadyWhere reached (Ok ready) → IsFresh ready
 is_fresh None ready it = absurd (cc it)
 is_fresh (Some (Refuse refusal)) ready it = absurd it
-is_fresh (Some (RunFrom start events)) ready it = it.2
+is_fresh (Some (RunFrom start events save)) ready it = it.3
 
-pub ready_answers : (reached : Option Due) (ready : Ready) (old new : SinkState) (b0 b1 : Option Machine) (result : Result Status Trouble) → IsReadyWhere reached (Ok ready) →
-    ((start : State) → IsNew ready.machine start → Answers (RunFrom start (first_events ready.events ready.script)) old new b0 b1 result) → AnswersReached reached old new b0 b1 result
-ready_answers None ready old new b0 b1 result it a = absurd (cc it)
-ready_answers (Some (Refuse refusal)) ready old new b0 b1 result it a = absurd it
-ready_answers (Some (RunFrom start events)) ready old new b0 b1 result it a =
-    subst (λ (es : List Event). Answers (RunFrom start es) old new b0 b1 result) it.1 (a start it.0)
+may_where : (reached : Option Due) (ready : Ready) (files : FilesState) → IsReadyWhere reached (Ok ready) → ((due : Due) → reached ≡ Some due → MaySave (saves_due due) files) →
+    MaySaveRun ready.machine (first_events ready.events ready.script) (option_copied ready.save) files
+may_where None ready files it may = absurd (cc it)
+may_where (Some (Refuse refusal)) ready files it may = absurd it
+may_where (Some (RunFrom start events save)) ready files it may = record {
+  start = start;
+  new = it.0;
+  may =
+      subst (λ (es : List Event). MaySave (saves_due (RunFrom start es (option_copied ready.save))) files) (sym it.1)
+      (subst (λ (name : Option (List ℕ)). MaySave (saves_due (RunFrom start events name)) files) (sym it.2) (may (RunFrom start events save) refl));
+}
 
-pub refused_answers : (reached : Option Due) (given : Refusal) (old new : SinkState) (bench : Option Machine) (result : Result Status Trouble) → IsReadyWhere reached (Err (Refused given)) →
-    Writes (refusal_status given) (refusal_line given) old new result → (IsErrOf result Memory → IsTrue (takes_memory given)) → AnswersReached reached old new bench bench result
-refused_answers None given old new bench result it w wants = absurd (cc it)
-refused_answers (Some (Refuse refusal)) given old new bench result it w wants =
-    subst (λ (r : Refusal). Answers (Refuse r) old new bench bench result) it (record { writes = w; wants = wants; bench = refl })
-refused_answers (Some (RunFrom start events)) given old new bench result it w wants = absurd it
+pub may_save_run : (plan : Plan) (old read : FilesState) (ready : Ready) → MayFollow plan old → Prepares plan old read (Ok ready) →
+    MaySaveRun ready.machine (first_events ready.events ready.script) (option_copied ready.save) read
+may_save_run plan old read ready may p =
+    may_where p.reached ready read p.ready
+    (λ due is. may_save plan old read due may (subst (λ (reached : Option Due). Follows plan old read reached) is p.follows))
 
-pub performs : (plan : Plan) (f0 f1 : FilesState) (ready : Result Ready Stop) (old new : SinkState) (b0 b1 : Option Machine) (result : Result Status Trouble) → (p : Prepares plan f0 f1 ready) →
-    AnswersReached p.reached old new b0 b1 result → Performs plan (outside f0 old b0) (outside f1 new b1) result
-performs plan f0 f1 ready old new b0 b1 result p a = record { reached = p.reached; follows = p.follows; answers = a }
+pub ready_answers : (reached : Option Due) (ready : Ready) (old new : Outside) (result : Result Status Trouble) → IsReadyWhere reached (Ok ready) →
+    ((start : State) → IsNew ready.machine start → Answers (RunFrom start (first_events ready.events ready.script) (option_copied ready.save)) old new result) →
+    AnswersReached reached old new result
+ready_answers None ready old new result it a = absurd (cc it)
+ready_answers (Some (Refuse refusal)) ready old new result it a = absurd it
+ready_answers (Some (RunFrom start events save)) ready old new result it a =
+    subst (λ (name : Option (List ℕ)). Answers (RunFrom start events name) old new result) it.2
+    (subst (λ (es : List Event). Answers (RunFrom start es (option_copied ready.save)) old new result) it.1 (a start it.0))
+
+pub refused_answers : (reached : Option Due) (given : Refusal) (files : FilesState) (old new : SinkState) (bench : Option Machine) (result : Result Status Trouble) →
+    IsReadyWhere reached (Err (Refused given)) → Writes (refusal_status given) (refusal_line given) old new result → (IsErrOf result Memory → IsTrue (takes_memory given)) →
+    AnswersReached reached (outside files old bench) (outside files new bench) result
+refused_answers None given files old new bench result it w wants = absurd (cc it)
+refused_answers (Some (Refuse refusal)) given files old new bench result it w wants =
+    subst (λ (r : Refusal). Answers (Refuse r) (outside files old bench) (outside files new bench) result) it
+    (record { written = result; writes = w; saves = (refl, refl); wants = wants; bench = refl })
+refused_answers (Some (RunFrom start events save)) given files old new bench result it w wants = absurd it
+
+pub performs : (plan : Plan) (f0 f1 f2 : FilesState) (ready : Result Ready Stop) (old new : SinkState) (b0 b1 : Option Machine) (result : Result Status Trouble) → (p : Prepares plan f0 f1 ready) →
+    AnswersReached p.reached (outside f1 old b0) (outside f2 new b1) result → Performs plan (outside f0 old b0) (outside f2 new b1) result
+performs plan f0 f1 f2 ready old new b0 b1 result p a = record { reached = p.reached; read = f1; follows = p.follows; answers = a }
 
 -- ---- the status
 
 bench_under : (P Q : Type 0) (due : Due) (old new : SinkState) (b0 b1 : Option Machine) → (P → Q) → (Q → P) → BenchAfter P due old new b0 b1 → BenchAfter Q due old new b0 b1
 bench_under P Q (Refuse refusal) old new b0 b1 f g bench = bench
-bench_under P Q (RunFrom start events) old new b0 b1 f g (inl none) = inl (f none.0, none.1, none.2)
-bench_under P Q (RunFrom start events) old new b0 b1 f g (inr some) =
-    let r = some.2 in
-    inr (some.0, some.1, record { done = r.done; left = r.left; split = r.split; cleared = r.cleared; stands = r.stands; first = r.first; reaches = r.reaches; rest = r.rest; quiet = λ q. r.quiet (g q) })
+bench_under P Q (RunFrom start events save) old new b0 b1 f g (inl none) = inl (f none.0, none.1, none.2)
+bench_under P Q (RunFrom start events save) old new b0 b1 f g (inr some) =
+    inr (some.0, some.1, runs_under P Q start events some.0 old new g some.2)
 
-no_write_fault : IsTrue (is_answer Status.WriteFault) → ⊥
-no_write_fault h = cc h
-
-no_memory : IsTrue (is_answer Status.Memory) → ⊥
-no_memory h = cc h
-
-is_no : (s t : Status) → IsTrue (is_answer s) → (IsTrue (is_answer t) → ⊥) → s ≡ t → ⊥
-is_no s t proper never is = never (subst (λ (u : Status). IsTrue (is_answer u)) is proper)
-
-meets_ok : (due : Due) (old new : SinkState) (b0 b1 : Option Machine) (s : Status) → Answers due old new b0 b1 (Ok s) → Meets due old new b0 b1 s
-meets_ok due old new b0 b1 s a = record {
-  status = λ _. a.writes.status;
-  whole = λ _. a.writes.whole;
-  prefix = a.writes.prefix;
-  write = λ is. absurd (is_no s Status.WriteFault a.writes.proper no_write_fault is);
-  no_write = λ _. ap (λ (k : SinkState). k.faults) a.writes.whole;
-  wants = λ is. absurd (is_no s Status.Memory a.writes.proper no_memory is);
-  bench = bench_under _ _ due old new b0 b1 (λ e. absurd (cc e)) (λ is. absurd (is_no s Status.Memory a.writes.proper no_memory is)) a.bench;
+meets_ok : (due : Due) (old new : Outside) (s : Status) → Answers due old new (Ok s) → Wrote (status_due due) (bytes_due due) old.sink new.sink (Ok s) →
+    MeetsSaves (saves_due due) (bytes_due due) old new s → Meets due old new s
+meets_ok due old new s a w saves = record {
+  status = λ _. w.status;
+  whole = λ _. w.whole;
+  prefix = w.prefix;
+  saves = saves;
+  no_write = λ _. ap (λ (k : SinkState). k.faults) w.whole;
+  wants = λ is. absurd (no_memory s w.proper is);
+  bench = bench_under _ _ due old.sink new.sink old.bench new.bench (λ e. absurd (cc e)) (λ is. absurd (no_memory s w.proper is)) a.bench;
 }
 
-meets_write : (due : Due) (old new : SinkState) (b0 b1 : Option Machine) → Answers due old new b0 b1 (Err Write) → Meets due old new b0 b1 Status.WriteFault
-meets_write due old new b0 b1 a = record {
+meets_write : (due : Due) (old new : Outside) → Answers due old new (Err Write) → Wrote (status_due due) (bytes_due due) old.sink new.sink (Err Write) →
+    MeetsSaves (saves_due due) (bytes_due due) old new Status.WriteFault → Meets due old new Status.WriteFault
+meets_write due old new a w saves = record {
   status = λ t. absurd (cc t);
   whole = λ t. absurd (cc t);
-  prefix = a.writes.prefix;
-  write = λ _. a.writes.write refl;
+  prefix = w.prefix;
+  saves = saves;
   no_write = λ never. absurd (never refl);
   wants = λ e. absurd (cc e);
-  bench = bench_under _ _ due old new b0 b1 (λ e. absurd (cc e)) (λ e. absurd (cc e)) a.bench;
+  bench = bench_under _ _ due old.sink new.sink old.bench new.bench (λ e. absurd (cc e)) (λ e. absurd (cc e)) a.bench;
 }
 
-meets_memory : (due : Due) (old new : SinkState) (b0 b1 : Option Machine) → Answers due old new b0 b1 (Err Memory) → Meets due old new b0 b1 Status.Memory
-meets_memory due old new b0 b1 a = record {
+meets_memory : (due : Due) (old new : Outside) → Answers due old new (Err Memory) → Wrote (status_due due) (bytes_due due) old.sink new.sink (Err Memory) →
+    MeetsSaves (saves_due due) (bytes_due due) old new Status.Memory → Meets due old new Status.Memory
+meets_memory due old new a w saves = record {
   status = λ t. absurd (cc t);
   whole = λ t. absurd (cc t);
-  prefix = a.writes.prefix;
-  write = λ e. absurd (cc e);
-  no_write = λ _. a.writes.memory refl;
+  prefix = w.prefix;
+  saves = saves;
+  no_write = λ _. w.memory refl;
   wants = λ _. a.wants refl;
-  bench = bench_under _ _ due old new b0 b1 (λ _. refl) (λ _. refl) a.bench;
+  bench = bench_under _ _ due old.sink new.sink old.bench new.bench (λ _. refl) (λ _. refl) a.bench;
 }
 
-reached_ok : (reached : Option Due) (old new : SinkState) (b0 b1 : Option Machine) (s : Status) → AnswersReached reached old new b0 b1 (Ok s) → MeetsReached reached old new b0 b1 s
-reached_ok None old new b0 b1 s a = absurd (cc a.0)
-reached_ok (Some due) old new b0 b1 s a = meets_ok due old new b0 b1 s a
+meets_by : (due : Due) (old new : Outside) (result : Result Status Trouble) → Answers due old new result → Wrote (status_due due) (bytes_due due) old.sink new.sink result →
+    MeetsSaves (saves_due due) (bytes_due due) old new (settled result) → Meets due old new (settled result)
+meets_by due old new (Ok s) a w saves = meets_ok due old new s a w saves
+meets_by due old new (Err Write) a w saves = meets_write due old new a w saves
+meets_by due old new (Err Memory) a w saves = meets_memory due old new a w saves
 
-reached_write : (reached : Option Due) (old new : SinkState) (b0 b1 : Option Machine) → AnswersReached reached old new b0 b1 (Err Write) → MeetsReached reached old new b0 b1 Status.WriteFault
-reached_write None old new b0 b1 a = absurd (cc a.0)
-reached_write (Some due) old new b0 b1 a = meets_write due old new b0 b1 a
+meets : (due : Due) (old new : Outside) (result : Result Status Trouble) → Answers due old new result → Meets due old new (settled result)
+meets due old new result a =
+    meets_by due old new result a
+    (wrote (saves_due due) old.files new.files (status_due due) (bytes_due due) old.sink new.sink a.written result a.writes a.saves)
+    (meets_saves (saves_due due) (status_due due) (bytes_due due) old new a.written result a.writes a.saves)
 
-reached_memory : (reached : Option Due) (old new : SinkState) (b0 b1 : Option Machine) → AnswersReached reached old new b0 b1 (Err Memory) → MeetsReached reached old new b0 b1 Status.Memory
-reached_memory None old new b0 b1 a = (refl, a.1, a.2)
-reached_memory (Some due) old new b0 b1 a = meets_memory due old new b0 b1 a
-
-reached_settled : (reached : Option Due) (old new : SinkState) (b0 b1 : Option Machine) (result : Result Status Trouble) → AnswersReached reached old new b0 b1 result →
-    MeetsReached reached old new b0 b1 (settled result)
-reached_settled reached old new b0 b1 (Ok s) a = reached_ok reached old new b0 b1 s a
-reached_settled reached old new b0 b1 (Err Write) a = reached_write reached old new b0 b1 a
-reached_settled reached old new b0 b1 (Err Memory) a = reached_memory reached old new b0 b1 a
+reached_settled : (reached : Option Due) (old new : Outside) (result : Result Status Trouble) → AnswersReached reached old new result → MeetsReached reached old new (settled result)
+reached_settled None old new (Ok s) a = absurd (cc a.0)
+reached_settled None old new (Err Write) a = absurd (cc a.0)
+reached_settled None old new (Err Memory) a = (refl, a.1)
+reached_settled (Some due) old new result a = meets due old new result a
 
 pub headline : (plan : Plan) (old new : Outside) (result : Result Status Trouble) → Performs plan old new result → Headline plan old new (settled result)
-headline plan old new result p = record { reached = p.reached; follows = p.follows; meets = reached_settled p.reached old.sink new.sink old.bench new.bench result p.answers }
+headline plan old new result p =
+    record { reached = p.reached; read = p.read; follows = p.follows; meets = reached_settled p.reached (outside p.read old.sink old.bench) new result p.answers }
 
 -- ---- the sink
 
-meets_writes : (due : Due) (old new : SinkState) (b0 b1 : Option Machine) (s : Status) → Meets due old new b0 b1 s → (s ≡ Status.WriteFault) ⊎ (s ≢ Status.WriteFault) → old.faults ≤ new.faults
-meets_writes due old new b0 b1 s m (inl is) = let rose = m.write is in omega arith
-meets_writes due old new b0 b1 s m (inr never) = let same = m.no_write never in omega arith
+meets_writes : (due : Due) (old new : Outside) (s : Status) → Meets due old new s → (s ≡ Status.WriteFault) ⊎ (s ≢ Status.WriteFault) → old.sink.faults ≤ new.sink.faults
+meets_writes due old new s m (inl is) =
+    meets_faults (saves_due due) (bytes_due due) old new (subst (λ (t : Status). MeetsSaves (saves_due due) (bytes_due due) old new t) is m.saves)
+meets_writes due old new s m (inr never) = let same = m.no_write never in omega arith
 
 write_fault_or_not : (s : Status) → (s ≡ Status.WriteFault) ⊎ (s ≢ Status.WriteFault)
 write_fault_or_not Status.WriteFault = inl refl
@@ -176,20 +203,77 @@ write_fault_or_not Status.ReadFault = inr (λ e. cc e)
 write_fault_or_not Status.Memory = inr (λ e. cc e)
 write_fault_or_not Status.Ended = inr (λ e. cc e)
 
-reached_writes : (reached : Option Due) (old new : SinkState) (b0 b1 : Option Machine) (s : Status) → MeetsReached reached old new b0 b1 s → old.faults ≤ new.faults
-reached_writes None old new b0 b1 s m = let same : new.faults ≡ old.faults = ap (λ (k : SinkState). k.faults) m.1 in omega arith
-reached_writes (Some due) old new b0 b1 s m = meets_writes due old new b0 b1 s m (write_fault_or_not s)
+reached_writes : (reached : Option Due) (old new : Outside) (s : Status) → MeetsReached reached old new s → old.sink.faults ≤ new.sink.faults
+reached_writes None old new s m = let same : new.sink.faults ≡ old.sink.faults = ap (λ (o : Outside). o.sink.faults) m.1 in omega arith
+reached_writes (Some due) old new s m = meets_writes due old new s m (write_fault_or_not s)
 
 -- the count of writes no falls
 pub headline_writes : (plan : Plan) (old new : Outside) (s : Status) → Headline plan old new s → old.sink.faults ≤ new.sink.faults
-headline_writes plan old new s h = reached_writes h.reached old.sink new.sink old.bench new.bench s h.meets
+headline_writes plan old new s h = reached_writes h.reached (outside h.read old.sink old.bench) new s h.meets
+
+-- ---- the files
+
+-- what the whole changes of the files
+pub record Effect (plan : Plan) (old new : FilesState) : Type 0 where
+  pub reads : old.read_faults ≤ new.read_faults
+  pub saves : old.save_faults ≤ new.save_faults
+  pub held : (name : List ℕ) → (SavesUnder plan name → ⊥) → new.held name ≡ old.held name
+  pub unsaved : ((name : List ℕ) → SavesUnder plan name → ⊥) → (new.held ≡ old.held) × (new.save_faults ≡ old.save_faults)
+
+effect_read : (plan : Plan) (old new : FilesState) → Keeps old new → Effect plan old new
+effect_read plan old new k = record {
+  reads = k.reads;
+  saves = let same = k.saves in omega arith;
+  held = λ name never. ap (λ (held : List ℕ → Option (List ℕ)). held name) k.held;
+  unsaved = λ never. (k.held, k.saves);
+}
+
+effect_same : (plan : Plan) (old read new : FilesState) → Keeps old read → new ≡ read → Effect plan old new
+effect_same plan old read new k same = subst (λ (f : FilesState). Effect plan old f) (sym same) (effect_read plan old read k)
+
+effect_saved : (plan : Plan) (old read new : FilesState) (due : Due) → Follows plan old read (Some due) → Changes (saves_due due) read new → Keeps old read → Effect plan old new
+effect_saved plan old read new due follows c k =
+    let first = k.reads in
+    let second = c.reads in
+    let kept = k.saves in
+    let more = c.saves in
+    record {
+      reads = omega arith;
+      saves = omega arith;
+      held = λ name never. c.others name (λ under. never (saves_under plan old read due name follows under)) ∙ ap (λ (held : List ℕ → Option (List ℕ)). held name) k.held;
+      unsaved = λ never.
+          let same : new ≡ read = unchanged (saves_due due) read new c (λ name under. never name (saves_under plan old read due name follows under)) in
+          (ap (λ (f : FilesState). f.held) same ∙ k.held, ap (λ (f : FilesState). f.save_faults) same ∙ k.saves);
+    }
+
+effect_reached : (plan : Plan) (reached : Option Due) (old read : FilesState) (sink : SinkState) (bench : Option Machine) (new : Outside) (result : Result Status Trouble) →
+    Follows plan old read reached → AnswersReached reached (outside read sink bench) new result → Effect plan old new.files
+effect_reached plan None old read sink bench new result follows a =
+    effect_same plan old read new.files (follows_keeps plan old read None follows) (ap (λ (o : Outside). o.files) a.1)
+effect_reached plan (Some due) old read sink bench new result follows a =
+    effect_saved plan old read new.files due follows (changes (saves_due due) read new.files a.written result a.saves) (follows_keeps plan old read (Some due) follows)
+
+pub effect : (plan : Plan) (old new : Outside) (result : Result Status Trouble) → Performs plan old new result → Effect plan old.files new.files
+effect plan old new result p = effect_reached plan p.reached old.files p.read old.sink old.bench new result p.follows p.answers
+
+-- the count of reads behind the reading
+read_count : (reached : Option Due) (read : FilesState) (sink : SinkState) (bench : Option Machine) (new : Outside) (result : Result Status Trouble) →
+    AnswersReached reached (outside read sink bench) new result → new.files.read_faults ≡ read.read_faults
+read_count None read sink bench new result a = ap (λ (o : Outside). o.files.read_faults) a.1
+read_count (Some due) read sink bench new result a = (changes (saves_due due) read new.files a.written result a.saves).reads
 
 -- ---- words that are refused
 
-pub unread : (words : Result Command Refusal) (old new : FilesState) (reached : Option Due) → is_ok words ≡ false → Follows (plan_of words) old new reached → new ≡ old
+refused_same : (refusal : Refusal) (reached : Option Due) (old new : Outside) (result : Result Status Trouble) → reached ≡ Some (Refuse refusal) → AnswersReached reached old new result →
+    new.files ≡ old.files
+refused_same refusal reached old new result is a =
+    (subst (λ (r : Option Due). AnswersReached r old new result) is a).saves.0
+
+pub unread : (words : Result Command Refusal) (old new : Outside) (result : Result Status Trouble) → is_ok words ≡ false → Performs (plan_of words) old new result → new.files ≡ old.files
 unfolding plan_of
-unread (Err refusal) old new reached is it = it.1
-unread (Ok command) old new reached is it = absurd (cc is)
+unread (Err refusal) old new result is p =
+    refused_same refusal p.reached (outside p.read old.sink old.bench) new result p.follows.0 p.answers ∙ p.follows.1
+unread (Ok command) old new result is p = absurd (cc is)
 
 -- ---- a read fault
 
@@ -201,7 +285,7 @@ run_no_read_fault (Stopped rule hart turn) = λ e. cc e
 measure_no_read_fault : (pages wanted : List ℕ) (events : List Event) → status_due (measure_judged pages wanted events) ≢ Status.ReadFault
 unfolding measure_judged
 measure_no_read_fault pages wanted events =
-    elim (bytes_eq (measure pages) wanted) as (λ b. status_due (if b then RunFrom (flat_start pages wanted) events else Refuse (Measure (measure pages) wanted)) ≢ Status.ReadFault) [
+    elim (bytes_eq (measure pages) wanted) as (λ b. status_due (if b then RunFrom (flat_start pages wanted) events None else Refuse (Measure (measure pages) wanted)) ≢ Status.ReadFault) [
       | true ↦ run_no_read_fault (run (flat_start pages wanted) events).journal.verdict
       | false ↦ λ e. cc e
     ]
@@ -218,26 +302,41 @@ flat_found_faults : (file wanted : List ℕ) (events : ℕ) → HasFoundFaults (
 unfolding flat_plan found_plan
 flat_found_faults file wanted events = (λ e. cc e, λ bytes. pages_no_read_fault bytes wanted (flat_events events))
 
-words_found_faults : (has_dash is_flat : Bool) (file : List ℕ) (wanted : Option (List ℕ)) (events : Option ℕ) →
-    HasFoundFaults (plan_of (if has_dash then Err NoCommand else if is_flat then flat_words file wanted events else Err NoCommand))
-unfolding plan_of flat_words
-words_found_faults true is_flat file wanted events = λ e. cc e
-words_found_faults false false file wanted events = λ e. cc e
-words_found_faults false true file None events = λ e. cc e
-words_found_faults false true file (Some wanted) None = λ e. cc e
-words_found_faults false true file (Some wanted) (Some events) = flat_found_faults file wanted events
+gen_found_faults : (calls : ℕ) → HasFoundFaults (End (gen_due calls))
+unfolding gen_due
+gen_found_faults calls =
+    run_no_read_fault (run (boot_start (generated_policy calls) (generated_image calls) gen_disk) (first_events most_events (Schedule.Weave 0))).journal.verdict
+
+words_found_faults : (has_dash is_flat is_gen : Bool) (file : List ℕ) (wanted : Option (List ℕ)) (events calls : Option ℕ) →
+    HasFoundFaults (plan_of (if has_dash then Err NoCommand else if is_flat then flat_words file wanted events else if is_gen then gen_words calls else Err NoCommand))
+unfolding plan_of flat_words gen_words
+words_found_faults true is_flat is_gen file wanted events calls = λ e. cc e
+words_found_faults false false false file wanted events calls = λ e. cc e
+words_found_faults false false true file wanted events None = λ e. cc e
+words_found_faults false false true file wanted events (Some calls) = gen_found_faults calls
+words_found_faults false true is_gen file None events calls = λ e. cc e
+words_found_faults false true is_gen file (Some wanted) None calls = λ e. cc e
+words_found_faults false true is_gen file (Some wanted) (Some events) calls = flat_found_faults file wanted events
 
 judged_found_faults : (words : List (List ℕ)) → HasFoundFaults (plan_of (judged words))
 unfolding judged
 judged_found_faults words =
-    words_found_faults (list_any has_dash words) (is_flat words) (flat_file words) (digest_of (word_at words 2)) (number_within 0 most_events (word_at words 3))
+    words_found_faults (list_any has_dash words) (is_flat words) (is_gen words) (flat_file words) (digest_of (word_at words 2)) (number_within 0 most_events (word_at words 3))
+    (number_within 1 most_calls (word_at words 1))
 
-reached_fault : (plan : Plan) (reached : Option Due) (f0 f1 : FilesState) (old new : SinkState) (b0 b1 : Option Machine) → HasFoundFaults plan → Follows plan f0 f1 reached →
-    MeetsReached reached old new b0 b1 Status.ReadFault → HasFault plan f0 f1
-reached_fault plan None f0 f1 old new b0 b1 never follows m = absurd (cc m.0)
-reached_fault plan (Some due) f0 f1 old new b0 b1 never follows m = read_fault plan f0 f1 due never follows (sym (m.status refl))
+reached_fault : (plan : Plan) (reached : Option Due) (f0 f1 : FilesState) (old new : Outside) → HasFoundFaults plan → Follows plan f0 f1 reached →
+    MeetsReached reached old new Status.ReadFault → HasFault plan f0 f1
+reached_fault plan None f0 f1 old new never follows m = absurd (cc m.0)
+reached_fault plan (Some due) f0 f1 old new never follows m = read_fault plan f0 f1 due never follows (sym (m.status refl))
 
-pub headline_fault : (words : List (List ℕ)) (old new : Outside) (s : Status) → Headline (plan_of (judged words)) old new s → s ≡ Status.ReadFault → HasFault (plan_of (judged words)) old.files new.files
-headline_fault words old new s h is =
-    reached_fault (plan_of (judged words)) h.reached old.files new.files old.sink new.sink old.bench new.bench (judged_found_faults words) h.follows
-    (subst (λ (t : Status). MeetsReached h.reached old.sink new.sink old.bench new.bench t) is h.meets)
+fault_at : (plan : Plan) (old read new : FilesState) → new.read_faults ≡ read.read_faults → HasFault plan old read → HasFault plan old new
+fault_at plan old read new same (inl missing) = inl missing
+fault_at plan old read new same (inr rose) = inr (omega arith)
+
+pub performs_fault : (words : List (List ℕ)) (old new : Outside) (result : Result Status Trouble) → Performs (plan_of (judged words)) old new result → settled result ≡ Status.ReadFault →
+    HasFault (plan_of (judged words)) old.files new.files
+performs_fault words old new result p is =
+    let before : Outside = outside p.read old.sink old.bench in
+    fault_at (plan_of (judged words)) old.files p.read new.files (read_count p.reached p.read old.sink old.bench new result p.answers)
+    (reached_fault (plan_of (judged words)) p.reached old.files p.read before new (judged_found_faults words) p.follows
+    (subst (λ (t : Status). MeetsReached p.reached before new t) is (reached_settled p.reached before new result p.answers)))

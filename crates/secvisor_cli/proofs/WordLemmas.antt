@@ -1,14 +1,11 @@
 -- The words of the command line.
-use Rattle.std.proofs.Common.{◌≡◌, ℕ, ◌||◌, Bool, true, false, List, [], ◌∷◌, map, refl, sym, ◌∙◌, ap, Option, None, Err, ◌<◌, length, get_or, string_bytes, String, Global, if◌then◌else◌}
+use Rattle.std.proofs.Common.{◌≡◌, ℕ, ◌||◌, Bool, List, [], ◌∷◌, map, refl, sym, ◌∙◌, ap, Option, None, Err, ◌<◌, length, get_or, string_bytes, String, Global}
 use Rattle.std.proofs.lemmas.List.{get_or-map}
 use Rattle.std.specs.List.{list_any}
 use Rattle.sv_types.specs.Numbers.{number_within, digest_of}
-use Rattle.secvisor_cli.specs.declared.words.Command.{Command as Asked}
-use Rattle.secvisor_cli.specs.declared.words.Command.TheVariants as asked
-use Rattle.secvisor_cli.specs.declared.words.Flat.{Flat as FlatWords}
 use Rattle.secvisor_cli.specs.declared.refusal.Word.{Word}
-use Rattle.secvisor_cli.specs.declared.refusal.Refusal.TheVariants.{OutOfRange, NoCommand}
-use Rattle.secvisor_cli.specs.CommandLine.{word_at, has_dash, is_flat, judged, flat_words, flat_judged, flat_file, most_events}
+use Rattle.secvisor_cli.specs.declared.refusal.Refusal.TheVariants.{OutOfRange}
+use Rattle.secvisor_cli.specs.CommandLine.{word_at, flat_words, flat_judged, flat_file, most_events}
 
 pub list_any_map : {A B : Type 0} (p : B → Bool) (f : A → B) (xs : List A) → list_any p (map f xs) ≡ list_any (λ x. p (f x)) xs
 list_any_map p f [] = refl
@@ -19,15 +16,8 @@ pub word_is : (words : List (String Global)) (i : ℕ) (w : String Global) → i
 word_is words i w lt is = ap (λ (v : String Global). string_bytes v) is ∙ sym (get_or-map (λ (v : String Global). string_bytes v) words i w [] lt)
 
 -- the first word that is out of its range is the measure
-pub judged_measure : (words : List (String Global)) → list_any (λ (w : String Global). has_dash (string_bytes w)) words ≡ false → is_flat (map string_bytes words) ≡ true →
-    digest_of (word_at (map string_bytes words) 2) ≡ None → judged (map string_bytes words) ≡ Err (OutOfRange Word.Measure)
-unfolding judged flat_words
-judged_measure words no_dash flat none =
+pub judged_measure : (words : List (String Global)) → digest_of (word_at (map string_bytes words) 2) ≡ None → flat_judged (map string_bytes words) ≡ Err (OutOfRange Word.Measure)
+unfolding flat_words
+judged_measure words none =
     let bytes : List (List ℕ) = map string_bytes words in
-    let dash : list_any has_dash bytes ≡ false = list_any_map has_dash (λ (w : String Global). string_bytes w) words ∙ no_dash in
-    ap (λ b. if b then Err NoCommand else if is_flat bytes then flat_judged bytes else Err NoCommand) dash
-    ∙ ap (λ b. if b then flat_judged bytes else Err NoCommand) flat
-    ∙ ap (λ (d : Option (List ℕ)). flat_words (flat_file bytes) d (number_within 0 most_events (word_at bytes 3))) none
-
-pub flat_is : (command : Asked) → (flat : FlatWords) × (command ≡ asked.Flat flat)
-flat_is (asked.Flat flat) = (flat, refl)
+    ap (λ (d : Option (List ℕ)). flat_words (flat_file bytes) d (number_within 0 most_events (word_at bytes 3))) none

@@ -3,6 +3,8 @@ use Rattle.std.specs.Prelude.{◌≡◌, ◌≢◌, ◌<◌, ◌⊎◌, ℕ, Lis
 use Rattle.sv_types.specs.declared.event.Event.{Event}
 use Rattle.sv_types.specs.declared.status.Status.{Status}
 use Rattle.reference.specs.States.{State}
+use Rattle.sv_types.specs.Output.{run_status}
+use Rattle.reference.specs.Report.{output}
 use Rattle.reference.specs.Run.{run}
 use Rattle.machine_model.specs.Machine.{Machine}
 use Rattle.machine_model.specs.Reaches.{Reaches}
@@ -10,8 +12,8 @@ use Rattle.outside.specs.Outside.{FilesState, SinkState, after_taking, TookPrefi
 use Rattle.secvisor_cli.specs.declared.trouble.Trouble.{Trouble}
 use Rattle.secvisor_cli.specs.declared.trouble.Trouble.TheVariants.{Write, Memory}
 use Rattle.secvisor_cli.specs.Refusals.{takes_memory}
-use Rattle.secvisor_cli.specs.Plans.{Due, Refuse, RunFrom, Plan, bytes_due, status_due}
-use Rattle.secvisor_cli.specs.Reading.{Follows}
+use Rattle.secvisor_cli.specs.Plans.{Due, Refuse, RunFrom, Saving, saving, Plan, bytes_due, status_due, saves_due}
+use Rattle.secvisor_cli.specs.Reading.{Follows, Saved, SaveBroke}
 use Rattle.secvisor_cli.specs.Standing.{Stands, machine_output}
 
 -- what stands outside the program: the files, the sink, and the machine on the bench
@@ -47,14 +49,14 @@ pub record RunsTo (wanting : Type 0) (start : State) (events : List Event) (mach
 -- machine that the run left.
 abbrev pub BenchAfter : (wanting : Type 0) → Due → SinkState → SinkState → Option Machine → Option Machine → Type 0
 BenchAfter wanting (Refuse refusal) old new bench_old bench_new = bench_new ≡ bench_old
-BenchAfter wanting (RunFrom start events) old new bench_old bench_new =
+BenchAfter wanting (RunFrom start events save) old new bench_old bench_new =
     (wanting × (new ≡ old) × (bench_new ≡ bench_old))
     ⊎ ((machine : Machine) × (bench_new ≡ Some machine) × RunsTo wanting start events machine old new)
 
 -- words are refused without asking for memory
 abbrev pub may_want : Due → Bool
 may_want (Refuse refusal) = takes_memory refusal
-may_want (RunFrom start events) = true
+may_want (RunFrom start events save) = true
 
 -- ---- the answer
 
@@ -84,42 +86,88 @@ pub record Writes (due : Status) (bytes : List ℕ) (old new : SinkState) (resul
   pub write : IsErrOf result Write → old.faults < new.faults
   pub memory : IsErrOf result Memory → new.faults ≡ old.faults
 
-pub record Answers (due : Due) (old new : SinkState) (bench_old bench_new : Option Machine) (result : Result Status Trouble) : Type 0 where
-  pub writes : Writes (status_due due) (bytes_due due) old new result
+-- a save that was asked for
+abbrev pub AfterSave : Option Saving → FilesState → FilesState → Result (Unit {0}) Trouble → Type 0
+AfterSave None old new (Ok _) = new ≡ old
+AfterSave None old new (Err trouble) = ⊥
+AfterSave (Some saving) old new (Ok _) = Saved saving old new
+AfterSave (Some saving) old new (Err Write) = SaveBroke saving old new
+AfterSave (Some saving) old new (Err Memory) = ⊥
+
+-- Saving, behind what was to be written: nothing is saved after a write that failed, or where memory was wanting.
+abbrev pub SavedBehind : Option Saving → FilesState → FilesState → (written result : Result Status Trouble) → Type 0
+SavedBehind None old new written result = (new ≡ old) × (result ≡ written)
+SavedBehind (Some saving) old new (Err trouble) result = (new ≡ old) × (result ≡ Err trouble)
+SavedBehind (Some saving) old new (Ok status) result =
+    (Saved saving old new × (result ≡ Ok status)) ⊎ (SaveBroke saving old new × (result ≡ Err Write))
+
+-- a run and its report, and then its disk
+pub record RunsAndSaves (start : State) (events : List Event) (save : Option (List ℕ)) (machine : Machine) (files_old files_new : FilesState)
+    (old new : SinkState) (result : Result Status Trouble) : Type 0 where
+  -- how writing ended
+  pub written : Result Status Trouble
+  pub writes : Writes (run_status (run start events).journal.verdict) (output (run start events)) old new written
+  pub saves : SavedBehind (saving (run start events).devices.disk.bytes save) files_old files_new written result
+  pub runs : RunsTo (IsErrOf result Memory) start events machine old new
+
+-- what is due was written, and then saved
+pub record Answers (due : Due) (old new : Outside) (result : Result Status Trouble) : Type 0 where
+  -- how writing ended
+  pub written : Result Status Trouble
+  pub writes : Writes (status_due due) (bytes_due due) old.sink new.sink written
+  pub saves : SavedBehind (saves_due due) old.files new.files written result
   pub wants : IsErrOf result Memory → IsTrue (may_want due)
-  pub bench : BenchAfter (IsErrOf result Memory) due old new bench_old bench_new
+  pub bench : BenchAfter (IsErrOf result Memory) due old.sink new.sink old.bench new.bench
 
 -- the same where memory was wanting for a read: nothing happened
-abbrev pub AnswersReached : Option Due → SinkState → SinkState → Option Machine → Option Machine → Result Status Trouble → Type 0
-AnswersReached None old new bench_old bench_new result = IsErrOf result Memory × (new ≡ old) × (bench_new ≡ bench_old)
-AnswersReached (Some due) old new bench_old bench_new result = Answers due old new bench_old bench_new result
+abbrev pub AnswersReached : Option Due → Outside → Outside → Result Status Trouble → Type 0
+AnswersReached None old new result = IsErrOf result Memory × (new ≡ old)
+AnswersReached (Some due) old new result = Answers due old new result
 
 -- the files were asked as the plan says, and what is due at its end was answered
 pub record Performs (plan : Plan) (old new : Outside) (result : Result Status Trouble) : Type 0 where
   pub reached : Option Due
-  pub follows : Follows plan old.files new.files reached
-  pub answers : AnswersReached reached old.sink new.sink old.bench new.bench result
+  -- the files once they were read
+  pub read : FilesState
+  pub follows : Follows plan old.files read reached
+  pub answers : AnswersReached reached (outside read old.sink old.bench) new result
+
+-- Saved where the status is that of the end; else a write fault is the sink's or that of the save, which comes when all
+-- bytes are written; nothing is saved where memory was wanting.
+pub record MeetsSaving (saving : Saving) (bytes : List ℕ) (old new : Outside) (answer : Status) : Type 0 where
+  pub saved : IsTrue (is_answer answer) → Saved saving old.files new.files
+  pub broke : answer ≡ Status.WriteFault →
+      ((new.files ≡ old.files) × (old.sink.faults < new.sink.faults))
+      ⊎ (SaveBroke saving old.files new.files × (new.sink ≡ after_taking old.sink bytes))
+  pub wanting : answer ≡ Status.Memory → new.files ≡ old.files
+
+-- where nothing is due to be saved, a write fault is answered exactly where the sink's count rose
+abbrev pub MeetsSaves : Option Saving → List ℕ → Outside → Outside → Status → Type 0
+MeetsSaves None bytes old new answer =
+    (new.files ≡ old.files) × (answer ≡ Status.WriteFault → old.sink.faults < new.sink.faults)
+MeetsSaves (Some saving) bytes old new answer = MeetsSaving saving bytes old new answer
 
 -- The status and all bytes that are due, unless a write failed or memory was wanting.
-pub record Meets (due : Due) (old new : SinkState) (bench_old bench_new : Option Machine) (answer : Status) : Type 0 where
+pub record Meets (due : Due) (old new : Outside) (answer : Status) : Type 0 where
   pub status : IsTrue (is_answer answer) → answer ≡ status_due due
-  pub whole : IsTrue (is_answer answer) → new ≡ after_taking old (bytes_due due)
+  pub whole : IsTrue (is_answer answer) → new.sink ≡ after_taking old.sink (bytes_due due)
   -- never more than a prefix of these bytes
-  pub prefix : TookPrefix old new (bytes_due due)
-  -- a write fault is answered exactly where the sink's count rose
-  pub write : answer ≡ Status.WriteFault → old.faults < new.faults
-  pub no_write : answer ≢ Status.WriteFault → new.faults ≡ old.faults
+  pub prefix : TookPrefix old.sink new.sink (bytes_due due)
+  pub saves : MeetsSaves (saves_due due) (bytes_due due) old new answer
+  pub no_write : answer ≢ Status.WriteFault → new.sink.faults ≡ old.sink.faults
   -- words that are refused never want memory
   pub wants : answer ≡ Status.Memory → IsTrue (may_want due)
-  pub bench : BenchAfter (answer ≡ Status.Memory) due old new bench_old bench_new
+  pub bench : BenchAfter (answer ≡ Status.Memory) due old.sink new.sink old.bench new.bench
 
-abbrev pub MeetsReached : Option Due → SinkState → SinkState → Option Machine → Option Machine → Status → Type 0
-MeetsReached None old new bench_old bench_new answer = (answer ≡ Status.Memory) × (new ≡ old) × (bench_new ≡ bench_old)
-MeetsReached (Some due) old new bench_old bench_new answer = Meets due old new bench_old bench_new answer
+abbrev pub MeetsReached : Option Due → Outside → Outside → Status → Type 0
+MeetsReached None old new answer = (answer ≡ Status.Memory) × (new ≡ old)
+MeetsReached (Some due) old new answer = Meets due old new answer
 
--- The report, the status and the machine are those of the reference machine: of its run from the start that the words
--- and the files ask for, or of the first refusal.
+-- The report, the status, the machine and the saved disk are those of the reference machine: of its run from the start
+-- that the words and the files ask for; or else the first refusal is answered.
 pub record Headline (plan : Plan) (old new : Outside) (answer : Status) : Type 0 where
   pub reached : Option Due
-  pub follows : Follows plan old.files new.files reached
-  pub meets : MeetsReached reached old.sink new.sink old.bench new.bench answer
+  -- the files once they were read
+  pub read : FilesState
+  pub follows : Follows plan old.files read reached
+  pub meets : MeetsReached reached (outside read old.sink old.bench) new answer

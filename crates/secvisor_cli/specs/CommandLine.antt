@@ -9,6 +9,8 @@ use Rattle.secvisor_cli.specs.declared.refusal.Refusal.TheVariants.{NoCommand, O
 
 pub data Command : Type 0 where
   Flat : (file wanted : List ℕ) → (events : ℕ) → Command
+  -- the generated guest, which calls its kernel so many times
+  Generated : (calls : ℕ) → Command
 
 -- a word begins with a dash
 abbrev pub has_dash : List ℕ → Bool
@@ -39,7 +41,26 @@ is_flat words = length words == 4 && bytes_eq (word_at words 0) (codes "flat")
 abbrev pub flat_judged : List (List ℕ) → Result Command Refusal
 flat_judged words = flat_words (flat_file words) (digest_of (word_at words 2)) (number_within 0 most_events (word_at words 3))
 
+-- ---- gen N
+
+abbrev pub most_calls : ℕ
+most_calls = 1000000
+
+unfoldable pub gen_words : Option ℕ → Result Command Refusal
+gen_words None = Err (OutOfRange Word.Calls)
+gen_words (Some calls) = Ok (Generated calls)
+
+abbrev pub is_gen : List (List ℕ) → Bool
+is_gen words = length words == 2 && bytes_eq (word_at words 0) (codes "gen")
+
+abbrev pub gen_judged : List (List ℕ) → Result Command Refusal
+gen_judged words = gen_words (number_within 1 most_calls (word_at words 1))
+
 -- ---- all commands
 
 unfoldable pub judged : List (List ℕ) → Result Command Refusal
-judged words = if list_any has_dash words then Err NoCommand else if is_flat words then flat_judged words else Err NoCommand
+judged words =
+    if list_any has_dash words then Err NoCommand
+    else if is_flat words then flat_judged words
+    else if is_gen words then gen_judged words
+    else Err NoCommand

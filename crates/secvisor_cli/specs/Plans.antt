@@ -1,12 +1,14 @@
 -- What is asked, as a plan: which files are read, under which names, in which order, and what is due by what is found in
 -- them. This project's own.
-use Rattle.std.specs.Prelude.{ℕ, ◌%◌, ◌*◌, List, length, Bool, ◌&&◌, ◌==◌, nat_lt, if◌then◌else◌, Result, Ok, Err}
+use Rattle.std.specs.Prelude.{ℕ, ◌%◌, ◌*◌, List, length, map, Bool, ◌&&◌, ◌==◌, nat_lt, if◌then◌else◌, Option, Some, None, Result, Ok, Err}
 use Rattle.std.specs.Str.{bytes_eq}
 use Rattle.sv_types.specs.declared.event.Event.{Event}
 use Rattle.sv_types.specs.declared.status.Status.{Status}
 use Rattle.sv_types.specs.Bytes.{page_size}
 use Rattle.sv_types.specs.Boot.{flat_ram_pages}
-use Rattle.reference.specs.Start.{flat_start}
+use Rattle.sv_types.specs.ApprovedPages.{numbers_from}
+use Rattle.guest_gen.specs.Generated.{generated_image, generated_policy}
+use Rattle.reference.specs.Start.{flat_start, boot_start}
 use Rattle.sv_types.specs.Measure.{measure}
 use Rattle.sv_types.specs.Output.{run_status}
 use Rattle.reference.specs.Report.{output}
@@ -17,22 +19,38 @@ use Rattle.secvisor_cli.specs.declared.refusal.Part.{Part}
 use Rattle.secvisor_cli.specs.declared.refusal.Refusal.{Refusal}
 use Rattle.secvisor_cli.specs.declared.refusal.Refusal.TheVariants.{ReadFault, File, Measure}
 use Rattle.secvisor_cli.specs.Refusals.{refusal_line, refusal_status}
-use Rattle.secvisor_cli.specs.CommandLine.{Command, Flat}
+use Rattle.secvisor_cli.specs.CommandLine.{Command, Flat, Generated, most_events}
 
 -- ---- what is due
 
 pub data Due : Type 0 where
   Refuse : Refusal → Due
-  RunFrom : (start : State) → (events : List Event) → Due
+  -- a run. Behind its report the disk's bytes are saved, where a name for them is given
+  RunFrom : (start : State) → (events : List Event) → (save : Option (List ℕ)) → Due
 
 -- all bytes that are due, and the status
 abbrev pub bytes_due : Due → List ℕ
 bytes_due (Refuse refusal) = refusal_line refusal
-bytes_due (RunFrom start events) = output (run start events)
+bytes_due (RunFrom start events save) = output (run start events)
 
 abbrev pub status_due : Due → Status
 status_due (Refuse refusal) = refusal_status refusal
-status_due (RunFrom start events) = run_status (run start events).journal.verdict
+status_due (RunFrom start events save) = run_status (run start events).journal.verdict
+
+-- bytes that are saved under a name
+pub record Saving : Type 0 where
+  pub name : List ℕ
+  pub bytes : List ℕ
+
+-- bytes, where a name for them is given
+abbrev pub saving : (bytes : List ℕ) → Option (List ℕ) → Option Saving
+saving bytes None = None
+saving bytes (Some name) = Some (record { name = name; bytes = bytes })
+
+-- what is saved
+abbrev pub saves_due : Due → Option Saving
+saves_due (Refuse refusal) = None
+saves_due (RunFrom start events save) = saving (run start events).devices.disk.bytes save
 
 -- ---- plans
 
@@ -66,7 +84,7 @@ read_part part name limit next = Read name limit (found_plan part next)
 -- the pages are measured before anything runs
 unfoldable pub measure_judged : List ℕ → List ℕ → List Event → Due
 measure_judged pages wanted events =
-    if bytes_eq (measure pages) wanted then RunFrom (flat_start pages wanted) events else Refuse (Measure (measure pages) wanted)
+    if bytes_eq (measure pages) wanted then RunFrom (flat_start pages wanted) events None else Refuse (Measure (measure pages) wanted)
 
 -- whole pages, at least one
 abbrev pub is_whole_pages : List ℕ → Bool
@@ -83,8 +101,20 @@ unfoldable pub flat_plan : (file wanted : List ℕ) → (events : ℕ) → Plan
 flat_plan file wanted events =
     read_part Part.Flat file (page_size * flat_ram_pages) (λ bytes. End (pages_judged bytes wanted (flat_events events)))
 
+-- ---- gen
+
+-- two sectors, in which each byte is the last one of its place
+unfoldable pub gen_disk : List ℕ
+gen_disk = map (λ place. place % 256) (numbers_from 0 1024)
+
+-- the generated guest runs to its end
+unfoldable pub gen_due : ℕ → Due
+gen_due calls =
+    RunFrom (boot_start (generated_policy calls) (generated_image calls) gen_disk) (first_events most_events (Schedule.Weave 0)) None
+
 -- ---- all commands
 
 unfoldable pub plan_of : Result Command Refusal → Plan
 plan_of (Err refusal) = End (Refuse refusal)
 plan_of (Ok (Flat file wanted events)) = flat_plan file wanted events
+plan_of (Ok (Generated calls)) = End (gen_due calls)

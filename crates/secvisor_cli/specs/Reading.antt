@@ -1,11 +1,16 @@
--- Files that are asked as a plan says: each name once, in the plan's order, and no other one.
-use Rattle.std.specs.Prelude.{◌≡◌, ◌<◌, ◌≤◌, ◌⊎◌, ℕ, List, [], ◌∷◌, length, IsTrue, Option, Some, None}
+-- Files that are asked as a plan says: each name once, in the plan's order, and no other one; and what is saved at its end.
+use Rattle.std.specs.Prelude.{◌≡◌, ◌≢◌, ◌<◌, ◌≤◌, ◌⊎◌, ℕ, List, [], ◌∷◌, length, IsTrue, Option, Some, None}
 use Rattle.outside.specs.Outside.{FilesState, after_asking}
-use Rattle.secvisor_cli.specs.Plans.{Due, Plan, End, Read, Found, Faulty, Missing, Longer, Held}
+use Rattle.secvisor_cli.specs.Plans.{Due, Saving, saves_due, Plan, End, Read, Found, Faulty, Missing, Longer, Held}
 
--- the plan's names may be asked for, one after another, whatever is found
+-- exactly these bytes may be saved
+abbrev pub MaySave : Option Saving → FilesState → Type 0
+MaySave None files = Unit {0}
+MaySave (Some saving) files = IsTrue (files.permits_save saving.name saving.bytes)
+
+-- the plan's names may be asked for, one after another, whatever is found, and what is due at its end may be saved
 abbrev pub MayFollow : Plan → FilesState → Type 0
-MayFollow (End due) files = Unit {0}
+MayFollow (End due) files = MaySave (saves_due due) files
 MayFollow (Read name limit next) files = IsTrue (files.permits (name ∷ [])) × ((found : Found) → MayFollow (next found) (after_asking name files))
 
 -- what was found under a name. It is what the files hold, where they tell it; a failure comes only where the count rose
@@ -29,3 +34,26 @@ Follows (Read name limit next) old new reached =
 abbrev pub IsNamed : Plan → List ℕ → Type 0
 IsNamed (End due) name = ⊥
 IsNamed (Read asked limit next) name = (asked ≡ name) ⊎ ((found : Found) × IsNamed (next found) name)
+
+-- ---- saving
+
+abbrev pub IsUnder : Option Saving → List ℕ → Type 0
+IsUnder None name = ⊥
+IsUnder (Some saving) name = saving.name ≡ name
+
+-- the plan may save under this name
+abbrev pub SavesUnder : Plan → List ℕ → Type 0
+SavesUnder (End due) name = IsUnder (saves_due due) name
+SavesUnder (Read asked limit next) name = (found : Found) × SavesUnder (next found) name
+
+-- these bytes stand under their name, and no other name changed
+pub record Saved (saving : Saving) (old new : FilesState) : Type 0 where
+  pub held : IsTrue old.tells → new.held saving.name ≡ Some saving.bytes
+  pub others : (other : List ℕ) → other ≢ saving.name → new.held other ≡ old.held other
+  pub leaves : new ≡ record old { held = new.held }
+
+-- the save failed: its name may hold anything
+pub record SaveBroke (saving : Saving) (old new : FilesState) : Type 0 where
+  pub faults : old.save_faults < new.save_faults
+  pub others : (other : List ℕ) → other ≢ saving.name → new.held other ≡ old.held other
+  pub leaves : new ≡ record old { held = new.held; save_faults = new.save_faults }

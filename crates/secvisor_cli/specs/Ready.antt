@@ -1,7 +1,11 @@
 -- What is made ready of a command, before anything is written.
 use Rattle.std.specs.Prelude.{◌≡◌, ◌≤◌, ◌^◌, ℕ, List, [], IsTrue, Option, Some, None, Result, Ok, Err, IsErrOf, Vec}
+use Rattle.std.specs.Option.{option_copied}
 use Rattle.std.specs.declared.alloc.Global.{Global}
 use Rattle.reference.specs.Counting.{CountsAtMost}
+use Rattle.sv_types.specs.declared.event.Event.{Event}
+use Rattle.reference.specs.States.{State}
+use Rattle.machine_model.specs.Machine.{Machine}
 use Rattle.machine_model.specs.Reaches.{IsNew}
 use Rattle.sv_types.specs.Schedule.{first_events}
 use Rattle.outside.specs.Outside.{FilesState, after_asking}
@@ -12,8 +16,8 @@ use Rattle.secvisor_cli.specs.declared.refusal.Refusal.TheVariants.{ReadFault, F
 use Rattle.secvisor_cli.specs.declared.ready.Ready.{Ready}
 use Rattle.secvisor_cli.specs.declared.ready.Stop.{Stop}
 use Rattle.secvisor_cli.specs.declared.ready.Stop.TheVariants.{Refused, Memory}
-use Rattle.secvisor_cli.specs.Plans.{Due, Refuse, RunFrom, Plan, Found, Faulty, Missing, Longer, Held}
-use Rattle.secvisor_cli.specs.Reading.{Follows, FoundAs}
+use Rattle.secvisor_cli.specs.Plans.{Due, Refuse, RunFrom, saves_due, Plan, Found, Faulty, Missing, Longer, Held}
+use Rattle.secvisor_cli.specs.Reading.{Follows, FoundAs, MaySave}
 use Rattle.secvisor_cli.specs.Answers.{may_want}
 use Rattle.secvisor_cli.specs.Standing.{HasState}
 
@@ -43,12 +47,19 @@ pub record IsFresh (ready : Ready) : Type 0 where
   pub counts : CountsAtMost 0 ready.machine.journal.counts
   pub console : ready.machine.journal.printed ≡ []
 
+-- the machine starts somewhere, and the disk of its run may be saved
+pub record MaySaveRun (machine : Machine) (events : List Event) (save : Option (List ℕ)) (files : FilesState) : Type 0 where
+  pub start : State
+  pub new : IsNew machine start
+  pub may : MaySave (saves_due (RunFrom start events save)) files
+
 -- what is due is ready, or refused, or memory was wanting
 abbrev pub IsReady : Due → Result Ready Stop → Type 0
-IsReady (RunFrom start events) (Ok ready) = IsNew ready.machine start × (first_events ready.events ready.script ≡ events) × IsFresh ready
+IsReady (RunFrom start events save) (Ok ready) =
+    IsNew ready.machine start × (first_events ready.events ready.script ≡ events) × (option_copied ready.save ≡ save) × IsFresh ready
 IsReady (Refuse refusal) (Ok ready) = ⊥
 IsReady (Refuse refusal) (Err (Refused given)) = given ≡ refusal
-IsReady (RunFrom start events) (Err (Refused given)) = ⊥
+IsReady (RunFrom start events save) (Err (Refused given)) = ⊥
 IsReady due (Err Memory) = IsTrue (may_want due)
 
 abbrev pub IsReadyWhere : Option Due → Result Ready Stop → Type 0

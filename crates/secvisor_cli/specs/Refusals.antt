@@ -14,6 +14,7 @@ part_name Part.Flat = codes "flat"
 abbrev pub word_name : Word → List ℕ
 word_name Word.Measure = codes "MEASURE"
 word_name Word.Events = codes "EVENTS"
+word_name Word.Calls = codes "N"
 
 unfoldable pub refusal_line : Refusal → List ℕ
 refusal_line NoCommand = codes "usage" ++ line_feed

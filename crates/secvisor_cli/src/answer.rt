@@ -1,5 +1,6 @@
 // The answer to the words.
-ghost use Rattle.std.specs.Prelude.{◌≡◌, ◌<◌, ◌≤◌, ◌-◌, ◌^◌, ◌⊎◌, ℕ, List, Option, [], map, string_bytes, Ok, IsTrue, IsErrOf, false};
+ghost use Rattle.std.specs.Prelude.{◌≡◌, ◌<◌, ◌≤◌, ◌-◌, ◌^◌, ◌⊎◌, ℕ, List, Option, [], map, string_bytes, Ok, IsTrue, OnOk, IsErrOf, false};
+ghost use Rattle.std.specs.Option.{option_copied};
 ghost use Rattle.std.specs.Result.{is_ok};
 ghost use Rattle.sv_types.specs.Output.{run_status};
 ghost use Rattle.reference.specs.Counting.{CountsAtMost};
@@ -13,14 +14,16 @@ ghost use Rattle.secvisor_cli.specs.Refusals.{refusal_line, refusal_status, take
 ghost use Rattle.secvisor_cli.specs.CommandLine.{judged};
 ghost use Rattle.secvisor_cli.specs.Words.{command_of, IsInRange};
 ghost use Rattle.secvisor_cli.specs.Plans.{RunFrom, plan_of};
-ghost use Rattle.secvisor_cli.specs.Reading.{MayFollow, IsNamed};
-ghost use Rattle.secvisor_cli.specs.Ready.{Prepares, IsFresh};
-ghost use Rattle.secvisor_cli.specs.Answers.{outside, Writes, Answers, Performs, RunsTo, Headline, settled};
+ghost use Rattle.secvisor_cli.specs.Reading.{MayFollow, IsNamed, SavesUnder};
+ghost use Rattle.secvisor_cli.specs.Ready.{Prepares, IsFresh, MaySaveRun};
+ghost use Rattle.secvisor_cli.specs.Answers.{outside, Writes, Answers, Performs, RunsTo, RunsAndSaves, Headline, settled};
 
 use crate::flat::prepare_flat;
+use crate::generated::prepare_gen;
 use crate::ready::{Ready, Stop};
 use crate::refusal::Refusal;
 use crate::run::run;
+use crate::save::save_disk;
 use crate::trouble::Trouble;
 use crate::words::{Command, judge};
 use machine::Machine;
@@ -69,9 +72,12 @@ pub fn secvisor<R: Threads + Sync, F: Files, O: Sink>(
     ensures writes { (O.state out.old).faults ≤ (O.state out.new).faults }
     ensures unread { is_ok (judged (map string_bytes words.now)) ≡ false → F.state files.new ≡ F.state files.old }
 
-    // Nothing is saved, and no name changes.
-    ensures held { (F.state files.new).held ≡ (F.state files.old).held }
-    ensures saves { (F.state files.new).save_faults ≡ (F.state files.old).save_faults }
+    // No name changes but those under which the plan saves; where it saves none, nothing is saved.
+    ensures saves { (F.state files.old).save_faults ≤ (F.state files.new).save_faults }
+    ensures held { (name : List ℕ) → (SavesUnder (plan_of (judged (map string_bytes words.now))) name → ⊥) →
+        (F.state files.new).held name ≡ (F.state files.old).held name }
+    ensures unsaved { ((name : List ℕ) → SavesUnder (plan_of (judged (map string_bytes words.now))) name → ⊥) →
+        ((F.state files.new).held ≡ (F.state files.old).held) × ((F.state files.new).save_faults ≡ (F.state files.old).save_faults) }
 {
     settled(answer(rt, alloc, words, files, out, bench))
 }
@@ -98,25 +104,26 @@ fn answer<R: Threads + Sync, F: Files, O: Sink>(
     requires permitted { MayFollow (plan_of (judged (map string_bytes words.now))) (F.state files.old) }
     requires is_open { IsTrue (O.state out.old).is_open }
     requires reads { (F.state files.old).read_faults < 2 ^ 64 - 1 }
+    requires saves { (F.state files.old).save_faults < 2 ^ 64 - 1 }
     requires writes { (O.state out.old).faults < 2 ^ 64 - 1 }
     ensures { Performs (plan_of (judged (map string_bytes words.now)))
         (outside (F.state files.old) (O.state out.old) bench.old.machine)
         (outside (F.state files.new) (O.state out.new) bench.new.machine) result }
 {
     match prepare(rt, alloc, words, files) {
-        Ok(ready) => run_on_bench(alloc, ready, out, bench),
+        Ok(ready) => run_on_bench(alloc, ready, files, out, bench),
         Err(Stop::Refused(refusal)) => refuse(alloc, &refusal, out),
         Err(Stop::Memory) => Err(Trouble::Memory),
     }
 }
 
 // The words, judged, and the files that they name.
-fn prepare<R: Threads + Sync, F: Files>(
+fn prepare<'a, R: Threads + Sync, F: Files>(
     rt: &R,
     alloc: Global,
-    words: &[String],
+    words: &'a [String],
     files: &mut F,
-) -> Result<Ready, Stop>
+) -> Result<Ready<'a>, Stop>
     requires permitted { MayFollow (plan_of (judged (map string_bytes words.now))) (F.state files.old) }
     requires reads { (F.state files.old).read_faults < 2 ^ 64 - 1 }
     ensures { Prepares (plan_of (judged (map string_bytes words.now))) (F.state files.old) (F.state files.new) result }
@@ -128,12 +135,12 @@ fn prepare<R: Threads + Sync, F: Files>(
 }
 
 #[tactic(auto, unfolding(crate::specs::Plans::plan_of))]
-fn prepare_command<R: Threads + Sync, F: Files>(
+fn prepare_command<'a, R: Threads + Sync, F: Files>(
     rt: &R,
     alloc: Global,
-    command: &Command<'_>,
+    command: &Command<'a>,
     files: &mut F,
-) -> Result<Ready, Stop>
+) -> Result<Ready<'a>, Stop>
     requires permitted { MayFollow (plan_of (Ok (command_of command.now))) (F.state files.old) }
     requires reads { (F.state files.old).read_faults < 2 ^ 64 - 1 }
     requires range { IsInRange command.now }
@@ -141,6 +148,7 @@ fn prepare_command<R: Threads + Sync, F: Files>(
 {
     match command {
         Command::Flat(flat) => prepare_flat(rt, alloc, flat, files),
+        Command::Generated(calls) => prepare_gen(rt, alloc, *calls),
     }
 }
 
@@ -156,26 +164,57 @@ fn refuse<O: Sink>(alloc: Global, refusal: &Refusal, out: &mut O) -> Result<Stat
 }
 
 // The machine is run, and stands on the bench from then on.
-fn run_on_bench<O: Sink>(
+fn run_on_bench<F: Files, O: Sink>(
     alloc: Global,
-    ready: Ready,
+    ready: Ready<'_>,
+    files: &mut F,
     out: &mut O,
     bench: &mut Bench,
 ) -> Result<Status, Trouble>
     requires is_open { IsTrue (O.state out.old).is_open }
     requires count { (O.state out.old).faults < 2 ^ 64 - 1 }
+    requires saves { (F.state files.old).save_faults < 2 ^ 64 - 1 }
     requires fresh { IsFresh ready }
-    ensures { (start : State) → IsNew ready.machine start → Answers (RunFrom start (first_events ready.events ready.script))
-        (O.state out.old) (O.state out.new) bench.old.machine bench.new.machine result }
+    requires permitted { MaySaveRun ready.machine (first_events ready.events ready.script) (option_copied ready.save) (F.state files.old) }
+    ensures { (start : State) → IsNew ready.entry.machine start → Answers (RunFrom start (first_events ready.entry.events ready.entry.script) (option_copied ready.entry.save))
+        (outside (F.state files.old) (O.state out.old) bench.old.machine)
+        (outside (F.state files.new) (O.state out.new) bench.new.machine) result }
 {
     let Ready {
         mut machine,
         script,
         events,
+        save,
     } = ready;
-    let result = run_and_report(alloc, &mut machine, script, events, out);
+    let result = run_and_save(alloc, &mut machine, script, events, save, files, out);
     bench.machine = Some(machine);
     result
+}
+
+// The run of a booted machine with its report, and then its disk, where it is saved.
+fn run_and_save<F: Files, O: Sink>(
+    alloc: Global,
+    machine: &mut Machine,
+    script: Script,
+    events: u64,
+    save: Option<&str>,
+    files: &mut F,
+    out: &mut O,
+) -> Result<Status, Trouble>
+    requires is_open { IsTrue (O.state out.old).is_open }
+    requires count { (O.state out.old).faults < 2 ^ 64 - 1 }
+    requires saves { (F.state files.old).save_faults < 2 ^ 64 - 1 }
+    requires events { events ≤ 2 ^ 32 }
+    requires state { HasState machine.old }
+    requires counts { CountsAtMost 0 machine.old.journal.counts }
+    requires console { machine.old.journal.printed ≡ [] }
+    requires permitted { MaySaveRun machine.old (first_events events script) (option_copied save) (F.state files.old) }
+    ensures { (start : State) → IsNew machine.old start → RunsAndSaves start (first_events events script) (option_copied save.entry) machine.new
+        (F.state files.old) (F.state files.new) (O.state out.old) (O.state out.new) result }
+{
+    let status = run_and_report(alloc, machine, script, events, out)?;
+    save_disk(machine, save, files)?;
+    Ok(status)
 }
 
 // The run of a booted machine, and its report.
@@ -196,6 +235,8 @@ fn run_and_report<O: Sink>(
         Writes (run_status last.journal.verdict) (output last) (O.state out.old) (O.state out.new) result }
     ensures machine { (start : State) → IsNew machine.old start →
         RunsTo (IsErrOf result Trouble.Memory) start (first_events events script) machine.new (O.state out.old) (O.state out.new) }
+    ensures disk { OnOk result ((start : State) → IsNew machine.old start →
+        machine.new.devices.disk.bytes ≡ (run start (first_events events script)).devices.disk.bytes) }
 {
     run(machine, script, events, out)?;
     finish(alloc, machine, out)

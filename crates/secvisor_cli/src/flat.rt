@@ -24,7 +24,7 @@ pub fn prepare_flat<R: Threads + Sync, F: Files>(
     alloc: Global,
     flat: &Flat<'_>,
     files: &mut F,
-) -> Result<Ready, Stop>
+) -> Result<Ready<'static>, Stop>
     requires permitted { MayFollow (flat_plan flat.now.file.now flat.now.wanted flat.now.events) (F.state files.old) }
     requires reads { (F.state files.old).read_faults < 2 ^ 64 - 1 }
     requires events { flat.now.events ≤ 2 ^ 32 }
@@ -54,7 +54,7 @@ fn boot<R: Threads + Sync>(
     pages: &[u8],
     wanted: [u8; 32],
     events: u64,
-) -> Result<Ready, Stop>
+) -> Result<Ready<'static>, Stop>
     requires whole { length pages.now % 4096 ≡ 0 }
     requires size { length pages.now ≤ 65536 }
     requires events { events ≤ 2 ^ 32 }
@@ -66,5 +66,6 @@ fn boot<R: Threads + Sync>(
         machine,
         script,
         events,
+        save: None,
     })
 }

@@ -3,10 +3,12 @@
 
 mod answer;
 mod flat;
+mod generated;
 mod parts;
 mod ready;
 mod refusal;
 mod run;
+mod save;
 mod trouble;
 mod words;
 

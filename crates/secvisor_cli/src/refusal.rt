@@ -20,6 +20,7 @@ pub enum Part {
 pub enum Word {
     Measure,
     Events,
+    Calls,
 }
 
 /// Why a command isn't carried out.
@@ -58,6 +59,7 @@ impl Word {
         match self {
             Word::Measure => "usage MEASURE\n",
             Word::Events => "usage EVENTS\n",
+            Word::Calls => "usage N\n",
         }
     }
 }

@@ -2,13 +2,13 @@
 ghost use Rattle.std.specs.Prelude.{◌≡◌};
 ghost use Rattle.secvisor_cli.specs.declared.trouble.Trouble.TheVariants.{Write, Memory};
 
-use outside::Failed;
+use outside::{Failed, SaveFailed};
 use std::alloc::AllocError;
 
 /// What ends an answer before its status stands.
 #[derive(Clone, Copy, Debug, PartialEq, Eq, Drop)]
 pub enum Trouble {
-    /// A write failed.
+    /// A write or a save failed.
     Write,
     /// Memory was wanting.
     Memory,
@@ -18,6 +18,14 @@ impl From<Failed> for Trouble {
     ghost from_gives = { λ _ e. e ≡ Write };
 
     fn from(_: Failed) -> Self {
+        Trouble::Write
+    }
+}
+
+impl From<SaveFailed> for Trouble {
+    ghost from_gives = { λ _ e. e ≡ Write };
+
+    fn from(_: SaveFailed) -> Self {
         Trouble::Write
     }
 }

@@ -6,8 +6,9 @@ use Rattle.secvisor_cli.specs.Reading.{MayFollow}
 use Rattle.secvisor_cli.proofs.PlanLemmas.{may_follow}
 use Rattle.integration_tests.proofs.flat.refuses_a_file_without_end.Goals as goal
 
-words_follow : (words : List (List ℕ)) (files : FilesState) → ((names : List (List ℕ)) → IsTrue (files.permits names)) → MayFollow (plan_of (judged words)) files
-words_follow words files all = may_follow (plan_of (judged words)) files all
+words_follow : (words : List (List ℕ)) (files : FilesState) → ((names : List (List ℕ)) → IsTrue (files.permits names)) →
+    ((name bytes : List ℕ) → IsTrue (files.permits_save name bytes)) → MayFollow (plan_of (judged words)) files
+words_follow words files all saves = may_follow (plan_of (judged words)) files all saves
 
 pub secvisor-status-requires-clause-permitted : goal.secvisor-status-requires-clause-permitted
-secvisor-status-requires-clause-permitted g c = λ κs. words_follow _ _ (λ names. refl)
+secvisor-status-requires-clause-permitted g c = λ κs. words_follow _ _ (λ names. refl) (λ name bytes. refl)

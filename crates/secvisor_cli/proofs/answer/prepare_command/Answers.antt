@@ -1,10 +1,18 @@
-use Rattle.secvisor_cli.specs.Plans.{plan_of}
-use Rattle.secvisor_cli.proofs.WordLemmas.{flat_is}
+use Rattle.std.proofs.Common.{subst, sym, Ok}
+use Rattle.secvisor_cli.specs.declared.words.Command.{Command as Asked}
+use Rattle.secvisor_cli.specs.Words.{command_of}
+use Rattle.secvisor_cli.specs.Plans.{plan_of, gen_due}
+use Rattle.secvisor_cli.specs.Ready.{Prepares}
+use Rattle.secvisor_cli.proofs.ReadyLemmas.{end_ready}
 use Rattle.secvisor_cli.proofs.answer.prepare_command.Goals as goal
 
 pub prepare_flat-requires-clause-permitted : goal.prepare_flat-requires-clause-permitted
 unfolding plan_of
 prepare_flat-requires-clause-permitted g c = λ κs lives.
-    let w = flat_is c.args.command.now in
-    let permitted = rw w.1 at c.requires.permitted in
-    rw w.1 permitted
+    rw c.in-Flat.is at c.requires.permitted
+
+pub returns-in-Generated : goal.returns-in-Generated
+unfolding plan_of
+returns-in-Generated g c =
+    subst (λ (command : Asked). Prepares (plan_of (Ok (command_of command))) (g.F.Files.state c.args.files.now) (g.F.Files.state c.args.files.now) c.prepare_gen.result) (sym c.in-Generated.is)
+    (end_ready (gen_due _) _ _ c.prepare_gen.ensures)

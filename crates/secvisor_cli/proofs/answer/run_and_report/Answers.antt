@@ -1,4 +1,7 @@
-use Rattle.std.proofs.Common.{rules}
+use Rattle.std.proofs.Common.{rules, Result, Ok, Err, OnOk}
+use Rattle.sv_types.specs.declared.status.Status.{Status}
+use Rattle.secvisor_cli.specs.declared.trouble.Trouble.{Trouble}
+use Rattle.secvisor_cli.proofs.Standing.{stands_disk}
 use Rattle.secvisor_cli.proofs.EndLemmas.{broke_prefix, broke_reaches, ran_writes, ran_reaches}
 use Rattle.secvisor_cli.proofs.answer.run_and_report.Goals as goal
 
@@ -22,6 +25,13 @@ returns-in_err-run-clause-machine g c = λ start new.
 pub returns-clause-writes : goal.returns-clause-writes
 returns-clause-writes g c = λ start new.
     ran_writes c.args.machine.now start c.run.new.machine _ _ _ _ _ (c.in_ok-run.ensures.all start new) c.finish.ensures.writes
+
+disk_ok : (result : Result Status Trouble) (P : Type 0) → P → OnOk result P
+disk_ok (Ok s) P p = p
+disk_ok (Err e) P p = tt
+
+pub returns-clause-disk : goal.returns-clause-disk
+returns-clause-disk g c = disk_ok c.finish.result _ (λ start new. stands_disk c.run.new.machine _ _ (c.in_ok-run.ensures.all start new).stands)
 
 pub returns-clause-machine : goal.returns-clause-machine
 returns-clause-machine g c = λ start new.

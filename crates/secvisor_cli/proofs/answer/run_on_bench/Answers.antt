@@ -1,9 +1,13 @@
-use Rattle.std.proofs.Common.{inr, refl}
+use Rattle.std.proofs.Common.{refl, inr}
 use Rattle.secvisor_cli.proofs.answer.run_on_bench.Goals as goal
 
 pub returns : goal.returns
-returns g c start new = record {
-  writes = c.run_and_report-result.ensures.writes start new;
-  wants = λ _. refl;
-  bench = inr (c.run_and_report-result.new.machine, refl, c.run_and_report-result.ensures.machine start new);
-}
+returns g c = λ start new.
+    let it = c.run_and_save-result.ensures start new in
+    record {
+      written = it.written;
+      writes = it.writes;
+      saves = it.saves;
+      wants = λ _. refl;
+      bench = inr (c.run_and_save-result.new.machine, refl, it.runs);
+    }

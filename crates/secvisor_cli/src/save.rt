@@ -1,0 +1,26 @@
+// The disk as a run left it, saved.
+ghost use Rattle.std.specs.Prelude.{◌<◌, ◌-◌, ◌^◌};
+ghost use Rattle.std.specs.Option.{option_copied};
+ghost use Rattle.secvisor_cli.specs.Plans.{saving};
+ghost use Rattle.secvisor_cli.specs.Reading.{MaySave};
+ghost use Rattle.secvisor_cli.specs.Answers.{AfterSave};
+
+use crate::trouble::Trouble;
+use machine::Machine;
+use outside::Files;
+
+/// Saves the disk's bytes, where a name for them is given.
+pub fn save_disk<F: Files>(
+    machine: &Machine,
+    save: Option<&str>,
+    files: &mut F,
+) -> Result<(), Trouble>
+    requires permitted { MaySave (saving machine.now.devices.disk.bytes (option_copied save)) (F.state files.old) }
+    requires count { (F.state files.old).save_faults < 2 ^ 64 - 1 }
+    ensures { AfterSave (saving machine.now.devices.disk.bytes (option_copied save.entry)) (F.state files.old) (F.state files.new) result }
+{
+    match save {
+        None => Ok(()),
+        Some(name) => Ok(files.save(name, machine.disk())?),
+    }
+}
