@@ -23,21 +23,21 @@ const ROOM: usize = 10_000;
 
 /// What a run left behind.
 #[derive(Drop)]
-struct Left {
-    status: Status,
-    taken: Vec<u8>,
-    is_booted: bool,
+pub(crate) struct Left {
+    pub(crate) status: Status,
+    pub(crate) taken: Vec<u8>,
+    pub(crate) is_booted: bool,
 }
 
 /// What the outside does: reads and writes that fail, counted from 1, and the most bytes that a write takes.
 #[derive(Clone, Copy)]
-struct Outside {
+pub(crate) struct Outside {
     failing_read: u64,
     failing_write: u64,
     piece: usize,
 }
 
-const GOOD: Outside = Outside {
+pub(crate) const GOOD: Outside = Outside {
     failing_read: 0,
     failing_write: 0,
     piece: ROOM,
@@ -59,8 +59,8 @@ fn measure_text(alloc: Global, page: &[u8]) -> Result<String, AllocError> {
     hex::encode(alloc, join_digests(&[page_digest(page)]))
 }
 
-// The run of `flat image MEASURE EVENTS` on files of which one is the image.
-fn run<R: Threads + Sync>(
+/// The run of these words on files of which one is the image.
+pub(crate) fn run<R: Threads + Sync>(
     rt: &R,
     alloc: Global,
     image: Vec<u8>,

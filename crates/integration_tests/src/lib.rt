@@ -4,4 +4,6 @@
 #[cfg(test)]
 mod flat;
 #[cfg(test)]
+mod generated;
+#[cfg(test)]
 mod real;
