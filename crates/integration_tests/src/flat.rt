@@ -1,4 +1,4 @@
-// Runs of `flat`.
+// Runs of `flat`, and what `run` refuses.
 ghost use Rattle.std.specs.Prelude.{◌≡◌, ◌<◌, ◌≤◌, IfOk, vec_len};
 
 use outside::{MemFiles, MemSink, RealFiles};
@@ -209,7 +209,7 @@ struct Refused {
     line: &'static str,
 }
 
-const REFUSALS: [Refused; 14] = [
+const REFUSALS: [Refused; 19] = [
     Refused {
         words: &[],
         size: 4096,
@@ -307,6 +307,57 @@ const REFUSALS: [Refused; 14] = [
         failing_read: 0,
         status: Status::ReadFault,
         line: "read fault flat\n",
+    },
+    Refused {
+        words: &[
+            "run",
+            "image",
+            "image",
+            "none",
+            "auto:18446744073709551616",
+            "x",
+            "none",
+        ],
+        size: 4096,
+        failing_read: 0,
+        status: Status::Usage,
+        line: "usage SCRIPT\n",
+    },
+    Refused {
+        words: &[
+            "run",
+            "image",
+            "image",
+            "none",
+            "auto:18446744073709551615",
+            "4294967297",
+            "none",
+        ],
+        size: 4096,
+        failing_read: 0,
+        status: Status::Usage,
+        line: "usage EVENTS\n",
+    },
+    Refused {
+        words: &["run", "image", "other", "none", "none", "5", "none"],
+        size: 4096,
+        failing_read: 0,
+        status: Status::ReadFault,
+        line: "read fault policy\n",
+    },
+    Refused {
+        words: &["run", "image", "image", "none", "none", "5", "none"],
+        size: 4096,
+        failing_read: 1,
+        status: Status::ReadFault,
+        line: "read fault policy\n",
+    },
+    Refused {
+        words: &["run", "image", "image", "none", "none", "5", "none"],
+        size: 4096,
+        failing_read: 0,
+        status: Status::Refused,
+        line: "refused policy 1\n",
     },
 ];
 

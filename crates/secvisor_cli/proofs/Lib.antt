@@ -5,4 +5,5 @@ pub mod EndLemmas
 pub mod PlanLemmas
 pub mod SaveLemmas
 pub mod ReadyLemmas
+pub mod StageLemmas
 pub mod TopLemmas

@@ -2,7 +2,7 @@
 use Rattle.std.proofs.Common.{◌≡◌, ◌≢◌, ℕ, ◌<◌, ◌≤◌, List, [], ◌∷◌, Bool, IsTrue, refl, sym, ◌∙◌, ap, subst, arith, inl, inr, ◌⊎◌, Option, Some, None}
 use Rattle.sv_types.specs.declared.status.Status.{Status}
 use Rattle.outside.specs.Outside.{FilesState, after_asking}
-use Rattle.secvisor_cli.specs.Plans.{Due, Saving, saves_due, Plan, End, Read, Found, Faulty, Missing, Longer, Held, status_due}
+use Rattle.secvisor_cli.specs.Plans.{Due, Saving, saves_due, Plan, End, Read, Judge, Found, Faulty, Missing, Longer, Held, status_due}
 use Rattle.secvisor_cli.specs.Reading.{MayFollow, MaySave, FoundAs, Follows, IsNamed, IsUnder, SavesUnder}
 
 -- ---- one read
@@ -66,11 +66,14 @@ follows_keeps (End due) old new reached it = keeps_same old new it.1
 follows_keeps (Read name limit next) old new reached (inl wanting) = keeps_asked old new name wanting.1
 follows_keeps (Read name limit next) old new reached (inr it) =
     keeps_both old it.1 new (keeps_found old it.1 name limit it.0 it.2) (follows_keeps (next it.0) it.1 new reached it.3)
+follows_keeps (Judge next) old new reached (inl wanting) = keeps_same old new wanting.1
+follows_keeps (Judge next) old new reached (inr it) = follows_keeps next old new reached it
 
 -- the plan says read fault only where a read found no file
 abbrev pub HasFoundFaults : Plan → Type 0
 HasFoundFaults (End due) = status_due due ≢ Status.ReadFault
 HasFoundFaults (Read name limit next) = HasFoundFaults (next Longer) × ((bytes : List ℕ) → HasFoundFaults (next (Held bytes)))
+HasFoundFaults (Judge next) = HasFoundFaults next
 
 -- a name of the plan isn't held, and the files tell it; or the count of reads rose
 abbrev pub HasFault : Plan → FilesState → FilesState → Type 0
@@ -98,6 +101,8 @@ read_fault (End it) old new due never follows is = absurd (never (ap status_due 
 read_fault (Read name limit next) old new due never (inl wanting) is = absurd (cc wanting.0)
 read_fault (Read name limit next) old new due never (inr it) is =
     fault_by name limit next old it.1 new due it.0 it.2 never (follows_keeps (next it.0) it.1 new (Some due) it.3) (λ h. read_fault (next it.0) it.1 new due h it.3 is)
+read_fault (Judge next) old new due never (inl wanting) is = absurd (cc wanting.0)
+read_fault (Judge next) old new due never (inr it) is = read_fault next old new due never it is
 
 -- ---- what may be saved at the end
 
@@ -109,6 +114,7 @@ save_at_count (Some saving) files n may = may
 follow_at_count : (plan : Plan) (files : FilesState) (n : ℕ) → MayFollow plan files → MayFollow plan (record files { read_faults = n })
 follow_at_count (End due) files n may = save_at_count (saves_due due) files n may
 follow_at_count (Read name limit next) files n may = (may.0, λ found. follow_at_count (next found) (after_asking name files) n (may.1 found))
+follow_at_count (Judge next) files n may = follow_at_count next files n may
 
 follow_found : (plan : Plan) (old now : FilesState) (name : List ℕ) (limit : ℕ) (found : Found) → FoundAs old now name limit found → MayFollow plan (after_asking name old) → MayFollow plan now
 follow_found plan old now name limit Faulty it may = subst (λ (f : FilesState). MayFollow plan f) (sym it.1) (follow_at_count plan (after_asking name old) now.read_faults may)
@@ -123,12 +129,16 @@ may_save (End it) old read due may follows =
 may_save (Read name limit next) old read due may (inl wanting) = absurd (cc wanting.0)
 may_save (Read name limit next) old read due may (inr it) =
     may_save (next it.0) it.1 read due (follow_found (next it.0) old it.1 name limit it.0 it.2 (may.1 it.0)) it.3
+may_save (Judge next) old read due may (inl wanting) = absurd (cc wanting.0)
+may_save (Judge next) old read due may (inr it) = may_save next old read due may it
 
 -- what is due at the end is saved under a name of the plan
 pub saves_under : (plan : Plan) (old read : FilesState) (due : Due) (name : List ℕ) → Follows plan old read (Some due) → IsUnder (saves_due due) name → SavesUnder plan name
 saves_under (End it) old read due name follows under = subst (λ (d : Due). IsUnder (saves_due d) name) (due_same due it follows.0) under
 saves_under (Read asked limit next) old read due name (inl wanting) under = absurd (cc wanting.0)
 saves_under (Read asked limit next) old read due name (inr it) under = (it.0, saves_under (next it.0) it.1 read due name it.3 under)
+saves_under (Judge next) old read due name (inl wanting) under = absurd (cc wanting.0)
+saves_under (Judge next) old read due name (inr it) under = saves_under next old read due name it under
 
 -- ---- files of which any name may be asked for
 
@@ -141,3 +151,4 @@ pub may_follow : (plan : Plan) (files : FilesState) → ((names : List (List ℕ
 may_follow (End due) files all saves = may_save_any (saves_due due) files saves
 may_follow (Read name limit next) files all saves =
     (all (name ∷ []), λ found. may_follow (next found) (after_asking name files) (λ names. all (name ∷ names)) saves)
+may_follow (Judge next) files all saves = may_follow next files all saves

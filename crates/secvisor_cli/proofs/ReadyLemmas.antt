@@ -79,10 +79,10 @@ stopped_ready part name limit next old new Memory it = record { reached = None; 
 
 -- ---- flat
 
-bytes_eq-same : (xs : List ℕ) → bytes_eq xs xs ≡ true
+pub bytes_eq-same : (xs : List ℕ) → bytes_eq xs xs ≡ true
 bytes_eq-same xs = search (rules, bytes_eq-Decides)
 
-bytes_eq-other : (xs ys : List ℕ) → xs ≢ ys → bytes_eq xs ys ≡ false
+pub bytes_eq-other : (xs ys : List ℕ) → xs ≢ ys → bytes_eq xs ys ≡ false
 bytes_eq-other xs ys other = search (rules, bytes_eq-Decides)
 
 measured_run : (pages wanted : List ℕ) (events : List Event) → measure pages ≡ wanted → measure_judged pages wanted events ≡ RunFrom (flat_start pages wanted) events None

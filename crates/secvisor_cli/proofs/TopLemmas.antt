@@ -1,5 +1,5 @@
 -- From what is ready to what is answered, and from the answer with its trouble to the status.
-use Rattle.std.proofs.Common.{◌≡◌, ◌≢◌, ℕ, ◌≤◌, List, Bool, true, false, IsTrue, refl, sym, ◌∙◌, ap, subst, arith, inl, inr, ◌⊎◌, Option, Some, None, Result, Ok, Err, IsErrOf, if◌then◌else◌}
+use Rattle.std.proofs.Common.{◌≡◌, ◌≢◌, ℕ, ◌≤◌, List, [], Bool, true, false, IsTrue, refl, sym, ◌∙◌, ap, subst, arith, inl, inr, ◌⊎◌, Option, Some, None, Result, Ok, Err, IsErrOf, if◌then◌else◌}
 use Rattle.std.specs.Option.{option_copied}
 use Rattle.std.specs.Result.{is_ok}
 use Rattle.std.specs.List.{list_any}
@@ -12,16 +12,20 @@ use Rattle.reference.specs.Start.{flat_start, boot_start}
 use Rattle.guest_gen.specs.Generated.{generated_image, generated_policy}
 use Rattle.sv_types.specs.Measure.{measure}
 use Rattle.sv_types.specs.Output.{run_status}
-use Rattle.reference.specs.States.{State}
+use Rattle.reference.specs.States.{State, has_number}
+use Rattle.sv_types.specs.Kernel.{header_entry, kernel_refusal}
+use Rattle.sv_types.specs.Policies.{Rules}
+use Rattle.policy.specs.Refusals.{Judged}
+use Rattle.policy.specs.Text.{rules_of_text}
 use Rattle.reference.specs.Run.{run}
 use Rattle.machine_model.specs.Machine.{Machine}
 use Rattle.machine_model.specs.Reaches.{IsNew}
-use Rattle.sv_types.specs.Schedule.{Schedule, first_events}
+use Rattle.sv_types.specs.Schedule.{Schedule, first_events, first_of_no_form, script_events}
 use Rattle.outside.specs.Outside.{FilesState, SinkState}
 use Rattle.outside.proofs.SinkLemmas.{prefix_none}
 use Rattle.secvisor_cli.specs.declared.refusal.Refusal.{Refusal}
 use Rattle.secvisor_cli.specs.declared.refusal.Part.{Part}
-use Rattle.secvisor_cli.specs.declared.refusal.Refusal.TheVariants.{NoCommand, File, Measure}
+use Rattle.secvisor_cli.specs.declared.refusal.Refusal.TheVariants.{NoCommand, File, Measure, Entry}
 use Rattle.secvisor_cli.specs.declared.ready.Ready.{Ready}
 use Rattle.secvisor_cli.specs.declared.ready.Stop.{Stop}
 use Rattle.secvisor_cli.specs.declared.ready.Stop.TheVariants.{Refused}
@@ -30,8 +34,8 @@ use Rattle.secvisor_cli.specs.declared.trouble.Trouble.{Trouble}
 use Rattle.secvisor_cli.specs.declared.trouble.Trouble.TheVariants.{Write, Memory}
 use Rattle.secvisor_cli.specs.Refusals.{refusal_line, refusal_status, takes_memory}
 use Rattle.sv_types.specs.Numbers.{number_within, digest_of}
-use Rattle.secvisor_cli.specs.CommandLine.{Command, has_dash, word_at, most_events, most_calls, flat_file, flat_words, is_flat, gen_words, is_gen, judged}
-use Rattle.secvisor_cli.specs.Plans.{Due, Refuse, RunFrom, Saving, saves_due, Plan, End, bytes_due, status_due, found_plan, flat_plan, plan_of, measure_judged, pages_judged, is_whole_pages, flat_events, gen_due, gen_disk}
+use Rattle.secvisor_cli.specs.CommandLine.{Command, has_dash, word_at, most_events, most_calls, flat_file, flat_words, is_flat, gen_words, is_gen, run_words, is_run, RunWords, Source, Rounds, Auto, Text, source_of, judged}
+use Rattle.secvisor_cli.specs.Plans.{Due, Refuse, RunFrom, Saving, saves_due, Plan, End, bytes_due, status_due, found_plan, flat_plan, plan_of, measure_judged, pages_judged, is_whole_pages, flat_events, gen_due, gen_disk, policy_judged, policy_part, part_judged, kernel_part, disk_refusal, disk_part, text_part, script_part, image_measure, boot_judged, boot_plan, image_plan, run_plan}
 use Rattle.secvisor_cli.specs.Reading.{Follows, MayFollow, MaySave, SavesUnder}
 use Rattle.secvisor_cli.specs.Ready.{IsReady, IsReadyWhere, IsFresh, MaySaveRun, Prepares}
 use Rattle.secvisor_cli.specs.Answers.{Outside, outside, Writes, SavedBehind, Answers, AnswersReached, Performs, MeetsSaves, Meets, MeetsReached, Headline, BenchAfter, may_want, settled}
@@ -307,22 +311,72 @@ unfolding gen_due
 gen_found_faults calls =
     run_no_read_fault (run (boot_start (generated_policy calls) (generated_image calls) gen_disk) (first_events most_events (Schedule.Weave 0))).journal.verdict
 
-words_found_faults : (has_dash is_flat is_gen : Bool) (file : List ℕ) (wanted : Option (List ℕ)) (events calls : Option ℕ) →
-    HasFoundFaults (plan_of (if has_dash then Err NoCommand else if is_flat then flat_words file wanted events else if is_gen then gen_words calls else Err NoCommand))
-unfolding plan_of flat_words gen_words
-words_found_faults true is_flat is_gen file wanted events calls = λ e. cc e
-words_found_faults false false false file wanted events calls = λ e. cc e
-words_found_faults false false true file wanted events None = λ e. cc e
-words_found_faults false false true file wanted events (Some calls) = gen_found_faults calls
-words_found_faults false true is_gen file None events calls = λ e. cc e
-words_found_faults false true is_gen file (Some wanted) None calls = λ e. cc e
-words_found_faults false true is_gen file (Some wanted) (Some events) calls = flat_found_faults file wanted events
+part_found_faults : (part : Part) (next : Plan) (refused : Option ℕ) → HasFoundFaults next → HasFoundFaults (part_judged part next refused)
+part_found_faults part next None never = never
+part_found_faults part next (Some number) never = λ e. cc e
+
+policy_found_faults : (next : Rules → Plan) (judged : Judged Rules) → ((rules : Rules) → HasFoundFaults (next rules)) → HasFoundFaults (policy_judged next judged)
+policy_found_faults next (Ok rules) never = never rules
+policy_found_faults next (Err refused) never = λ e. cc e
+
+boot_no_read_fault : (rules : Rules) (file disk : List ℕ) (events : List Event) (save : Option (List ℕ)) → status_due (boot_judged rules file disk events save) ≢ Status.ReadFault
+unfolding boot_judged
+boot_no_read_fault rules file disk events save =
+    elim (bytes_eq (image_measure file) rules.kernel) as (λ b. status_due (if b then
+    (if has_number rules.entries (header_entry file) then RunFrom (boot_start rules file disk) events save else Refuse (Entry (header_entry file)))
+    else Refuse (Measure (image_measure file) rules.kernel)) ≢ Status.ReadFault) [
+      | true ↦ elim (has_number rules.entries (header_entry file)) as (λ b. status_due (if b then RunFrom (boot_start rules file disk) events save else Refuse (Entry (header_entry file))) ≢ Status.ReadFault) [
+        | true ↦ run_no_read_fault (run (boot_start rules file disk) events).journal.verdict
+        | false ↦ λ e. cc e
+      ]
+      | false ↦ λ e. cc e
+    ]
+
+disk_found_faults : (name : Option (List ℕ)) (next : List ℕ → Plan) → ((disk : List ℕ) → HasFoundFaults (next disk)) → HasFoundFaults (disk_part name next)
+unfolding disk_part found_plan
+disk_found_faults None next never = never []
+disk_found_faults (Some name) next never = (λ e. cc e, λ bytes. part_found_faults Part.Disk (next bytes) (disk_refusal bytes) (never bytes))
+
+script_found_faults : (harts : ℕ) (source : Source) (next : Schedule → Plan) → ((schedule : Schedule) → HasFoundFaults (next schedule)) → HasFoundFaults (script_part harts source next)
+unfolding script_part text_part found_plan
+script_found_faults harts Rounds next never = never _
+script_found_faults harts (Auto number) next never = never _
+script_found_faults harts (Text name) next never =
+    (λ e. cc e, λ bytes. part_found_faults Part.Script (next (Schedule.Listed (script_events bytes))) (first_of_no_form bytes) (never _))
+
+boot_found_faults : (words : RunWords) (rules : Rules) (file : List ℕ) → HasFoundFaults (boot_plan words rules file)
+unfolding boot_plan
+boot_found_faults words rules file =
+    disk_found_faults words.disk _ (λ disk. script_found_faults rules.harts words.script _ (λ schedule. boot_no_read_fault rules file disk (first_events words.events schedule) words.save))
+
+image_found_faults : (words : RunWords) (rules : Rules) → HasFoundFaults (image_plan words rules)
+unfolding image_plan kernel_part found_plan
+image_found_faults words rules =
+    (λ e. cc e, λ file. part_found_faults Part.Image (boot_plan words rules file) (kernel_refusal file rules.ram_pages) (boot_found_faults words rules file))
+
+run_found_faults : (words : RunWords) → HasFoundFaults (run_plan words)
+unfolding run_plan policy_part found_plan
+run_found_faults words = (λ e. cc e, λ bytes. policy_found_faults (image_plan words) (rules_of_text bytes) (image_found_faults words))
+
+words_found_faults : (has_dash is_flat is_gen is_run : Bool) (file : List ℕ) (wanted : Option (List ℕ)) (events calls : Option ℕ) (words : List (List ℕ)) (source : Option Source) (most : Option ℕ) →
+    HasFoundFaults (plan_of (if has_dash then Err NoCommand else if is_flat then flat_words file wanted events else if is_gen then gen_words calls else if is_run then run_words words source most else Err NoCommand))
+unfolding plan_of flat_words gen_words run_words
+words_found_faults true is_flat is_gen is_run file wanted events calls words source most = λ e. cc e
+words_found_faults false false false false file wanted events calls words source most = λ e. cc e
+words_found_faults false false false true file wanted events calls words None most = λ e. cc e
+words_found_faults false false false true file wanted events calls words (Some source) None = λ e. cc e
+words_found_faults false false false true file wanted events calls words (Some source) (Some most) = run_found_faults _
+words_found_faults false false true is_run file wanted events None words source most = λ e. cc e
+words_found_faults false false true is_run file wanted events (Some calls) words source most = gen_found_faults calls
+words_found_faults false true is_gen is_run file None events calls words source most = λ e. cc e
+words_found_faults false true is_gen is_run file (Some wanted) None calls words source most = λ e. cc e
+words_found_faults false true is_gen is_run file (Some wanted) (Some events) calls words source most = flat_found_faults file wanted events
 
 judged_found_faults : (words : List (List ℕ)) → HasFoundFaults (plan_of (judged words))
 unfolding judged
 judged_found_faults words =
-    words_found_faults (list_any has_dash words) (is_flat words) (is_gen words) (flat_file words) (digest_of (word_at words 2)) (number_within 0 most_events (word_at words 3))
-    (number_within 1 most_calls (word_at words 1))
+    words_found_faults (list_any has_dash words) (is_flat words) (is_gen words) (is_run words) (flat_file words) (digest_of (word_at words 2)) (number_within 0 most_events (word_at words 3))
+    (number_within 1 most_calls (word_at words 1)) words (source_of (word_at words 4)) (number_within 0 most_events (word_at words 5))
 
 reached_fault : (plan : Plan) (reached : Option Due) (f0 f1 : FilesState) (old new : Outside) → HasFoundFaults plan → Follows plan f0 f1 reached →
     MeetsReached reached old new Status.ReadFault → HasFault plan f0 f1

@@ -1,5 +1,5 @@
 -- The words of a command line: what they ask for, or the first one that is out of its range. This project's own.
-use Rattle.std.specs.Prelude.{ℕ, ◌^◌, Bool, false, ◌&&◌, List, [], ◌∷◌, length, ◌==◌, if◌then◌else◌, Option, Some, None, Result, Ok, Err, codes, slice_index_or}
+use Rattle.std.specs.Prelude.{ℕ, ◌^◌, Bool, false, ◌&&◌, ◌-◌, List, [], ◌∷◌, length, ◌==◌, if◌then◌else◌, Option, Some, None, option_map, take, drop, Result, Ok, Err, codes, slice_index_or}
 use Rattle.std.specs.List.{list_any}
 use Rattle.std.specs.Str.{bytes_eq}
 use Rattle.sv_types.specs.Numbers.{number_within, digest_of}
@@ -7,10 +7,31 @@ use Rattle.secvisor_cli.specs.declared.refusal.Word.{Word}
 use Rattle.secvisor_cli.specs.declared.refusal.Refusal.{Refusal}
 use Rattle.secvisor_cli.specs.declared.refusal.Refusal.TheVariants.{NoCommand, OutOfRange}
 
+-- where the events of a run come from
+pub data Source : Type 0 where
+  -- the harts in turn
+  Rounds : Source
+  -- drawn behind a number
+  Auto : (number : ℕ) → Source
+  -- the text of a file
+  Text : (name : List ℕ) → Source
+
+-- a run of an image under a policy
+pub record RunWords : Type 0 where
+  pub image : List ℕ
+  pub policy : List ℕ
+  -- none for an empty disk
+  pub disk : Option (List ℕ)
+  pub script : Source
+  pub events : ℕ
+  -- where the disk is saved behind the report, if it is
+  pub save : Option (List ℕ)
+
 pub data Command : Type 0 where
   Flat : (file wanted : List ℕ) → (events : ℕ) → Command
   -- the generated guest, which calls its kernel so many times
   Generated : (calls : ℕ) → Command
+  Run : RunWords → Command
 
 -- a word begins with a dash
 abbrev pub has_dash : List ℕ → Bool
@@ -56,6 +77,43 @@ is_gen words = length words == 2 && bytes_eq (word_at words 0) (codes "gen")
 abbrev pub gen_judged : List (List ℕ) → Result Command Refusal
 gen_judged words = gen_words (number_within 1 most_calls (word_at words 1))
 
+-- ---- run IMAGE POLICY DISK SCRIPT EVENTS SAVE
+
+-- a name, where the word isn't `none`
+abbrev pub unless_none : List ℕ → Option (List ℕ)
+unless_none word = if bytes_eq word (codes "none") then None else Some word
+
+abbrev pub auto_of : List ℕ → Option Source
+auto_of number = option_map Auto (number_within 0 (2 ^ 64 - 1) number)
+
+-- a word that begins with `auto:` has a number behind it, or is out of range
+unfoldable pub source_of : List ℕ → Option Source
+source_of word =
+    if bytes_eq word (codes "none") then Some Rounds
+    else if bytes_eq (take 5 word) (codes "auto:") then auto_of (drop 5 word)
+    else Some (Text word)
+
+abbrev pub run_of : List (List ℕ) → Source → ℕ → RunWords
+run_of words script events = record {
+  image = word_at words 1;
+  policy = word_at words 2;
+  disk = unless_none (word_at words 3);
+  script = script;
+  events = events;
+  save = unless_none (word_at words 6);
+}
+
+unfoldable pub run_words : List (List ℕ) → Option Source → Option ℕ → Result Command Refusal
+run_words words None events = Err (OutOfRange Word.Script)
+run_words words (Some script) None = Err (OutOfRange Word.Events)
+run_words words (Some script) (Some events) = Ok (Run (run_of words script events))
+
+abbrev pub is_run : List (List ℕ) → Bool
+is_run words = length words == 7 && bytes_eq (word_at words 0) (codes "run")
+
+abbrev pub run_judged : List (List ℕ) → Result Command Refusal
+run_judged words = run_words words (source_of (word_at words 4)) (number_within 0 most_events (word_at words 5))
+
 -- ---- all commands
 
 unfoldable pub judged : List (List ℕ) → Result Command Refusal
@@ -63,4 +121,5 @@ judged words =
     if list_any has_dash words then Err NoCommand
     else if is_flat words then flat_judged words
     else if is_gen words then gen_judged words
+    else if is_run words then run_judged words
     else Err NoCommand

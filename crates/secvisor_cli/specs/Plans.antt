@@ -1,6 +1,6 @@
 -- What is asked, as a plan: which files are read, under which names, in which order, and what is due by what is found in
 -- them. This project's own.
-use Rattle.std.specs.Prelude.{ℕ, ◌%◌, ◌*◌, List, length, map, Bool, ◌&&◌, ◌==◌, nat_lt, if◌then◌else◌, Option, Some, None, Result, Ok, Err}
+use Rattle.std.specs.Prelude.{ℕ, ◌%◌, ◌*◌, ◌^◌, List, [], length, map, Bool, true, false, ◌&&◌, ◌==◌, nat_lt, if◌then◌else◌, Option, Some, None, Result, Ok, Err}
 use Rattle.std.specs.Str.{bytes_eq}
 use Rattle.sv_types.specs.declared.event.Event.{Event}
 use Rattle.sv_types.specs.declared.status.Status.{Status}
@@ -8,18 +8,24 @@ use Rattle.sv_types.specs.Bytes.{page_size}
 use Rattle.sv_types.specs.Boot.{flat_ram_pages}
 use Rattle.sv_types.specs.ApprovedPages.{numbers_from}
 use Rattle.guest_gen.specs.Generated.{generated_image, generated_policy}
+use Rattle.policy.specs.declared.refusal.PolicyRefusal.{PolicyRefusal}
+use Rattle.policy.specs.declared.refusal.PolicyRefusal.TheVariants as refusal
+use Rattle.policy.specs.Refusals.{Judged}
+use Rattle.policy.specs.Text.{rules_of_text}
+use Rattle.sv_types.specs.Kernel.{header_entry, kernel_refusal, kernel_segments, text_of}
+use Rattle.sv_types.specs.Policies.{Rules}
 use Rattle.reference.specs.Start.{flat_start, boot_start}
 use Rattle.sv_types.specs.Measure.{measure}
 use Rattle.sv_types.specs.Output.{run_status}
 use Rattle.reference.specs.Report.{output}
-use Rattle.reference.specs.States.{State}
+use Rattle.reference.specs.States.{State, has_number}
 use Rattle.reference.specs.Run.{run}
-use Rattle.sv_types.specs.Schedule.{Schedule, first_events}
+use Rattle.sv_types.specs.Schedule.{Schedule, first_events, first_of_no_form, script_events}
 use Rattle.secvisor_cli.specs.declared.refusal.Part.{Part}
 use Rattle.secvisor_cli.specs.declared.refusal.Refusal.{Refusal}
-use Rattle.secvisor_cli.specs.declared.refusal.Refusal.TheVariants.{ReadFault, File, Measure}
+use Rattle.secvisor_cli.specs.declared.refusal.Refusal.TheVariants.{ReadFault, File, Measure, Entry}
 use Rattle.secvisor_cli.specs.Refusals.{refusal_line, refusal_status}
-use Rattle.secvisor_cli.specs.CommandLine.{Command, Flat, Generated, most_events}
+use Rattle.secvisor_cli.specs.CommandLine.{Command, Flat, Generated, Run, RunWords, Source, Rounds, Auto, Text, most_events}
 
 -- ---- what is due
 
@@ -68,6 +74,8 @@ pub data Plan : Type 0 where
   End : Due → Plan
   -- at most so many bytes are read under a name, once, and what is found decides how it goes on
   Read : (name : List ℕ) → (limit : ℕ) → (next : Found → Plan) → Plan
+  -- what was read is judged, for which memory may be wanting, before it goes on
+  Judge : (next : Plan) → Plan
 
 -- a part that is not read is refused, and else its bytes decide
 unfoldable pub found_plan : Part → (List ℕ → Plan) → Found → Plan
@@ -112,9 +120,91 @@ unfoldable pub gen_due : ℕ → Due
 gen_due calls =
     RunFrom (boot_start (generated_policy calls) (generated_image calls) gen_disk) (first_events most_events (Schedule.Weave 0)) None
 
+-- ---- run: each part is judged before the next one is read
+
+abbrev pub most_policy_bytes : ℕ
+most_policy_bytes = 16 * 2 ^ 20
+
+abbrev pub most_image_bytes : ℕ
+most_image_bytes = 64 * 2 ^ 20
+
+abbrev pub most_disk_bytes : ℕ
+most_disk_bytes = 64 * 2 ^ 20
+
+abbrev pub most_script_bytes : ℕ
+most_script_bytes = 2 ^ 20
+
+-- the number of a refusal. Want of memory is none of them
+abbrev pub policy_number : PolicyRefusal → ℕ
+policy_number (refusal.Number number) = number
+policy_number refusal.Memory = 0
+
+abbrev pub policy_judged : (Rules → Plan) → Judged Rules → Plan
+policy_judged next (Ok rules) = next rules
+policy_judged next (Err refused) = End (Refuse (File Part.Policy (policy_number refused)))
+
+unfoldable pub policy_part : (name : List ℕ) → (Rules → Plan) → Plan
+policy_part name next =
+    read_part Part.Policy name most_policy_bytes (λ bytes. Judge (policy_judged next (rules_of_text bytes)))
+
+-- a part without a refusal's number is good
+abbrev pub part_judged : Part → Plan → Option ℕ → Plan
+part_judged part next None = next
+part_judged part next (Some number) = End (Refuse (File part number))
+
+-- what holds of a file of the image, under rules
+unfoldable pub kernel_part : Rules → (file : List ℕ) → Plan → Plan
+kernel_part rules file next = Judge (part_judged Part.Image next (kernel_refusal file rules.ram_pages))
+
+abbrev pub image_part : Rules → (name : List ℕ) → (List ℕ → Plan) → Plan
+image_part rules name next = read_part Part.Image name most_image_bytes (λ file. kernel_part rules file (next file))
+
+-- whole sectors
+abbrev pub disk_refusal : List ℕ → Option ℕ
+disk_refusal bytes = if length bytes % 512 == 0 then None else Some 1
+
+unfoldable pub disk_part : Option (List ℕ) → (List ℕ → Plan) → Plan
+disk_part None next = next []
+disk_part (Some name) next =
+    read_part Part.Disk name most_disk_bytes (λ bytes. part_judged Part.Disk (next bytes) (disk_refusal bytes))
+
+unfoldable pub text_part : (name : List ℕ) → (Schedule → Plan) → Plan
+text_part name next =
+    read_part Part.Script name most_script_bytes
+    (λ bytes. Judge (part_judged Part.Script (next (Schedule.Listed (script_events bytes))) (first_of_no_form bytes)))
+
+unfoldable pub script_part : (harts : ℕ) → Source → (Schedule → Plan) → Plan
+script_part harts Rounds next = next (Schedule.Rounds harts 0)
+script_part harts (Auto number) next = next (Schedule.Auto harts number)
+script_part harts (Text name) next = text_part name next
+
+abbrev pub image_measure : List ℕ → List ℕ
+image_measure file = measure (text_of (kernel_segments file))
+
+-- the text is measured, and the entry has to be a permitted one
+unfoldable pub boot_judged : Rules → (file disk : List ℕ) → List Event → (save : Option (List ℕ)) → Due
+boot_judged rules file disk events save =
+    if bytes_eq (image_measure file) rules.kernel then
+    (if has_number rules.entries (header_entry file) then RunFrom (boot_start rules file disk) events save
+    else Refuse (Entry (header_entry file)))
+    else Refuse (Measure (image_measure file) rules.kernel)
+
+-- what stands behind the image: the disk, the script and the boot
+unfoldable pub boot_plan : RunWords → Rules → (file : List ℕ) → Plan
+boot_plan words rules file =
+    disk_part words.disk (λ disk. script_part rules.harts words.script
+    (λ schedule. End (boot_judged rules file disk (first_events words.events schedule) words.save)))
+
+unfoldable pub image_plan : RunWords → Rules → Plan
+image_plan words rules = image_part rules words.image (boot_plan words rules)
+
+unfoldable pub run_plan : RunWords → Plan
+run_plan words = policy_part words.policy (image_plan words)
+
 -- ---- all commands
 
 unfoldable pub plan_of : Result Command Refusal → Plan
 plan_of (Err refusal) = End (Refuse refusal)
 plan_of (Ok (Flat file wanted events)) = flat_plan file wanted events
 plan_of (Ok (Generated calls)) = End (gen_due calls)
+plan_of (Ok (Run words)) = run_plan words

@@ -1,7 +1,7 @@
 -- Files that are asked as a plan says: each name once, in the plan's order, and no other one; and what is saved at its end.
 use Rattle.std.specs.Prelude.{◌≡◌, ◌≢◌, ◌<◌, ◌≤◌, ◌⊎◌, ℕ, List, [], ◌∷◌, length, IsTrue, Option, Some, None}
 use Rattle.outside.specs.Outside.{FilesState, after_asking}
-use Rattle.secvisor_cli.specs.Plans.{Due, Saving, saves_due, Plan, End, Read, Found, Faulty, Missing, Longer, Held}
+use Rattle.secvisor_cli.specs.Plans.{Due, Saving, saves_due, Plan, End, Read, Judge, Found, Faulty, Missing, Longer, Held}
 
 -- exactly these bytes may be saved
 abbrev pub MaySave : Option Saving → FilesState → Type 0
@@ -12,6 +12,7 @@ MaySave (Some saving) files = IsTrue (files.permits_save saving.name saving.byte
 abbrev pub MayFollow : Plan → FilesState → Type 0
 MayFollow (End due) files = MaySave (saves_due due) files
 MayFollow (Read name limit next) files = IsTrue (files.permits (name ∷ [])) × ((found : Found) → MayFollow (next found) (after_asking name files))
+MayFollow (Judge next) files = MayFollow next files
 
 -- what was found under a name. It is what the files hold, where they tell it; a failure comes only where the count rose
 abbrev pub FoundAs : FilesState → FilesState → List ℕ → ℕ → Found → Type 0
@@ -23,17 +24,20 @@ FoundAs old new name limit Longer =
 FoundAs old new name limit (Held bytes) =
     (length bytes ≤ limit) × (IsTrue old.tells → old.held name ≡ Some bytes) × (new ≡ after_asking name old)
 
--- The files were asked as the plan says, up to what is due at its end. It is none where memory was wanting for a read.
+-- The files were asked as the plan says, up to what is due at its end. It is none where memory was wanting for a read,
+-- or for judging what was read.
 abbrev pub Follows : Plan → FilesState → FilesState → Option Due → Type 0
 Follows (End due) old new reached = (reached ≡ Some due) × (new ≡ old)
 Follows (Read name limit next) old new reached =
     ((reached ≡ None) × (new ≡ after_asking name old))
     ⊎ ((found : Found) × (now : FilesState) × FoundAs old now name limit found × Follows (next found) now new reached)
+Follows (Judge next) old new reached = ((reached ≡ None) × (new ≡ old)) ⊎ Follows next old new reached
 
 -- the plan may ask for this name
 abbrev pub IsNamed : Plan → List ℕ → Type 0
 IsNamed (End due) name = ⊥
 IsNamed (Read asked limit next) name = (asked ≡ name) ⊎ ((found : Found) × IsNamed (next found) name)
+IsNamed (Judge next) name = IsNamed next name
 
 -- ---- saving
 
@@ -45,6 +49,7 @@ IsUnder (Some saving) name = saving.name ≡ name
 abbrev pub SavesUnder : Plan → List ℕ → Type 0
 SavesUnder (End due) name = IsUnder (saves_due due) name
 SavesUnder (Read asked limit next) name = (found : Found) × SavesUnder (next found) name
+SavesUnder (Judge next) name = SavesUnder next name
 
 -- these bytes stand under their name, and no other name changed
 pub record Saved (saving : Saving) (old new : FilesState) : Type 0 where

@@ -1,5 +1,5 @@
 -- What is made ready of a command, before anything is written.
-use Rattle.std.specs.Prelude.{◌≡◌, ◌≤◌, ◌^◌, ℕ, List, [], IsTrue, Option, Some, None, Result, Ok, Err, IsErrOf, Vec}
+use Rattle.std.specs.Prelude.{◌≡◌, ◌≤◌, ◌^◌, ℕ, List, [], IsTrue, Option, Some, None, Result, Ok, Err, IsErrOf, Vec, OnOk}
 use Rattle.std.specs.Option.{option_copied}
 use Rattle.std.specs.declared.alloc.Global.{Global}
 use Rattle.reference.specs.Counting.{CountsAtMost}
@@ -7,7 +7,14 @@ use Rattle.sv_types.specs.declared.event.Event.{Event}
 use Rattle.reference.specs.States.{State}
 use Rattle.machine_model.specs.Machine.{Machine}
 use Rattle.machine_model.specs.Reaches.{IsNew}
-use Rattle.sv_types.specs.Schedule.{first_events}
+use Rattle.sv_types.specs.Schedule.{Schedule, first_events, first_of_no_form, script_events}
+use Rattle.sv_types.specs.Kernel.{kernel_refusal}
+use Rattle.sv_types.specs.Policies.{Rules, rules_of}
+use Rattle.sv_types.specs.declared.policy.Policy.{Policy}
+use Rattle.policy.specs.declared.refusal.PolicyRefusal.TheVariants.{Number as PolicyNumber}
+use Rattle.policy.specs.Refusals.{Judged}
+use Rattle.elf64_load.specs.declared.image.KernelImage.{KernelImage}
+use Rattle.machine.specs.Boot.{IsImageOf}
 use Rattle.outside.specs.Outside.{FilesState, after_asking}
 use Rattle.machine.specs.declared.boot.BootRefusal.{BootRefusal}
 use Rattle.secvisor_cli.specs.declared.refusal.Part.{Part}
@@ -17,7 +24,7 @@ use Rattle.secvisor_cli.specs.declared.ready.Ready.{Ready}
 use Rattle.secvisor_cli.specs.declared.ready.Stop.{Stop}
 use Rattle.secvisor_cli.specs.declared.ready.Stop.TheVariants.{Refused, Memory}
 use Rattle.secvisor_cli.specs.Plans.{Due, Refuse, RunFrom, saves_due, Plan, Found, Faulty, Missing, Longer, Held}
-use Rattle.secvisor_cli.specs.Reading.{Follows, FoundAs, MaySave}
+use Rattle.secvisor_cli.specs.Reading.{Follows, FoundAs, MayFollow, MaySave}
 use Rattle.secvisor_cli.specs.Answers.{may_want}
 use Rattle.secvisor_cli.specs.Standing.{HasState}
 
@@ -70,3 +77,45 @@ pub record Prepares (plan : Plan) (old new : FilesState) (result : Result Ready 
   pub reached : Option Due
   pub follows : Follows plan old new reached
   pub ready : IsReadyWhere reached result
+
+-- ---- stages of a plan, each from what it gives to the plan behind it
+
+-- it gave this, and whatever plan stands behind it goes on there
+pub record Passes {A : Type 0} (stage : (A → Plan) → Plan) (value : A) (old new : FilesState) : Type 0 where
+  pub follows : (next : A → Plan) → (last : FilesState) → (reached : Option Due) →
+      Follows (next value) new last reached → Follows (stage next) old last reached
+  pub may : (next : A → Plan) → MayFollow (stage next) old → MayFollow (next value) new
+  pub faults : new.read_faults ≡ old.read_faults
+
+-- it gave something, or it is where the plan ends
+abbrev pub Staged : {T A : Type 0} → ((A → Plan) → Plan) → (T → A) → FilesState → FilesState → Result T Stop → Type 0
+Staged stage value old new (Ok given) = Passes stage (value given) old new
+Staged stage value old new (Err stop) = (next : _) → Prepares (stage next) old new (Err stop)
+
+-- what it asks for is permitted
+pub record MayStage {A : Type 0} (stage : (A → Plan) → Plan) (files : FilesState) : Type 0 where
+  pub next : A → Plan
+  pub may : MayFollow (stage next) files
+
+-- ---- the parts of a run, judged
+
+-- the rules of a policy's text, or the number of its refusal
+abbrev pub IsPolicy : Judged Rules → Result Policy Stop → Type 0
+IsPolicy judged (Ok policy) = judged ≡ Ok (rules_of policy)
+IsPolicy judged (Err (Refused refusal)) =
+    (number : ℕ) × (judged ≡ Err (PolicyNumber number)) × (refusal ≡ File Part.Policy number)
+IsPolicy judged (Err Memory) = Unit {0}
+
+-- the image of a kernel's file, or the number of its refusal
+abbrev pub IsKernel : (file : List ℕ) → (ram_pages : ℕ) → Result KernelImage Stop → Type 0
+IsKernel file ram_pages (Ok image) = IsImageOf file ram_pages image
+IsKernel file ram_pages (Err (Refused refusal)) =
+    (number : ℕ) × (kernel_refusal file ram_pages ≡ Some number) × (refusal ≡ File Part.Image number)
+IsKernel file ram_pages (Err Memory) = Unit {0}
+
+-- the events of a script's text, or the number of the line that refuses it
+abbrev pub IsScript : List ℕ → Result Schedule Stop → Type 0
+IsScript text (Ok script) = (script ≡ Schedule.Listed (script_events text)) × (first_of_no_form text ≡ None)
+IsScript text (Err (Refused refusal)) =
+    (line : ℕ) × (first_of_no_form text ≡ Some line) × (refusal ≡ File Part.Script line)
+IsScript text (Err Memory) = Unit {0}

@@ -10,9 +10,14 @@ use Rattle.secvisor_cli.specs.declared.refusal.Refusal.TheVariants.{NoCommand, O
 
 abbrev pub part_name : Part → List ℕ
 part_name Part.Flat = codes "flat"
+part_name Part.Policy = codes "policy"
+part_name Part.Image = codes "image"
+part_name Part.Disk = codes "disk"
+part_name Part.Script = codes "script"
 
 abbrev pub word_name : Word → List ℕ
 word_name Word.Measure = codes "MEASURE"
+word_name Word.Script = codes "SCRIPT"
 word_name Word.Events = codes "EVENTS"
 word_name Word.Calls = codes "N"
 

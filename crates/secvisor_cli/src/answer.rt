@@ -20,6 +20,7 @@ ghost use Rattle.secvisor_cli.specs.Answers.{outside, Writes, Answers, Performs,
 
 use crate::flat::prepare_flat;
 use crate::generated::prepare_gen;
+use crate::image_run::prepare_run;
 use crate::ready::{Ready, Stop};
 use crate::refusal::Refusal;
 use crate::run::run;
@@ -149,6 +150,7 @@ fn prepare_command<'a, R: Threads + Sync, F: Files>(
     match command {
         Command::Flat(flat) => prepare_flat(rt, alloc, flat, files),
         Command::Generated(calls) => prepare_gen(rt, alloc, *calls),
+        Command::Run(run) => prepare_run(rt, alloc, run, files),
     }
 }
 

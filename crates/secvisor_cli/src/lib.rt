@@ -4,6 +4,7 @@
 mod answer;
 mod flat;
 mod generated;
+mod image_run;
 mod parts;
 mod ready;
 mod refusal;

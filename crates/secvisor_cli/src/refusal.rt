@@ -13,12 +13,17 @@ use text_numbers::{address_text, digest_text};
 #[derive(Clone, Copy, Debug, PartialEq, Eq, Drop)]
 pub enum Part {
     Flat,
+    Policy,
+    Image,
+    Disk,
+    Script,
 }
 
 /// A word by its name.
 #[derive(Clone, Copy, Debug, PartialEq, Eq, Drop)]
 pub enum Word {
     Measure,
+    Script,
     Events,
     Calls,
 }
@@ -46,6 +51,10 @@ impl Part {
     {
         match self {
             Part::Flat => "flat",
+            Part::Policy => "policy",
+            Part::Image => "image",
+            Part::Disk => "disk",
+            Part::Script => "script",
         }
     }
 }
@@ -58,6 +67,7 @@ impl Word {
     {
         match self {
             Word::Measure => "usage MEASURE\n",
+            Word::Script => "usage SCRIPT\n",
             Word::Events => "usage EVENTS\n",
             Word::Calls => "usage N\n",
         }

@@ -2,6 +2,7 @@ use Rattle.std.proofs.Common.{subst, sym, Ok}
 use Rattle.secvisor_cli.specs.declared.words.Command.{Command as Asked}
 use Rattle.secvisor_cli.specs.Words.{command_of}
 use Rattle.secvisor_cli.specs.Plans.{plan_of, gen_due}
+use Rattle.secvisor_cli.specs.Reading.{MayFollow}
 use Rattle.secvisor_cli.specs.Ready.{Prepares}
 use Rattle.secvisor_cli.proofs.ReadyLemmas.{end_ready}
 use Rattle.secvisor_cli.proofs.answer.prepare_command.Goals as goal
@@ -16,3 +17,8 @@ unfolding plan_of
 returns-in-Generated g c =
     subst (λ (command : Asked). Prepares (plan_of (Ok (command_of command))) (g.F.Files.state c.args.files.now) (g.F.Files.state c.args.files.now) c.prepare_gen.result) (sym c.in-Generated.is)
     (end_ready (gen_due _) _ _ c.prepare_gen.ensures)
+
+pub prepare_run-requires-clause-permitted : goal.prepare_run-requires-clause-permitted
+unfolding plan_of
+prepare_run-requires-clause-permitted g c κs within =
+    subst (λ (command : Asked). MayFollow (plan_of (Ok (command_of command))) (g.F.Files.state c.args.files.now)) c.in-Run.is c.requires.permitted

@@ -1,0 +1,188 @@
+// The command `run`.
+ghost use Rattle.std.specs.Prelude.{◌≡◌, ◌<◌, ◌≤◌, ◌-◌, ◌^◌, ◌%◌, ◌==◌, IfOk, IsTrue, length};
+ghost use Rattle.std.specs.Option.{option_copied};
+ghost use Rattle.sv_types.specs.Policies.{rules_of, rules_within};
+ghost use Rattle.policy.specs.Text.{rules_of_text};
+ghost use Rattle.secvisor_cli.specs.Plans.{policy_part, kernel_part, disk_part, text_part, script_part, boot_plan, run_plan};
+ghost use Rattle.secvisor_cli.specs.Reading.{MayFollow};
+ghost use Rattle.secvisor_cli.specs.Ready.{Prepares, Staged, MayStage, IsPolicy, IsKernel, IsScript};
+ghost use Rattle.secvisor_cli.specs.Words.{source_value, run_value};
+
+use crate::parts::read_part;
+use crate::ready::{Ready, Stop};
+use crate::refusal::{Part, Refusal};
+use crate::words::{Run, Source};
+use elf64_load::{ElfRefusal, KernelImage, read_kernel};
+use machine::Machine;
+use outside::Files;
+use policy::PolicyRefusal;
+use script::{Script, ScriptRefusal, auto, rounds};
+use std::alloc::Global;
+use std::thread::Threads;
+use sv_types::Policy;
+
+const MOST_POLICY_BYTES: usize = 16 << 20;
+
+const MOST_IMAGE_BYTES: usize = 64 << 20;
+
+const MOST_DISK_BYTES: usize = 64 << 20;
+
+const MOST_SCRIPT_BYTES: usize = 1 << 20;
+
+const SECTOR_BYTES: usize = 512;
+
+/// Reads the policy, the image, the disk and the script, each judged before the next, and boots a machine.
+pub fn prepare_run<'a, R: Threads + Sync, F: Files>(
+    rt: &R,
+    alloc: Global,
+    asked: &Run<'a>,
+    files: &mut F,
+) -> Result<Ready<'a>, Stop>
+    requires permitted { MayFollow (run_plan (run_value asked.now)) (F.state files.old) }
+    requires reads { (F.state files.old).read_faults < 2 ^ 64 - 1 }
+    requires events { asked.now.events ≤ 2 ^ 32 }
+    ensures { Prepares (run_plan (run_value asked.now)) (F.state files.old) (F.state files.new) result }
+{
+    let policy = read_policy(alloc, asked.policy, files)?;
+    let file = read_part(alloc, files, Part::Image, asked.image, MOST_IMAGE_BYTES)?;
+    boot_file(rt, alloc, asked, policy, &file, files)
+}
+
+// An image's file is judged, then the disk and the script are read, and the machine boots.
+fn boot_file<'a, R: Threads + Sync, F: Files>(
+    rt: &R,
+    alloc: Global,
+    asked: &Run<'a>,
+    policy: Policy,
+    file: &[u8],
+    files: &mut F,
+) -> Result<Ready<'a>, Stop>
+    requires permitted { MayFollow (kernel_part (rules_of policy) file.now (boot_plan (run_value asked.now) (rules_of policy) file.now)) (F.state files.old) }
+    requires reads { (F.state files.old).read_faults < 2 ^ 64 - 1 }
+    requires events { asked.now.events ≤ 2 ^ 32 }
+    requires within { IsTrue (rules_within (rules_of policy)) }
+    ensures { Prepares (kernel_part (rules_of policy) file.now (boot_plan (run_value asked.now) (rules_of policy) file.now)) (F.state files.old) (F.state files.new) result }
+{
+    let image = judge_kernel(alloc, file, policy.ram_pages)?;
+    let disk = read_disk(alloc, asked.disk, files)?;
+    let script = read_script(alloc, &asked.script, policy.harts, files)?;
+    let machine = Machine::boot(rt, alloc, &image, policy, disk)?;
+    Ok(Ready {
+        machine,
+        script,
+        events: asked.events,
+        save: asked.save,
+    })
+}
+
+// ---- the policy
+
+fn read_policy<F: Files>(alloc: Global, name: &str, files: &mut F) -> Result<Policy, Stop>
+    requires permitted { MayStage (policy_part name.now) (F.state files.old) }
+    requires reads { (F.state files.old).read_faults < 2 ^ 64 - 1 }
+    ensures stage { Staged (policy_part name.now) rules_of (F.state files.old) (F.state files.new) result }
+    ensures within { IfOk result (λ p. IsTrue (rules_within (rules_of p))) }
+{
+    let text = read_part(alloc, files, Part::Policy, name, MOST_POLICY_BYTES)?;
+    judge_policy(alloc, &text)
+}
+
+fn judge_policy(alloc: Global, text: &[u8]) -> Result<Policy, Stop>
+    ensures policy { IsPolicy (rules_of_text text.now) result }
+    ensures within { IfOk result (λ p. IsTrue (rules_within (rules_of p))) }
+{
+    match policy::read(alloc, text) {
+        Ok(policy) => Ok(policy),
+        Err(PolicyRefusal::Number(number)) => Err(Stop::Refused(Refusal::File {
+            part: Part::Policy,
+            number: u64::from(number),
+        })),
+        Err(PolicyRefusal::Memory) => Err(Stop::Memory),
+    }
+}
+
+// ---- the image
+
+fn judge_kernel(alloc: Global, file: &[u8], ram_pages: u32) -> Result<KernelImage<'_>, Stop>
+    ensures { IsKernel file.now ram_pages result }
+{
+    match read_kernel(alloc, file, ram_pages) {
+        Ok(image) => Ok(image),
+        Err(ElfRefusal::Number(number)) => Err(Stop::Refused(Refusal::File {
+            part: Part::Image,
+            number: u64::from(number),
+        })),
+        Err(ElfRefusal::Memory) => Err(Stop::Memory),
+    }
+}
+
+// ---- the disk
+
+fn read_disk<F: Files>(alloc: Global, name: Option<&str>, files: &mut F) -> Result<Vec<u8>, Stop>
+    requires permitted { MayStage (disk_part (option_copied name)) (F.state files.old) }
+    requires reads { (F.state files.old).read_faults < 2 ^ 64 - 1 }
+    ensures stage { Staged (disk_part (option_copied name.entry)) (λ disk. disk.items) (F.state files.old) (F.state files.new) result }
+    ensures sectors { IfOk result (λ disk. length disk.items % 512 ≡ 0) }
+{
+    let Some(name) = name else {
+        return Ok(Vec::new(alloc));
+    };
+    let disk = read_part(alloc, files, Part::Disk, name, MOST_DISK_BYTES)?;
+    if !is_whole_sectors(&disk) {
+        return Err(Stop::Refused(Refusal::File {
+            part: Part::Disk,
+            number: 1,
+        }));
+    }
+    Ok(disk)
+}
+
+fn is_whole_sectors(bytes: &[u8]) -> bool
+    ensures value { result ≡ (length bytes.now % 512 == 0) }
+    ensures whole { IsTrue result → length bytes.now % 512 ≡ 0 }
+{
+    bytes.len() % SECTOR_BYTES == 0
+}
+
+// ---- the script
+
+fn read_script<F: Files>(
+    alloc: Global,
+    source: &Source<'_>,
+    harts: u8,
+    files: &mut F,
+) -> Result<Script, Stop>
+    requires permitted { MayStage (script_part harts (source_value source.now)) (F.state files.old) }
+    requires reads { (F.state files.old).read_faults < 2 ^ 64 - 1 }
+    requires some { 0 < harts }
+    requires few { harts ≤ 4 }
+    ensures { Staged (script_part harts (source_value source.now)) (λ script. script) (F.state files.old) (F.state files.new) result }
+{
+    match source {
+        Source::Rounds => Ok(rounds(harts)),
+        Source::Auto(number) => Ok(auto(*number, harts)),
+        Source::Text(name) => read_text(alloc, name, files),
+    }
+}
+
+fn read_text<F: Files>(alloc: Global, name: &str, files: &mut F) -> Result<Script, Stop>
+    requires permitted { MayStage (text_part name.now) (F.state files.old) }
+    requires reads { (F.state files.old).read_faults < 2 ^ 64 - 1 }
+    ensures { Staged (text_part name.now) (λ script. script) (F.state files.old) (F.state files.new) result }
+{
+    let text = read_part(alloc, files, Part::Script, name, MOST_SCRIPT_BYTES)?;
+    judge_script(alloc, &text)
+}
+
+fn judge_script(alloc: Global, text: &[u8]) -> Result<Script, Stop>
+    ensures { IsScript text.now result }
+{
+    match script::read(alloc, text) {
+        Ok(script) => Ok(script),
+        Err(ScriptRefusal::Line { line }) => Err(Stop::Refused(Refusal::File {
+            part: Part::Script,
+            number: line,
+        })),
+        Err(ScriptRefusal::Memory) => Err(Stop::Memory),
+    }
+}
