@@ -11,6 +11,14 @@ if [ "$what" = policies ]; then
     done < <(grep -v '^#' ../policies.txt)
     exit $failed
 fi
+if [ "$what" = check ]; then
+    while read -r policy words; do
+        # shellcheck disable=SC2086
+        "$program" measure again.policy $words > /dev/null
+        cmp again.policy "$policy" || failed=1
+    done < <(grep -v '^#' ../policies.txt)
+    rm -f again.policy
+fi
 while read -r name words; do
     out=$(mktemp)
     # shellcheck disable=SC2086

@@ -3,7 +3,7 @@
    Unguarded:  with a reservation it changes the text as a store does. */
 #include "kernel.h"
 
-NOINLINE static int victim(int x) { __asm__ volatile(""); return x + 1; }
+NOINLINE static int victim(int x) { return x + 1; }
 
 int main(void)
 {

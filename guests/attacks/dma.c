@@ -4,8 +4,8 @@
 #include "kernel.h"
 
 /* A sector's room of its own, so that nothing else is overwritten. */
-__attribute__((noinline, aligned(512))) static int victim(int x) { __asm__ volatile(""); return x + 1; }
-__attribute__((noinline, aligned(512), used)) static int behind(int x) { return x; }
+__attribute__((noipa, aligned(512))) static int victim(int x) { return x + 1; }
+__attribute__((noipa, aligned(512), used)) static int behind(int x) { return x; }
 
 int main(void)
 {

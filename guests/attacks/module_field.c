@@ -1,20 +1,12 @@
-/* The loader is corrupt: one relocated call of the module leads 8 bytes further than it should. All other bytes of the
-   text are right, and so is the measure, which is taken with such fields cleared.
-   Caught by:  load ... code -4
-   Unguarded:  the module calls a place of the attacker's choice. */
+/* The loader is corrupt: it binds the name `tell` to a function of its own, so one relocated call of the module leads
+   there. All other bytes of the text are right, and so is the measure, which is taken with such fields cleared.
+   Caught by:  load ... code -4, since each field is compared with the one that the policy gives
+   Unguarded:  the module calls what the attacker chose. */
 #include "loader.h"
 
-const struct export exports[] = { { "put", put }, { "tell", tell }, { 0, 0 } };
+static void chosen(const char *label, long value) { put("the module calls what the attacker chose\n"); }
 
-/* The first AUIPC and JALR by ra, which is the module's first call: its low part grows by 8. */
-static void corrupt(u64 text)
-{
-    for (u32 *word = (u32 *)text; (u64)word < text + PAGE; word++)
-        if ((*word & 0xFFFFF) == 0x080E7) {
-            *word += 8u << 20;
-            return;
-        }
-}
+const struct export exports[] = { { "put", put }, { "tell", chosen }, { 0, 0 } };
 
 int main(void)
 {
@@ -23,7 +15,9 @@ int main(void)
         new_page();
     fetch_object(object, DISK_SECTORS);
     struct module m = place(object);
-    corrupt(m.text);
-    tell("load", module_load(0, m.text, m.text, m.data));
+    long code = module_load(0, m.text, m.text, m.data);
+    tell("load", code);
+    if (code == 0)
+        ((int (*)(void))m.begin)();
     return 0;
 }

@@ -1,7 +1,7 @@
 /* Hart 0 loads a good module; hart 1 waits until its page is being measured, and then changes it. The module lies in
    this image, so that no disk is needed and the two harts take turns exactly.
    Caught by:  verdict stopped write hart 1 ... gpa of the module, with no `load` line before it
-   Unguarded:  what is approved isn't what was measured. */
+   Unguarded:  what is approved isn't what was measured: the module's first instruction is `ret`. */
 #include "loader.h"
 
 __asm__(".section .rodata; .balign 8; object: .incbin \"built/counter.o\"; .previous");
@@ -17,7 +17,7 @@ void hart_main(u64 hart, u64 opaque)
 {
     ready = 1;
     for (;;)
-        __asm__ volatile(".rept 200; ld t0, (%0); sw zero, (t0); .endr" ::"r"(&target) : "t0", "memory");
+        __asm__ volatile(".rept 200; ld t0, (%0); sw %1, (t0); .endr" ::"r"(&target), "r"(0x00008067) : "t0", "memory");
 }
 
 int main(void)
@@ -34,5 +34,7 @@ int main(void)
                      : "r"(a2), "r"(a3), "r"(a6), "r"(a7), "r"(m.text), "r"(&target)
                      : "memory");
     tell("load", a0);
+    ((int (*)(void))m.begin)();
+    put("the changed module ran\n");
     return 0;
 }

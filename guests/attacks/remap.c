@@ -4,7 +4,7 @@
    Unguarded:  the function is another one, and answers 666 in kernel mode. */
 #include "kernel.h"
 
-__attribute__((noinline, section(".init.text"))) static int victim(int x) { __asm__ volatile(""); return x + 1; }
+__attribute__((noipa, section(".init.text"))) static int victim(int x) { return x + 1; }
 
 int main(void)
 {

@@ -3,7 +3,7 @@
    Unguarded:  the function is replaced, and answers 666. */
 #include "kernel.h"
 
-NOINLINE static int victim(int x) { __asm__ volatile(""); return x + 1; }
+NOINLINE static int victim(int x) { return x + 1; }
 
 int main(void)
 {

@@ -3,7 +3,7 @@
    Unguarded:  every entry from user mode runs the code of the attacker's choice. */
 #include "kernel.h"
 
-__attribute__((noinline, aligned(4))) static void gadget(void)
+NOINLINE static void gadget(void)
 {
     put("the gadget runs in kernel mode\n");
     shutdown();

@@ -7,11 +7,12 @@ typedef unsigned int u32;
 typedef unsigned long u64;
 
 #define PAGE 4096ul
-#define NOINLINE __attribute__((noinline))
+/* A function that the compiler neither inlines nor looks into. */
+#define NOINLINE __attribute__((noipa))
 /* User code, and the bytes that it reads. */
-#define USER __attribute__((section(".user"), noinline, used))
+#define USER __attribute__((section(".user"), noipa, used))
 /* Code that runs once and then retires. */
-#define INIT __attribute__((section(".init.text"), noinline))
+#define INIT __attribute__((section(".init.text"), noipa))
 
 #define csr_read(name) ({ u64 v_; __asm__ volatile("csrr %0, " #name : "=r"(v_)); v_; })
 #define csr_write(name, v) __asm__ volatile("csrw " #name ", %0" ::"r"((u64)(v)) : "memory")

@@ -1,5 +1,8 @@
 /* A compiled module comes from the disk, is relocated, loaded, called twice and unloaded. A load that SecVisor refuses
-   leaves its pages as plain data. The attack `module_byte` is this very image with another disk. */
+   leaves its pages as plain data.
+   The attack `module_byte` is this very image, with a disk on which one byte of the module's text is changed.
+   Caught by:  load ... code -4
+   Unguarded:  the module answers 105 and 106 in place of 41 and 42. */
 #include "loader.h"
 
 const struct export exports[] = { { "put", put }, { "tell", tell }, { 0, 0 } };
