@@ -1,38 +1,56 @@
 #!/usr/bin/env bash
-# run.sh policies|expected|check SECVISOR: writes the stored policies, or the stored outputs, or compares with them.
-cd "$(dirname "$0")/built" || exit 1
+# run.sh policies|expected|check SECVISOR: writes the stored policies, or the stored output of all runs, or compares both
+# with what the program makes in a copy of the folder.
+cd "$(dirname "$0")" || exit 1
 what=$1
-program=${2:-secvisor}
+program=$(command -v "${2:-secvisor}") || exit 1
+program=$(realpath "$program")
+crate=$(realpath ../crates/guest_runs)
+copy=$(mktemp -d)
+trap 'rm -rf "$copy"' EXIT
+cp "$crate"/data/* policies.txt "$copy"
+cd "$copy" || exit 1
 failed=0
-if [ "$what" = policies ]; then
-    while read -r words; do
-        # shellcheck disable=SC2086
-        "$program" measure $words > /dev/null || { echo "measure $words"; failed=1; }
-    done < <(grep -v '^#' ../policies.txt)
-    exit $failed
-fi
-if [ "$what" = check ]; then
+
+# Makes every policy anew.
+measure_all() {
     while read -r policy words; do
+        rm -f "$policy"
         # shellcheck disable=SC2086
-        "$program" measure again.policy $words > /dev/null
-        cmp again.policy "$policy" || failed=1
-    done < <(grep -v '^#' ../policies.txt)
-    rm -f again.policy
-fi
-while read -r name words; do
-    out=$(mktemp)
-    # shellcheck disable=SC2086
-    "$program" run $words > "$out"
-    echo "status $?" >> "$out"
-    if [ "$what" = expected ]; then
-        cp "$out" "../expected/$name.txt"
-    elif cmp -s "$out" "../expected/$name.txt"; then
-        echo "same $name"
-    else
-        echo "DIFFERS $name"
-        diff "$out" "../expected/$name.txt"
-        failed=1
-    fi
-    rm -f "$out"
-done < <(grep -v '^#' ../runs.txt)
+        "$program" $words > /dev/null || { echo "failed $words"; failed=1; }
+    done < <(grep -v '^#' policies.txt)
+}
+
+# Prints of each run what the crate prints of it.
+run_all() {
+    while read -r name words; do
+        # shellcheck disable=SC2086
+        "$program" $words > run.out
+        echo "guest $name status $?"
+        cat run.out
+    done < <(grep -v '^#' runs.txt)
+}
+
+case $what in
+policies)
+    measure_all
+    [ $failed = 0 ] && cp ./*.policy "$crate"/data/
+    ;;
+expected)
+    run_all > expected
+    cp expected "$crate"/stdout
+    ;;
+check)
+    run_all > expected
+    diff expected "$crate"/stdout && echo "same runs" || failed=1
+    measure_all
+    for policy in *.policy; do
+        cmp "$policy" "$crate/data/$policy" || failed=1
+    done
+    ;;
+*)
+    echo "run.sh policies|expected|check SECVISOR"
+    failed=2
+    ;;
+esac
 exit $failed

@@ -4,7 +4,7 @@
    Unguarded:  what is approved isn't what was measured: the module's first instruction is `ret`. */
 #include "loader.h"
 
-__asm__(".section .rodata; .balign 8; object: .incbin \"built/counter.o\"; .previous");
+__asm__(".section .rodata; .balign 8; object: .incbin \"counter.o\"; .previous");
 extern char object[];
 
 const struct export exports[] = { { "put", put }, { "tell", tell }, { 0, 0 } };
