@@ -7,3 +7,5 @@ mod flat;
 mod generated;
 #[cfg(test)]
 mod real;
+#[cfg(test)]
+mod run;
