@@ -13,11 +13,7 @@ use host_mem::HostMem;
 pub use port::{Beaten, DiskPort};
 use std::alloc::{AllocError, Global};
 use std::marker::Model;
-
-/// Where guest RAM begins.
-const RAM_BASE: u64 = 0x8000_0000;
-
-const PAGE_SIZE: usize = 4096;
+use sv_types::{PAGE_SIZE, RAM_BASE};
 
 /// Why a device's access to memory is refused.
 #[derive(Clone, Copy, Debug, PartialEq, Eq, Drop)]

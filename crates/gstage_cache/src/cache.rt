@@ -10,14 +10,11 @@ ghost use Rattle.gstage_cache.specs.Fills.{nothing_filled, filled_further};
 use host_mem::HostMem;
 use std::marker::{Brand, Model};
 use std::sync::ledger::{Blank, Ledger};
-use sv_types::{Access, CacheLine, GuestFault, Steps};
+use sv_types::{Access, CacheLine, GuestFault, PAGE_BYTES, Steps};
 use sv39_walk::{Mapping, SecondStage, find_mapping};
 
 /// The lines of a cache.
 const LINES: u64 = 256;
-
-/// The bytes of a page.
-const PAGE_SIZE: u64 = 4096;
 
 /// The number of RAM's first page among those of guest-physical addresses.
 const RAM_PAGE: u64 = 0x8_0000;
@@ -53,7 +50,7 @@ impl Cache {
     pub fn holds(&self, hgatp: u64, gpa: u64) -> bool
         ensures { result ≡ is_held (line_for self.now hgatp (gpa / 4096)) }
     {
-        self.line(hgatp, gpa / PAGE_SIZE).is_some()
+        self.line(hgatp, gpa / PAGE_BYTES).is_some()
     }
 
     // The line of a page under an `hgatp` value, if it is held.
@@ -139,7 +136,7 @@ impl Cache {
         ensures none { is_held (line_for self.old hgatp (gpa / 4096)) ≡ true → steps.new ≡ steps.old }
         ensures steps { steps.new ≤ steps.old + 3 }
     {
-        match self.line(hgatp, gpa / PAGE_SIZE) {
+        match self.line(hgatp, gpa / PAGE_BYTES) {
             Some(line) => hit(mem, &line, gpa, access),
             None => self.fill(mem, hgatp, gpa, access, steps),
         }
@@ -222,8 +219,8 @@ fn line_of_mapping(hgatp: u64, gpa: u64, mapping: &Mapping) -> CacheLine
 {
     CacheLine {
         hgatp,
-        page: gpa / PAGE_SIZE,
-        host: mapping.hpa - mapping.hpa % PAGE_SIZE,
+        page: gpa / PAGE_BYTES,
+        host: mapping.hpa - mapping.hpa % PAGE_BYTES,
         fetch: mapping.permits(Access::Fetch),
         load: mapping.permits(Access::Load),
         store: mapping.permits(Access::Store),
@@ -247,7 +244,7 @@ fn hit(mem: &HostMem, line: &CacheLine, gpa: u64, access: Access) -> Result<u64,
     ensures { result ≡ ok_or (walk_guest mem.now line.now.hgatp gpa access) (record { gpa = gpa }) }
 {
     if permits(line, access) {
-        Ok(line.host + gpa % PAGE_SIZE)
+        Ok(line.host + gpa % PAGE_BYTES)
     } else {
         Err(GuestFault { gpa })
     }

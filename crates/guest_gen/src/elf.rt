@@ -9,12 +9,7 @@ ghost use Rattle.guest_gen.specs.Images as spec;
 use crate::fields::{Field, pad, push_code, push_fields};
 use rv64_encode::Instr;
 use std::alloc::{AllocError, Global};
-use sv_types::ProgramHeader;
-
-const RAM_BASE: u64 = 0x8000_0000;
-
-/// The bytes of a page.
-pub const PAGE_BYTES: usize = 4096;
+use sv_types::{PAGE_BYTES, PAGE_SIZE, ProgramHeader, RAM_BASE};
 
 /// Where the text lies and the kernel begins.
 pub const TEXT_ADDRESS: u64 = 0x8000_1000;
@@ -84,7 +79,7 @@ fn program_header(header: &ProgramHeader) -> [Field; 8]
         Field::Double(header.gpa),
         Field::Double(header.file_size),
         Field::Double(header.memory_size),
-        Field::Double(PAGE_BYTES as u64),
+        Field::Double(PAGE_BYTES),
     ]
 }
 
@@ -109,7 +104,7 @@ fn segment(flags: u32, offset: u64, file_size: u64, memory_size: u64) -> Program
 fn headers(alloc: Global, body_size: u64) -> Result<Vec<u8>, AllocError>
     ensures { IfOk result (λ file. file.items ≡ spec.headers body_size) }
 {
-    let page = PAGE_BYTES as u64;
+    let page = PAGE_BYTES;
     let mut file = Vec::new(alloc);
     push_fields(&mut file, &file_header())?;
     push_fields(
@@ -135,9 +130,9 @@ pub fn laid_out(alloc: Global, text: &[u8], body: &[u8]) -> Result<Vec<u8>, Allo
     ensures { IfOk result (λ file. file.items ≡ spec.laid_out text.now body.now) }
 {
     let mut file = headers(alloc, body.len() as u64)?;
-    pad(&mut file, PAGE_BYTES)?;
+    pad(&mut file, PAGE_SIZE)?;
     file.extend_from_slice(text)?;
-    pad(&mut file, 2 * PAGE_BYTES)?;
+    pad(&mut file, 2 * PAGE_SIZE)?;
     file.extend_from_slice(body)?;
     Ok(file)
 }

@@ -7,11 +7,11 @@ ghost use Rattle.sv_types.specs.Policies.{rules_of, rules_within};
 ghost use Rattle.guest_gen.specs.Generated as spec;
 
 use crate::code::{TRAP_PLACE, setup, trap_handler, user_loop};
-use crate::elf::{PAGE_BYTES, TEXT_ADDRESS, laid_out};
+use crate::elf::{TEXT_ADDRESS, laid_out};
 use crate::fields::{pad, push_code};
 use page_measure::{join_digests, page_digest};
 use std::alloc::{AllocError, Global};
-use sv_types::Policy;
+use sv_types::{PAGE_SIZE, Policy};
 
 // The page of text, for so many calls.
 #[tactic(auto, unfolding(crate::specs::Generated::generated_text))]
@@ -24,7 +24,7 @@ fn text(alloc: Global, n: u64) -> Result<Vec<u8>, AllocError>
     push_code(&mut text, &setup(n))?;
     pad(&mut text, TRAP_PLACE)?;
     push_code(&mut text, &trap_handler())?;
-    pad(&mut text, PAGE_BYTES)?;
+    pad(&mut text, PAGE_SIZE)?;
     Ok(text)
 }
 

@@ -12,10 +12,7 @@ use raw_bytes::RawBytes;
 use std::alloc::{AllocError, Global};
 use std::marker::Model;
 use std::sync::ledger::Ledger;
-use sv_types::Steps;
-
-/// The bytes of a page.
-const PAGE_SIZE: usize = 4096;
+use sv_types::{PAGE_SIZE, Steps};
 
 /// A region of host memory. Contracts see its table part and its guest RAM, each as a list of bytes.
 #[derive(Drop)]

@@ -29,12 +29,10 @@ use page_guard::{Entries, Guard};
 use page_measure::{Silent, measure};
 use std::alloc::{AllocError, Global};
 use std::thread::Threads;
-use sv_types::{Policy, RAM_BASE, Span};
+use sv_types::{PAGE_SIZE, Policy, RAM_BASE, Span};
 
-/// The pages of RAM of a machine of plain pages, and the bytes of a page.
+/// The pages of RAM of a machine of plain pages.
 const FLAT_PAGES: usize = 16;
-
-const PAGE_BYTES: usize = 4096;
 
 /// The permitted entries of a machine of plain pages.
 const FLAT_ENTRIES: [u64; 2] = [0x8000_0000, 0x8000_0100];
@@ -188,7 +186,7 @@ fn assemble(alloc: Global, pages: &[u8], wanted: [u8; 32]) -> Result<Parts, Allo
 {
     let policy = flat_policy(alloc, wanted)?;
     let mut mem = flat_region(alloc, pages)?;
-    let guard = approved_start(alloc, &mut mem, (pages.len() / PAGE_BYTES) as u32)?;
+    let guard = approved_start(alloc, &mut mem, (pages.len() / PAGE_SIZE) as u32)?;
     let _tables = mem.table_bytes();
     Parts::at_boot(alloc, policy, mem, guard, Vec::new(alloc), RAM_BASE)
 }

@@ -19,10 +19,7 @@ use page_guard::{Guard, Hold};
 use page_measure::{join_digests, page_digest};
 use relocated_fields::{fields_right, mask};
 use std::marker::Model;
-use sv_types::{Bases, Policy, SavedModule, Site};
-
-/// The bytes of a page.
-const PAGE_BYTES: u32 = 4096;
+use sv_types::{Bases, PAGE_BYTES, PAGE_SIZE, Policy, SavedModule, Site};
 
 /// A load under way, which can't be dropped. Contracts see the arguments of the load, the pages of the module, how many of
 /// them are left to count, and of those that were counted the digests and whether their fields are right.
@@ -75,7 +72,7 @@ impl Load {
         let Some(rule) = rule_of(policy, self.about.id) else {
             unreachable!();
         };
-        let first = PAGE_BYTES * self.digests.len() as u32;
+        let first = PAGE_BYTES as u32 * self.digests.len() as u32;
         let bases = Bases {
             va: self.about.va,
             data_va: self.about.data_va,
@@ -173,7 +170,7 @@ fn masked_digest(bytes: &[u8], first: u32, sites: &[Site]) -> [u8; 32]
     requires aligned { All IsAligned sites.now }
     ensures { result ≡ page_digest (masked bytes.now (piece_sites first page_size sites.now)) }
 {
-    let mut page = [0; PAGE_BYTES as usize];
+    let mut page = [0; PAGE_SIZE];
     page.copy_from_slice(bytes);
     mask(&mut page, first, sites);
     page_digest(&page)

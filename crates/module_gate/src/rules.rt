@@ -7,13 +7,7 @@ ghost use Rattle.reference.specs.States.{pages_in_rule};
 ghost use Rattle.module_gate.specs.Gates.{pages_at, is_place, module_span};
 
 use host_mem::HostMem;
-use sv_types::{ModulePolicy, Policy, SavedModule, Span};
-
-/// The bytes of a page.
-const PAGE_BYTES: u64 = 4096;
-
-/// Where guest RAM begins.
-const RAM_BASE: u64 = 0x8000_0000;
+use sv_types::{ModulePolicy, PAGE_BYTES, Policy, RAM_BASE, SavedModule, Span};
 
 /// The policy's rule of a module.
 pub fn rule_of(policy: &Policy, id: u64) -> Option<&ModulePolicy>

@@ -14,12 +14,10 @@ use sha2::{Digest, Sha256};
 use std::alloc::{AllocError, Global};
 use std::thread;
 use std::thread::Threads;
-
-/// The bytes of a page.
-const PAGE_BYTES: usize = 4096;
+use sv_types::PAGE_SIZE;
 
 /// The bytes of a chunk: 64 pages.
-const CHUNK_BYTES: usize = 64 * PAGE_BYTES;
+const CHUNK_BYTES: usize = 64 * PAGE_SIZE;
 
 /// The measure of pages, which lie one behind the other. The meter sees each chunk of 64 pages, of which the last may be
 /// shorter. Want of memory is the one refusal.
@@ -71,7 +69,7 @@ fn digest_chunks<R: Threads + Sync, M: Meter + Sync>(
         CHUNK_BYTES,
         &|start, chunk| digest_chunk(alloc, start / CHUNK_BYTES, chunk, meter),
     )?;
-    let mut digests = Vec::with_capacity(alloc, pages.len() / PAGE_BYTES)?;
+    let mut digests = Vec::with_capacity(alloc, pages.len() / PAGE_SIZE)?;
     for chunk in &chunks {
         let Ok(chunk) = chunk else {
             return Err(AllocError);
@@ -101,10 +99,10 @@ fn digest_pages(alloc: Global, pages: &[u8]) -> Result<Vec<[u8; 32]>, AllocError
     requires whole_pages { length pages.now % page_size ≡ 0 }
     ensures { IfOk result (λ digests. digests.items ≡ digests_of pages.now) }
 {
-    let count = pages.len() / PAGE_BYTES;
+    let count = pages.len() / PAGE_SIZE;
     let mut digests = Vec::with_capacity(alloc, count)?;
     'pages: for i in 0..count {
-        digests.push(page_digest(&pages[PAGE_BYTES * i..PAGE_BYTES * (i + 1)]))?;
+        digests.push(page_digest(&pages[PAGE_SIZE * i..PAGE_SIZE * (i + 1)]))?;
     }
     Ok(digests)
 }

@@ -2,18 +2,19 @@
 ghost use Rattle.std.specs.Prelude.{◌≡◌, ◌*◌, ◌<◌, IfOk, vec_len};
 ghost use Rattle.sv_types.specs.Bytes.{page_size};
 
-use super::{Meter, PAGE_BYTES, Silent, join_digests, measure, page_digest};
+use super::{Meter, Silent, join_digests, measure, page_digest};
 use std::alloc::{AllocError, Global};
 use std::sync::atomic::{AtomicBool, Ordering};
 use std::test::Fail;
 use std::thread;
+use sv_types::PAGE_SIZE;
 
 // Pages whose byte j is j mod 251.
 fn numbered_pages(alloc: Global, count: usize) -> Result<Vec<u8>, AllocError>
     requires { count < 256 }
     ensures { IfOk result (λ pages. vec_len pages ≡ page_size * count) }
 {
-    (0..PAGE_BYTES * count)
+    (0..PAGE_SIZE * count)
         .map(|j| (j % 251) as u8)
         .collect(alloc)
 }
@@ -55,7 +56,7 @@ fn measures_of_numbered_pages(rt: HostRuntime) -> Result<(), Fail> {
         hex::decode_to_slice(digits, &mut wanted)?;
         let pages = numbered_pages(rt.alloc(), count)?;
         let mut digests = Vec::new(rt.alloc());
-        for page in pages.chunks_exact(PAGE_BYTES) {
+        for page in pages.chunks_exact(PAGE_SIZE) {
             digests.push(page_digest(page))?;
         }
         let found = measure(&rt, rt.alloc(), &pages, &Silent)?;

@@ -12,6 +12,7 @@ use sv_types::Effect;
 
 /// What an instruction whose fields are in range does on these registers at this pc, or asks of the rest of the machine.
 #[tactic(auto, unfolding(sv_types::specs::Effects::effect_of, sv_types::specs::Encoding::fits))]
+#[inline(always)]
 pub fn effect(instr: &Instr, regs: &Regs, pc: u64) -> Effect
     requires { IsTrue (fits instr.now) }
     ensures { result ≡ table.effect_of instr.now regs.now pc }

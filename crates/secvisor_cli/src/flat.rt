@@ -13,10 +13,9 @@ use outside::Files;
 use script::rounds;
 use std::alloc::Global;
 use std::thread::Threads;
+use sv_types::PAGE_SIZE;
 
 const MOST_FLAT_BYTES: usize = 65536;
-
-const PAGE_BYTES: usize = 4096;
 
 /// Reads the pages, judges and measures them, and boots a machine.
 pub fn prepare_flat<R: Threads + Sync, F: Files>(
@@ -44,7 +43,7 @@ fn is_whole_pages(bytes: &[u8]) -> bool
     ensures value { result ≡ is_whole_pages bytes.now }
     ensures whole { IsTrue result → length bytes.now % 4096 ≡ 0 }
 {
-    bytes.len() > 0 && bytes.len() % PAGE_BYTES == 0
+    bytes.len() > 0 && bytes.len() % PAGE_SIZE == 0
 }
 
 // Measured pages, booted; each event is a turn of the one hart.

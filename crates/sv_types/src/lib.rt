@@ -35,7 +35,7 @@ pub use instruction::{
 };
 pub use kernel::ProgramHeader;
 pub use laws::law_rows;
-pub use memory::{PAGE_BYTES, RAM_BASE};
+pub use memory::{PAGE_BYTES, PAGE_SIZE, RAM_BASE};
 pub use module::{Bases, Site, Span};
 pub use name::{MOST_NAME_BYTES, Name};
 pub use outcome::{Exception, Outcome, Wrote};
