@@ -3,4 +3,5 @@ mod FreePages
 mod LastWhole
 mod Loaded
 mod TextPages
+mod Walk
 mod Written

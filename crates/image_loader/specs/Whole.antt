@@ -1,5 +1,5 @@
 -- Pages that a segment covers whole, and the last segment that does.
-use Rattle.std.specs.Prelude.{◌≡◌, ℕ, ◌+◌, ◌-◌, ◌*◌, ◌<◌, ◌≤◌, Bool, true, false, ◌&&◌, List, [], nat_le, nat_lt, fold, replicate, take}
+use Rattle.std.specs.Prelude.{◌≡◌, ℕ, ◌+◌, ◌-◌, ◌*◌, ◌<◌, ◌≤◌, Bool, true, false, ◌&&◌, List, [], nat_le, nat_lt, fold, length, replicate, take}
 use Rattle.std.specs.List.{slice_index_or}
 use Rattle.sv_types.specs.Bytes.{page_size, ram_place}
 use Rattle.sv_types.specs.Kernel.{LoadedSegment, with_segment}
@@ -33,3 +33,8 @@ pub record IsLastWhole (ss : List LoadedSegment) (n page owner : ℕ) : Type 0 w
   pub within : owner ≤ n
   pub whole : 0 < owner → covers page (segment_at ss (owner - 1)) ≡ true
   pub behind : (k : ℕ) → owner ≤ k → k < n → covers page (segment_at ss k) ≡ false
+
+-- the pages behind each page and before the one that its skip leads to have an owner; 0 is none
+abbrev pub SkipsOwned : (owners skips : List ℕ) → Type 0
+SkipsOwned owners skips =
+    (page between : ℕ) → page < between → between < slice_index_or skips page 0 → between < length owners → 0 < slice_index_or owners between 0
