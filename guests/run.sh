@@ -8,7 +8,7 @@ program=$(realpath "$program")
 crate=$(realpath ../crates/guest_runs)
 copy=$(mktemp -d)
 trap 'rm -rf "$copy"' EXIT
-cp "$crate"/data/* policies.txt "$copy"
+cp "$crate"/data/* "$copy"
 cd "$copy" || exit 1
 failed=0
 
@@ -18,6 +18,20 @@ measure_all() {
         rm -f "$policy"
         # shellcheck disable=SC2086
         "$program" $words > /dev/null || { echo "failed $words"; failed=1; }
+    done < <(grep -v '^#' policies.txt)
+}
+
+# Makes every policy anew, and prints of each what the crate prints of it.
+compare_all() {
+    while read -r policy words; do
+        rm -f "$policy"
+        # shellcheck disable=SC2086
+        "$program" $words > /dev/null
+        if cmp -s "$policy" "$crate/data/$policy"; then
+            echo "policy $policy ok"
+        else
+            echo "policy $policy differs"
+        fi
     done < <(grep -v '^#' policies.txt)
 }
 
@@ -37,16 +51,12 @@ policies)
     [ $failed = 0 ] && cp ./*.policy "$crate"/data/
     ;;
 expected)
-    run_all > expected
+    { run_all; compare_all; } > expected
     cp expected "$crate"/stdout
     ;;
 check)
-    run_all > expected
-    diff expected "$crate"/stdout && echo "same runs" || failed=1
-    measure_all
-    for policy in *.policy; do
-        cmp "$policy" "$crate/data/$policy" || failed=1
-    done
+    { run_all; compare_all; } > expected
+    diff expected "$crate"/stdout && echo "same runs and policies" || failed=1
     ;;
 *)
     echo "run.sh policies|expected|check SECVISOR"

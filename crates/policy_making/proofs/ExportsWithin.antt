@@ -11,9 +11,8 @@ use Rattle.std.proofs.lemmas.Bool.Decides.{nat_tests}
 use Rattle.std.proofs.lemmas.Map.Text.{is_eq-slice_cmp}
 use Rattle.sv_types.specs.Policies.{Rules, ModuleRule, rules_within, numbers_within, lists_within, init_within, modules_count_within, modules_within, exports_within, export_within, exports_count_within, is_exported, each_within, harts_within, ram_pages_within, entries_count_within, entries_within}
 use Rattle.sv_types.specs.declared.policy.Export.{Export}
-use Rattle.policy_making.specs.Making.{each_once, exports_wanted, rules_with}
-use Rattle.policy_making.specs.Ranges.{settings_within}
-use Rattle.policy_making.specs.declared.policy.Settings.{Settings}
+use Rattle.policy_making.specs.Making.{Terms, each_once, exports_wanted, rules_with}
+use Rattle.policy_making.specs.Ranges.{terms_within}
 use Rattle.policy_making.proofs.ExportNames.{export_names}
 use Rattle.policy_making.proofs.FewExports.{few_exports}
 use Rattle.policy_making.proofs.NamesOnce.{once_sorted}
@@ -62,18 +61,18 @@ all_but a b c d e p q r s = rw (p, q, r, s) refl
 both : (a b : Bool) → a ≡ true → b ≡ true → (a && b) ≡ true
 both a b p q = rw (p, q) refl
 
-pub limits_of_modules : (s : Settings) (digest kernel : List ℕ) (names : List (List ℕ)) (exports : List Export) (modules : List ModuleRule)
-    → settings_within s ≡ true → exports_wanted kernel names ≡ Ok exports → length modules ≤ 64
+pub limits_of_modules : (s : Terms) (digest kernel : List ℕ) (names : List (List ℕ)) (exports : List Export) (modules : List ModuleRule)
+    → terms_within s ≡ true → exports_wanted kernel names ≡ Ok exports → length modules ≤ 64
     → rules_within (rules_with s digest exports modules) ≡ modules_within (length exports) modules
 limits_of_modules s digest kernel names exports modules good is few =
     let rules : Rules = rules_with s digest exports modules in
-    let a = and_parts (harts_within s.harts && ram_pages_within s.ram_pages && entries_count_within (length s.entries.items) && entries_within s.entries.items) (init_within s.ram_pages s.init) good in
-    let b = and_parts (harts_within s.harts && ram_pages_within s.ram_pages && entries_count_within (length s.entries.items)) (entries_within s.entries.items) a.0 in
-    let c = and_parts (harts_within s.harts && ram_pages_within s.ram_pages) (entries_count_within (length s.entries.items)) b.0 in
+    let a = and_parts (harts_within s.harts && ram_pages_within s.ram_pages && entries_count_within (length s.entries) && entries_within s.entries) (init_within s.ram_pages s.init) good in
+    let b = and_parts (harts_within s.harts && ram_pages_within s.ram_pages && entries_count_within (length s.entries)) (entries_within s.entries) a.0 in
+    let c = and_parts (harts_within s.harts && ram_pages_within s.ram_pages) (entries_count_within (length s.entries)) b.0 in
     let d = and_parts (harts_within s.harts) (ram_pages_within s.ram_pages) c.0 in
     let numbers : numbers_within rules ≡ true = both (harts_within s.harts) (ram_pages_within s.ram_pages) d.0 d.1 in
-    let counted = both (entries_count_within (length s.entries.items)) (entries_within s.entries.items) c.1 b.1 in
-    let entries = both (entries_count_within (length s.entries.items) && entries_within s.entries.items) (exports_count_within (length exports)) counted (few_wanted kernel names exports is) in
-    let lists : lists_within rules ≡ true = both (entries_count_within (length s.entries.items) && entries_within s.entries.items && exports_count_within (length exports)) (exports_within exports) entries (wanted_within kernel names exports is) in
+    let counted = both (entries_count_within (length s.entries)) (entries_within s.entries) c.1 b.1 in
+    let entries = both (entries_count_within (length s.entries) && entries_within s.entries) (exports_count_within (length exports)) counted (few_wanted kernel names exports is) in
+    let lists : lists_within rules ≡ true = both (entries_count_within (length s.entries) && entries_within s.entries && exports_count_within (length exports)) (exports_within exports) entries (wanted_within kernel names exports is) in
     let count : modules_count_within (length modules) ≡ true = grind (arith, nat_tests) in
     all_but (numbers_within rules) (lists_within rules) (init_within s.ram_pages s.init) (modules_count_within (length modules)) (modules_within (length exports) modules) numbers lists a.1 count

@@ -10,6 +10,7 @@ use Rattle.sv_types.specs.Kernel.{kernel_refusal, kernel_segments, text_of}
 use Rattle.sv_types.specs.Measure.{measure}
 use Rattle.sv_types.specs.Policies.{Rules, ModuleRule, rules_within, module_pages_within, place_within, is_aligned}
 use Rattle.sv_types.specs.declared.module.Site.{Site}
+use Rattle.sv_types.specs.declared.module.Span.{Span}
 use Rattle.sv_types.specs.declared.policy.Export.{Export}
 use Rattle.reference.specs.Relocations.{masked}
 use Rattle.elf64_sections.specs.Judged.{◌>>=◌, each}
@@ -19,6 +20,26 @@ use Rattle.policy_making.specs.Refusals.{Judged, in_image, in_module}
 use Rattle.policy_making.specs.declared.modules.ObjectFile.{ObjectFile}
 use Rattle.policy_making.specs.declared.policy.Settings.{Settings}
 use Rattle.policy_making.specs.declared.refusal.MakingRefusal.TheVariants.{Image, Limits}
+
+-- ---- what is given
+
+-- the name and the bytes of a module's object
+pub record ModuleFile : Type 0 where
+  pub name : List ℕ
+  pub bytes : List ℕ
+
+abbrev pub file_of : ObjectFile → ModuleFile
+file_of o = record { name = o.name; bytes = o.bytes.items }
+
+-- what a policy says beside its files
+pub record Terms : Type 0 where
+  pub harts : ℕ
+  pub ram_pages : ℕ
+  pub entries : List ℕ
+  pub init : Option Span
+
+abbrev pub terms_of : Settings → Terms
+terms_of s = record { harts = s.harts; ram_pages = s.ram_pages; entries = s.entries.items; init = s.init }
 
 -- ---- the kernel
 
@@ -36,9 +57,9 @@ kernel_digest kernel ram_pages = digest_behind (kernel_refusal kernel ram_pages)
 unfoldable pub names_with : List (List ℕ) → List ℕ → Judged (List (List ℕ))
 names_with names object = in_module (names_judged object) >>= λ wanted. Ok (names ++ wanted)
 
-abbrev pub names_from : List (List ℕ) → List ObjectFile → Judged (List (List ℕ))
+abbrev pub names_from : List (List ℕ) → List ModuleFile → Judged (List (List ℕ))
 names_from names [] = Ok names
-names_from names (o ∷ os) = names_with names o.bytes.items >>= λ more. names_from more os
+names_from names (o ∷ os) = names_with names o.bytes >>= λ more. names_from more os
 
 abbrev pub once_from : List (List ℕ) → List (List ℕ) → List (List ℕ)
 once_from once [] = once
@@ -81,20 +102,20 @@ rule_of name m = record {
 abbrev pub rule_within : List ℕ → Module → Judged ModuleRule
 rule_within name m = if module_fits m then Ok (rule_of name m) else Err Limits
 
-unfoldable pub module_made : List Export → ObjectFile → Judged ModuleRule
-module_made exports o = in_module (module_judged o.bytes.items exports) >>= rule_within o.name
+unfoldable pub module_made : List Export → ModuleFile → Judged ModuleRule
+module_made exports o = in_module (module_judged o.bytes exports) >>= rule_within o.name
 
-abbrev pub modules_made : List Export → List ObjectFile → Judged (List ModuleRule)
+abbrev pub modules_made : List Export → List ModuleFile → Judged (List ModuleRule)
 modules_made exports objects = each (module_made exports) [] objects
 
 -- ---- the policy
 
-abbrev pub rules_with : Settings → List ℕ → List Export → List ModuleRule → Rules
+abbrev pub rules_with : Terms → List ℕ → List Export → List ModuleRule → Rules
 rules_with s digest exports modules = record {
   format = 1;
   harts = s.harts;
   ram_pages = s.ram_pages;
-  entries = s.entries.items;
+  entries = s.entries;
   exports = exports;
   kernel = digest;
   init = s.init;
@@ -106,13 +127,13 @@ abbrev pub within_limits : Rules → Judged Rules
 within_limits r = if rules_within r then Ok r else Err Limits
 
 -- the stages behind those of the kernel and of the wanted names
-unfoldable pub policy_behind : Settings → (kernel digest : List ℕ) → List (List ℕ) → List ObjectFile → Judged Rules
+unfoldable pub policy_behind : Terms → (kernel digest : List ℕ) → List (List ℕ) → List ModuleFile → Judged Rules
 policy_behind s kernel digest names objects =
     exports_wanted kernel names >>= λ exports. modules_made exports objects >>= λ modules.
     within_limits (rules_with s digest exports modules)
 
 -- all stages
-unfoldable pub policy_made : Settings → List ℕ → List ObjectFile → Judged Rules
+unfoldable pub policy_made : Terms → List ℕ → List ModuleFile → Judged Rules
 policy_made s kernel objects =
     kernel_digest kernel s.ram_pages >>= λ digest. names_from [] objects >>= λ names.
     policy_behind s kernel digest names objects

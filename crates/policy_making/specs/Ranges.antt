@@ -2,12 +2,12 @@
 use Rattle.std.specs.Prelude.{ℕ, Bool, ◌&&◌, not, List, length, nat_le}
 use Rattle.sv_types.specs.Policies.{harts_within, ram_pages_within, entries_count_within, entries_within, init_within}
 use Rattle.sv_types.specs.Policies.{ModuleRule, module_pages_within, sites_within, is_module}
-use Rattle.policy_making.specs.declared.policy.Settings.{Settings}
+use Rattle.policy_making.specs.Making.{Terms}
 
-abbrev pub settings_within : Settings → Bool
-settings_within s =
-    harts_within s.harts && ram_pages_within s.ram_pages && entries_count_within (length s.entries.items) &&
-    entries_within s.entries.items && init_within s.ram_pages s.init
+abbrev pub terms_within : Terms → Bool
+terms_within s =
+    harts_within s.harts && ram_pages_within s.ram_pages && entries_count_within (length s.entries) &&
+    entries_within s.entries && init_within s.ram_pages s.init
 
 -- a module's own values, beside so many exports
 abbrev pub is_within : ℕ → ModuleRule → Bool

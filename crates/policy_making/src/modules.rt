@@ -85,8 +85,8 @@ fn made_module<R: Threads + Sync>(
     object: &ObjectFile,
 ) -> Result<ModulePolicy, MakingRefusal>
     requires few { length exports.now ≤ 4096 }
-    ensures made { IfOk result (λ made. spec.module_made exports.now object.now ≡ Ok (module_rule made)) }
-    ensures refused { IfErr result (Refuses (spec.module_made exports.now object.now)) }
+    ensures made { IfOk result (λ made. spec.module_made exports.now (spec.file_of object.now) ≡ Ok (module_rule made)) }
+    ensures refused { IfErr result (Refuses (spec.module_made exports.now (spec.file_of object.now))) }
 {
     match read_module(alloc, &object.bytes, exports) {
         Ok(image) => rule_within(rt, alloc, object.name, image),
@@ -104,8 +104,8 @@ pub fn made_modules<R: Threads + Sync>(
     objects: &[ObjectFile],
 ) -> Result<Vec<ModulePolicy>, MakingRefusal>
     requires few { length exports.now ≤ 4096 }
-    ensures made { IfOk result (λ made. spec.modules_made exports.now objects.now ≡ Ok (map module_rule made.items)) }
-    ensures refused { IfErr result (Refuses (spec.modules_made exports.now objects.now)) }
+    ensures made { IfOk result (λ made. spec.modules_made exports.now (map spec.file_of objects.now) ≡ Ok (map module_rule made.items)) }
+    ensures refused { IfErr result (Refuses (spec.modules_made exports.now (map spec.file_of objects.now))) }
 {
     let mut made = Vec::new(alloc);
     'objects: for object in objects {

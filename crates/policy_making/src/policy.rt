@@ -1,6 +1,6 @@
 // The policy of a kernel and its modules.
 
-ghost use Rattle.std.specs.Prelude.{◌≡◌, true, Ok, [], IfOk, IfErr};
+ghost use Rattle.std.specs.Prelude.{◌≡◌, true, Ok, [], map, IfOk, IfErr};
 ghost use Rattle.sv_types.specs.Policies.{rules_of, rules_within};
 ghost use Rattle.policy_making.specs.Making as spec;
 ghost use Rattle.policy_making.specs.Refusals.{Refuses};
@@ -48,9 +48,9 @@ pub fn policy_behind<R: Threads + Sync>(
     names: &[Name],
     objects: &[ObjectFile],
 ) -> Result<Policy, MakingRefusal>
-    ensures policy { IfOk result (λ policy. spec.policy_behind settings kernel.now digest names.now objects.now ≡ Ok (rules_of policy)) }
+    ensures policy { IfOk result (λ policy. spec.policy_behind (spec.terms_of settings) kernel.now digest names.now (map spec.file_of objects.now) ≡ Ok (rules_of policy)) }
     ensures within { IfOk result (λ policy. rules_within (rules_of policy) ≡ true) }
-    ensures refused { IfErr result (Refuses (spec.policy_behind settings kernel.now digest names.now objects.now)) }
+    ensures refused { IfErr result (Refuses (spec.policy_behind (spec.terms_of settings) kernel.now digest names.now (map spec.file_of objects.now))) }
 {
     let exports = wanted_exports(alloc, kernel, names)?;
     let modules = made_modules(rt, alloc, &exports, objects)?;
@@ -74,8 +74,8 @@ pub fn policy_behind<R: Threads + Sync>(
 
 // The names that all objects want, in their order.
 fn all_names(alloc: Global, objects: &[ObjectFile]) -> Result<Vec<Name>, MakingRefusal>
-    ensures names { IfOk result (λ names. spec.names_from [] objects.now ≡ Ok names.items) }
-    ensures refused { IfErr result (Refuses (spec.names_from [] objects.now)) }
+    ensures names { IfOk result (λ names. spec.names_from [] (map spec.file_of objects.now) ≡ Ok names.items) }
+    ensures refused { IfErr result (Refuses (spec.names_from [] (map spec.file_of objects.now))) }
 {
     let mut names = Vec::new(alloc);
     'objects: for object in objects {
@@ -95,9 +95,9 @@ pub fn made_policy<R: Threads + Sync>(
     kernel: &[u8],
     objects: &[ObjectFile],
 ) -> Result<Policy, MakingRefusal>
-    ensures policy { IfOk result (λ policy. spec.policy_made settings kernel.now objects.now ≡ Ok (rules_of policy)) }
+    ensures policy { IfOk result (λ policy. spec.policy_made (spec.terms_of settings) kernel.now (map spec.file_of objects.now) ≡ Ok (rules_of policy)) }
     ensures within { IfOk result (λ policy. rules_within (rules_of policy) ≡ true) }
-    ensures refused { IfErr result (Refuses (spec.policy_made settings kernel.now objects.now)) }
+    ensures refused { IfErr result (Refuses (spec.policy_made (spec.terms_of settings) kernel.now (map spec.file_of objects.now))) }
 {
     let digest = kernel_digest(rt, alloc, kernel, settings.ram_pages)?;
     let names = all_names(alloc, objects)?;

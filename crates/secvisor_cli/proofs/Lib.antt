@@ -7,3 +7,4 @@ pub mod SaveLemmas
 pub mod ReadyLemmas
 pub mod StageLemmas
 pub mod TopLemmas
+pub mod MakingLemmas

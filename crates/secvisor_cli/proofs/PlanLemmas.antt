@@ -2,8 +2,8 @@
 use Rattle.std.proofs.Common.{◌≡◌, ◌≢◌, ℕ, ◌<◌, ◌≤◌, List, [], ◌∷◌, Bool, IsTrue, refl, sym, ◌∙◌, ap, subst, arith, inl, inr, ◌⊎◌, Option, Some, None}
 use Rattle.sv_types.specs.declared.status.Status.{Status}
 use Rattle.outside.specs.Outside.{FilesState, after_asking}
-use Rattle.secvisor_cli.specs.Plans.{Due, Saving, saves_due, Plan, End, Read, Judge, Found, Faulty, Missing, Longer, Held, status_due}
-use Rattle.secvisor_cli.specs.Reading.{MayFollow, MaySave, FoundAs, Follows, IsNamed, IsUnder, SavesUnder}
+use Rattle.secvisor_cli.specs.Plans.{Due, Content, Exactly, PolicyOf, Saving, saves_due, Plan, End, Read, Judge, Found, Faulty, Missing, Longer, Held, status_due}
+use Rattle.secvisor_cli.specs.Reading.{MayFollow, MayHold, MaySave, FoundAs, Follows, IsNamed, IsUnder, SavesUnder}
 
 -- ---- one read
 
@@ -106,10 +106,14 @@ read_fault (Judge next) old new due never (inr it) is = read_fault next old new 
 
 -- ---- what may be saved at the end
 
+hold_at_count : (name : List ℕ) (content : Content) (files : FilesState) (n : ℕ) → MayHold name content files → MayHold name content (record files { read_faults = n })
+hold_at_count name (Exactly bytes) files n may = may
+hold_at_count name (PolicyOf rules) files n may = may
+
 -- the count of reads says nothing of what may be asked for
 save_at_count : (asked : Option Saving) (files : FilesState) (n : ℕ) → MaySave asked files → MaySave asked (record files { read_faults = n })
 save_at_count None files n may = tt
-save_at_count (Some saving) files n may = may
+save_at_count (Some saving) files n may = hold_at_count saving.name saving.content files n may
 
 follow_at_count : (plan : Plan) (files : FilesState) (n : ℕ) → MayFollow plan files → MayFollow plan (record files { read_faults = n })
 follow_at_count (End due) files n may = save_at_count (saves_due due) files n may
@@ -142,9 +146,13 @@ saves_under (Judge next) old read due name (inr it) under = saves_under next old
 
 -- ---- files of which any name may be asked for
 
+hold_any : (name : List ℕ) (content : Content) (files : FilesState) → ((name bytes : List ℕ) → IsTrue (files.permits_save name bytes)) → MayHold name content files
+hold_any name (Exactly bytes) files saves = saves name bytes
+hold_any name (PolicyOf rules) files saves = λ text reads. saves name text
+
 may_save_any : (asked : Option Saving) (files : FilesState) → ((name bytes : List ℕ) → IsTrue (files.permits_save name bytes)) → MaySave asked files
 may_save_any None files saves = tt
-may_save_any (Some saving) files saves = saves saving.name saving.bytes
+may_save_any (Some saving) files saves = hold_any saving.name saving.content files saves
 
 pub may_follow : (plan : Plan) (files : FilesState) → ((names : List (List ℕ)) → IsTrue (files.permits names)) →
     ((name bytes : List ℕ) → IsTrue (files.permits_save name bytes)) → MayFollow plan files

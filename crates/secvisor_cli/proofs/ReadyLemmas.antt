@@ -22,7 +22,9 @@ use Rattle.machine.specs.Boot.{RefusesFlat}
 use Rattle.secvisor_cli.specs.declared.refusal.Part.{Part}
 use Rattle.secvisor_cli.specs.declared.refusal.Refusal.{Refusal}
 use Rattle.secvisor_cli.specs.declared.refusal.Refusal.TheVariants.{ReadFault, File, Measure}
+use Rattle.secvisor_cli.specs.declared.ready.Booted.{Booted}
 use Rattle.secvisor_cli.specs.declared.ready.Ready.{Ready}
+use Rattle.secvisor_cli.specs.declared.ready.Ready.TheVariants.{Run}
 use Rattle.secvisor_cli.specs.declared.ready.Stop.{Stop}
 use Rattle.secvisor_cli.specs.declared.ready.Stop.TheVariants.{Refused, Memory}
 use Rattle.secvisor_cli.specs.CommandLine.{most_events}
@@ -162,8 +164,8 @@ part_of_pages bytes wanted events part =
 
 -- ---- gen
 
-pub gen_ready : (calls : ℕ) (ready : Ready) → IsNew ready.machine (boot_start (generated_policy calls) (generated_image calls) gen_disk) →
-    ready.events ≡ most_events → ready.script ≡ Schedule.Weave 0 → ready.save ≡ None → IsReady (gen_due calls) (Ok ready)
+pub gen_ready : (calls : ℕ) (ready : Booted) → IsNew ready.machine (boot_start (generated_policy calls) (generated_image calls) gen_disk) →
+    ready.events ≡ most_events → ready.script ≡ Schedule.Weave 0 → ready.save ≡ None → IsReady (gen_due calls) (Ok (Run ready))
 unfolding gen_due
 gen_ready calls ready new events script save =
     let fresh = fresh_boot (generated_policy calls) (generated_image calls) gen_disk ready.machine new in (

@@ -12,7 +12,7 @@ use Rattle.secvisor_cli.specs.declared.trouble.Trouble.{Trouble}
 use Rattle.secvisor_cli.specs.declared.trouble.Trouble.TheVariants.{Write, Memory}
 use Rattle.secvisor_cli.specs.Plans.{Saving, saving}
 use Rattle.secvisor_cli.specs.Reading.{IsUnder, Saved, SaveBroke}
-use Rattle.secvisor_cli.specs.Answers.{Outside, AfterSave, SavedBehind, Writes, RunsTo, RunsAndSaves, MeetsSaves, is_answer, settled}
+use Rattle.secvisor_cli.specs.Answers.{Outside, AfterSave, SavedBehind, Writes, RunsTo, RunsAndSaves, MeetsSavesBehind, is_answer, settled}
 use Rattle.secvisor_cli.proofs.EndLemmas.{runs_under}
 
 -- ---- what saving leaves alone
@@ -23,7 +23,7 @@ pub record Changes (asked : Option Saving) (old new : FilesState) : Type 0 where
   pub others : (name : List ℕ) → (IsUnder asked name → ⊥) → new.held name ≡ old.held name
   pub none : asked ≡ None → new ≡ old
 
-changes_same : (asked : Option Saving) (old new : FilesState) → new ≡ old → Changes asked old new
+pub changes_same : (asked : Option Saving) (old new : FilesState) → new ≡ old → Changes asked old new
 changes_same asked old new is =
     let count : new.save_faults ≡ old.save_faults = ap (λ (f : FilesState). f.save_faults) is in
     record {
@@ -33,7 +33,7 @@ changes_same asked old new is =
       none = λ _. is;
     }
 
-changes_saved : (s : Saving) (old new : FilesState) → Saved s old new → Changes (Some s) old new
+pub changes_saved : (s : Saving) (old new : FilesState) → Saved s old new → Changes (Some s) old new
 changes_saved s old new it =
     let count : new.save_faults ≡ old.save_faults = ap (λ (f : FilesState). f.save_faults) it.leaves in
     record {
@@ -43,7 +43,7 @@ changes_saved s old new it =
       none = λ e. absurd (cc e);
     }
 
-changes_broke : (s : Saving) (old new : FilesState) → SaveBroke s old new → Changes (Some s) old new
+pub changes_broke : (s : Saving) (old new : FilesState) → SaveBroke s old new → Changes (Some s) old new
 changes_broke s old new it =
     let rose = it.faults in
     record {
@@ -131,27 +131,27 @@ pub no_memory : (s : Status) → IsTrue (is_answer s) → s ≡ Status.Memory �
 no_memory s proper is = is_other s Status.Memory proper not_memory is
 
 none_meets : (due : Status) (bytes : List ℕ) (old new : Outside) (written : Result Status Trouble) → new.files ≡ old.files → Writes due bytes old.sink new.sink written →
-    MeetsSaves None bytes old new (settled written)
+    MeetsSavesBehind None bytes old new (settled written)
 none_meets due bytes old new (Ok s) same w = (same, λ is. absurd (no_write_fault s w.proper is))
 none_meets due bytes old new (Err Write) same w = (same, λ _. w.write refl)
 none_meets due bytes old new (Err Memory) same w = (same, λ e. absurd (cc e))
 
 some_meets : (s : Saving) (due : Status) (bytes : List ℕ) (old new : Outside) (trouble : Trouble) → new.files ≡ old.files → Writes due bytes old.sink new.sink (Err trouble) →
-    MeetsSaves (Some s) bytes old new (settled (Err trouble))
+    MeetsSavesBehind (Some s) bytes old new (settled (Err trouble))
 some_meets s due bytes old new Write same w = record { saved = λ t. absurd (cc t); broke = λ _. inl (same, w.write refl); wanting = λ e. absurd (cc e) }
 some_meets s due bytes old new Memory same w = record { saved = λ t. absurd (cc t); broke = λ e. absurd (cc e); wanting = λ _. same }
 
 pub meets_saves : (asked : Option Saving) (due : Status) (bytes : List ℕ) (old new : Outside) (written result : Result Status Trouble) → Writes due bytes old.sink new.sink written →
-    SavedBehind asked old.files new.files written result → MeetsSaves asked bytes old new (settled result)
+    SavedBehind asked old.files new.files written result → MeetsSavesBehind asked bytes old new (settled result)
 meets_saves None due bytes old new written result w it =
-    subst (λ (r : Result Status Trouble). MeetsSaves None bytes old new (settled r)) (sym it.1) (none_meets due bytes old new written it.0 w)
+    subst (λ (r : Result Status Trouble). MeetsSavesBehind None bytes old new (settled r)) (sym it.1) (none_meets due bytes old new written it.0 w)
 meets_saves (Some s) due bytes old new (Err trouble) result w it =
-    subst (λ (r : Result Status Trouble). MeetsSaves (Some s) bytes old new (settled r)) (sym it.1) (some_meets s due bytes old new trouble it.0 w)
+    subst (λ (r : Result Status Trouble). MeetsSavesBehind (Some s) bytes old new (settled r)) (sym it.1) (some_meets s due bytes old new trouble it.0 w)
 meets_saves (Some s) due bytes old new (Ok status) result w (inl it) =
-    subst (λ (r : Result Status Trouble). MeetsSaves (Some s) bytes old new (settled r)) (sym it.1)
+    subst (λ (r : Result Status Trouble). MeetsSavesBehind (Some s) bytes old new (settled r)) (sym it.1)
     (record { saved = λ _. it.0; broke = λ is. absurd (no_write_fault status w.proper is); wanting = λ is. absurd (no_memory status w.proper is) })
 meets_saves (Some s) due bytes old new (Ok status) result w (inr it) =
-    subst (λ (r : Result Status Trouble). MeetsSaves (Some s) bytes old new (settled r)) (sym it.1)
+    subst (λ (r : Result Status Trouble). MeetsSavesBehind (Some s) bytes old new (settled r)) (sym it.1)
     (record { saved = λ t. absurd (cc t); broke = λ _. inr (it.0, w.whole); wanting = λ e. absurd (cc e) })
 
 broke_faults : (s : Saving) (bytes : List ℕ) (old new : Outside) →
@@ -160,7 +160,7 @@ broke_faults s bytes old new (inl it) = let rose = it.1 in omega arith
 broke_faults s bytes old new (inr it) = let same : new.sink.faults ≡ old.sink.faults = ap (λ (k : SinkState). k.faults) it.1 in omega arith
 
 -- the sink's count never falls
-pub meets_faults : (asked : Option Saving) (bytes : List ℕ) (old new : Outside) → MeetsSaves asked bytes old new Status.WriteFault → old.sink.faults ≤ new.sink.faults
+pub meets_faults : (asked : Option Saving) (bytes : List ℕ) (old new : Outside) → MeetsSavesBehind asked bytes old new Status.WriteFault → old.sink.faults ≤ new.sink.faults
 meets_faults None bytes old new m = let rose = m.1 refl in omega arith
 meets_faults (Some s) bytes old new m = broke_faults s bytes old new (m.broke refl)
 

@@ -34,14 +34,14 @@ pub pass_ready : {A : Type 0} (stage : (A → Plan) → Plan) (value : A) (next 
     Passes stage value old now → Prepares (next value) now new result → Prepares (stage next) old new result
 pass_ready stage value next old now new result pass p = record { reached = p.reached; follows = pass.follows next new p.reached p.follows; ready = p.ready }
 
-judge_ready : (plan : Plan) (old new : FilesState) (result : Result Ready Stop) → Prepares plan old new result → Prepares (Judge plan) old new result
+pub judge_ready : (plan : Plan) (old new : FilesState) (result : Result Ready Stop) → Prepares plan old new result → Prepares (Judge plan) old new result
 judge_ready plan old new result p = record { reached = p.reached; follows = inr p.follows; ready = p.ready }
 
-judge_wants : (plan : Plan) (files : FilesState) → Prepares (Judge plan) files files (Err Memory)
+pub judge_wants : (plan : Plan) (files : FilesState) → Prepares (Judge plan) files files (Err Memory)
 judge_wants plan files = record { reached = None; follows = inl (refl, refl); ready = refl }
 
 -- a part that was read
-read_follows : (part : Part) (name : List ℕ) (limit : ℕ) (next : List ℕ → Plan) (old now last : FilesState) (bytes : List ℕ) (reached : Option Due) →
+pub read_follows : (part : Part) (name : List ℕ) (limit : ℕ) (next : List ℕ → Plan) (old now last : FilesState) (bytes : List ℕ) (reached : Option Due) →
     FoundAs old now name limit (Held bytes) → Follows (next bytes) now last reached → Follows (read_part part name limit next) old last reached
 unfolding found_plan
 read_follows part name limit next old now last bytes reached fact follows = inr (Held bytes, now, fact, follows)

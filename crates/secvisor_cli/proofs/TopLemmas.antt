@@ -1,5 +1,5 @@
 -- From what is ready to what is answered, and from the answer with its trouble to the status.
-use Rattle.std.proofs.Common.{◌≡◌, ◌≢◌, ℕ, ◌≤◌, List, [], Bool, true, false, IsTrue, refl, sym, ◌∙◌, ap, subst, arith, inl, inr, ◌⊎◌, Option, Some, None, Result, Ok, Err, IsErrOf, if◌then◌else◌}
+use Rattle.std.proofs.Common.{◌≡◌, ◌≢◌, ℕ, ◌≤◌, ◌<◌, List, [], ◌∷◌, string_bytes, Bool, true, false, IsTrue, refl, sym, ◌∙◌, ap, subst, arith, inl, inr, ◌⊎◌, Option, Some, None, Result, Ok, Err, IsErrOf, if◌then◌else◌}
 use Rattle.std.specs.Option.{option_copied}
 use Rattle.std.specs.Result.{is_ok}
 use Rattle.std.specs.List.{list_any}
@@ -21,12 +21,22 @@ use Rattle.reference.specs.Run.{run}
 use Rattle.machine_model.specs.Machine.{Machine}
 use Rattle.machine_model.specs.Reaches.{IsNew}
 use Rattle.sv_types.specs.Schedule.{Schedule, first_events, first_of_no_form, script_events}
-use Rattle.outside.specs.Outside.{FilesState, SinkState}
-use Rattle.outside.proofs.SinkLemmas.{prefix_none}
+use Rattle.outside.specs.Outside.{FilesState, SinkState, after_taking, TookPrefix, BreaksOff}
+use Rattle.outside.proofs.SinkLemmas.{prefix_none, prefix_whole}
+use Rattle.policy_making.specs.declared.refusal.MakingRefusal.{MakingRefusal}
+use Rattle.policy_making.specs.declared.refusal.MakingRefusal.TheVariants as making
+use Rattle.policy_making.specs.Refusals.{Judged as Judging}
+use Rattle.policy_making.specs.Making.{kernel_digest, names_with, policy_behind}
+use Rattle.policy_words.specs.Ranges.{are_module_names}
+use Rattle.sv_types.specs.declared.module.Span.{Span}
 use Rattle.secvisor_cli.specs.declared.refusal.Refusal.{Refusal}
+use Rattle.secvisor_cli.specs.declared.refusal.Word.{Word}
 use Rattle.secvisor_cli.specs.declared.refusal.Part.{Part}
-use Rattle.secvisor_cli.specs.declared.refusal.Refusal.TheVariants.{NoCommand, File, Measure, Entry}
+use Rattle.secvisor_cli.specs.declared.refusal.Refusal.TheVariants.{NoCommand, OutOfRange, File, Measure, Entry}
+use Rattle.secvisor_cli.specs.declared.ready.Booted.{Booted}
+use Rattle.secvisor_cli.specs.declared.ready.Made.{Made}
 use Rattle.secvisor_cli.specs.declared.ready.Ready.{Ready}
+use Rattle.secvisor_cli.specs.declared.ready.Ready.TheVariants.{Run as Boots, Save}
 use Rattle.secvisor_cli.specs.declared.ready.Stop.{Stop}
 use Rattle.secvisor_cli.specs.declared.ready.Stop.TheVariants.{Refused}
 use Rattle.secvisor_cli.specs.declared.ready.Stop.TheVariants as stop
@@ -34,14 +44,14 @@ use Rattle.secvisor_cli.specs.declared.trouble.Trouble.{Trouble}
 use Rattle.secvisor_cli.specs.declared.trouble.Trouble.TheVariants.{Write, Memory}
 use Rattle.secvisor_cli.specs.Refusals.{refusal_line, refusal_status, takes_memory}
 use Rattle.sv_types.specs.Numbers.{number_within, digest_of}
-use Rattle.secvisor_cli.specs.CommandLine.{Command, has_dash, word_at, most_events, most_calls, flat_file, flat_words, is_flat, gen_words, is_gen, run_words, is_run, RunWords, Source, Rounds, Auto, Text, source_of, judged}
-use Rattle.secvisor_cli.specs.Plans.{Due, Refuse, RunFrom, Saving, saves_due, Plan, End, bytes_due, status_due, found_plan, flat_plan, plan_of, measure_judged, pages_judged, is_whole_pages, flat_events, gen_due, gen_disk, policy_judged, policy_part, part_judged, kernel_part, disk_refusal, disk_part, text_part, script_part, image_measure, boot_judged, boot_plan, image_plan, run_plan}
-use Rattle.secvisor_cli.specs.Reading.{Follows, MayFollow, MaySave, SavesUnder}
-use Rattle.secvisor_cli.specs.Ready.{IsReady, IsReadyWhere, IsFresh, MaySaveRun, Prepares}
-use Rattle.secvisor_cli.specs.Answers.{Outside, outside, Writes, SavedBehind, Answers, AnswersReached, Performs, MeetsSaves, Meets, MeetsReached, Headline, BenchAfter, may_want, settled}
+use Rattle.secvisor_cli.specs.CommandLine.{Command, has_dash, word_at, most_events, most_calls, flat_file, flat_words, is_flat, gen_words, is_gen, run_words, is_run, RunWords, Source, Rounds, Auto, Text, source_of, MakePolicy, PolicyWords, entries_judged, init_of, module_words, policy_of, init_judged, making_words, is_measure, making_judged, judged}
+use Rattle.secvisor_cli.specs.Plans.{Due, Refuse, RunFrom, Make, measured_line, Exactly, Saving, policy_saving, saves_due, most_image_bytes, most_object_bytes, making_refusal, made_judged, made_part, Kernel, digest_part, Modules, no_modules, with_module, module_part, modules_part, making_plan, measure_plan, Plan, End, bytes_due, status_due, found_plan, flat_plan, plan_of, measure_judged, pages_judged, is_whole_pages, flat_events, gen_due, gen_disk, policy_judged, policy_part, part_judged, kernel_part, disk_refusal, disk_part, text_part, script_part, image_measure, boot_judged, boot_plan, image_plan, run_plan}
+use Rattle.secvisor_cli.specs.Reading.{Follows, MayFollow, MaySave, Saved, SaveBroke, SavesUnder}
+use Rattle.secvisor_cli.specs.Ready.{IsMade, IsReady, IsReadyWhere, IsFresh, MayCarryOut, MaySaveRun, Prepares}
+use Rattle.secvisor_cli.specs.Answers.{Outside, outside, Writes, SavedBehind, SavesAndWrites, WritesAndSaves, Answers, AnswersReached, Performs, MeetsSaves, MeetsSavesBehind, Meets, MeetsReached, Headline, BenchAfter, may_want, settled}
 use Rattle.secvisor_cli.proofs.EndLemmas.{runs_under}
 use Rattle.secvisor_cli.proofs.PlanLemmas.{HasFoundFaults, HasFault, Keeps, follows_keeps, may_save, read_fault, saves_under}
-use Rattle.secvisor_cli.proofs.SaveLemmas.{Changes, Wrote, changes, unchanged, not_saved, no_memory, wrote, meets_saves, meets_faults}
+use Rattle.secvisor_cli.proofs.SaveLemmas.{Changes, Wrote, changes, changes_same, changes_saved, changes_broke, unchanged, not_saved, no_memory, wrote, meets_saves, meets_faults}
 
 -- ---- want of memory
 
@@ -58,18 +68,19 @@ wanting_writes due bytes sink = record {
 wanting_bench : (due : Due) (sink : SinkState) (bench : Option Machine) → BenchAfter (IsErrOf {T = Status} (Err Memory) Memory) due sink sink bench bench
 wanting_bench (Refuse refusal) sink bench = refl
 wanting_bench (RunFrom start events save) sink bench = inl (refl, refl, refl)
+wanting_bench (Make name rules) sink bench = refl
 
 wants_due : (due : Due) → IsReady due (Err stop.Memory) → IsTrue (may_want due)
 wants_due (Refuse refusal) it = it
 wants_due (RunFrom start events save) it = it
+wants_due (Make name rules) it = it
 
 wanting_saves : (asked : Option Saving) (files : FilesState) → SavedBehind asked files files (Err Memory) (Err Memory)
 wanting_saves asked files = not_saved asked files Memory
 
-pub wanting_answers : (reached : Option Due) (files : FilesState) (sink : SinkState) (bench : Option Machine) → IsReadyWhere reached (Err stop.Memory) →
-    AnswersReached reached (outside files sink bench) (outside files sink bench) (Err Memory)
-wanting_answers None files sink bench it = (refl, refl)
-wanting_answers (Some due) files sink bench it = record {
+wanting_due : (due : Due) (files : FilesState) (sink : SinkState) (bench : Option Machine) → IsReady due (Err stop.Memory) →
+    WritesAndSaves due (outside files sink bench) (outside files sink bench) (Err Memory)
+wanting_due due files sink bench it = record {
   written = Err Memory;
   writes = wanting_writes (status_due due) (bytes_due due) sink;
   saves = wanting_saves (saves_due due) files;
@@ -77,39 +88,89 @@ wanting_answers (Some due) files sink bench it = record {
   bench = wanting_bench due sink bench;
 }
 
+pub wanting_answers : (reached : Option Due) (files : FilesState) (sink : SinkState) (bench : Option Machine) → IsReadyWhere reached (Err stop.Memory) →
+    AnswersReached reached (outside files sink bench) (outside files sink bench) (Err Memory)
+wanting_answers None files sink bench it = (refl, refl)
+wanting_answers (Some (Refuse refusal)) files sink bench it = wanting_due (Refuse refusal) files sink bench it
+wanting_answers (Some (RunFrom start events save)) files sink bench it = wanting_due (RunFrom start events save) files sink bench it
+wanting_answers (Some (Make name rules)) files sink bench it = ((refl, refl), refl)
+
 -- ---- what is ready, and what is refused
 
-pub is_fresh : (reached : Option Due) (ready : Ready) → IsReadyWhere reached (Ok ready) → IsFresh ready
-is_fresh None ready it = absurd (cc it)
-is_fresh (Some (Refuse refusal)) ready it = absurd it
-is_fresh (Some (RunFrom start events save)) ready it = it.3
+pub is_fresh : (due : Due) (ready : Booted) → IsReady due (Ok (Boots ready)) → IsFresh ready
+is_fresh (Refuse refusal) ready it = absurd it
+is_fresh (RunFrom start events save) ready it = it.3
+is_fresh (Make name rules) ready it = absurd it
 
-may_where : (reached : Option Due) (ready : Ready) (files : FilesState) → IsReadyWhere reached (Ok ready) → ((due : Due) → reached ≡ Some due → MaySave (saves_due due) files) →
+pub may_save_run : (due : Due) (ready : Booted) (files : FilesState) → IsReady due (Ok (Boots ready)) → MaySave (saves_due due) files →
     MaySaveRun ready.machine (first_events ready.events ready.script) (option_copied ready.save) files
-may_where None ready files it may = absurd (cc it)
-may_where (Some (Refuse refusal)) ready files it may = absurd it
-may_where (Some (RunFrom start events save)) ready files it may = record {
+may_save_run (Refuse refusal) ready files it may = absurd it
+may_save_run (RunFrom start events save) ready files it may = record {
   start = start;
   new = it.0;
   may =
       subst (λ (es : List Event). MaySave (saves_due (RunFrom start es (option_copied ready.save))) files) (sym it.1)
-      (subst (λ (name : Option (List ℕ)). MaySave (saves_due (RunFrom start events name)) files) (sym it.2) (may (RunFrom start events save) refl));
+      (subst (λ (name : Option (List ℕ)). MaySave (saves_due (RunFrom start events name)) files) (sym it.2) may);
 }
+may_save_run (Make name rules) ready files it may = absurd it
 
-pub may_save_run : (plan : Plan) (old read : FilesState) (ready : Ready) → MayFollow plan old → Prepares plan old read (Ok ready) →
-    MaySaveRun ready.machine (first_events ready.events ready.script) (option_copied ready.save) read
-may_save_run plan old read ready may p =
+pub may_save_made : (due : Due) (made : Made) (files : FilesState) → IsReady due (Ok (Save made)) → MaySave (saves_due due) files →
+    IsTrue (files.permits_save made.name.now made.text.items)
+may_save_made (Refuse refusal) made files it may = absurd it
+may_save_made (RunFrom start events save) made files it may = absurd it
+may_save_made (Make name rules) made files it may = subst (λ (n : List ℕ). IsTrue (files.permits_save n made.text.items)) (sym it.name_is) (may made.text.items it.reads)
+
+may_where : (reached : Option Due) (ready : Ready) (files : FilesState) → IsReadyWhere reached (Ok ready) → ((due : Due) → reached ≡ Some due → MaySave (saves_due due) files) →
+    MayCarryOut ready files
+may_where None ready files it may = absurd (cc it)
+may_where (Some due) ready files it may = record { due = due; ready_is = it; may = may due refl }
+
+pub may_carry_out : (plan : Plan) (old read : FilesState) (ready : Ready) → MayFollow plan old → Prepares plan old read (Ok ready) → MayCarryOut ready read
+may_carry_out plan old read ready may p =
     may_where p.reached ready read p.ready
     (λ due is. may_save plan old read due may (subst (λ (reached : Option Due). Follows plan old read reached) is p.follows))
 
 pub ready_answers : (reached : Option Due) (ready : Ready) (old new : Outside) (result : Result Status Trouble) → IsReadyWhere reached (Ok ready) →
-    ((start : State) → IsNew ready.machine start → Answers (RunFrom start (first_events ready.events ready.script) (option_copied ready.save)) old new result) →
-    AnswersReached reached old new result
+    ((due : Due) → IsReady due (Ok ready) → Answers due old new result) → AnswersReached reached old new result
 ready_answers None ready old new result it a = absurd (cc it)
-ready_answers (Some (Refuse refusal)) ready old new result it a = absurd it
-ready_answers (Some (RunFrom start events save)) ready old new result it a =
-    subst (λ (name : Option (List ℕ)). Answers (RunFrom start events name) old new result) it.2
-    (subst (λ (es : List Event). Answers (RunFrom start es (option_copied ready.save)) old new result) it.1 (a start it.0))
+ready_answers (Some due) ready old new result it a = a due it
+
+pub booted_answers : (due : Due) (ready : Booted) (old new : Outside) (result : Result Status Trouble) → IsReady due (Ok (Boots ready)) →
+    ((start : State) → IsNew ready.machine start → WritesAndSaves (RunFrom start (first_events ready.events ready.script) (option_copied ready.save)) old new result) →
+    Answers due old new result
+booted_answers (Refuse refusal) ready old new result it a = absurd it
+booted_answers (RunFrom start events save) ready old new result it a =
+    subst (λ (name : Option (List ℕ)). WritesAndSaves (RunFrom start events name) old new result) it.2
+    (subst (λ (es : List Event). WritesAndSaves (RunFrom start es (option_copied ready.save)) old new result) it.1 (a start it.0))
+booted_answers (Make name rules) ready old new result it a = absurd it
+
+-- the text of a policy that was made, as the policy
+abbrev exact_saving : Made → Saving
+exact_saving made = record { name = made.name.now; content = Exactly made.text.items }
+
+saved_as_policy : (name : List ℕ) (rules : Rules) (made : Made) (old new : FilesState) → IsMade name rules made → Saved (exact_saving made) old new → Saved (policy_saving name rules) old new
+saved_as_policy name rules made old new it s =
+    subst (λ (n : List ℕ). Saved (policy_saving n rules) old new) it.name_is
+    (record { held = λ tells. (made.text.items, s.held tells, it.reads); others = s.others; leaves = s.leaves })
+
+broke_as_policy : (name : List ℕ) (rules : Rules) (made : Made) (old new : FilesState) → IsMade name rules made → SaveBroke (exact_saving made) old new → SaveBroke (policy_saving name rules) old new
+broke_as_policy name rules made old new it b =
+    subst (λ (n : List ℕ). SaveBroke (policy_saving n rules) old new) it.name_is (record { faults = b.faults; others = b.others; leaves = b.leaves })
+
+as_policy : (name : List ℕ) (rules : Rules) (made : Made) (f0 f1 : FilesState) (old new : SinkState) (result : Result Status Trouble) → IsMade name rules made →
+    SavesAndWrites (exact_saving made) (string_bytes made.line) f0 f1 old new result → SavesAndWrites (policy_saving name rules) (measured_line rules.kernel) f0 f1 old new result
+as_policy name rules made f0 f1 old new (Ok status) it s =
+    (s.0, saved_as_policy name rules made f0 f1 it s.1, s.2 ∙ ap (λ (line : List ℕ). after_taking old line) it.line)
+as_policy name rules made f0 f1 old new (Err Write) it (inl s) = inl (broke_as_policy name rules made f0 f1 it s.0, s.1)
+as_policy name rules made f0 f1 old new (Err Write) it (inr s) =
+    inr (saved_as_policy name rules made f0 f1 it s.0, subst (λ (line : List ℕ). BreaksOff old new line) it.line s.1)
+as_policy name rules made f0 f1 old new (Err Memory) it s = s
+
+pub made_answers : (due : Due) (made : Made) (f0 f1 : FilesState) (old new : SinkState) (bench : Option Machine) (result : Result Status Trouble) → IsReady due (Ok (Save made)) →
+    SavesAndWrites (exact_saving made) (string_bytes made.line) f0 f1 old new result → Answers due (outside f0 old bench) (outside f1 new bench) result
+made_answers (Refuse refusal) made f0 f1 old new bench result it s = absurd it
+made_answers (RunFrom start events save) made f0 f1 old new bench result it s = absurd it
+made_answers (Make name rules) made f0 f1 old new bench result it s = (as_policy name rules made f0 f1 old new result it s, refl)
 
 pub refused_answers : (reached : Option Due) (given : Refusal) (files : FilesState) (old new : SinkState) (bench : Option Machine) (result : Result Status Trouble) →
     IsReadyWhere reached (Err (Refused given)) → Writes (refusal_status given) (refusal_line given) old new result → (IsErrOf result Memory → IsTrue (takes_memory given)) →
@@ -119,6 +180,7 @@ refused_answers (Some (Refuse refusal)) given files old new bench result it w wa
     subst (λ (r : Refusal). Answers (Refuse r) (outside files old bench) (outside files new bench) result) it
     (record { written = result; writes = w; saves = (refl, refl); wants = wants; bench = refl })
 refused_answers (Some (RunFrom start events save)) given files old new bench result it w wants = absurd it
+refused_answers (Some (Make name rules)) given files old new bench result it w wants = absurd it
 
 pub performs : (plan : Plan) (f0 f1 f2 : FilesState) (ready : Result Ready Stop) (old new : SinkState) (b0 b1 : Option Machine) (result : Result Status Trouble) → (p : Prepares plan f0 f1 ready) →
     AnswersReached p.reached (outside f1 old b0) (outside f2 new b1) result → Performs plan (outside f0 old b0) (outside f2 new b1) result
@@ -131,9 +193,10 @@ bench_under P Q (Refuse refusal) old new b0 b1 f g bench = bench
 bench_under P Q (RunFrom start events save) old new b0 b1 f g (inl none) = inl (f none.0, none.1, none.2)
 bench_under P Q (RunFrom start events save) old new b0 b1 f g (inr some) =
     inr (some.0, some.1, runs_under P Q start events some.0 old new g some.2)
+bench_under P Q (Make name rules) old new b0 b1 f g bench = bench
 
-meets_ok : (due : Due) (old new : Outside) (s : Status) → Answers due old new (Ok s) → Wrote (status_due due) (bytes_due due) old.sink new.sink (Ok s) →
-    MeetsSaves (saves_due due) (bytes_due due) old new s → Meets due old new s
+meets_ok : (due : Due) (old new : Outside) (s : Status) → WritesAndSaves due old new (Ok s) → Wrote (status_due due) (bytes_due due) old.sink new.sink (Ok s) →
+    MeetsSaves due old new s → Meets due old new s
 meets_ok due old new s a w saves = record {
   status = λ _. w.status;
   whole = λ _. w.whole;
@@ -144,8 +207,8 @@ meets_ok due old new s a w saves = record {
   bench = bench_under _ _ due old.sink new.sink old.bench new.bench (λ e. absurd (cc e)) (λ is. absurd (no_memory s w.proper is)) a.bench;
 }
 
-meets_write : (due : Due) (old new : Outside) → Answers due old new (Err Write) → Wrote (status_due due) (bytes_due due) old.sink new.sink (Err Write) →
-    MeetsSaves (saves_due due) (bytes_due due) old new Status.WriteFault → Meets due old new Status.WriteFault
+meets_write : (due : Due) (old new : Outside) → WritesAndSaves due old new (Err Write) → Wrote (status_due due) (bytes_due due) old.sink new.sink (Err Write) →
+    MeetsSaves due old new Status.WriteFault → Meets due old new Status.WriteFault
 meets_write due old new a w saves = record {
   status = λ t. absurd (cc t);
   whole = λ t. absurd (cc t);
@@ -156,8 +219,8 @@ meets_write due old new a w saves = record {
   bench = bench_under _ _ due old.sink new.sink old.bench new.bench (λ e. absurd (cc e)) (λ e. absurd (cc e)) a.bench;
 }
 
-meets_memory : (due : Due) (old new : Outside) → Answers due old new (Err Memory) → Wrote (status_due due) (bytes_due due) old.sink new.sink (Err Memory) →
-    MeetsSaves (saves_due due) (bytes_due due) old new Status.Memory → Meets due old new Status.Memory
+meets_memory : (due : Due) (old new : Outside) → WritesAndSaves due old new (Err Memory) → Wrote (status_due due) (bytes_due due) old.sink new.sink (Err Memory) →
+    MeetsSaves due old new Status.Memory → Meets due old new Status.Memory
 meets_memory due old new a w saves = record {
   status = λ t. absurd (cc t);
   whole = λ t. absurd (cc t);
@@ -168,17 +231,67 @@ meets_memory due old new a w saves = record {
   bench = bench_under _ _ due old.sink new.sink old.bench new.bench (λ _. refl) (λ _. refl) a.bench;
 }
 
-meets_by : (due : Due) (old new : Outside) (result : Result Status Trouble) → Answers due old new result → Wrote (status_due due) (bytes_due due) old.sink new.sink result →
-    MeetsSaves (saves_due due) (bytes_due due) old new (settled result) → Meets due old new (settled result)
+meets_by : (due : Due) (old new : Outside) (result : Result Status Trouble) → WritesAndSaves due old new result → Wrote (status_due due) (bytes_due due) old.sink new.sink result →
+    MeetsSaves due old new (settled result) → Meets due old new (settled result)
 meets_by due old new (Ok s) a w saves = meets_ok due old new s a w saves
 meets_by due old new (Err Write) a w saves = meets_write due old new a w saves
 meets_by due old new (Err Memory) a w saves = meets_memory due old new a w saves
 
+meets_written : (due : Due) (old new : Outside) (result : Result Status Trouble) → WritesAndSaves due old new result → MeetsSaves due old new (settled result) →
+    Meets due old new (settled result)
+meets_written due old new result a saves =
+    meets_by due old new result a (wrote (saves_due due) old.files new.files (status_due due) (bytes_due due) old.sink new.sink a.written result a.writes a.saves) saves
+
+meets_first : (due : Due) (old new : Outside) (result : Result Status Trouble) → WritesAndSaves due old new result →
+    MeetsSavesBehind (saves_due due) (bytes_due due) old new (settled result)
+meets_first due old new result a = meets_saves (saves_due due) (status_due due) (bytes_due due) old new a.written result a.writes a.saves
+
+meets_made : (name : List ℕ) (rules : Rules) (old new : Outside) (result : Result Status Trouble) →
+    SavesAndWrites (policy_saving name rules) (measured_line rules.kernel) old.files new.files old.sink new.sink result → new.bench ≡ old.bench →
+    Meets (Make name rules) old new (settled result)
+meets_made name rules old new (Ok status) a bench =
+    subst (λ (s : Status). Meets (Make name rules) old new s) (sym a.0)
+    (record {
+      status = λ _. refl;
+      whole = λ _. a.2;
+      prefix = prefix_whole old.sink new.sink (measured_line rules.kernel) a.2;
+      saves = record { saved = λ _. a.1; broke = λ e. absurd (cc e); wanting = λ e. absurd (cc e) };
+      no_write = λ _. ap (λ (k : SinkState). k.faults) a.2;
+      wants = λ _. refl;
+      bench = bench;
+    })
+meets_made name rules old new (Err Write) (inl a) bench = record {
+  status = λ t. absurd (cc t);
+  whole = λ t. absurd (cc t);
+  prefix = subst (λ (k : SinkState). TookPrefix old.sink k (measured_line rules.kernel)) (sym a.1) (prefix_none old.sink (measured_line rules.kernel));
+  saves = record { saved = λ t. absurd (cc t); broke = λ _. inl a; wanting = λ e. absurd (cc e) };
+  no_write = λ never. absurd (never refl);
+  wants = λ _. refl;
+  bench = bench;
+}
+meets_made name rules old new (Err Write) (inr a) bench = record {
+  status = λ t. absurd (cc t);
+  whole = λ t. absurd (cc t);
+  prefix = a.1.prefix;
+  saves = record { saved = λ t. absurd (cc t); broke = λ _. inr (a.0, a.1.faults); wanting = λ e. absurd (cc e) };
+  no_write = λ never. absurd (never refl);
+  wants = λ _. refl;
+  bench = bench;
+}
+meets_made name rules old new (Err Memory) a bench = record {
+  status = λ t. absurd (cc t);
+  whole = λ t. absurd (cc t);
+  prefix = subst (λ (k : SinkState). TookPrefix old.sink k (measured_line rules.kernel)) (sym a.1) (prefix_none old.sink (measured_line rules.kernel));
+  saves = record { saved = λ t. absurd (cc t); broke = λ e. absurd (cc e); wanting = λ _. a };
+  no_write = λ _. ap (λ (k : SinkState). k.faults) a.1;
+  wants = λ _. refl;
+  bench = bench;
+}
+
 meets : (due : Due) (old new : Outside) (result : Result Status Trouble) → Answers due old new result → Meets due old new (settled result)
-meets due old new result a =
-    meets_by due old new result a
-    (wrote (saves_due due) old.files new.files (status_due due) (bytes_due due) old.sink new.sink a.written result a.writes a.saves)
-    (meets_saves (saves_due due) (status_due due) (bytes_due due) old new a.written result a.writes a.saves)
+meets (Refuse refusal) old new result a = meets_written (Refuse refusal) old new result a (meets_first (Refuse refusal) old new result a)
+meets (RunFrom start events save) old new result a = meets_written (RunFrom start events save) old new result a (meets_first (RunFrom start events save) old new result a)
+meets (Make name rules) old new result a = meets_made name rules old new result a.0 a.1
 
 reached_settled : (reached : Option Due) (old new : Outside) (result : Result Status Trouble) → AnswersReached reached old new result → MeetsReached reached old new (settled result)
 reached_settled None old new (Ok s) a = absurd (cc a.0)
@@ -192,9 +305,19 @@ headline plan old new result p =
 
 -- ---- the sink
 
+first_broke : (saving : Saving) (old new : Outside) →
+    (SaveBroke saving old.files new.files × (new.sink ≡ old.sink)) ⊎ (Saved saving old.files new.files × (old.sink.faults < new.sink.faults)) → old.sink.faults ≤ new.sink.faults
+first_broke saving old new (inl it) = let same : new.sink.faults ≡ old.sink.faults = ap (λ (k : SinkState). k.faults) it.1 in omega arith
+first_broke saving old new (inr it) = let rose = it.1 in omega arith
+
+due_faults : (due : Due) (old new : Outside) → MeetsSaves due old new Status.WriteFault → old.sink.faults ≤ new.sink.faults
+due_faults (Refuse refusal) old new m = meets_faults None (refusal_line refusal) old new m
+due_faults (RunFrom start events save) old new m = meets_faults (saves_due (RunFrom start events save)) (bytes_due (RunFrom start events save)) old new m
+due_faults (Make name rules) old new m = first_broke (policy_saving name rules) old new (m.broke refl)
+
 meets_writes : (due : Due) (old new : Outside) (s : Status) → Meets due old new s → (s ≡ Status.WriteFault) ⊎ (s ≢ Status.WriteFault) → old.sink.faults ≤ new.sink.faults
 meets_writes due old new s m (inl is) =
-    meets_faults (saves_due due) (bytes_due due) old new (subst (λ (t : Status). MeetsSaves (saves_due due) (bytes_due due) old new t) is m.saves)
+    due_faults due old new (subst (λ (t : Status). MeetsSaves due old new t) is m.saves)
 meets_writes due old new s m (inr never) = let same = m.no_write never in omega arith
 
 write_fault_or_not : (s : Status) → (s ≡ Status.WriteFault) ⊎ (s ≢ Status.WriteFault)
@@ -250,12 +373,24 @@ effect_saved plan old read new due follows c k =
           (ap (λ (f : FilesState). f.held) same ∙ k.held, ap (λ (f : FilesState). f.save_faults) same ∙ k.saves);
     }
 
+made_changes : (saving : Saving) (line : List ℕ) (f0 f1 : FilesState) (old new : SinkState) (result : Result Status Trouble) → SavesAndWrites saving line f0 f1 old new result →
+    Changes (Some saving) f0 f1
+made_changes saving line f0 f1 old new (Ok status) a = changes_saved saving f0 f1 a.1
+made_changes saving line f0 f1 old new (Err Write) (inl a) = changes_broke saving f0 f1 a.0
+made_changes saving line f0 f1 old new (Err Write) (inr a) = changes_saved saving f0 f1 a.0
+made_changes saving line f0 f1 old new (Err Memory) a = changes_same (Some saving) f0 f1 a.0
+
+answer_changes : (due : Due) (old new : Outside) (result : Result Status Trouble) → Answers due old new result → Changes (saves_due due) old.files new.files
+answer_changes (Refuse refusal) old new result a = changes None old.files new.files a.written result a.saves
+answer_changes (RunFrom start events save) old new result a = changes (saves_due (RunFrom start events save)) old.files new.files a.written result a.saves
+answer_changes (Make name rules) old new result a = made_changes (policy_saving name rules) (measured_line rules.kernel) old.files new.files old.sink new.sink result a.0
+
 effect_reached : (plan : Plan) (reached : Option Due) (old read : FilesState) (sink : SinkState) (bench : Option Machine) (new : Outside) (result : Result Status Trouble) →
     Follows plan old read reached → AnswersReached reached (outside read sink bench) new result → Effect plan old new.files
 effect_reached plan None old read sink bench new result follows a =
     effect_same plan old read new.files (follows_keeps plan old read None follows) (ap (λ (o : Outside). o.files) a.1)
 effect_reached plan (Some due) old read sink bench new result follows a =
-    effect_saved plan old read new.files due follows (changes (saves_due due) read new.files a.written result a.saves) (follows_keeps plan old read (Some due) follows)
+    effect_saved plan old read new.files due follows (answer_changes due (outside read sink bench) new result a) (follows_keeps plan old read (Some due) follows)
 
 pub effect : (plan : Plan) (old new : Outside) (result : Result Status Trouble) → Performs plan old new result → Effect plan old.files new.files
 effect plan old new result p = effect_reached plan p.reached old.files p.read old.sink old.bench new result p.follows p.answers
@@ -264,7 +399,7 @@ effect plan old new result p = effect_reached plan p.reached old.files p.read ol
 read_count : (reached : Option Due) (read : FilesState) (sink : SinkState) (bench : Option Machine) (new : Outside) (result : Result Status Trouble) →
     AnswersReached reached (outside read sink bench) new result → new.files.read_faults ≡ read.read_faults
 read_count None read sink bench new result a = ap (λ (o : Outside). o.files.read_faults) a.1
-read_count (Some due) read sink bench new result a = (changes (saves_due due) read new.files a.written result a.saves).reads
+read_count (Some due) read sink bench new result a = (answer_changes due (outside read sink bench) new result a).reads
 
 -- ---- words that are refused
 
@@ -358,25 +493,86 @@ run_found_faults : (words : RunWords) → HasFoundFaults (run_plan words)
 unfolding run_plan policy_part found_plan
 run_found_faults words = (λ e. cc e, λ bytes. policy_found_faults (image_plan words) (rules_of_text bytes) (image_found_faults words))
 
-words_found_faults : (has_dash is_flat is_gen is_run : Bool) (file : List ℕ) (wanted : Option (List ℕ)) (events calls : Option ℕ) (words : List (List ℕ)) (source : Option Source) (most : Option ℕ) →
-    HasFoundFaults (plan_of (if has_dash then Err NoCommand else if is_flat then flat_words file wanted events else if is_gen then gen_words calls else if is_run then run_words words source most else Err NoCommand))
+making_no_read_fault : (refused : MakingRefusal) → status_due (Refuse (making_refusal refused)) ≢ Status.ReadFault
+making_no_read_fault (making.Image number) = λ e. cc e
+making_no_read_fault (making.Module number) = λ e. cc e
+making_no_read_fault making.Limits = λ e. cc e
+making_no_read_fault making.Memory = λ e. cc e
+
+made_found_faults : {A : Type 0} (next : A → Plan) (made : Judging A) → ((value : A) → HasFoundFaults (next value)) → HasFoundFaults (made_judged next made)
+made_found_faults next (Ok value) never = never value
+made_found_faults next (Err refused) never = making_no_read_fault refused
+
+made_part_found_faults : {A : Type 0} (part : Part) (name : List ℕ) (limit : ℕ) (judge : List ℕ → Judging A) (next : List ℕ → A → Plan) →
+    ((bytes : List ℕ) (value : A) → HasFoundFaults (next bytes value)) → HasFoundFaults (made_part part name limit judge next)
+unfolding made_part found_plan
+made_part_found_faults part name limit judge next never = (λ e. cc e, λ bytes. made_found_faults (next bytes) (judge bytes) (never bytes))
+
+modules_found_faults : (names : List (List ℕ)) (before : Modules) (next : Modules → Plan) → ((modules : Modules) → HasFoundFaults (next modules)) → HasFoundFaults (modules_part names before next)
+unfolding module_part
+modules_found_faults [] before next never = never before
+modules_found_faults (name ∷ names) before next never =
+    made_part_found_faults Part.Module name most_object_bytes (names_with before.names) (λ file wanted. modules_part names (with_module before name file wanted) next)
+    (λ file wanted. modules_found_faults names (with_module before name file wanted) next never)
+
+making_found_faults : (words : PolicyWords) (kernel : Kernel) (modules : Modules) → HasFoundFaults (making_plan words kernel modules)
+unfolding making_plan
+making_found_faults words kernel modules =
+    made_found_faults (λ rules. End (Make words.out rules)) (policy_behind words.terms kernel.file kernel.digest modules.names modules.objects) (λ rules. λ e. cc e)
+
+measure_found_faults : (words : PolicyWords) → HasFoundFaults (measure_plan words)
+unfolding measure_plan digest_part
+measure_found_faults words =
+    made_part_found_faults Part.Image words.kernel most_image_bytes (λ file. kernel_digest file words.terms.ram_pages)
+    (λ file digest. modules_part words.modules no_modules (making_plan words (record { file = file; digest = digest })))
+    (λ file digest. modules_found_faults words.modules no_modules (making_plan words (record { file = file; digest = digest })) (making_found_faults words (record { file = file; digest = digest })))
+
+modules_words_found_faults : (are_names : Bool) (words : PolicyWords) → HasFoundFaults (plan_of (if are_names then Ok (MakePolicy words) else Err (OutOfRange Word.Modules)))
+unfolding plan_of
+modules_words_found_faults true words = measure_found_faults words
+modules_words_found_faults false words = λ e. cc e
+
+init_found_faults : (words : List (List ℕ)) (ram_pages harts : ℕ) (entries : List ℕ) (init : Option (Option Span)) → HasFoundFaults (plan_of (init_judged words ram_pages harts entries init))
+unfolding plan_of init_judged
+init_found_faults words ram_pages harts entries None = λ e. cc e
+init_found_faults words ram_pages harts entries (Some init) =
+    modules_words_found_faults (are_module_names (module_words words)) (policy_of words (record { harts = harts; ram_pages = ram_pages; entries = entries; init = init }))
+
+measure_words_found_faults : (words : List (List ℕ)) (ram_pages harts : Option ℕ) (entries : Option (List ℕ)) → HasFoundFaults (plan_of (making_words words ram_pages harts entries))
+unfolding plan_of making_words
+measure_words_found_faults words None harts entries = λ e. cc e
+measure_words_found_faults words (Some ram_pages) None entries = λ e. cc e
+measure_words_found_faults words (Some ram_pages) (Some harts) None = λ e. cc e
+measure_words_found_faults words (Some ram_pages) (Some harts) (Some entries) = init_found_faults words ram_pages harts entries (init_of ram_pages (word_at words 6))
+
+rest_found_faults : (is_measure : Bool) (measure : Result Command Refusal) → HasFoundFaults (plan_of measure) → HasFoundFaults (plan_of (if is_measure then measure else Err NoCommand))
+unfolding plan_of
+rest_found_faults true measure never = never
+rest_found_faults false measure never = λ e. cc e
+
+words_found_faults : (has_dash is_flat is_gen is_run : Bool) (file : List ℕ) (wanted : Option (List ℕ)) (events calls : Option ℕ) (words : List (List ℕ)) (source : Option Source) (most : Option ℕ)
+    (rest : Result Command Refusal) → HasFoundFaults (plan_of rest) →
+    HasFoundFaults (plan_of (if has_dash then Err NoCommand else if is_flat then flat_words file wanted events else if is_gen then gen_words calls else if is_run then run_words words source most else rest))
 unfolding plan_of flat_words gen_words run_words
-words_found_faults true is_flat is_gen is_run file wanted events calls words source most = λ e. cc e
-words_found_faults false false false false file wanted events calls words source most = λ e. cc e
-words_found_faults false false false true file wanted events calls words None most = λ e. cc e
-words_found_faults false false false true file wanted events calls words (Some source) None = λ e. cc e
-words_found_faults false false false true file wanted events calls words (Some source) (Some most) = run_found_faults _
-words_found_faults false false true is_run file wanted events None words source most = λ e. cc e
-words_found_faults false false true is_run file wanted events (Some calls) words source most = gen_found_faults calls
-words_found_faults false true is_gen is_run file None events calls words source most = λ e. cc e
-words_found_faults false true is_gen is_run file (Some wanted) None calls words source most = λ e. cc e
-words_found_faults false true is_gen is_run file (Some wanted) (Some events) calls words source most = flat_found_faults file wanted events
+words_found_faults true is_flat is_gen is_run file wanted events calls words source most rest never = λ e. cc e
+words_found_faults false false false false file wanted events calls words source most rest never = never
+words_found_faults false false false true file wanted events calls words None most rest never = λ e. cc e
+words_found_faults false false false true file wanted events calls words (Some source) None rest never = λ e. cc e
+words_found_faults false false false true file wanted events calls words (Some source) (Some most) rest never = run_found_faults _
+words_found_faults false false true is_run file wanted events None words source most rest never = λ e. cc e
+words_found_faults false false true is_run file wanted events (Some calls) words source most rest never = gen_found_faults calls
+words_found_faults false true is_gen is_run file None events calls words source most rest never = λ e. cc e
+words_found_faults false true is_gen is_run file (Some wanted) None calls words source most rest never = λ e. cc e
+words_found_faults false true is_gen is_run file (Some wanted) (Some events) calls words source most rest never = flat_found_faults file wanted events
 
 judged_found_faults : (words : List (List ℕ)) → HasFoundFaults (plan_of (judged words))
 unfolding judged
 judged_found_faults words =
     words_found_faults (list_any has_dash words) (is_flat words) (is_gen words) (is_run words) (flat_file words) (digest_of (word_at words 2)) (number_within 0 most_events (word_at words 3))
     (number_within 1 most_calls (word_at words 1)) words (source_of (word_at words 4)) (number_within 0 most_events (word_at words 5))
+    (if is_measure words then making_judged words else Err NoCommand)
+    (rest_found_faults (is_measure words) (making_judged words)
+    (measure_words_found_faults words (number_within 16 65536 (word_at words 3)) (number_within 1 4 (word_at words 4)) (entries_judged (word_at words 5))))
 
 reached_fault : (plan : Plan) (reached : Option Due) (f0 f1 : FilesState) (old new : Outside) → HasFoundFaults plan → Follows plan f0 f1 reached →
     MeetsReached reached old new Status.ReadFault → HasFault plan f0 f1

@@ -1,15 +1,10 @@
 -- The words of the command line.
-use Rattle.std.proofs.Common.{◌≡◌, ℕ, ◌||◌, Bool, List, [], ◌∷◌, map, refl, sym, ◌∙◌, ap, Option, None, Err, ◌<◌, length, get_or, string_bytes, String, Global}
+use Rattle.std.proofs.Common.{◌≡◌, ℕ, List, [], map, sym, ◌∙◌, ap, Option, None, Err, ◌<◌, length, get_or, string_bytes, String, Global}
 use Rattle.std.proofs.lemmas.List.{get_or-map}
-use Rattle.std.specs.List.{list_any}
 use Rattle.sv_types.specs.Numbers.{number_within, digest_of}
 use Rattle.secvisor_cli.specs.declared.refusal.Word.{Word}
 use Rattle.secvisor_cli.specs.declared.refusal.Refusal.TheVariants.{OutOfRange}
 use Rattle.secvisor_cli.specs.CommandLine.{word_at, flat_words, flat_judged, flat_file, most_events}
-
-pub list_any_map : {A B : Type 0} (p : B → Bool) (f : A → B) (xs : List A) → list_any p (map f xs) ≡ list_any (λ x. p (f x)) xs
-list_any_map p f [] = refl
-list_any_map p f (x ∷ xs) = ap (λ b. p (f x) || b) (list_any_map p f xs)
 
 -- the bytes of a word
 pub word_is : (words : List (String Global)) (i : ℕ) (w : String Global) → i < length words → w ≡ get_or words i w → string_bytes w ≡ word_at (map string_bytes words) i

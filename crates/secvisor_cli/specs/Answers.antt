@@ -11,8 +11,8 @@ use Rattle.machine_model.specs.Reaches.{Reaches}
 use Rattle.outside.specs.Outside.{FilesState, SinkState, after_taking, TookPrefix, BreaksOff}
 use Rattle.secvisor_cli.specs.declared.trouble.Trouble.{Trouble}
 use Rattle.secvisor_cli.specs.declared.trouble.Trouble.TheVariants.{Write, Memory}
-use Rattle.secvisor_cli.specs.Refusals.{takes_memory}
-use Rattle.secvisor_cli.specs.Plans.{Due, Refuse, RunFrom, Saving, saving, Plan, bytes_due, status_due, saves_due}
+use Rattle.secvisor_cli.specs.Refusals.{refusal_line, takes_memory}
+use Rattle.secvisor_cli.specs.Plans.{Due, Refuse, RunFrom, Make, measured_line, Saving, saving, policy_saving, Plan, bytes_due, status_due, saves_due}
 use Rattle.secvisor_cli.specs.Reading.{Follows, Saved, SaveBroke}
 use Rattle.secvisor_cli.specs.Standing.{Stands, machine_output}
 
@@ -52,11 +52,13 @@ BenchAfter wanting (Refuse refusal) old new bench_old bench_new = bench_new ≡ 
 BenchAfter wanting (RunFrom start events save) old new bench_old bench_new =
     (wanting × (new ≡ old) × (bench_new ≡ bench_old))
     ⊎ ((machine : Machine) × (bench_new ≡ Some machine) × RunsTo wanting start events machine old new)
+BenchAfter wanting (Make name rules) old new bench_old bench_new = bench_new ≡ bench_old
 
 -- words are refused without asking for memory
 abbrev pub may_want : Due → Bool
 may_want (Refuse refusal) = takes_memory refusal
 may_want (RunFrom start events save) = true
+may_want (Make name rules) = true
 
 -- ---- the answer
 
@@ -110,14 +112,30 @@ pub record RunsAndSaves (start : State) (events : List Event) (save : Option (Li
   pub saves : SavedBehind (saving (run start events).devices.disk.bytes save) files_old files_new written result
   pub runs : RunsTo (IsErrOf result Memory) start events machine old new
 
+-- A policy was saved, and then its line written. Where the save failed, or memory was wanting, nothing was written.
+abbrev pub SavesAndWrites : Saving → (line : List ℕ) → FilesState → FilesState → SinkState → SinkState → Result Status Trouble → Type 0
+SavesAndWrites saving line files saved old new (Ok status) =
+    (status ≡ Status.Done) × Saved saving files saved × (new ≡ after_taking old line)
+SavesAndWrites saving line files saved old new (Err Write) =
+    (SaveBroke saving files saved × (new ≡ old)) ⊎ (Saved saving files saved × BreaksOff old new line)
+SavesAndWrites saving line files saved old new (Err Memory) = (saved ≡ files) × (new ≡ old)
+
 -- what is due was written, and then saved
-pub record Answers (due : Due) (old new : Outside) (result : Result Status Trouble) : Type 0 where
+pub record WritesAndSaves (due : Due) (old new : Outside) (result : Result Status Trouble) : Type 0 where
   -- how writing ended
   pub written : Result Status Trouble
   pub writes : Writes (status_due due) (bytes_due due) old.sink new.sink written
   pub saves : SavedBehind (saves_due due) old.files new.files written result
   pub wants : IsErrOf result Memory → IsTrue (may_want due)
   pub bench : BenchAfter (IsErrOf result Memory) due old.sink new.sink old.bench new.bench
+
+-- a policy is saved before its line is written, and a disk behind the report
+abbrev pub Answers : Due → Outside → Outside → Result Status Trouble → Type 0
+Answers (Refuse refusal) old new result = WritesAndSaves (Refuse refusal) old new result
+Answers (RunFrom start events save) old new result = WritesAndSaves (RunFrom start events save) old new result
+Answers (Make name rules) old new result =
+    SavesAndWrites (policy_saving name rules) (measured_line rules.kernel) old.files new.files old.sink new.sink result
+    × (new.bench ≡ old.bench)
 
 -- the same where memory was wanting for a read: nothing happened
 abbrev pub AnswersReached : Option Due → Outside → Outside → Result Status Trouble → Type 0
@@ -142,10 +160,25 @@ pub record MeetsSaving (saving : Saving) (bytes : List ℕ) (old new : Outside) 
   pub wanting : answer ≡ Status.Memory → new.files ≡ old.files
 
 -- where nothing is due to be saved, a write fault is answered exactly where the sink's count rose
-abbrev pub MeetsSaves : Option Saving → List ℕ → Outside → Outside → Status → Type 0
-MeetsSaves None bytes old new answer =
+abbrev pub MeetsSavesBehind : Option Saving → List ℕ → Outside → Outside → Status → Type 0
+MeetsSavesBehind None bytes old new answer =
     (new.files ≡ old.files) × (answer ≡ Status.WriteFault → old.sink.faults < new.sink.faults)
-MeetsSaves (Some saving) bytes old new answer = MeetsSaving saving bytes old new answer
+MeetsSavesBehind (Some saving) bytes old new answer = MeetsSaving saving bytes old new answer
+
+-- Saved where the status is that of the end; else a write fault is that of the save, before which nothing is written, or
+-- the sink's, behind it; nothing is saved or written where memory was wanting.
+pub record MeetsSavingFirst (saving : Saving) (old new : Outside) (answer : Status) : Type 0 where
+  pub saved : IsTrue (is_answer answer) → Saved saving old.files new.files
+  pub broke : answer ≡ Status.WriteFault →
+      (SaveBroke saving old.files new.files × (new.sink ≡ old.sink))
+      ⊎ (Saved saving old.files new.files × (old.sink.faults < new.sink.faults))
+  pub wanting : answer ≡ Status.Memory → (new.files ≡ old.files) × (new.sink ≡ old.sink)
+
+abbrev pub MeetsSaves : Due → Outside → Outside → Status → Type 0
+MeetsSaves (Refuse refusal) old new answer = MeetsSavesBehind None (refusal_line refusal) old new answer
+MeetsSaves (RunFrom start events save) old new answer =
+    MeetsSavesBehind (saves_due (RunFrom start events save)) (output (run start events)) old new answer
+MeetsSaves (Make name rules) old new answer = MeetsSavingFirst (policy_saving name rules) old new answer
 
 -- The status and all bytes that are due, unless a write failed or memory was wanting.
 pub record Meets (due : Due) (old new : Outside) (answer : Status) : Type 0 where
@@ -153,7 +186,7 @@ pub record Meets (due : Due) (old new : Outside) (answer : Status) : Type 0 wher
   pub whole : IsTrue (is_answer answer) → new.sink ≡ after_taking old.sink (bytes_due due)
   -- never more than a prefix of these bytes
   pub prefix : TookPrefix old.sink new.sink (bytes_due due)
-  pub saves : MeetsSaves (saves_due due) (bytes_due due) old new answer
+  pub saves : MeetsSaves due old new answer
   pub no_write : answer ≢ Status.WriteFault → new.sink.faults ≡ old.sink.faults
   -- words that are refused never want memory
   pub wants : answer ≡ Status.Memory → IsTrue (may_want due)

@@ -1,8 +1,11 @@
 -- The words of a command line: what they ask for, or the first one that is out of its range. This project's own.
-use Rattle.std.specs.Prelude.{ℕ, ◌^◌, Bool, false, ◌&&◌, ◌-◌, List, [], ◌∷◌, length, ◌==◌, if◌then◌else◌, Option, Some, None, option_map, take, drop, Result, Ok, Err, codes, slice_index_or}
+use Rattle.std.specs.Prelude.{ℕ, ◌^◌, Bool, false, ◌&&◌, ◌-◌, List, [], ◌∷◌, length, ◌==◌, if◌then◌else◌, nat_le, Option, Some, None, option_map, take, drop, Result, Ok, Err, codes, slice_index_or}
 use Rattle.std.specs.List.{list_any}
 use Rattle.std.specs.Str.{bytes_eq}
 use Rattle.sv_types.specs.Numbers.{number_within, digest_of}
+use Rattle.sv_types.specs.declared.module.Span.{Span}
+use Rattle.policy_making.specs.Making.{Terms}
+use Rattle.policy_words.specs.Ranges.{are_entries, entries_of, span_of, are_module_names}
 use Rattle.secvisor_cli.specs.declared.refusal.Word.{Word}
 use Rattle.secvisor_cli.specs.declared.refusal.Refusal.{Refusal}
 use Rattle.secvisor_cli.specs.declared.refusal.Refusal.TheVariants.{NoCommand, OutOfRange}
@@ -27,11 +30,22 @@ pub record RunWords : Type 0 where
   -- where the disk is saved behind the report, if it is
   pub save : Option (List ℕ)
 
+-- a policy that is made of a kernel and of modules
+pub record PolicyWords : Type 0 where
+  -- the name that it is saved under
+  pub out : List ℕ
+  pub kernel : List ℕ
+  -- what it says beside its files
+  pub terms : Terms
+  -- the names of the modules' objects
+  pub modules : List (List ℕ)
+
 pub data Command : Type 0 where
   Flat : (file wanted : List ℕ) → (events : ℕ) → Command
   -- the generated guest, which calls its kernel so many times
   Generated : (calls : ℕ) → Command
   Run : RunWords → Command
+  MakePolicy : PolicyWords → Command
 
 -- a word begins with a dash
 abbrev pub has_dash : List ℕ → Bool
@@ -114,6 +128,46 @@ is_run words = length words == 7 && bytes_eq (word_at words 0) (codes "run")
 abbrev pub run_judged : List (List ℕ) → Result Command Refusal
 run_judged words = run_words words (source_of (word_at words 4)) (number_within 0 most_events (word_at words 5))
 
+-- ---- measure OUT KERNEL RAM HARTS ENTRIES INIT MODULES...
+
+abbrev pub entries_judged : List ℕ → Option (List ℕ)
+entries_judged word = if are_entries word then Some (entries_of word) else None
+
+-- the word `none` for no init pages
+unfoldable pub init_of : (ram_pages : ℕ) → List ℕ → Option (Option Span)
+init_of ram_pages word = if bytes_eq word (codes "none") then Some None else option_map Some (span_of ram_pages word)
+
+-- the words from the seventh on
+abbrev pub module_words : List (List ℕ) → List (List ℕ)
+module_words words = drop 7 words
+
+abbrev pub policy_of : List (List ℕ) → Terms → PolicyWords
+policy_of words terms = record { out = word_at words 1; kernel = word_at words 2; terms = terms; modules = module_words words }
+
+-- the modules are judged behind the other words
+abbrev pub modules_judged : List (List ℕ) → Terms → Result Command Refusal
+modules_judged words terms =
+    if are_module_names (module_words words) then Ok (MakePolicy (policy_of words terms)) else Err (OutOfRange Word.Modules)
+
+unfoldable pub init_judged : List (List ℕ) → (ram_pages harts : ℕ) → (entries : List ℕ) → Option (Option Span) → Result Command Refusal
+init_judged words ram_pages harts entries None = Err (OutOfRange Word.Init)
+init_judged words ram_pages harts entries (Some init) =
+    modules_judged words (record { harts = harts; ram_pages = ram_pages; entries = entries; init = init })
+
+unfoldable pub making_words : List (List ℕ) → Option ℕ → Option ℕ → Option (List ℕ) → Result Command Refusal
+making_words words None harts entries = Err (OutOfRange Word.Ram)
+making_words words (Some ram_pages) None entries = Err (OutOfRange Word.Harts)
+making_words words (Some ram_pages) (Some harts) None = Err (OutOfRange Word.Entries)
+making_words words (Some ram_pages) (Some harts) (Some entries) =
+    init_judged words ram_pages harts entries (init_of ram_pages (word_at words 6))
+
+abbrev pub is_measure : List (List ℕ) → Bool
+is_measure words = nat_le 7 (length words) && bytes_eq (word_at words 0) (codes "measure")
+
+abbrev pub making_judged : List (List ℕ) → Result Command Refusal
+making_judged words =
+    making_words words (number_within 16 65536 (word_at words 3)) (number_within 1 4 (word_at words 4)) (entries_judged (word_at words 5))
+
 -- ---- all commands
 
 unfoldable pub judged : List (List ℕ) → Result Command Refusal
@@ -122,4 +176,5 @@ judged words =
     else if is_flat words then flat_judged words
     else if is_gen words then gen_judged words
     else if is_run words then run_judged words
+    else if is_measure words then making_judged words
     else Err NoCommand

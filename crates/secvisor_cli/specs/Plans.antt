@@ -1,6 +1,6 @@
 -- What is asked, as a plan: which files are read, under which names, in which order, and what is due by what is found in
 -- them. This project's own.
-use Rattle.std.specs.Prelude.{ℕ, ◌%◌, ◌*◌, ◌^◌, List, [], length, map, Bool, true, false, ◌&&◌, ◌==◌, nat_lt, if◌then◌else◌, Option, Some, None, Result, Ok, Err}
+use Rattle.std.specs.Prelude.{ℕ, ◌%◌, ◌*◌, ◌^◌, List, [], ◌∷◌, ◌++◌, length, map, codes, Bool, ◌&&◌, ◌==◌, nat_lt, if◌then◌else◌, Option, Some, None, Result, Ok, Err}
 use Rattle.std.specs.Str.{bytes_eq}
 use Rattle.sv_types.specs.declared.event.Event.{Event}
 use Rattle.sv_types.specs.declared.status.Status.{Status}
@@ -16,16 +16,20 @@ use Rattle.sv_types.specs.Kernel.{header_entry, kernel_refusal, kernel_segments,
 use Rattle.sv_types.specs.Policies.{Rules}
 use Rattle.reference.specs.Start.{flat_start, boot_start}
 use Rattle.sv_types.specs.Measure.{measure}
-use Rattle.sv_types.specs.Output.{run_status}
+use Rattle.sv_types.specs.Output.{run_status, line_feed, hexadecimal_bytes}
 use Rattle.reference.specs.Report.{output}
 use Rattle.reference.specs.States.{State, has_number}
 use Rattle.reference.specs.Run.{run}
 use Rattle.sv_types.specs.Schedule.{Schedule, first_events, first_of_no_form, script_events}
+use Rattle.policy_making.specs.declared.refusal.MakingRefusal.{MakingRefusal}
+use Rattle.policy_making.specs.declared.refusal.MakingRefusal.TheVariants as making
+use Rattle.policy_making.specs.Refusals.{Judged as Made}
+use Rattle.policy_making.specs.Making.{ModuleFile, kernel_digest, names_with, policy_behind}
 use Rattle.secvisor_cli.specs.declared.refusal.Part.{Part}
 use Rattle.secvisor_cli.specs.declared.refusal.Refusal.{Refusal}
 use Rattle.secvisor_cli.specs.declared.refusal.Refusal.TheVariants.{ReadFault, File, Measure, Entry}
 use Rattle.secvisor_cli.specs.Refusals.{refusal_line, refusal_status}
-use Rattle.secvisor_cli.specs.CommandLine.{Command, Flat, Generated, Run, RunWords, Source, Rounds, Auto, Text, most_events}
+use Rattle.secvisor_cli.specs.CommandLine.{Command, Flat, Generated, Run, RunWords, MakePolicy, PolicyWords, Source, Rounds, Auto, Text, most_events}
 
 -- ---- what is due
 
@@ -33,30 +37,47 @@ pub data Due : Type 0 where
   Refuse : Refusal → Due
   -- a run. Behind its report the disk's bytes are saved, where a name for them is given
   RunFrom : (start : State) → (events : List Event) → (save : Option (List ℕ)) → Due
+  -- a policy that was made. It is saved, and then its kernel's digest is printed
+  Make : (name : List ℕ) → (rules : Rules) → Due
+
+abbrev pub measured_line : List ℕ → List ℕ
+measured_line digest = codes "measured " ++ (hexadecimal_bytes digest ++ line_feed)
 
 -- all bytes that are due, and the status
 abbrev pub bytes_due : Due → List ℕ
 bytes_due (Refuse refusal) = refusal_line refusal
 bytes_due (RunFrom start events save) = output (run start events)
+bytes_due (Make name rules) = measured_line rules.kernel
 
 abbrev pub status_due : Due → Status
 status_due (Refuse refusal) = refusal_status refusal
 status_due (RunFrom start events save) = run_status (run start events).journal.verdict
+status_due (Make name rules) = Status.Done
+
+-- what the saved bytes are
+pub data Content : Type 0 where
+  Exactly : (bytes : List ℕ) → Content
+  -- a text that reads as a policy
+  PolicyOf : (rules : Rules) → Content
 
 -- bytes that are saved under a name
 pub record Saving : Type 0 where
   pub name : List ℕ
-  pub bytes : List ℕ
+  pub content : Content
 
 -- bytes, where a name for them is given
 abbrev pub saving : (bytes : List ℕ) → Option (List ℕ) → Option Saving
 saving bytes None = None
-saving bytes (Some name) = Some (record { name = name; bytes = bytes })
+saving bytes (Some name) = Some (record { name = name; content = Exactly bytes })
+
+abbrev pub policy_saving : (name : List ℕ) → Rules → Saving
+policy_saving name rules = record { name = name; content = PolicyOf rules }
 
 -- what is saved
 abbrev pub saves_due : Due → Option Saving
 saves_due (Refuse refusal) = None
 saves_due (RunFrom start events save) = saving (run start events).devices.disk.bytes save
+saves_due (Make name rules) = Some (policy_saving name rules)
 
 -- ---- plans
 
@@ -201,6 +222,66 @@ image_plan words rules = image_part rules words.image (boot_plan words rules)
 unfoldable pub run_plan : RunWords → Plan
 run_plan words = policy_part words.policy (image_plan words)
 
+-- ---- measure: each file is read once, just before its first judgement
+
+abbrev pub most_object_bytes : ℕ
+most_object_bytes = 16 * 2 ^ 20
+
+-- the number of all modules' relocated fields is judged last. Want of memory is no refusal
+abbrev pub making_refusal : MakingRefusal → Refusal
+making_refusal (making.Image number) = File Part.Image number
+making_refusal (making.Module number) = File Part.Module number
+making_refusal making.Limits = File Part.Policy 6
+making_refusal making.Memory = File Part.Policy 0
+
+abbrev pub made_judged : {A : Type 0} → (A → Plan) → Made A → Plan
+made_judged next (Ok value) = next value
+made_judged next (Err refused) = End (Refuse (making_refusal refused))
+
+-- a part is read, and what is made of it decides
+unfoldable pub made_part : {A : Type 0} → Part → (name : List ℕ) → (limit : ℕ) → (List ℕ → Made A) → (List ℕ → A → Plan) → Plan
+made_part part name limit judge next = read_part part name limit (λ bytes. Judge (made_judged (next bytes) (judge bytes)))
+
+-- a kernel's file and its digest
+pub record Kernel : Type 0 where
+  pub file : List ℕ
+  pub digest : List ℕ
+
+unfoldable pub digest_part : (name : List ℕ) → (ram_pages : ℕ) → (Kernel → Plan) → Plan
+digest_part name ram_pages next =
+    made_part Part.Image name most_image_bytes (λ file. kernel_digest file ram_pages)
+    (λ file digest. next (record { file = file; digest = digest }))
+
+-- modules' objects, and the names that they want of the kernel
+pub record Modules : Type 0 where
+  pub names : List (List ℕ)
+  pub objects : List ModuleFile
+
+abbrev pub no_modules : Modules
+no_modules = record { names = []; objects = [] }
+
+-- a module and the names that it wants stand behind those before it
+abbrev pub with_module : Modules → (name file : List ℕ) → (names : List (List ℕ)) → Modules
+with_module before name file names = record { names = names; objects = before.objects ++ record { name = name; bytes = file } ∷ [] }
+
+unfoldable pub module_part : (name : List ℕ) → Modules → (Modules → Plan) → Plan
+module_part name before next =
+    made_part Part.Module name most_object_bytes (names_with before.names) (λ file names. next (with_module before name file names))
+
+-- one after another
+abbrev pub modules_part : (names : List (List ℕ)) → Modules → (Modules → Plan) → Plan
+modules_part [] before next = next before
+modules_part (name ∷ names) before next = module_part name before (λ now. modules_part names now next)
+
+-- the exports, the modules under them, and the number of all relocated fields
+unfoldable pub making_plan : PolicyWords → Kernel → Modules → Plan
+making_plan words kernel modules =
+    Judge (made_judged (λ rules. End (Make words.out rules)) (policy_behind words.terms kernel.file kernel.digest modules.names modules.objects))
+
+unfoldable pub measure_plan : PolicyWords → Plan
+measure_plan words =
+    digest_part words.kernel words.terms.ram_pages (λ kernel. modules_part words.modules no_modules (making_plan words kernel))
+
 -- ---- all commands
 
 unfoldable pub plan_of : Result Command Refusal → Plan
@@ -208,3 +289,4 @@ plan_of (Err refusal) = End (Refuse refusal)
 plan_of (Ok (Flat file wanted events)) = flat_plan file wanted events
 plan_of (Ok (Generated calls)) = End (gen_due calls)
 plan_of (Ok (Run words)) = run_plan words
+plan_of (Ok (MakePolicy words)) = measure_plan words

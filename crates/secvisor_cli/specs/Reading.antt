@@ -1,12 +1,17 @@
 -- Files that are asked as a plan says: each name once, in the plan's order, and no other one; and what is saved at its end.
-use Rattle.std.specs.Prelude.{◌≡◌, ◌≢◌, ◌<◌, ◌≤◌, ◌⊎◌, ℕ, List, [], ◌∷◌, length, IsTrue, Option, Some, None}
+use Rattle.std.specs.Prelude.{◌≡◌, ◌≢◌, ◌<◌, ◌≤◌, ◌⊎◌, ℕ, List, [], ◌∷◌, length, IsTrue, Option, Some, None, Ok}
+use Rattle.policy.specs.Text.{rules_of_text}
 use Rattle.outside.specs.Outside.{FilesState, after_asking}
-use Rattle.secvisor_cli.specs.Plans.{Due, Saving, saves_due, Plan, End, Read, Judge, Found, Faulty, Missing, Longer, Held}
+use Rattle.secvisor_cli.specs.Plans.{Due, Content, Exactly, PolicyOf, Saving, saves_due, Plan, End, Read, Judge, Found, Faulty, Missing, Longer, Held}
 
--- exactly these bytes may be saved
+-- exactly these bytes may be saved, or each text that reads as the policy
+abbrev pub MayHold : (name : List ℕ) → Content → FilesState → Type 0
+MayHold name (Exactly bytes) files = IsTrue (files.permits_save name bytes)
+MayHold name (PolicyOf rules) files = (text : List ℕ) → rules_of_text text ≡ Ok rules → IsTrue (files.permits_save name text)
+
 abbrev pub MaySave : Option Saving → FilesState → Type 0
 MaySave None files = Unit {0}
-MaySave (Some saving) files = IsTrue (files.permits_save saving.name saving.bytes)
+MaySave (Some saving) files = MayHold saving.name saving.content files
 
 -- the plan's names may be asked for, one after another, whatever is found, and what is due at its end may be saved
 abbrev pub MayFollow : Plan → FilesState → Type 0
@@ -51,9 +56,14 @@ SavesUnder (End due) name = IsUnder (saves_due due) name
 SavesUnder (Read asked limit next) name = (found : Found) × SavesUnder (next found) name
 SavesUnder (Judge next) name = SavesUnder next name
 
--- these bytes stand under their name, and no other name changed
+-- a name holds exactly these bytes, or a text that reads as the policy
+abbrev pub IsHeld : Content → Option (List ℕ) → Type 0
+IsHeld (Exactly bytes) found = found ≡ Some bytes
+IsHeld (PolicyOf rules) found = (text : List ℕ) × (found ≡ Some text) × (rules_of_text text ≡ Ok rules)
+
+-- the content stands under its name, and no other name changed
 pub record Saved (saving : Saving) (old new : FilesState) : Type 0 where
-  pub held : IsTrue old.tells → new.held saving.name ≡ Some saving.bytes
+  pub held : IsTrue old.tells → IsHeld saving.content (new.held saving.name)
   pub others : (other : List ℕ) → other ≢ saving.name → new.held other ≡ old.held other
   pub leaves : new ≡ record old { held = new.held }
 

@@ -1,5 +1,5 @@
 -- What is made ready of a command, before anything is written.
-use Rattle.std.specs.Prelude.{◌≡◌, ◌≤◌, ◌^◌, ℕ, List, [], IsTrue, Option, Some, None, Result, Ok, Err, IsErrOf, Vec, OnOk}
+use Rattle.std.specs.Prelude.{◌≡◌, ◌≤◌, ◌^◌, ℕ, List, [], IsTrue, Option, Some, None, Result, Ok, Err, IsErrOf, Vec, map, string_bytes}
 use Rattle.std.specs.Option.{option_copied}
 use Rattle.std.specs.declared.alloc.Global.{Global}
 use Rattle.reference.specs.Counting.{CountsAtMost}
@@ -13,6 +13,10 @@ use Rattle.sv_types.specs.Policies.{Rules, rules_of}
 use Rattle.sv_types.specs.declared.policy.Policy.{Policy}
 use Rattle.policy.specs.declared.refusal.PolicyRefusal.TheVariants.{Number as PolicyNumber}
 use Rattle.policy.specs.Refusals.{Judged}
+use Rattle.policy.specs.Text.{rules_of_text}
+use Rattle.policy_making.specs.Making.{file_of}
+use Rattle.policy_making.specs.declared.refusal.MakingRefusal.{MakingRefusal}
+use Rattle.policy_making.specs.declared.refusal.MakingRefusal.TheVariants as making
 use Rattle.elf64_load.specs.declared.image.KernelImage.{KernelImage}
 use Rattle.machine.specs.Boot.{IsImageOf}
 use Rattle.outside.specs.Outside.{FilesState, after_asking}
@@ -21,9 +25,14 @@ use Rattle.secvisor_cli.specs.declared.refusal.Part.{Part}
 use Rattle.secvisor_cli.specs.declared.refusal.Refusal.{Refusal}
 use Rattle.secvisor_cli.specs.declared.refusal.Refusal.TheVariants.{ReadFault, File}
 use Rattle.secvisor_cli.specs.declared.ready.Ready.{Ready}
+use Rattle.secvisor_cli.specs.declared.ready.Ready.TheVariants.{Run, Save}
+use Rattle.secvisor_cli.specs.declared.ready.Booted.{Booted}
+use Rattle.secvisor_cli.specs.declared.ready.Made.{Made}
+use Rattle.secvisor_cli.specs.declared.making.MeasuredKernel.{MeasuredKernel}
+use Rattle.secvisor_cli.specs.declared.making.WantingModules.{WantingModules}
 use Rattle.secvisor_cli.specs.declared.ready.Stop.{Stop}
 use Rattle.secvisor_cli.specs.declared.ready.Stop.TheVariants.{Refused, Memory}
-use Rattle.secvisor_cli.specs.Plans.{Due, Refuse, RunFrom, saves_due, Plan, Found, Faulty, Missing, Longer, Held}
+use Rattle.secvisor_cli.specs.Plans.{Due, Refuse, RunFrom, Make, measured_line, making_refusal, Kernel, Modules, saves_due, Plan, Found, Faulty, Missing, Longer, Held}
 use Rattle.secvisor_cli.specs.Reading.{Follows, FoundAs, MayFollow, MaySave}
 use Rattle.secvisor_cli.specs.Answers.{may_want}
 use Rattle.secvisor_cli.specs.Standing.{HasState}
@@ -47,12 +56,25 @@ stop_of (BootRefusal.Measure found wanted) = Refused (Refusal.Measure found want
 stop_of (BootRefusal.Entry entry) = Refused (Refusal.Entry entry)
 stop_of BootRefusal.Memory = Memory
 
+-- a policy that isn't made
+abbrev pub stop_of_making : MakingRefusal → Stop
+stop_of_making (making.Image number) = Refused (making_refusal (making.Image number))
+stop_of_making (making.Module number) = Refused (making_refusal (making.Module number))
+stop_of_making making.Limits = Refused (making_refusal making.Limits)
+stop_of_making making.Memory = Memory
+
 -- a machine that has made no event, and the events that it is to make
-pub record IsFresh (ready : Ready) : Type 0 where
+pub record IsFresh (ready : Booted) : Type 0 where
   pub events : ready.events ≤ 2 ^ 32
   pub state : HasState ready.machine
   pub counts : CountsAtMost 0 ready.machine.journal.counts
   pub console : ready.machine.journal.printed ≡ []
+
+-- a text that reads as the policy, under its name, and the line that is printed behind it
+pub record IsMade (name : List ℕ) (rules : Rules) (made : Made) : Type 0 where
+  pub name_is : made.name.now ≡ name
+  pub reads : rules_of_text made.text.items ≡ Ok rules
+  pub line : string_bytes made.line ≡ measured_line rules.kernel
 
 -- the machine starts somewhere, and the disk of its run may be saved
 pub record MaySaveRun (machine : Machine) (events : List Event) (save : Option (List ℕ)) (files : FilesState) : Type 0 where
@@ -62,12 +84,22 @@ pub record MaySaveRun (machine : Machine) (events : List Event) (save : Option (
 
 -- what is due is ready, or refused, or memory was wanting
 abbrev pub IsReady : Due → Result Ready Stop → Type 0
-IsReady (RunFrom start events save) (Ok ready) =
-    IsNew ready.machine start × (first_events ready.events ready.script ≡ events) × (option_copied ready.save ≡ save) × IsFresh ready
+IsReady (RunFrom start events save) (Ok (Run booted)) =
+    IsNew booted.machine start × (first_events booted.events booted.script ≡ events) × (option_copied booted.save ≡ save) × IsFresh booted
+IsReady (RunFrom start events save) (Ok (Save made)) = ⊥
+IsReady (Make name rules) (Ok (Run booted)) = ⊥
+IsReady (Make name rules) (Ok (Save made)) = IsMade name rules made
 IsReady (Refuse refusal) (Ok ready) = ⊥
 IsReady (Refuse refusal) (Err (Refused given)) = given ≡ refusal
 IsReady (RunFrom start events save) (Err (Refused given)) = ⊥
+IsReady (Make name rules) (Err (Refused given)) = ⊥
 IsReady due (Err Memory) = IsTrue (may_want due)
+
+-- what is ready is due, and what it saves may be saved
+pub record MayCarryOut (ready : Ready) (files : FilesState) : Type 0 where
+  pub due : Due
+  pub ready_is : IsReady due (Ok ready)
+  pub may : MaySave (saves_due due) files
 
 abbrev pub IsReadyWhere : Option Due → Result Ready Stop → Type 0
 IsReadyWhere None result = IsErrOf result Memory
@@ -96,6 +128,14 @@ Staged stage value old new (Err stop) = (next : _) → Prepares (stage next) old
 pub record MayStage {A : Type 0} (stage : (A → Plan) → Plan) (files : FilesState) : Type 0 where
   pub next : A → Plan
   pub may : MayFollow (stage next) files
+
+-- ---- the parts of a policy that is made, by value
+
+abbrev pub kernel_value : MeasuredKernel → Kernel
+kernel_value k = record { file = k.file.items; digest = k.digest }
+
+abbrev pub modules_value : WantingModules → Modules
+modules_value m = record { names = m.names.items; objects = map file_of m.objects.items }
 
 -- ---- the parts of a run, judged
 

@@ -14,12 +14,18 @@ part_name Part.Policy = codes "policy"
 part_name Part.Image = codes "image"
 part_name Part.Disk = codes "disk"
 part_name Part.Script = codes "script"
+part_name Part.Module = codes "module"
 
 abbrev pub word_name : Word → List ℕ
 word_name Word.Measure = codes "MEASURE"
 word_name Word.Script = codes "SCRIPT"
 word_name Word.Events = codes "EVENTS"
 word_name Word.Calls = codes "N"
+word_name Word.Ram = codes "RAM"
+word_name Word.Harts = codes "HARTS"
+word_name Word.Entries = codes "ENTRIES"
+word_name Word.Init = codes "INIT"
+word_name Word.Modules = codes "MODULES"
 
 unfoldable pub refusal_line : Refusal → List ℕ
 refusal_line NoCommand = codes "usage" ++ line_feed

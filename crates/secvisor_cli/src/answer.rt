@@ -13,15 +13,16 @@ ghost use Rattle.sv_types.specs.Schedule.{first_events};
 ghost use Rattle.secvisor_cli.specs.Refusals.{refusal_line, refusal_status, takes_memory};
 ghost use Rattle.secvisor_cli.specs.CommandLine.{judged};
 ghost use Rattle.secvisor_cli.specs.Words.{command_of, IsInRange};
-ghost use Rattle.secvisor_cli.specs.Plans.{RunFrom, plan_of};
+ghost use Rattle.secvisor_cli.specs.Plans.{Due, Exactly, RunFrom, plan_of};
 ghost use Rattle.secvisor_cli.specs.Reading.{MayFollow, IsNamed, SavesUnder};
-ghost use Rattle.secvisor_cli.specs.Ready.{Prepares, IsFresh, MaySaveRun};
-ghost use Rattle.secvisor_cli.specs.Answers.{outside, Writes, Answers, Performs, RunsTo, RunsAndSaves, Headline, settled};
+ghost use Rattle.secvisor_cli.specs.Ready.{Prepares, IsReady, IsFresh, MayCarryOut, MaySaveRun};
+ghost use Rattle.secvisor_cli.specs.Answers.{outside, Writes, Answers, SavesAndWrites, Performs, RunsTo, RunsAndSaves, Headline, settled};
 
 use crate::flat::prepare_flat;
 use crate::generated::prepare_gen;
 use crate::image_run::prepare_run;
-use crate::ready::{Ready, Stop};
+use crate::making::prepare_policy;
+use crate::ready::{Booted, Made, Ready, Stop};
 use crate::refusal::Refusal;
 use crate::run::run;
 use crate::save::save_disk;
@@ -41,8 +42,8 @@ pub struct Bench {
     pub machine: Option<Machine>,
 }
 
-/// Does all that the program does: judges the words, reads the files that they name, runs the machine, and writes the
-/// report.
+/// Does all that the program does: judges the words, reads the files that they name, runs the machine and writes the
+/// report, or makes a policy, saves it and writes its line.
 pub fn secvisor<R: Threads + Sync, F: Files, O: Sink>(
     rt: &R,
     alloc: Global,
@@ -58,7 +59,8 @@ pub fn secvisor<R: Threads + Sync, F: Files, O: Sink>(
     requires saves { (F.state files.old).save_faults < 2 ^ 64 - 1 }
     requires writes { (O.state out.old).faults < 2 ^ 64 - 1 }
 
-    // For every file, words and number of events the report, the status and the machine are the reference machine's.
+    // For every file, words and number of events the report, the status and the machine are the reference machine's, and a
+    // policy that is made is the one that the files ask for: it is saved, and then its line is written.
     ensures headline { Headline (plan_of (judged (map string_bytes words.now)))
         (outside (F.state files.old) (O.state out.old) bench.old.machine)
         (outside (F.state files.new) (O.state out.new) bench.new.machine) result }
@@ -112,7 +114,7 @@ fn answer<R: Threads + Sync, F: Files, O: Sink>(
         (outside (F.state files.new) (O.state out.new) bench.new.machine) result }
 {
     match prepare(rt, alloc, words, files) {
-        Ok(ready) => run_on_bench(alloc, ready, files, out, bench),
+        Ok(ready) => carry_out(alloc, ready, files, out, bench),
         Err(Stop::Refused(refusal)) => refuse(alloc, &refusal, out),
         Err(Stop::Memory) => Err(Trouble::Memory),
     }
@@ -151,6 +153,7 @@ fn prepare_command<'a, R: Threads + Sync, F: Files>(
         Command::Flat(flat) => prepare_flat(rt, alloc, flat, files),
         Command::Generated(calls) => prepare_gen(rt, alloc, *calls),
         Command::Run(run) => prepare_run(rt, alloc, run, files),
+        Command::MakePolicy(policy) => prepare_policy(rt, alloc, policy, files),
     }
 }
 
@@ -165,10 +168,50 @@ fn refuse<O: Sink>(alloc: Global, refusal: &Refusal, out: &mut O) -> Result<Stat
     Ok(refusal.status())
 }
 
+// What is ready is run, or saved.
+fn carry_out<F: Files, O: Sink>(
+    alloc: Global,
+    ready: Ready<'_>,
+    files: &mut F,
+    out: &mut O,
+    bench: &mut Bench,
+) -> Result<Status, Trouble>
+    requires is_open { IsTrue (O.state out.old).is_open }
+    requires count { (O.state out.old).faults < 2 ^ 64 - 1 }
+    requires saves { (F.state files.old).save_faults < 2 ^ 64 - 1 }
+    requires permitted { MayCarryOut ready (F.state files.old) }
+    ensures { (due : Due) → IsReady due (Ok ready.entry) → Answers due
+        (outside (F.state files.old) (O.state out.old) bench.old.machine)
+        (outside (F.state files.new) (O.state out.new) bench.new.machine) result }
+{
+    match ready {
+        Ready::Run(booted) => run_on_bench(alloc, booted, files, out, bench),
+        Ready::Save(made) => save_policy(&made, files, out),
+    }
+}
+
+// A policy is saved, and then its line is written.
+fn save_policy<F: Files, O: Sink>(
+    made: &Made<'_>,
+    files: &mut F,
+    out: &mut O,
+) -> Result<Status, Trouble>
+    requires is_open { IsTrue (O.state out.old).is_open }
+    requires count { (O.state out.old).faults < 2 ^ 64 - 1 }
+    requires saves { (F.state files.old).save_faults < 2 ^ 64 - 1 }
+    requires permitted { IsTrue ((F.state files.old).permits_save made.now.name.now made.now.text.items) }
+    ensures { SavesAndWrites (record { name = made.now.name.now; content = Exactly made.now.text.items }) (string_bytes made.now.line)
+        (F.state files.old) (F.state files.new) (O.state out.old) (O.state out.new) result }
+{
+    files.save(made.name, &made.text)?;
+    write_all(out, made.line.as_str().as_bytes())?;
+    Ok(Status::Done)
+}
+
 // The machine is run, and stands on the bench from then on.
 fn run_on_bench<F: Files, O: Sink>(
     alloc: Global,
-    ready: Ready<'_>,
+    ready: Booted<'_>,
     files: &mut F,
     out: &mut O,
     bench: &mut Bench,
@@ -182,7 +225,7 @@ fn run_on_bench<F: Files, O: Sink>(
         (outside (F.state files.old) (O.state out.old) bench.old.machine)
         (outside (F.state files.new) (O.state out.new) bench.new.machine) result }
 {
-    let Ready {
+    let Booted {
         mut machine,
         script,
         events,

@@ -5,7 +5,7 @@ ghost use Rattle.secvisor_cli.specs.Reading.{MayFollow};
 ghost use Rattle.secvisor_cli.specs.Ready.{IsReady, Prepares};
 
 use crate::parts::read_part;
-use crate::ready::{Ready, Stop};
+use crate::ready::{Booted, Ready, Stop};
 use crate::refusal::{Part, Refusal};
 use crate::words::Flat;
 use machine::Machine;
@@ -61,10 +61,10 @@ fn boot<R: Threads + Sync>(
 {
     let machine = Machine::flat(rt, alloc, pages, wanted)?;
     let script = rounds(1);
-    Ok(Ready {
+    Ok(Ready::Run(Booted {
         machine,
         script,
         events,
         save: None,
-    })
+    }))
 }

@@ -7,7 +7,7 @@ ghost use Rattle.guest_gen.specs.Booting.{IsBootable};
 ghost use Rattle.secvisor_cli.specs.Plans.{gen_due, gen_disk};
 ghost use Rattle.secvisor_cli.specs.Ready.{IsReady};
 
-use crate::ready::{Ready, Stop};
+use crate::ready::{Booted, Ready, Stop};
 use elf64_load::{ElfRefusal, read_kernel};
 use guest_gen::generate;
 use machine::{BootRefusal, Machine};
@@ -33,12 +33,12 @@ pub fn prepare_gen<R: Threads + Sync>(
     let (file, policy) = generate(alloc, calls)?;
     let disk = disk(alloc)?;
     let machine = boot(rt, alloc, &file, policy, disk)?;
-    Ok(Ready {
+    Ok(Ready::Run(Booted {
         machine,
         script: weave(),
         events: MOST_EVENTS,
         save: None,
-    })
+    }))
 }
 
 // Two sectors, in which each byte is the last one of its place.

@@ -9,7 +9,7 @@ ghost use Rattle.secvisor_cli.specs.Ready.{Prepares, Staged, MayStage, IsPolicy,
 ghost use Rattle.secvisor_cli.specs.Words.{source_value, run_value};
 
 use crate::parts::read_part;
-use crate::ready::{Ready, Stop};
+use crate::ready::{Booted, Ready, Stop};
 use crate::refusal::{Part, Refusal};
 use crate::words::{Run, Source};
 use elf64_load::{ElfRefusal, KernelImage, read_kernel};
@@ -23,7 +23,8 @@ use sv_types::Policy;
 
 const MOST_POLICY_BYTES: usize = 16 << 20;
 
-const MOST_IMAGE_BYTES: usize = 64 << 20;
+/// The most bytes of an image.
+pub const MOST_IMAGE_BYTES: usize = 64 << 20;
 
 const MOST_DISK_BYTES: usize = 64 << 20;
 
@@ -67,12 +68,12 @@ fn boot_file<'a, R: Threads + Sync, F: Files>(
     let disk = read_disk(alloc, asked.disk, files)?;
     let script = read_script(alloc, &asked.script, policy.harts, files)?;
     let machine = Machine::boot(rt, alloc, &image, policy, disk)?;
-    Ok(Ready {
+    Ok(Ready::Run(Booted {
         machine,
         script,
         events: asked.events,
         save: asked.save,
-    })
+    }))
 }
 
 // ---- the policy

@@ -1,16 +1,35 @@
 // What is made ready of a command, before anything is written.
 ghost use Rattle.std.specs.Prelude.{◌≡◌};
 ghost use Rattle.secvisor_cli.specs.declared.ready.Stop.TheVariants.{Refused, Memory};
-ghost use Rattle.secvisor_cli.specs.Ready.{stop_of};
+ghost use Rattle.secvisor_cli.specs.Ready.{stop_of, stop_of_making};
 
-use crate::refusal::Refusal;
+use crate::refusal::{Part, Refusal};
 use machine::{BootRefusal, Machine};
+use policy_making::MakingRefusal;
 use script::Script;
-use std::alloc::AllocError;
+use std::alloc::{AllocError, AllocFailed};
+
+// The number of a policy's refusal for a value beyond its limit.
+const BEYOND_LIMITS: u64 = 6;
+
+/// What is ready of a command.
+#[derive(Drop)]
+pub enum Ready<'a> {
+    Run(Booted<'a>),
+    Save(Made<'a>),
+}
+
+/// A policy that was made: its name and its text, and the line that is printed behind it.
+#[derive(Drop)]
+pub struct Made<'a> {
+    pub name: &'a str,
+    pub text: Vec<u8>,
+    pub line: String,
+}
 
 /// A booted machine, and the events that it is to make: the first `events` of the script, or all where there are fewer.
 #[derive(Drop)]
-pub struct Ready<'a> {
+pub struct Booted<'a> {
     pub machine: Machine,
     pub script: Script,
     pub events: u64,
@@ -39,6 +58,36 @@ impl From<AllocError> for Stop {
 
     fn from(_: AllocError) -> Self {
         Stop::Memory
+    }
+}
+
+impl<T: Drop> From<AllocFailed<T>> for Stop {
+    ghost from_gives = { λ _ s. s ≡ Memory };
+
+    fn from(_: AllocFailed<T>) -> Self {
+        Stop::Memory
+    }
+}
+
+impl From<MakingRefusal> for Stop {
+    ghost from_gives = { λ r s. s ≡ stop_of_making r };
+
+    fn from(refusal: MakingRefusal) -> Self {
+        match refusal {
+            MakingRefusal::Image(number) => Stop::Refused(Refusal::File {
+                part: Part::Image,
+                number: u64::from(number),
+            }),
+            MakingRefusal::Module(number) => Stop::Refused(Refusal::File {
+                part: Part::Module,
+                number: u64::from(number),
+            }),
+            MakingRefusal::Limits => Stop::Refused(Refusal::File {
+                part: Part::Policy,
+                number: BEYOND_LIMITS,
+            }),
+            MakingRefusal::Memory => Stop::Memory,
+        }
     }
 }
 

@@ -17,6 +17,7 @@ pub enum Part {
     Image,
     Disk,
     Script,
+    Module,
 }
 
 /// A word by its name.
@@ -26,6 +27,11 @@ pub enum Word {
     Script,
     Events,
     Calls,
+    Ram,
+    Harts,
+    Entries,
+    Init,
+    Modules,
 }
 
 /// Why a command isn't carried out.
@@ -55,6 +61,7 @@ impl Part {
             Part::Image => "image",
             Part::Disk => "disk",
             Part::Script => "script",
+            Part::Module => "module",
         }
     }
 }
@@ -70,6 +77,11 @@ impl Word {
             Word::Script => "usage SCRIPT\n",
             Word::Events => "usage EVENTS\n",
             Word::Calls => "usage N\n",
+            Word::Ram => "usage RAM\n",
+            Word::Harts => "usage HARTS\n",
+            Word::Entries => "usage ENTRIES\n",
+            Word::Init => "usage INIT\n",
+            Word::Modules => "usage MODULES\n",
         }
     }
 }

@@ -1,11 +1,16 @@
 // The words of the command line.
-ghost use Rattle.std.specs.Prelude.{◌≡◌, ◌≤◌, ◌^◌, map, length, option_map, IfOk, IsTrue, string_bytes};
+ghost use Rattle.std.specs.Prelude.{◌≡◌, ◌≤◌, ◌^◌, map, drop, length, option_map, IfOk, IsTrue, string_bytes};
 ghost use Rattle.std.specs.List.{list_any};
 ghost use Rattle.std.specs.Option.{option_copied};
-ghost use Rattle.secvisor_cli.specs.CommandLine.{has_dash, is_flat, is_gen, is_run, judged, flat_judged, gen_judged, run_judged, unless_none, source_of, auto_of, run_of};
+ghost use Rattle.secvisor_cli.specs.CommandLine.{has_dash, is_flat, is_gen, is_run, is_measure, judged, flat_judged, gen_judged, run_judged, making_judged, init_judged, modules_judged, unless_none, source_of, auto_of, run_of, init_of, word_at};
+ghost use Rattle.policy_words.specs.Ranges.{entries_of};
+ghost use Rattle.sv_types.specs.Numbers.{number_within};
 ghost use Rattle.secvisor_cli.specs.Words.{IsJudged, IsInRange, source_value, run_value};
 
 use crate::refusal::{Refusal, Word};
+use policy_limits::{FEWEST_RAM_PAGES, MOST_HARTS, MOST_RAM_PAGES};
+use policy_words::{are_entries, are_module_names, span_of};
+use sv_types::Span;
 use text_numbers::{digest_of, number_within};
 
 const MOST_EVENTS: u64 = 1 << 32;
@@ -19,6 +24,7 @@ pub enum Command<'a> {
     /// `gen N`: the generated guest, which calls its kernel so many times.
     Generated(u64),
     Run(Run<'a>),
+    MakePolicy(MakePolicy<'a>),
 }
 
 /// `flat FILE MEASURE EVENTS`: the file's name, the measure that is wanted, and the number of events.
@@ -42,6 +48,20 @@ pub struct Run<'a> {
     pub save: Option<&'a str>,
 }
 
+/// `measure OUT KERNEL RAM HARTS ENTRIES INIT MODULES...`: the name that the policy is saved under, the files' names, and
+/// what it says beside them.
+#[derive(Drop)]
+pub struct MakePolicy<'a> {
+    pub out: &'a str,
+    pub kernel: &'a str,
+    pub ram_pages: u32,
+    pub harts: u8,
+    /// The word of the entries, which are all in range.
+    pub entries: &'a str,
+    pub init: Option<Span>,
+    pub modules: &'a [String],
+}
+
 /// Where the events of a run come from.
 #[derive(Drop)]
 pub enum Source<'a> {
@@ -54,7 +74,7 @@ pub enum Source<'a> {
 }
 
 /// Judges the words, from left to right.
-#[tactic(auto, using(crate::proofs::WordLemmas::list_any_map), unfolding(crate::specs::CommandLine::judged))]
+#[tactic(auto, using(policy_words::proofs::WordLemmas::list_any_map), unfolding(crate::specs::CommandLine::judged))]
 pub fn judge(words: &[String]) -> Result<Command<'_>, Refusal>
     ensures judged { IsJudged (judged (map string_bytes words.now)) result }
     ensures range { IfOk result IsInRange }
@@ -70,6 +90,9 @@ pub fn judge(words: &[String]) -> Result<Command<'_>, Refusal>
     }
     if is_run(words) {
         return judge_run(words);
+    }
+    if is_measure(words) {
+        return judge_measure(words);
     }
     Err(Refusal::NoCommand)
 }
@@ -215,4 +238,111 @@ fn auto_of(number: &str) -> Option<Source<'_>>
         Some(number) => Some(Source::Auto(number)),
         None => None,
     }
+}
+
+// ---- measure
+
+/// The words are seven at least, and the first is the command's name.
+fn is_measure(words: &[String]) -> bool
+    ensures value { result ≡ is_measure (map string_bytes words.now) }
+    ensures seven { IsTrue result → 7 ≤ length words.now }
+{
+    7 <= words.len() && words[0].as_str() == "measure"
+}
+
+#[tactic(auto, unfolding(crate::specs::CommandLine::making_words))]
+fn judge_measure(words: &[String]) -> Result<Command<'_>, Refusal>
+    requires { 7 ≤ length words.now }
+    ensures judged { IsJudged (making_judged (map string_bytes words.now)) result }
+    ensures range { IfOk result IsInRange }
+{
+    let Some(ram_pages) = ram_pages_of(words[3].as_str()) else {
+        return Err(Refusal::OutOfRange { word: Word::Ram });
+    };
+    let Some(harts) = harts_of(words[4].as_str()) else {
+        return Err(Refusal::OutOfRange { word: Word::Harts });
+    };
+    if !are_entries(words[5].as_str()) {
+        return Err(Refusal::OutOfRange {
+            word: Word::Entries,
+        });
+    }
+    judge_init(words, ram_pages, harts)
+}
+
+fn ram_pages_of(word: &str) -> Option<u32>
+    ensures { result ≡ number_within 16 65536 word.now }
+{
+    let (low, high) = (u64::from(FEWEST_RAM_PAGES), u64::from(MOST_RAM_PAGES));
+    match number_within(word.as_bytes(), low, high) {
+        Some(number) => Some(number as u32),
+        None => None,
+    }
+}
+
+fn harts_of(word: &str) -> Option<u8>
+    ensures { result ≡ number_within 1 4 word.now }
+{
+    match number_within(word.as_bytes(), 1, u64::from(MOST_HARTS)) {
+        Some(number) => Some(number as u8),
+        None => None,
+    }
+}
+
+#[tactic(auto, unfolding(crate::specs::CommandLine::init_judged))]
+fn judge_init(words: &[String], ram_pages: u32, harts: u8) -> Result<Command<'_>, Refusal>
+    requires { 7 ≤ length words.now }
+    ensures judged { let bytes = map string_bytes words.now in
+        IsJudged (init_judged bytes ram_pages harts (entries_of (word_at bytes 5)) (init_of ram_pages (word_at bytes 6))) result }
+    ensures range { IfOk result IsInRange }
+{
+    let Some(init) = init_of(ram_pages, words[6].as_str()) else {
+        return Err(Refusal::OutOfRange { word: Word::Init });
+    };
+    judge_modules(words, ram_pages, harts, init)
+}
+
+// None where the word names no pages, and else those that it names, if it isn't `none`.
+#[tactic(auto, unfolding(crate::specs::CommandLine::init_of))]
+fn init_of(ram_pages: u32, word: &str) -> Option<Option<Span>>
+    ensures { result ≡ init_of ram_pages word.now }
+{
+    if word == "none" {
+        return Some(None);
+    }
+    match span_of(ram_pages, word) {
+        Some(span) => Some(Some(span)),
+        None => None,
+    }
+}
+
+fn judge_modules(
+    words: &[String],
+    ram_pages: u32,
+    harts: u8,
+    init: Option<Span>,
+) -> Result<Command<'_>, Refusal>
+    requires { 7 ≤ length words.now }
+    ensures judged { let bytes = map string_bytes words.now in
+        IsJudged (modules_judged bytes (record { harts = harts; ram_pages = ram_pages; entries = entries_of (word_at bytes 5); init = init })) result }
+    ensures range { IfOk result IsInRange }
+{
+    let modules = &words[7..];
+    if !are_module_names(modules) {
+        return Err(Refusal::OutOfRange {
+            word: Word::Modules,
+        });
+    }
+    let out = words[1].as_str();
+    let kernel = words[2].as_str();
+    let entries = words[5].as_str();
+    Ok(Command::MakePolicy(MakePolicy {
+        out,
+        kernel,
+        ram_pages,
+        harts,
+        entries,
+        init,
+        modules,
+    }))
 }

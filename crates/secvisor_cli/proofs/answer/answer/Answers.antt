@@ -1,22 +1,19 @@
 use Rattle.std.proofs.Common.{arith}
 use Rattle.secvisor_cli.proofs.PlanLemmas.{follows_keeps}
-use Rattle.secvisor_cli.proofs.TopLemmas.{performs, is_fresh, may_save_run, ready_answers, refused_answers, wanting_answers}
+use Rattle.secvisor_cli.proofs.TopLemmas.{performs, may_carry_out, ready_answers, refused_answers, wanting_answers}
 use Rattle.secvisor_cli.proofs.answer.answer.Goals as goal
 
-pub run_on_bench-requires-clause-fresh : goal.run_on_bench-requires-clause-fresh
-run_on_bench-requires-clause-fresh g c = is_fresh c.in-Ok.ensures.reached c.in-Ok.ready c.in-Ok.ensures.ready
-
-pub run_on_bench-requires-clause-saves : goal.run_on_bench-requires-clause-saves
-run_on_bench-requires-clause-saves g c =
+pub carry_out-requires-clause-saves : goal.carry_out-requires-clause-saves
+carry_out-requires-clause-saves g c =
     let same = (follows_keeps _ _ _ _ c.in-Ok.ensures.follows).saves in
     let few = c.requires.saves in
     omega arith
 
-pub run_on_bench-requires-clause-permitted : goal.run_on_bench-requires-clause-permitted
-run_on_bench-requires-clause-permitted g c = may_save_run _ _ _ c.in-Ok.ready c.requires.permitted c.in-Ok.ensures
+pub carry_out-requires-clause-permitted : goal.carry_out-requires-clause-permitted
+carry_out-requires-clause-permitted g c = may_carry_out _ _ _ c.in-Ok.ready c.requires.permitted c.in-Ok.ensures
 
 pub returns-in-Ok : goal.returns-in-Ok
-returns-in-Ok g c = performs _ _ _ _ _ _ _ _ _ _ c.in-Ok.ensures (ready_answers c.in-Ok.ensures.reached c.in-Ok.ready _ _ _ c.in-Ok.ensures.ready c.run_on_bench.ensures)
+returns-in-Ok g c = performs _ _ _ _ _ _ _ _ _ _ c.in-Ok.ensures (ready_answers c.in-Ok.ensures.reached c.in-Ok.ready _ _ _ c.in-Ok.ensures.ready c.carry_out.ensures)
 
 pub returns-in-Err-Refused : goal.returns-in-Err-Refused
 returns-in-Err-Refused g c =

@@ -22,3 +22,8 @@ pub prepare_run-requires-clause-permitted : goal.prepare_run-requires-clause-per
 unfolding plan_of
 prepare_run-requires-clause-permitted g c κs within =
     subst (λ (command : Asked). MayFollow (plan_of (Ok (command_of command))) (g.F.Files.state c.args.files.now)) c.in-Run.is c.requires.permitted
+
+pub prepare_policy-requires-clause-permitted : goal.prepare_policy-requires-clause-permitted
+unfolding plan_of
+prepare_policy-requires-clause-permitted g c κs within =
+    subst (λ (command : Asked). MayFollow (plan_of (Ok (command_of command))) (g.F.Files.state c.args.files.now)) c.in-MakePolicy.is c.requires.permitted

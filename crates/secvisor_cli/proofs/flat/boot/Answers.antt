@@ -1,5 +1,6 @@
 use Rattle.std.proofs.Common.{◌≡◌, Ok, None, refl, ap}
 use Rattle.sv_types.specs.Schedule.{Schedule, first_events}
+use Rattle.secvisor_cli.specs.declared.ready.Ready.TheVariants.{Run}
 use Rattle.secvisor_cli.specs.Plans.{flat_events, measure_judged}
 use Rattle.secvisor_cli.specs.Ready.{IsReady, IsFresh, stop_of}
 use Rattle.secvisor_cli.proofs.ReadyLemmas.{err_by, booted_ready, stopped_boot, fresh_flat}
@@ -16,5 +17,5 @@ returns g c =
     let fresh = fresh_flat c.args.pages.now c.args.wanted c.in_ok-machine.machine new in
     let it : IsFresh (record { machine = c.in_ok-machine.machine; script = c.rounds-script.result; events = c.args.events; save = None }) = record { events = c.requires.events; state = record { state = _; stands = new.stands }; counts = fresh.0; console = fresh.1 } in
     let events : first_events c.args.events c.rounds-script.result ≡ flat_events c.args.events = ap (λ (s : Schedule). first_events c.args.events s) c.rounds-script.ensures in
-    booted_ready c.args.pages.now c.args.wanted (flat_events c.args.events) (Ok (record { machine = c.in_ok-machine.machine; script = c.rounds-script.result; events = c.args.events; save = None }))
+    booted_ready c.args.pages.now c.args.wanted (flat_events c.args.events) (Ok (Run (record { machine = c.in_ok-machine.machine; script = c.rounds-script.result; events = c.args.events; save = None })))
     c.in_ok-machine.ensures.measured (new, events, refl, it)

@@ -1,6 +1,7 @@
-use Rattle.std.proofs.Common.{ℕ, refl, Ok}
+use Rattle.std.proofs.Common.{refl, Ok}
 use Rattle.sv_types.specs.Policies.{rules_of}
 use Rattle.sv_types.specs.Schedule.{first_events}
+use Rattle.secvisor_cli.specs.declared.ready.Ready.TheVariants.{Run}
 use Rattle.secvisor_cli.specs.Plans.{kernel_part, boot_plan}
 use Rattle.secvisor_cli.specs.Ready.{Prepares, IsFresh, stop_of}
 use Rattle.secvisor_cli.specs.Words.{run_value}
@@ -59,5 +60,5 @@ returns g c =
     script_ready (run_value c.args.asked.now) (rules_of c.args.policy) c.args.file.now c.in_ok-disk.disk.items c.in_ok-script.script _ _ _ _ c.in_ok-image.ensures.accepted
     c.in_ok-disk.ensures.stage c.in_ok-script.ensures
     (image_booted (rules_of c.args.policy) c.args.file.now c.in_ok-disk.disk.items (first_events c.args.asked.now.events c.in_ok-script.script) _ c.in_ok-image.image
-    (Ok (record { machine = c.in_ok-machine.machine; script = c.in_ok-script.script; events = c.args.asked.now.events; save = c.args.asked.now.save }))
+    (Ok (Run (record { machine = c.in_ok-machine.machine; script = c.in_ok-script.script; events = c.args.asked.now.events; save = c.args.asked.now.save })))
     c.in_ok-image.ensures c.in_ok-machine.ensures.measured c.in_ok-machine.ensures.permitted (new, refl, refl, it))

@@ -1,10 +1,10 @@
-use Rattle.std.proofs.Common.{◌≡◌, ◌==◌, ◌%◌, List, ℕ, length, Bool, true, false, Option, Some, None, Err, Vec, Global, subst, sym, ◌∙◌}
+use Rattle.std.proofs.Common.{◌≡◌, ◌==◌, ◌%◌, List, ℕ, length, true, false, Option, Some, Err, Vec, Global, subst, sym, ◌∙◌}
 use Rattle.std.specs.Borrow.{Bor}
 use Rattle.std.specs.Option.{option_copied}
 use Rattle.secvisor_cli.specs.declared.refusal.Part.{Part}
 use Rattle.secvisor_cli.specs.declared.refusal.Refusal.TheVariants.{File}
 use Rattle.secvisor_cli.specs.declared.ready.Stop.TheVariants.{Refused}
-use Rattle.secvisor_cli.specs.Plans.{Plan, disk_part}
+use Rattle.secvisor_cli.specs.Plans.{disk_part}
 use Rattle.secvisor_cli.specs.Reading.{MayFollow}
 use Rattle.secvisor_cli.specs.Ready.{Passes, Prepares, Staged}
 use Rattle.secvisor_cli.proofs.ReadyLemmas.{err_by}

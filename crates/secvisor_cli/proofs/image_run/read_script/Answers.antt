@@ -1,4 +1,4 @@
-use Rattle.std.proofs.Common.{ℕ, subst, sym}
+use Rattle.std.proofs.Common.{subst, sym}
 use Rattle.sv_types.specs.Schedule.{Schedule}
 use Rattle.secvisor_cli.specs.declared.words.Source.{Source as Named}
 use Rattle.secvisor_cli.specs.Plans.{script_part}

@@ -1,0 +1,34 @@
+use Rattle.std.proofs.Common.{subst, sym, ◌∙◌}
+use Rattle.sv_types.specs.Policies.{Rules, rules_of}
+use Rattle.policy_making.specs.Refusals.{Judged, Refuses}
+use Rattle.secvisor_cli.specs.declared.ready.Stop.TheVariants.{Memory}
+use Rattle.secvisor_cli.specs.Plans.{making_plan}
+use Rattle.secvisor_cli.specs.Ready.{Prepares, stop_of_making, kernel_value, modules_value}
+use Rattle.secvisor_cli.specs.Words.{policy_value}
+use Rattle.secvisor_cli.proofs.ReadyLemmas.{err_by}
+use Rattle.secvisor_cli.proofs.MakingLemmas.{making_stops, making_wants, making_ready, behind_same}
+use Rattle.secvisor_cli.proofs.making.make_ready.Goals as goal
+
+pub returns-in_err-settings : goal.returns-in_err-settings
+returns-in_err-settings g c = λ files.
+    err_by _ Memory (λ r. Prepares (making_plan (policy_value c.args.asked.now) (kernel_value c.args.kernel.now) (modules_value c.args.modules.now)) files files r)
+    c.from_residual.ensures.1 (making_wants (policy_value c.args.asked.now) (kernel_value c.args.kernel.now) (modules_value c.args.modules.now) files)
+
+pub returns-in_err-policy : goal.returns-in_err-policy
+returns-in_err-policy g c = λ files.
+    err_by _ (stop_of_making c.in_err-policy.field-0.0)
+    (λ r. Prepares (making_plan (policy_value c.args.asked.now) (kernel_value c.args.kernel.now) (modules_value c.args.modules.now)) files files r)
+    c.from_residual-in_err-policy.ensures.1
+    (making_stops (policy_value c.args.asked.now) (kernel_value c.args.kernel.now) (modules_value c.args.modules.now) files c.in_err-policy.field-0.0
+    (subst (λ (j : Judged Rules). Refuses j c.in_err-policy.field-0.0)
+    (behind_same _ _ _ _ _ _ _ _ _ c.in_ok-settings.ensures c.deref.ensures.value c.deref-2.ensures.value c.deref-3.ensures.value) c.in_err-policy.ensures.refused))
+
+pub returns-in_err-made : goal.returns-in_err-made
+returns-in_err-made g c = λ files.
+    err_by _ Memory (λ r. Prepares (making_plan (policy_value c.args.asked.now) (kernel_value c.args.kernel.now) (modules_value c.args.modules.now)) files files r)
+    c.from_residual-in_err-made.ensures.1 (making_wants (policy_value c.args.asked.now) (kernel_value c.args.kernel.now) (modules_value c.args.modules.now) files)
+
+pub returns : goal.returns
+returns g c = λ files.
+    making_ready (policy_value c.args.asked.now) (kernel_value c.args.kernel.now) (modules_value c.args.modules.now) files (rules_of c.in_ok-policy.policy) c.in_ok-made.made
+    (sym (behind_same _ _ _ _ _ _ _ _ _ c.in_ok-settings.ensures c.deref.ensures.value c.deref-2.ensures.value c.deref-3.ensures.value) ∙ c.in_ok-policy.ensures.policy) c.in_ok-made.ensures
