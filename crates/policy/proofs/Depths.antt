@@ -8,7 +8,7 @@ use Rattle.sv_types.specs.Policies.{Rules, ModuleRule}
 use Rattle.sv_types.specs.declared.module.Span.{Span}
 use Rattle.sv_types.specs.declared.module.Site.{Site}
 use Rattle.sv_types.specs.declared.policy.Export.{Export}
-use Rattle.policy.specs.Printed.{with_member, with_init, address_data, export_data, span_data, site_data, module_data, kernel_data, rules_members, entries_data, exports_data, sites_data, modules_data, measure_data, number_data}
+use Rattle.policy.specs.Printed.{with_member, with_init, with_exports, with_modules, address_data, export_data, span_data, site_data, module_data, kernel_data, rules_members, entries_data, exports_data, sites_data, modules_data, measure_data, number_data}
 
 depth_of_either : (o : Ordering) (a b c : Members) (n : ℕ) → members_depth a ≤ n → members_depth b ≤ n → members_depth c ≤ n → members_depth (match_ordering o a b c) ≤ n
 depth_of_either Less a b c n x y z = x
@@ -65,23 +65,33 @@ kernel_depth kernel init =
     init_depth init (with_member (codes "measure") (measure_data kernel) no_members) (omega arith) in
     omega arith
 
+exports_depth : (exports : List Export) (ms : Members) → members_depth ms ≤ 80 → members_depth (with_exports exports ms) ≤ 80
+exports_depth [] ms h = h
+exports_depth (e ∷ es) ms h =
+    let items : items_depth (items_of (map export_data (e ∷ es))) ≤ 1 = depth_each export_data 1 export_depth (e ∷ es) in
+    depth_with (codes "exports") (exports_data (e ∷ es)) ms 80 (omega arith) h
+
+modules_depth : (modules : List ModuleRule) (ms : Members) → members_depth ms ≤ 80 → members_depth (with_modules modules ms) ≤ 80
+modules_depth [] ms h = h
+modules_depth (m ∷ more) ms h =
+    let items : items_depth (items_of (map module_data (m ∷ more))) ≤ 3 = depth_each module_data 3 module_depth (m ∷ more) in
+    depth_with (codes "module") (modules_data (m ∷ more)) ms 80 (omega arith) h
+
 pub depth_of_rules : (r : Rules) → members_depth (rules_members r) ≤ 80
 unfolding rules_members
 depth_of_rules r =
     let entries : items_depth (items_of (map address_data r.entries)) ≤ 0 = depth_each address_data 0 address_depth r.entries in
-    let exports : items_depth (items_of (map export_data r.exports)) ≤ 1 = depth_each export_data 1 export_depth r.exports in
-    let modules : items_depth (items_of (map module_data r.modules)) ≤ 3 = depth_each module_data 3 module_depth r.modules in
     let kernel : depth (kernel_data r.kernel r.init) ≤ 2 = kernel_depth r.kernel r.init in
     let one : Members = with_member (codes "format") (number_data r.format) no_members in
     let two : Members = with_member (codes "harts") (number_data r.harts) one in
     let three : Members = with_member (codes "ram_pages") (number_data r.ram_pages) two in
     let four : Members = with_member (codes "entries") (entries_data r.entries) three in
-    let five : Members = with_member (codes "exports") (exports_data r.exports) four in
+    let five : Members = with_exports r.exports four in
     let six : Members = with_member (codes "kernel") (kernel_data r.kernel r.init) five in
     let h1 : members_depth one ≤ 80 = depth_with (codes "format") (number_data r.format) no_members 80 (omega arith) (omega arith) in
     let h2 : members_depth two ≤ 80 = depth_with (codes "harts") (number_data r.harts) one 80 (omega arith) h1 in
     let h3 : members_depth three ≤ 80 = depth_with (codes "ram_pages") (number_data r.ram_pages) two 80 (omega arith) h2 in
     let h4 : members_depth four ≤ 80 = depth_with (codes "entries") (entries_data r.entries) three 80 (omega arith) h3 in
-    let h5 : members_depth five ≤ 80 = depth_with (codes "exports") (exports_data r.exports) four 80 (omega arith) h4 in
+    let h5 : members_depth five ≤ 80 = exports_depth r.exports four h4 in
     let h6 : members_depth six ≤ 80 = depth_with (codes "kernel") (kernel_data r.kernel r.init) five 80 (omega arith) h5 in
-    depth_with (codes "module") (modules_data r.modules) six 80 (omega arith) h6
+    modules_depth r.modules six h6

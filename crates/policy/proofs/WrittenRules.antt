@@ -1,5 +1,5 @@
 -- A policy within its limits reads back from its printed table.
-use Rattle.std.proofs.Common.{◌≡◌, ℕ, ◌+◌, ◌*◌, ◌/◌, ◌%◌, ◌<◌, ◌≤◌, ◌-◌, nat_le, codes, pos, Bool, true, false, not, List, [], length, Option, Some, None, Ok, refl, sym, ap, arith}
+use Rattle.std.proofs.Common.{◌≡◌, ℕ, ◌+◌, ◌*◌, ◌/◌, ◌%◌, ◌<◌, ◌≤◌, ◌-◌, nat_le, codes, pos, Bool, true, false, not, List, [], ◌∷◌, length, Option, Some, None, Ok, refl, sym, ap, arith}
 use Rattle.std.proofs.lemmas.Bool.{and_parts, leb-true, le-leb, eqb-true}
 use Rattle.std.proofs.lemmas.Bool.Decides.{nat_tests}
 use Rattle.std.specs.List.{All}
@@ -115,9 +115,18 @@ modules_back exports modules ranges count within =
 format_back : (n : ℕ) → format_within n ≡ true → format_number (pos n) ≡ Ok n
 format_back n within = rw within (ap Ok (sym (eqb-true n 1 within)))
 
-pub rules_back : (r : Rules) → IsPolicy r → rules_within r ≡ true → rules_of_members (rules_members r) ≡ Ok r
-unfolding rules_of_members rules_members
-rules_back r is within =
+-- what reading the parts of a printed policy gives
+record Back (r : Rules) : Type 0 where
+  format : format_number (pos r.format) ≡ Ok r.format
+  harts : harts_within r.harts ≡ true
+  ram_pages : ram_pages_within r.ram_pages ≡ true
+  entries : entries_of (entries_data r.entries) ≡ Ok r.entries
+  exports : some_exports_of (exports_data r.exports) ≡ Ok r.exports
+  kernel : (ms : Members) → get_member (codes "kernel") ms ≡ Some (kernel_data r.kernel r.init) → kernel_rule r.ram_pages ms ≡ Ok (r.kernel, r.init)
+  modules : some_modules_of (length r.exports) (modules_data r.modules) ≡ Ok r.modules
+
+parts_back : (r : Rules) → IsPolicy r → rules_within r ≡ true → Back r
+parts_back r is within =
     let modules = and_parts _ (modules_within (length r.exports) r.modules) within in
     let modules_count = and_parts _ (modules_count_within (length r.modules)) modules.0 in
     let init = and_parts _ (init_within r.ram_pages r.init) modules_count.0 in
@@ -128,15 +137,41 @@ rules_back r is within =
     let exports_count = and_parts _ (exports_count_within (length r.exports)) exports.0 in
     let entries = and_parts (entries_count_within (length r.entries)) (entries_within r.entries) exports_count.0 in
     let few : r.ram_pages ≤ 65536 = leb-true r.ram_pages 65536 (and_parts (nat_le 16 r.ram_pages) (nat_le r.ram_pages 65536) numbers.1).1 in
-    rw (
-      format_back r.format harts.0,
-      harts.1,
-      numbers.1,
-      entries_back r.entries is.entries entries.0 entries.1,
-      exports_back r.exports is.exports exports_count.1 exports.1,
-      init_back r.ram_pages r.kernel r.init _ refl is.kernel init.1 few,
-      modules_back (length r.exports) r.modules is.modules modules_count.1 modules.1,
-    ) refl
+    record {
+      format = format_back r.format harts.0;
+      harts = harts.1;
+      ram_pages = numbers.1;
+      entries = entries_back r.entries is.entries entries.0 entries.1;
+      exports = exports_back r.exports is.exports exports_count.1 exports.1;
+      kernel = λ ms at. init_back r.ram_pages r.kernel r.init ms at is.kernel init.1 few;
+      modules = modules_back (length r.exports) r.modules is.modules modules_count.1 modules.1;
+    }
+
+abbrev rules_from : (format harts ram_pages : ℕ) → List ℕ → List Export → List ℕ → Option Span → List ModuleRule → Rules
+rules_from format harts ram_pages entries exports kernel init modules = record {
+  format = format;
+  harts = harts;
+  ram_pages = ram_pages;
+  entries = entries;
+  exports = exports;
+  kernel = kernel;
+  init = init;
+  modules = modules;
+}
+
+-- with and without exports and modules
+lists_back : (format harts ram_pages : ℕ) (entries : List ℕ) (exports : List Export) (kernel : List ℕ) (init : Option Span) (modules : List ModuleRule) →
+    Back (rules_from format harts ram_pages entries exports kernel init modules) →
+    rules_of_members (rules_members (rules_from format harts ram_pages entries exports kernel init modules)) ≡ Ok (rules_from format harts ram_pages entries exports kernel init modules)
+unfolding rules_of_members rules_members
+lists_back format harts ram_pages entries [] kernel init [] b = rw (b.format, b.harts, b.ram_pages, b.entries, b.kernel _ refl) refl
+lists_back format harts ram_pages entries [] kernel init (m ∷ ms) b = rw (b.format, b.harts, b.ram_pages, b.entries, b.kernel _ refl, b.modules) refl
+lists_back format harts ram_pages entries (e ∷ es) kernel init [] b = rw (b.format, b.harts, b.ram_pages, b.entries, b.exports, b.kernel _ refl) refl
+lists_back format harts ram_pages entries (e ∷ es) kernel init (m ∷ ms) b =
+    rw (b.format, b.harts, b.ram_pages, b.entries, b.exports, b.kernel _ refl, b.modules) refl
+
+pub rules_back : (r : Rules) → IsPolicy r → rules_within r ≡ true → rules_of_members (rules_members r) ≡ Ok r
+rules_back r is within = lists_back r.format r.harts r.ram_pages r.entries r.exports r.kernel r.init r.modules (parts_back r is within)
 
 pub text_back : (r : Rules) → IsPolicy r → rules_within r ≡ true → (bytes : List ℕ) → table_of_text bytes ≡ Ok (rules_members r) → rules_of_text bytes ≡ Ok r
 text_back r is within bytes at = then_ok (table_of_text bytes) rules_of_members (rules_members r) _ at (rules_back r is within)

@@ -62,9 +62,18 @@ with_init (Some span) members = with_member (codes "init") (span_data span) memb
 unfoldable pub kernel_data : List ℕ → Option Span → Data
 kernel_data kernel init = table (with_init init (with_member (codes "measure") (measure_data kernel) no_members))
 
+-- a list without an item has no key
+abbrev pub with_exports : List Export → Members → Members
+with_exports [] members = members
+with_exports (e ∷ es) members = with_member (codes "exports") (exports_data (e ∷ es)) members
+
+abbrev pub with_modules : List ModuleRule → Members → Members
+with_modules [] members = members
+with_modules (m ∷ ms) members = with_member (codes "module") (modules_data (m ∷ ms)) members
+
 unfoldable pub rules_members : Rules → Members
 rules_members r =
-    with_member (codes "module") (modules_data r.modules) (with_member (codes "kernel") (kernel_data r.kernel r.init)
-    (with_member (codes "exports") (exports_data r.exports) (with_member (codes "entries") (entries_data r.entries)
+    with_modules r.modules (with_member (codes "kernel") (kernel_data r.kernel r.init)
+    (with_exports r.exports (with_member (codes "entries") (entries_data r.entries)
     (with_member (codes "ram_pages") (number_data r.ram_pages) (with_member (codes "harts") (number_data r.harts)
     (with_member (codes "format") (number_data r.format) no_members))))))

@@ -177,6 +177,32 @@ fn kernel(alloc: Global, policy: &Policy) -> Result<Value, AllocError>
     Ok(Value::Table(table))
 }
 
+// No exports have no key.
+#[tactic(auto, using(crate::proofs::Puts::no_exports, crate::proofs::Puts::some_exports))]
+fn put_exports(alloc: Global, table: &mut Table, items: &[Export]) -> Result<(), AllocError>
+    ensures printed { OnOk result (table_view table.new ≡ spec.with_exports items.now (table_view table.old)) }
+    ensures typed { OnOk result (All IsExport items.now) }
+{
+    if items.is_empty() {
+        return Ok(());
+    }
+    let value = exports(alloc, items)?;
+    put(alloc, table, "exports", value)
+}
+
+// No modules have no key.
+#[tactic(auto, using(crate::proofs::Puts::no_modules, crate::proofs::Puts::some_modules))]
+fn put_modules(alloc: Global, table: &mut Table, items: &[ModulePolicy]) -> Result<(), AllocError>
+    ensures printed { OnOk result (table_view table.new ≡ spec.with_modules (map limits.module_rule items.now) (table_view table.old)) }
+    ensures typed { OnOk result (All IsModule (map limits.module_rule items.now)) }
+{
+    if items.is_empty() {
+        return Ok(());
+    }
+    let value = modules(alloc, items)?;
+    put(alloc, table, "module", value)
+}
+
 #[tactic(auto, unfolding(crate::specs::Printed::rules_members))]
 fn policy_table(alloc: Global, policy: &Policy) -> Result<Table, AllocError>
     ensures printed { IfOk result (λ t. table_view t ≡ spec.rules_members (limits.rules_of policy.now)) }
@@ -197,19 +223,9 @@ fn policy_table(alloc: Global, policy: &Policy) -> Result<Table, AllocError>
         "entries",
         entries(alloc, policy.entries.as_slice())?,
     )?;
-    put(
-        alloc,
-        &mut table,
-        "exports",
-        exports(alloc, policy.exports.as_slice())?,
-    )?;
+    put_exports(alloc, &mut table, policy.exports.as_slice())?;
     put(alloc, &mut table, "kernel", kernel(alloc, policy)?)?;
-    put(
-        alloc,
-        &mut table,
-        "module",
-        modules(alloc, policy.modules.as_slice())?,
-    )?;
+    put_modules(alloc, &mut table, policy.modules.as_slice())?;
     Ok(table)
 }
 
