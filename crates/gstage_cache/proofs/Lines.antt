@@ -1,6 +1,8 @@
 -- Lines of a cache: what they answer, how they are filled, and what a fence leaves.
 use Rattle.std.proofs.Common.{◌≡◌, ℕ, zero, suc, ◌+◌, ◌-◌, ◌*◌, ◌/◌, ◌%◌, ◌^◌, ◌<◌, ◌⊎◌, inl, inr, List, length, get_or, set, replicate, refl, sym, ◌∙◌, ap, subst, arith, Bool, true, false, ◌&&◌}
-use Rattle.std.specs.Prelude.{Option, Some, None, if◌then◌else◌, ◌==◌, map}
+use Rattle.std.specs.Prelude.{Option, Some, None, IfSome, if◌then◌else◌, ◌==◌, map}
+use Rattle.std.specs.Option.{ok_or}
+use Rattle.std.specs.Result.{result_ok}
 use Rattle.std.proofs.lemmas.Bool.Decides.{nat_tests, eqb_tells}
 use Rattle.std.proofs.lemmas.List.{get_or-set_same, get_or-set_other, ext_get_or, length-set, length-map}
 use Rattle.std.proofs.Math.ListN.{get_or-map}
@@ -9,6 +11,7 @@ use Rattle.sv_types.specs.Translation.{Destination, At, PageFault, Unreadable}
 use Rattle.sv_types.specs.SecondStage.{walk_guest, address_at, entry_in_region, entry_in_tables, guest_destination, permits_guest, WalksApart}
 use Rattle.sv_types.specs.CachedWalks.{UnderViews, line_permits, line_leads, line_at, LineAgrees, CacheAgrees, FilledUnder, no_lines, without_page}
 use Rattle.sv_types.specs.declared.cached.CacheLine.{CacheLine}
+use Rattle.sv_types.specs.declared.translation.GuestFault.{GuestFault}
 use Rattle.sv_types.specs.declared.wires.Access.{Access}
 use Rattle.sv_types.specs.declared.wires.Access.TheVariants.{Fetch, Load, Store}
 use Rattle.sv_types.proofs.Walks.{walk_guest_fits}
@@ -162,6 +165,11 @@ pub found_is : (lines : List (Option CacheLine)) (hgatp page : ℕ) (line : Cach
     → (line.hgatp ≡ hgatp) × ((line.page ≡ page) × (line_at lines (page % 256) ≡ Some line))
 unfolding line_for
 found_is lines hgatp page line e = tagged_is hgatp page (line_at lines (page % 256)) line e
+
+-- what a walk leads to is found
+pub leads_there : (o : Option ℕ) (fault : GuestFault) → IfSome (result_ok (ok_or o fault)) (λ place. o ≡ Some place)
+leads_there None fault = tt
+leads_there (Some place) fault = refl
 
 -- ---- empty lines
 

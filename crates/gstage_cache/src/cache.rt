@@ -1,6 +1,6 @@
 // The cache: 256 lines, one for each number of a page modulo 256.
 
-ghost use Rattle.std.specs.Prelude.{◌≡◌, ℕ, ◌+◌, ◌*◌, ◌/◌, ◌%◌, ◌^◌, ◌<◌, ◌≤◌, Some, None, IfOk, true, slice_set};
+ghost use Rattle.std.specs.Prelude.{◌≡◌, ℕ, ◌+◌, ◌*◌, ◌/◌, ◌%◌, ◌^◌, ◌<◌, ◌≤◌, Some, None, IfOk, IfSome, true, slice_set};
 ghost use Rattle.std.specs.Option.{ok_or};
 ghost use Rattle.sv_types.specs.SecondStage.{walk_guest, WalksApart};
 ghost use Rattle.sv_types.specs.CachedWalks.{line_permits, no_lines, LineAgrees, CacheAgrees, FilledUnder, fenced};
@@ -67,6 +67,21 @@ impl Cache {
                     None
                 }
             }
+            None => None,
+        }
+    }
+
+    /// The host place of a guest-physical address, where a translation that permits the access is held. It is where the
+    /// walk leads.
+    ///
+    /// Every line agrees with the tables.
+    #[inline(always)]
+    pub fn held_place(&self, mem: &HostMem, hgatp: u64, gpa: u64, access: Access) -> Option<u64>
+        requires agrees { CacheAgrees mem.now.tables self.now }
+        ensures { IfSome result (λ hpa. walk_guest mem.now hgatp gpa access ≡ Some hpa) }
+    {
+        match self.line(hgatp, gpa / PAGE_BYTES) {
+            Some(line) => hit(mem, &line, gpa, access).ok(),
             None => None,
         }
     }

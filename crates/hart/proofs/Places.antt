@@ -1,12 +1,14 @@
 -- Where both stages lead, a word of a width that divides the virtual address may be read and written.
 use Rattle.std.proofs.Common.{◌≡◌, ◌∙◌, ℕ, ◌+◌, ◌%◌, ◌^◌, ◌<◌, ◌≤◌, length, refl}
-use Rattle.std.specs.Prelude.{Option, Some, None, Ok}
+use Rattle.std.specs.Prelude.{◌/◌, Option, Some, None, IfSome, Ok}
 use Rattle.sv_types.specs.declared.translation.Place.{Place}
 use Rattle.sv_types.specs.declared.wires.Access.{Access}
 use Rattle.sv_types.specs.declared.wires.Mode.{Mode}
 use Rattle.sv_types.specs.Regions.{Region, IsRegion, IsWidth, IsHostPlace}
 use Rattle.sv_types.specs.Translation.{Destination, At, PageFault, Unreadable, Settings, first_stage}
 use Rattle.sv_types.specs.SecondStage.{walk_guest, place_through, after_first_stage, two_stages, entry_through, WalksInside, WalksApart}
+use Rattle.sv_types.specs.Hardware.{Core}
+use Rattle.sv_types.specs.HardwareMemory.{settings_at, translated}
 use Rattle.sv_types.proofs.RegionLemmas.{keeps_width, ends_inside, whole_sum}
 use Rattle.sv_types.proofs.Walks.{Fits, first_stage_fits, walk_guest_fits}
 
@@ -19,7 +21,7 @@ second_leads gpa None place e = absurd (cc)
 second_leads gpa (Some hpa) place e = let same : record { gpa = gpa; hpa = hpa } ≡ place = cc in rw (← same) refl
 
 -- a walk of an address in the same place of its page leads to a place for the width
-walk_places : (r : Region) (hgatp gpa va hpa n : ℕ) (access : Access) → IsRegion r → WalksInside r hgatp → IsWidth n → va % n ≡ 0
+pub walk_places : (r : Region) (hgatp gpa va hpa n : ℕ) (access : Access) → IsRegion r → WalksInside r hgatp → IsWidth n → va % n ≡ 0
     → gpa % 4096 ≡ va % 4096 → walk_guest r hgatp gpa access ≡ Some hpa → IsHostPlace r hpa n
 walk_places r hgatp gpa va hpa n access region inside width aligned same walked =
     let fits = walk_guest_fits r hgatp gpa hpa access walked in
@@ -59,3 +61,22 @@ pub stages_behind : (r : Region) (hgatp va : ℕ) (s : Settings) (mode : Mode) (
 unfolding two_stages
 stages_behind r hgatp va s mode access place apart e =
     first_behind r hgatp access (first_stage (entry_through r hgatp) s mode va access) place apart e
+
+-- ---- without a first stage
+
+bare_stages : (r : Region) (hgatp va hpa : ℕ) (s : Settings) (mode : Mode) (access : Access) → s.satp / 2 ^ 60 ≡ 0
+    → walk_guest r hgatp va access ≡ Some hpa → two_stages r hgatp s mode va access ≡ Ok (record { gpa = va; hpa = hpa })
+unfolding two_stages first_stage after_first_stage
+bare_stages r hgatp va hpa s mode access bare walked = rw (bare, walked) refl
+
+-- an address leads where the second stage leads
+pub bare_place : (r : Region) (core : Core) (va hpa htinst : ℕ) (access : Access) → core.csrs.vsatp / 2 ^ 60 ≡ 0
+    → walk_guest r core.hregs.hgatp va access ≡ Some hpa → translated r core access va htinst ≡ Ok hpa
+unfolding translated
+bare_place r core va hpa htinst access bare walked =
+    rw (bare_stages r core.hregs.hgatp va hpa (settings_at core) core.hregs.mode access bare walked) refl
+
+-- what follows of a value that is there
+pub some_further : (o : Option ℕ) {P Q : ℕ → Type 0} → ((x : ℕ) → P x → Q x) → IfSome o P → IfSome o Q
+some_further None further there = tt
+some_further (Some x) further there = further x there

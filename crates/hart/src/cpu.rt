@@ -1,16 +1,18 @@
 // The count of the attempts that were made.
 
-ghost use Rattle.std.specs.Prelude.{◌≡◌, ◌+◌, ◌-◌, ◌<◌, ◌/◌, ◌%◌, ◌^◌};
+ghost use Rattle.std.specs.Prelude.{◌≡◌, ◌+◌, ◌-◌, ◌<◌, ◌/◌, ◌%◌, ◌^◌, IfOk};
 ghost use Rattle.sv_types.specs.SecondStage.{WalksApart};
 ghost use Rattle.sv_types.specs.CachedWalks.{CacheAgrees, FilledUnder};
 ghost use Rattle.sv_types.specs.HardwareAttempt.{attempt, OnlyWrites};
 ghost use Rattle.hart.specs.Cores.{core_of, attempted_of};
 ghost use Rattle.hart.specs.Conditions.{KeepsMode};
 
+use crate::decoder::Decoder;
 use crate::execution::attempt;
 use crate::hart::Hart;
 use gstage_cache::Cache;
 use host_mem::HostMem;
+use std::alloc::{AllocError, Global};
 use std::marker::Model;
 use sv_types::{HRegs, Lines, Outcome};
 
@@ -18,6 +20,7 @@ use sv_types::{HRegs, Lines, Outcome};
 #[derive(Drop)]
 pub struct Cpu {
     count: u64,
+    decoder: Decoder,
 }
 
 impl Model for Cpu {
@@ -29,11 +32,12 @@ impl Model for Cpu {
 }
 
 impl Cpu {
-    /// No attempt was made.
-    pub fn new() -> Cpu
-        ensures { result ≡ 0 }
+    /// No attempt was made. Want of memory is the one refusal.
+    pub fn new(alloc: Global) -> Result<Cpu, AllocError>
+        ensures { IfOk result (λ count. count ≡ 0) }
     {
-        Cpu { count: 0 }
+        let decoder = Decoder::new(alloc)?;
+        Ok(Cpu { count: 0, decoder })
     }
 
     /// The attempts that were made.
@@ -43,7 +47,11 @@ impl Cpu {
         self.count
     }
 
-    /// What `attempt` does, counted.
+    /// One attempt of a hart in VS or VU mode, counted: it takes an interrupt, or fetches an instruction through both
+    /// stages of translation and carries it out. The bytes that it wrote are those that `Retired` names.
+    ///
+    /// `hgatp` has mode 8 (Sv39x4). Walks under it read the tables alone and lead to RAM, and every line of the cache
+    /// agrees with the tables.
     pub fn attempt(
         &mut self,
         hart: &mut Hart,
@@ -69,6 +77,6 @@ impl Cpu {
         ensures written { OnlyWrites mem.old mem.new result }
     {
         self.count += 1;
-        attempt(hart, regs, cache, mem, lines)
+        attempt(&mut self.decoder, hart, regs, cache, mem, lines)
     }
 }

@@ -12,6 +12,7 @@ ghost use Rattle.sv_types.specs.HardwareAttempt.{after_effect, after_instruction
 ghost use Rattle.hart.specs.Cores.{core_of, step_of, attempted_of};
 ghost use Rattle.hart.specs.Conditions.{KeepsMode};
 
+use crate::decoder::Decoder;
 use crate::hart::Hart;
 use crate::memory::{reached, translated};
 use crate::requests::{Operation, atomic, load, load_reserved, retire, store, store_conditional};
@@ -21,18 +22,14 @@ use crate::system::{
 use crate::trap::{interrupt, plain_exception, raise};
 use gstage_cache::Cache;
 use host_mem::HostMem;
-use rv64_decode::decode;
 use rv64_exec::effect;
 use sv_types::{Access, Cause, Effect, Exception, HRegs, Instr, Lines, Outcome};
 use trap_entry::pending;
 
-/// One attempt of a hart in VS or VU mode: it takes an interrupt, or fetches an instruction through both stages of
-/// translation and carries it out. The bytes that it wrote are those that `Retired` names.
-///
-/// `hgatp` has mode 8 (Sv39x4). Walks under it read the tables alone and lead to RAM, and every line of the cache agrees
-/// with the tables.
+/// What `Cpu::attempt` does, without the count.
 #[tactic(auto, using(gstage_cache::specs::Fills::nothing_filled, gstage_cache::specs::Fills::filled_further), unfolding(sv_types::specs::HardwareAttempt::attempt, sv_types::specs::HardwareAttempt::after_pending))]
-pub fn attempt(
+pub(crate) fn attempt(
+    decoder: &mut Decoder,
     hart: &mut Hart,
     regs: &HRegs,
     cache: &mut Cache,
@@ -57,7 +54,7 @@ pub fn attempt(
         Some(taken) => interrupt(hart, regs, taken),
         None => {
             let place = translated(hart, regs, cache, mem, Access::Fetch, hart.pc, 0);
-            fetch(hart, regs, cache, mem, lines, place)
+            fetch(decoder, hart, regs, cache, mem, lines, place)
         }
     }
 }
@@ -65,6 +62,7 @@ pub fn attempt(
 // The word at the place that the pc reached, carried out.
 #[tactic(auto, using(gstage_cache::specs::Fills::nothing_filled), unfolding(sv_types::specs::HardwareAttempt::after_fetch))]
 fn fetch(
+    decoder: &mut Decoder,
     hart: &mut Hart,
     regs: &HRegs,
     cache: &mut Cache,
@@ -88,7 +86,7 @@ fn fetch(
     match place {
         Ok(hpa) => {
             let word = mem.read(hpa as usize, 4) as u32;
-            carry_out(hart, regs, cache, mem, lines, word)
+            carry_out(decoder, hart, regs, cache, mem, lines, word)
         }
         Err(exception) => raise(hart, regs, exception),
     }
@@ -96,6 +94,7 @@ fn fetch(
 
 #[tactic(auto, using(gstage_cache::specs::Fills::nothing_filled), unfolding(sv_types::specs::HardwareAttempt::after_word, sv_types::specs::HardwareAttempt::after_instruction))]
 fn carry_out(
+    decoder: &mut Decoder,
     hart: &mut Hart,
     regs: &HRegs,
     cache: &mut Cache,
@@ -115,8 +114,8 @@ fn carry_out(
     ensures tables { mem.new.tables ≡ mem.old.tables }
     ensures filled { FilledUnder mem.old.tables regs.now.hgatp cache.old cache.new }
 {
-    match decode(word) {
-        Some(instr) => execute(hart, regs, cache, mem, lines, word, &instr),
+    match &decoder.decoded(hart.pc, word).instr {
+        Some(instr) => execute(hart, regs, cache, mem, lines, word, instr),
         None => raise(hart, regs, illegal(word)),
     }
 }

@@ -2,6 +2,7 @@
 #![tactic(auto)]
 
 mod cpu;
+mod decoder;
 mod execution;
 mod hart;
 mod memory;
@@ -10,6 +11,5 @@ mod system;
 mod trap;
 
 pub use cpu::Cpu;
-pub use execution::attempt;
 pub use hart::Hart;
 pub use sv_types::{Outcome, Wrote};

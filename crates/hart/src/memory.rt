@@ -1,6 +1,6 @@
 // Where an access to memory goes.
 
-ghost use Rattle.std.specs.Prelude.{◌≡◌, ◌⊎◌, ◌≤◌, ℕ, ◌/◌, ◌%◌, ◌^◌, length, IfOk};
+ghost use Rattle.std.specs.Prelude.{◌≡◌, ◌⊎◌, ◌≤◌, ℕ, ◌/◌, ◌%◌, ◌^◌, length, IfOk, IfSome, Ok};
 ghost use Rattle.sv_types.specs.Regions.{IsWidth, IsHostPlace};
 ghost use Rattle.sv_types.specs.SecondStage.{WalksApart};
 ghost use Rattle.sv_types.specs.CachedWalks.{CacheAgrees, FilledUnder};
@@ -80,9 +80,10 @@ fn regime(hart: &Hart, regs: &HRegs) -> Regime
     }
 }
 
-/// The host place of a virtual address, or the exception of an access there.
+// `translated` by a walk, kept out of the way of addresses whose translation is held.
 #[tactic(auto, unfolding(sv_types::specs::HardwareMemory::translated))]
-pub(crate) fn translated(
+#[inline(never)]
+fn walked(
     hart: &Hart,
     regs: &HRegs,
     cache: &mut Cache,
@@ -104,6 +105,57 @@ pub(crate) fn translated(
     match translate_through(cache, mem, &regime(hart, regs), va, access) {
         Ok(place) => Ok(place.hpa),
         Err(fault) => Err(fault_exception(access, va, htinst, fault)),
+    }
+}
+
+// The host place of a virtual address that is a guest-physical one, where its translation is held.
+#[inline(always)]
+fn held_place(
+    hart: &Hart,
+    regs: &HRegs,
+    cache: &Cache,
+    mem: &HostMem,
+    access: Access,
+    va: u64,
+) -> Option<u64>
+    requires apart { WalksApart mem.now regs.now.hgatp }
+    requires agrees { CacheAgrees mem.now.tables cache.now }
+    ensures value { IfSome result (λ hpa. (htinst : ℕ) → translated mem.now (core_of hart.now regs.now) access va htinst ≡ Ok hpa) }
+    ensures place { IfSome result (λ hpa. (width : ℕ) → IsWidth width → va % width ≡ 0 → IsHostPlace mem.now hpa width) }
+    ensures ram { IfSome result (λ hpa. length mem.now.tables ≤ hpa) }
+{
+    let _table_bytes = mem.table_bytes();
+    if hart.csrs.vsatp >> 60 == 0 {
+        cache.held_place(mem, regs.hgatp, va, access)
+    } else {
+        None
+    }
+}
+
+/// The host place of a virtual address, or the exception of an access there.
+#[tactic(auto, unfolding(sv_types::specs::HardwareMemory::translated))]
+#[inline(always)]
+pub(crate) fn translated(
+    hart: &Hart,
+    regs: &HRegs,
+    cache: &mut Cache,
+    mem: &HostMem,
+    access: Access,
+    va: u64,
+    htinst: u32,
+) -> Result<u64, Exception>
+    requires second { regs.now.hgatp / 2 ^ 60 ≡ 8 }
+    requires apart { WalksApart mem.now regs.now.hgatp }
+    requires agrees { CacheAgrees mem.now.tables cache.old }
+    ensures value { result ≡ translated mem.now (core_of hart.now regs.now) access va htinst }
+    ensures place { (width : ℕ) → IsWidth width → va % width ≡ 0 → IfOk result (λ hpa. IsHostPlace mem.now hpa width) }
+    ensures ram { IfOk result (λ hpa. length mem.now.tables ≤ hpa) }
+    ensures agrees { CacheAgrees mem.now.tables cache.new }
+    ensures filled { FilledUnder mem.now.tables regs.now.hgatp cache.old cache.new }
+{
+    match held_place(hart, regs, cache, mem, access, va) {
+        Some(hpa) => Ok(hpa),
+        None => walked(hart, regs, cache, mem, access, va, htinst),
     }
 }
 

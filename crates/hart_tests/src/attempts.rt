@@ -9,7 +9,7 @@ ghost use Rattle.gstage_tables.specs.Layout.{table_size};
 
 use gstage_cache::Cache;
 use gstage_tables::Trees;
-use hart::{Cpu, Hart, Outcome, Wrote, attempt};
+use hart::{Cpu, Hart, Outcome, Wrote};
 use host_mem::HostMem;
 use std::alloc::{AllocError, Global};
 use std::process::Abort;
@@ -100,7 +100,8 @@ fn attempt_once(
     let mut mem = region(rt, alloc, words)?;
     let regs = hypervisor_registers(mode);
     let mut cache = Cache::new();
-    Ok(attempt(hart, &regs, &mut cache, &mut mem, lines))
+    let mut cpu = Cpu::new(alloc)?;
+    Ok(cpu.attempt(hart, &regs, &mut cache, &mut mem, lines))
 }
 
 // A hart whose x1 is an address and whose x2 is 7, with a reservation at place 0x2000 of RAM and every interrupt enabled.
@@ -411,7 +412,7 @@ fn an_attempt_fills_the_cache(rt: HostRuntime) -> Result<(), AllocError> {
     let mut mem = region(&rt, rt.alloc(), &[(0, 0x0050_0193)])?;
     let regs = hypervisor_registers(Mode::Kernel);
     let mut cache = Cache::new();
-    let mut cpu = Cpu::new();
+    let mut cpu = Cpu::new(rt.alloc())?;
     let mut hart = hart_with(0);
     hart.pc = KERNEL_PC;
     assert_eq!(rt;

@@ -385,6 +385,7 @@ impl Parts {
 
     /// One event. A machine that has ended stays as it is.
     #[tactic(auto, unfolding(machine_model::specs::Steps::IsStep))]
+    #[inline(always)]
     pub(crate) fn step(&mut self, event: Event)
         requires room { length self.old.journal.printed < 4096 }
         requires counts { CountsAtMost (2 ^ 64 - 2) self.old.journal.counts }

@@ -59,6 +59,7 @@ impl Parts {
         let seats = seats_at_boot(alloc, &guard, policy.harts, entry)?;
         let caches = empty_caches(alloc, policy.harts)?;
         let journal = Journal::new(alloc)?;
+        let cpu = Cpu::new(alloc)?;
         let modules = Modules::new(alloc)?;
         Ok(Parts {
             policy,
@@ -70,7 +71,7 @@ impl Parts {
             modules,
             devices: Devices::new(Block::new(disk)),
             journal,
-            cpu: Cpu::new(),
+            cpu,
             cleared: 0,
         })
     }

@@ -20,7 +20,6 @@ pub use sv_types::{
 use system::system;
 
 /// The instruction that a word encodes. None exactly where no row of the instruction table has the word.
-#[inline(always)]
 pub fn decode(word: u32) -> Option<Instr>
     ensures instruction { result ≡ instruction_of word }
     ensures fields { IfSome result (λ instr. IsTrue (fits instr)) }
