@@ -1,0 +1,4 @@
+pub mod Canonical
+pub mod PlainWords
+pub mod Shapes
+pub mod Walks
