@@ -1,5 +1,5 @@
 -- The commands of the program, and the words of each by their names. This project's own.
-use Rattle.std.specs.Prelude.{ℕ, Bool, false, ◌==◌, List, [], ◌∷◌, Option, Some, None, codes, if◌then◌else◌, nat_le}
+use Rattle.std.specs.Prelude.{◌≡◌, ℕ, Bool, false, ◌==◌, List, [], ◌∷◌, Option, Some, None, codes, if◌then◌else◌, nat_le}
 use Rattle.std.specs.List.{list_any}
 use Rattle.std.specs.Str.{bytes_eq}
 
@@ -97,3 +97,16 @@ has_count name count =
     else if bytes_eq name (codes "run") then count == 6
     else if bytes_eq name (codes "measure") then nat_le 6 count
     else false
+
+-- ---- the words again
+
+abbrev pub words_of : Split → List (List ℕ)
+words_of (Flat w) = codes "flat" ∷ w.file ∷ w.wanted ∷ w.events ∷ []
+words_of (Gen calls) = codes "gen" ∷ calls ∷ []
+words_of (Run w) = codes "run" ∷ w.image ∷ w.policy ∷ w.disk ∷ w.script ∷ w.events ∷ w.save ∷ []
+words_of (Measure w) = codes "measure" ∷ w.out ∷ w.kernel ∷ w.ram ∷ w.harts ∷ w.entries ∷ w.init ∷ w.modules
+
+-- the words of a command are its name and its words in order, and without a dash these are the words of a command
+pub record IsExactSplit : Type 0 where
+  pub kept : (words : List (List ℕ)) → (split : Split) → split_words words ≡ Some split → words ≡ words_of split
+  pub whole : (split : Split) → list_any has_dash (words_of split) ≡ false → split_words (words_of split) ≡ Some split

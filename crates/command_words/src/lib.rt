@@ -4,10 +4,12 @@
 mod command;
 mod commands;
 mod found;
+mod law;
 mod reading;
 mod shape;
 #[cfg(test)]
 mod tests;
 
 pub use command::{CommandWords, FlatWords, MeasureWords, RunWords};
+pub use law::law_exact_split;
 pub use reading::split;
