@@ -68,13 +68,6 @@ impl Console {
         !self.queue.is_empty()
     }
 
-    /// The byte at place `i` of the queue, from the front.
-    pub fn queued(&self, i: usize) -> Option<u8>
-        ensures { result ≡ slice_get self.now i }
-    {
-        self.queue.get(i).copied()
-    }
-
     fn status(&self) -> u64
         ensures { result ≡ register_value self.now Status }
     {

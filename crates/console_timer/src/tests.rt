@@ -24,10 +24,6 @@ fn console_rows(rt: HostRuntime) {
         assert!(rt; console.key(byte), "{byte} fits");
     }
     assert!(rt; !console.key(65));
-    assert_eq!(rt;
-        (console.queued(255), console.queued(256)),
-        (Some(255), None)
-    );
     assert_eq!(rt; console.take(), Some(0));
     for (offset, width, wanted) in [
         (5, 1, Some(0x61)),
@@ -53,6 +49,10 @@ fn console_rows(rt: HostRuntime) {
         );
     }
     assert!(rt; console.line());
+    for byte in 3..=255 {
+        assert_eq!(rt; console.take(), Some(byte));
+    }
+    assert_eq!(rt; console.take(), None);
 }
 
 #[test]
