@@ -1,2 +1,1 @@
-pub mod PagesApproved
 pub mod StartsStand
