@@ -1,199 +1,381 @@
-// Runs of `flat`, and what `run` refuses.
+// Runs of `flat`, and the words and files that are refused before one.
 ghost use Rattle.std.specs.Prelude.{◌≡◌, ◌<◌, ◌≤◌, IfOk, vec_len};
 
-use outside::{MemFiles, MemSink, RealFiles};
+use crate::program::{GOOD, Handed, Left, Outside, PRINTED, Printed, call, text_of};
+use outside::{MemSink, RealFiles};
 use page_measure::{join_digests, page_digest};
 use secvisor_cli::{Bench, Status, secvisor};
 use std::alloc::{AllocError, Global};
+use std::process::Abort;
 use std::test::Fail;
 use std::thread::Threads;
-use sv_types::Name;
 
-const PRINTS_A_AND_SHUTS_DOWN: [u32; 5] = [
+pub(crate) const PRINTS_A_AND_SHUTS_DOWN: [u32; 5] = [
     0x04100513, 0x00100893, 0x00000073, 0x00800893, 0x00000073,
 ];
 
 const PRINTS_WITHOUT_END: [u32; 4] = [0x04100513, 0x00100893, 0x00000073, 0xFFDFF06F];
 
-const STORES_INTO_ITS_TEXT: [u32; 5] = [0x7FFFF2B7, 0x7FF28293, 0x7FF28293, 0x00228293, 0x00028023];
-
-const NO_DENIALS: &str = "denied 0 dropped 0 loads 0 unloads 0 refused 0\n";
-
 const ROOM: usize = 10_000;
 
-/// What a run left behind.
-#[derive(Drop)]
-pub(crate) struct Left {
-    pub(crate) status: Status,
-    pub(crate) taken: Vec<u8>,
-    pub(crate) is_booted: bool,
-}
-
-/// What the outside does: reads and writes that fail, counted from 1, and the most bytes that a write takes.
-#[derive(Clone, Copy)]
-pub(crate) struct Outside {
-    failing_read: u64,
-    failing_write: u64,
-    piece: usize,
-}
-
-pub(crate) const GOOD: Outside = Outside {
-    failing_read: 0,
-    failing_write: 0,
-    piece: ROOM,
-};
-
-// A page of these words, with zeros behind.
-fn page(alloc: Global, words: &[u32]) -> Result<Vec<u8>, AllocError>
+/// A page that begins with these words, has others at its place 256, and else zeros.
+pub(crate) fn page(alloc: Global, words: &[u32], vector: &[u32]) -> Result<Vec<u8>, AllocError>
     ensures { IfOk result (λ bytes. vec_len bytes ≡ 4096) }
 {
     let mut bytes = Vec::new(alloc);
-    for word in words {
-        bytes.extend_from_slice(&word.to_le_bytes())?;
-    }
+    push_words(&mut bytes, words)?;
+    bytes.resize(256, 0)?;
+    push_words(&mut bytes, vector)?;
     bytes.resize(4096, 0)?;
     Ok(bytes)
 }
 
-fn measure_text(alloc: Global, page: &[u8]) -> Result<String, AllocError> {
+/// Puts words behind the bytes.
+pub(crate) fn push_words(bytes: &mut Vec<u8>, words: &[u32]) -> Result<(), AllocError> {
+    for word in words {
+        bytes.extend_from_slice(&word.to_le_bytes())?;
+    }
+    Ok(())
+}
+
+/// The measure of a page, as a text.
+pub(crate) fn measure_text(alloc: Global, page: &[u8]) -> Result<String, AllocError> {
     hex::encode(alloc, join_digests(&[page_digest(page)]))
 }
 
-/// The run of these words on files of which one is the image.
-pub(crate) fn run<R: Threads + Sync>(
+// The call with these words, over a file with the name `image`.
+fn run<R: Threads + Sync>(
     rt: &R,
     alloc: Global,
     image: Vec<u8>,
     words: &[&str],
     outside: Outside,
 ) -> Result<Left, AllocError> {
-    let mut line = Vec::new(alloc);
-    for word in words {
-        line.push(String::from_str(alloc, word)?)?;
-    }
-    let Some(name) = Name::new("image") else {
-        return Err(AllocError);
+    let handed = Handed {
+        image,
+        policy: Vec::new(alloc),
+        disk: Vec::new(alloc),
+        script: Vec::new(alloc),
     };
-    let held = [(name, image)];
-    let mut files = MemFiles::new(alloc, &held, 0, 0, &[outside.failing_read], &[])?;
-    let mut out = MemSink::new(alloc, ROOM, outside.piece.max(1), &[outside.failing_write])?;
-    let mut bench = Bench { machine: None };
-    let status = secvisor(rt, alloc, &line, &mut files, &mut out, &mut bench);
-    Ok(Left {
-        status,
-        taken: out.taken().to_vec(alloc)?,
-        is_booted: bench.machine.is_some(),
-    })
+    call(rt, alloc, &handed, words, outside)
 }
 
-// The run of a page of words, with the measure that it has.
+// The run of a page, with the measure that it has.
 fn run_page<R: Threads + Sync>(
     rt: &R,
     alloc: Global,
-    words: &[u32],
-    events: &str,
+    row: &Row,
     outside: Outside,
 ) -> Result<Left, AllocError> {
-    let image = page(alloc, words)?;
+    let image = page(alloc, row.words, row.vector)?;
     let wanted = measure_text(alloc, &image)?;
-    run(
-        rt,
-        alloc,
-        image,
-        &["flat", "image", wanted.as_str(), events],
-        outside,
-    )
+    let words = ["flat", "image", wanted.as_str(), row.events];
+    run(rt, alloc, image, &words, outside)
 }
 
-// A run that ends well.
+// A page that runs.
+#[derive(Clone, Copy)]
 struct Row {
+    what: &'static str,
     words: &'static [u32],
+    // At the page's place 256, where user mode may enter.
+    vector: &'static [u32],
     events: &'static str,
     status: Status,
-    // The console's bytes, and the report but for the line on denials, which is the same in each, and the verdict.
-    counts: &'static str,
-    verdict: &'static str,
+    printed: Printed,
 }
 
-const ROWS: [Row; 8] = [
+const ROW: Row = Row {
+    what: "",
+    words: &[],
+    vector: &[],
+    events: "0",
+    status: Status::Ended,
+    printed: PRINTED,
+};
+
+// Runs pages through sinks that take little at a time. Each has to end and to print as it says.
+fn run_as_printed<R: Threads + Sync + Abort>(
+    rt: &R,
+    alloc: Global,
+    rows: &[Row],
+) -> Result<(), AllocError> {
+    for row in rows {
+        let what = row.what;
+        let want = text_of(alloc, &row.printed)?;
+        for piece in [1, 7, ROOM] {
+            let left = run_page(rt, alloc, row, Outside { piece, ..GOOD })?;
+            assert_eq!(rt; left.status, row.status, "{what}");
+            assert!(rt; left.taken.as_slice() == want.as_bytes(), "{what}");
+            assert!(rt; left.is_booted, "{what}");
+        }
+    }
+    Ok(())
+}
+
+// Pages that run to the end of their events, or of themselves.
+static RUNS: [Row; 6] = [
     Row {
+        what: "prints A and shuts down",
         words: &PRINTS_A_AND_SHUTS_DOWN,
         events: "5",
         status: Status::Done,
-        counts: "A\nnotes 0\nturns 5 beats 0 keys 0 ticks 0\nretired 3 traps 0 enters 0 leaves 0 demotes 0\n",
-        verdict: "verdict shutdown\n",
+        printed: Printed {
+            console: "A",
+            events: "turns 5 beats 0 keys 0 ticks 0",
+            turns: "retired 3 traps 0 enters 0 leaves 0 demotes 0",
+            verdict: "verdict shutdown",
+            ..PRINTED
+        },
+        ..ROW
     },
-    // A run ends with its verdict, however many events are left.
     Row {
+        what: "ends with its verdict, however many events are left",
         words: &PRINTS_A_AND_SHUTS_DOWN,
         events: "4294967296",
         status: Status::Done,
-        counts: "A\nnotes 0\nturns 5 beats 0 keys 0 ticks 0\nretired 3 traps 0 enters 0 leaves 0 demotes 0\n",
-        verdict: "verdict shutdown\n",
+        printed: Printed {
+            console: "A",
+            events: "turns 5 beats 0 keys 0 ticks 0",
+            turns: "retired 3 traps 0 enters 0 leaves 0 demotes 0",
+            verdict: "verdict shutdown",
+            ..PRINTED
+        },
+        ..ROW
     },
     Row {
+        what: "no event",
         words: &PRINTS_A_AND_SHUTS_DOWN,
         events: "0",
         status: Status::Ended,
-        counts: "\nnotes 0\nturns 0 beats 0 keys 0 ticks 0\nretired 0 traps 0 enters 0 leaves 0 demotes 0\n",
-        verdict: "verdict ended\n",
+        ..ROW
     },
     Row {
+        what: "leading zeros",
         words: &PRINTS_A_AND_SHUTS_DOWN,
         events: "00000000000000000004",
         status: Status::Ended,
-        counts: "A\nnotes 0\nturns 4 beats 0 keys 0 ticks 0\nretired 3 traps 0 enters 0 leaves 0 demotes 0\n",
-        verdict: "verdict ended\n",
+        printed: Printed {
+            console: "A",
+            events: "turns 4 beats 0 keys 0 ticks 0",
+            turns: "retired 3 traps 0 enters 0 leaves 0 demotes 0",
+            ..PRINTED
+        },
+        ..ROW
     },
     Row {
-        words: &STORES_INTO_ITS_TEXT,
-        events: "10",
-        status: Status::Stopped,
-        counts: "\nnotes 0\nturns 5 beats 0 keys 0 ticks 0\nretired 4 traps 0 enters 0 leaves 0 demotes 0\n",
-        verdict: "verdict stopped write hart 0 turn 5 pc 0x0000000080000010 gpa 0x0000000080000000\n",
+        what: "division at its limits, and a shift into the sign: it prints y where all results are right",
+        words: &[
+            0xFFF00293, 0x03F29313, 0x025343B3, 0x0063C433, 0x025363B3, 0x00746433, 0x80000E13,
+            0x014E1E13, 0x025E43BB, 0x01C3C3B3, 0x00746433, 0x025E63BB, 0x00746433, 0x020343B3,
+            0x0053C3B3, 0x00746433, 0x020353BB, 0x0053C3B3, 0x00746433, 0x020363B3, 0x0063C3B3,
+            0x00746433, 0x00100393, 0x01F3939B, 0x01C3C3B3, 0x00746433, 0x00143513, 0x07850513,
+            0x00100893, 0x00000073, 0x00800893, 0x00000073,
+        ],
+        events: "100",
+        status: Status::Done,
+        printed: Printed {
+            console: "y",
+            events: "turns 32 beats 0 keys 0 ticks 0",
+            turns: "retired 30 traps 0 enters 0 leaves 0 demotes 0",
+            verdict: "verdict shutdown",
+            ..PRINTED
+        },
+        ..ROW
     },
-    // A jump out of the approved page leaves kernel mode, and the zeros there trap to an entry that isn't permitted.
     Row {
-        words: &[0x0000106F],
-        events: "10",
-        status: Status::Stopped,
-        counts: "\ndemote hart 0 turn 2 pc 0x0000000080001000 gpa 0x0000000080001000\nnotes 1\nturns 3 beats 0 keys 0 ticks 0\nretired 1 traps 0 enters 0 leaves 0 demotes 1\n",
-        verdict: "verdict stopped entry hart 0 turn 3 target 0x0000000000000000\n",
-    },
-    // EBREAK, and a load from no page, are traps of the kernel's own.
-    Row {
-        words: &[0x00100073],
-        events: "1",
+        what: "a timer that is due interrupts no hart that has it masked",
+        words: &[0x00700593, 0x00000513, 0x00000073, 0x10500073],
+        events: "4",
         status: Status::Ended,
-        counts: "\nnotes 0\nturns 1 beats 0 keys 0 ticks 0\nretired 0 traps 1 enters 0 leaves 0 demotes 0\n",
-        verdict: "verdict ended\n",
-    },
-    Row {
-        words: &[0x00002003],
-        events: "1",
-        status: Status::Ended,
-        counts: "\nnotes 0\nturns 1 beats 0 keys 0 ticks 0\nretired 0 traps 1 enters 0 leaves 0 demotes 0\n",
-        verdict: "verdict ended\n",
+        printed: Printed {
+            events: "turns 4 beats 0 keys 0 ticks 0",
+            turns: "retired 3 traps 0 enters 0 leaves 0 demotes 0",
+            ..PRINTED
+        },
+        ..ROW
     },
 ];
 
 #[test]
 fn runs_a_page_to_its_report(rt: HostRuntime) -> Result<(), Fail> {
-    for row in &ROWS {
-        let counts = row.counts;
-        let verdict = row.verdict;
-        for piece in [1, 7, ROOM] {
-            let outside = Outside { piece, ..GOOD };
-            let left = run_page(&rt, rt.alloc(), row.words, row.events, outside)?;
-            let want = format!(in rt.alloc(); "{counts}{NO_DENIALS}{verdict}")?;
-            assert_eq!(rt; left.status, row.status, "{verdict}");
-            assert!(rt;
-                left.taken.as_slice() == want.as_str().as_bytes(),
-                "{verdict}"
-            );
-            assert!(rt; left.is_booted, "{verdict}");
-        }
-    }
+    run_as_printed(&rt, rt.alloc(), &RUNS)?;
+    Ok(())
+}
+
+// Pages that leave kernel mode, and pages that are stopped.
+static STOPS: [Row; 6] = [
+    Row {
+        what: "stores into its text",
+        words: &[0x7FFFF2B7, 0x7FF28293, 0x7FF28293, 0x00228293, 0x00028023],
+        events: "10",
+        status: Status::Stopped,
+        printed: Printed {
+            events: "turns 5 beats 0 keys 0 ticks 0",
+            turns: "retired 4 traps 0 enters 0 leaves 0 demotes 0",
+            verdict: "verdict stopped write hart 0 turn 5 pc 0x0000000080000010 gpa 0x0000000080000000",
+            ..PRINTED
+        },
+        ..ROW
+    },
+    Row {
+        what: "SC into the text stops, without a reservation too",
+        words: &[0x00000297, 0x1802A32F],
+        events: "10",
+        status: Status::Stopped,
+        printed: Printed {
+            events: "turns 2 beats 0 keys 0 ticks 0",
+            turns: "retired 1 traps 0 enters 0 leaves 0 demotes 0",
+            verdict: "verdict stopped write hart 0 turn 2 pc 0x0000000080000004 gpa 0x0000000080000000",
+            ..PRINTED
+        },
+        ..ROW
+    },
+    Row {
+        what: "a jump out of the approved page leaves kernel mode, and the zeros there trap to an entry that is not permitted",
+        words: &[0x0000106F],
+        events: "10",
+        status: Status::Stopped,
+        printed: Printed {
+            notes: &["demote hart 0 turn 2 pc 0x0000000080001000 gpa 0x0000000080001000"],
+            events: "turns 3 beats 0 keys 0 ticks 0",
+            turns: "retired 1 traps 0 enters 0 leaves 0 demotes 1",
+            verdict: "verdict stopped entry hart 0 turn 3 target 0x0000000000000000",
+            ..PRINTED
+        },
+        ..ROW
+    },
+    Row {
+        what: "an entry is one address, and not its page",
+        words: &[0x00000297, 0x10428293, 0x10529073, 0x7F50006F],
+        events: "10",
+        status: Status::Stopped,
+        printed: Printed {
+            notes: &["demote hart 0 turn 5 pc 0x0000000080001000 gpa 0x0000000080001000"],
+            events: "turns 6 beats 0 keys 0 ticks 0",
+            turns: "retired 4 traps 0 enters 0 leaves 0 demotes 1",
+            verdict: "verdict stopped entry hart 0 turn 6 target 0x0000000080000104",
+            ..PRINTED
+        },
+        ..ROW
+    },
+    Row {
+        what: "a permitted entry is taken",
+        words: &[0x00000297, 0x10028293, 0x10529073, 0x7F50006F],
+        events: "6",
+        status: Status::Ended,
+        printed: Printed {
+            notes: &["demote hart 0 turn 5 pc 0x0000000080001000 gpa 0x0000000080001000"],
+            events: "turns 6 beats 0 keys 0 ticks 0",
+            turns: "retired 4 traps 1 enters 1 leaves 0 demotes 1",
+            ..PRINTED
+        },
+        ..ROW
+    },
+    Row {
+        what: "a return to user mode in an approved page traps",
+        words: &[0x00000297, 0x10028293, 0x10529073, 0x14129073, 0x10200073],
+        vector: &[0x00800893, 0x00000073],
+        events: "20",
+        status: Status::Done,
+        printed: Printed {
+            events: "turns 8 beats 0 keys 0 ticks 0",
+            turns: "retired 6 traps 1 enters 1 leaves 1 demotes 0",
+            verdict: "verdict shutdown",
+            ..PRINTED
+        },
+        ..ROW
+    },
+];
+
+#[test]
+fn stops_a_page_by_its_rule(rt: HostRuntime) -> Result<(), Fail> {
+    run_as_printed(&rt, rt.alloc(), &STOPS)?;
+    Ok(())
+}
+
+// Pages that trap in kernel mode.
+static TRAPS: [Row; 6] = [
+    Row {
+        what: "EBREAK is a trap of the kernel's own",
+        words: &[0x00100073],
+        events: "1",
+        status: Status::Ended,
+        printed: Printed {
+            events: "turns 1 beats 0 keys 0 ticks 0",
+            turns: "retired 0 traps 1 enters 0 leaves 0 demotes 0",
+            ..PRINTED
+        },
+        ..ROW
+    },
+    Row {
+        what: "and where its vector leads to a free page, the fetch there leaves kernel mode",
+        words: &[0x00001297, 0x10529073, 0x00100073],
+        events: "10",
+        status: Status::Stopped,
+        printed: Printed {
+            notes: &["demote hart 0 turn 4 pc 0x0000000080001000 gpa 0x0000000080001000"],
+            events: "turns 5 beats 0 keys 0 ticks 0",
+            turns: "retired 2 traps 1 enters 0 leaves 0 demotes 1",
+            verdict: "verdict stopped entry hart 0 turn 5 target 0x0000000080001000",
+            ..PRINTED
+        },
+        ..ROW
+    },
+    Row {
+        what: "a load from no page traps",
+        words: &[0x00002003],
+        events: "1",
+        status: Status::Ended,
+        printed: Printed {
+            events: "turns 1 beats 0 keys 0 ticks 0",
+            turns: "retired 0 traps 1 enters 0 leaves 0 demotes 0",
+            ..PRINTED
+        },
+        ..ROW
+    },
+    Row {
+        what: "a branch to the middle of an instruction traps",
+        words: &[0x7E000FE3],
+        events: "1",
+        status: Status::Ended,
+        printed: Printed {
+            events: "turns 1 beats 0 keys 0 ticks 0",
+            turns: "retired 0 traps 1 enters 0 leaves 0 demotes 0",
+            ..PRINTED
+        },
+        ..ROW
+    },
+    Row {
+        what: "a console store prints, and a console load of eight bytes traps",
+        words: &[0x100002B7, 0x04100513, 0x00A28023, 0x0052C303, 0x0002B303],
+        events: "5",
+        status: Status::Ended,
+        printed: Printed {
+            console: "A",
+            events: "turns 5 beats 0 keys 0 ticks 0",
+            turns: "retired 4 traps 1 enters 0 leaves 0 demotes 0",
+            ..PRINTED
+        },
+        ..ROW
+    },
+    Row {
+        what: "an atomic operation on the console traps",
+        words: &[0x100002B7, 0x0002B32F],
+        events: "2",
+        status: Status::Ended,
+        printed: Printed {
+            events: "turns 2 beats 0 keys 0 ticks 0",
+            turns: "retired 1 traps 1 enters 0 leaves 0 demotes 0",
+            ..PRINTED
+        },
+        ..ROW
+    },
+];
+
+#[test]
+fn traps_to_a_page(rt: HostRuntime) -> Result<(), Fail> {
+    run_as_printed(&rt, rt.alloc(), &TRAPS)?;
     Ok(())
 }
 
@@ -209,7 +391,7 @@ struct Refused {
     line: &'static str,
 }
 
-const REFUSALS: [Refused; 19] = [
+static REFUSALS: [Refused; 22] = [
     Refused {
         words: &[],
         size: 4096,
@@ -237,6 +419,27 @@ const REFUSALS: [Refused; 19] = [
         failing_read: 0,
         status: Status::Usage,
         line: "usage\n",
+    },
+    Refused {
+        words: &["run", "image", "policy"],
+        size: 4096,
+        failing_read: 0,
+        status: Status::Usage,
+        line: "usage\n",
+    },
+    Refused {
+        words: &["gen", "0"],
+        size: 4096,
+        failing_read: 0,
+        status: Status::Usage,
+        line: "usage N\n",
+    },
+    Refused {
+        words: &["gen", "1000001"],
+        size: 4096,
+        failing_read: 0,
+        status: Status::Usage,
+        line: "usage N\n",
     },
     Refused {
         words: &["flat", "-image", MEASURE, "5"],
@@ -367,7 +570,7 @@ fn refuses_words_and_files(rt: HostRuntime) -> Result<(), Fail> {
     for refused in &REFUSALS {
         let want = refused.line;
         let failing_read = refused.failing_read;
-        let mut image = page(alloc, &PRINTS_A_AND_SHUTS_DOWN)?;
+        let mut image = page(alloc, &PRINTS_A_AND_SHUTS_DOWN, &[])?;
         image.resize(refused.size, 0)?;
         let left = run(
             &rt,
@@ -389,7 +592,7 @@ fn refuses_words_and_files(rt: HostRuntime) -> Result<(), Fail> {
 #[test]
 fn refuses_another_measure(rt: HostRuntime) -> Result<(), Fail> {
     let alloc = rt.alloc();
-    let mut image = page(alloc, &PRINTS_A_AND_SHUTS_DOWN)?;
+    let mut image = page(alloc, &PRINTS_A_AND_SHUTS_DOWN, &[])?;
     if let Some(byte) = image.get_mut(100) {
         *byte ^= 1;
     }
@@ -406,18 +609,23 @@ fn refuses_another_measure(rt: HostRuntime) -> Result<(), Fail> {
 #[test]
 fn breaks_off_at_a_write_that_fails(rt: HostRuntime) -> Result<(), Fail> {
     let alloc = rt.alloc();
-    let whole = run_page(&rt, alloc, &PRINTS_WITHOUT_END, "10001", GOOD)?;
+    let row = Row {
+        words: &PRINTS_WITHOUT_END,
+        events: "10001",
+        ..ROW
+    };
+    let whole = run_page(&rt, alloc, &row, GOOD)?;
     assert_eq!(rt; whole.status, Status::Ended);
     let console = console_of_5000(alloc)?;
     assert!(rt; whole.taken.starts_with(console.as_slice()));
     let cases = [(ROOM, 1, 0), (ROOM, 2, 4096), (ROOM, 3, 5000), (4, 3, 8)];
     for (piece, failing_write, taken) in cases {
         let outside = Outside {
-            failing_read: 0,
             failing_write,
             piece,
+            ..GOOD
         };
-        let left = run_page(&rt, alloc, &PRINTS_WITHOUT_END, "10001", outside)?;
+        let left = run_page(&rt, alloc, &row, outside)?;
         assert_eq!(rt; left.status, Status::WriteFault, "{failing_write}");
         assert_eq!(rt; left.taken.len(), taken, "{failing_write}");
         assert!(rt; left.is_booted, "{failing_write}");
@@ -437,7 +645,7 @@ fn console_of_5000(alloc: Global) -> Result<Vec<u8>, AllocError> {
 #[test]
 fn boots_the_largest_file(rt: HostRuntime) -> Result<(), Fail> {
     let alloc = rt.alloc();
-    let mut image = page(alloc, &PRINTS_A_AND_SHUTS_DOWN)?;
+    let mut image = page(alloc, &PRINTS_A_AND_SHUTS_DOWN, &[])?;
     image.resize(65536, 0)?;
     let mut digests = Vec::new(alloc);
     for page in image.chunks_exact(4096) {
@@ -451,19 +659,39 @@ fn boots_the_largest_file(rt: HostRuntime) -> Result<(), Fail> {
     Ok(())
 }
 
+// Words that name a file without end, and the line that refuses it.
+struct Endless {
+    words: &'static [&'static str],
+    line: &'static str,
+}
+
+static ENDLESS: [Endless; 2] = [
+    Endless {
+        words: &["flat", "/dev/zero", MEASURE, "5"],
+        line: "refused flat 0\n",
+    },
+    Endless {
+        words: &["run", "image", "/dev/zero", "none", "none", "5", "none"],
+        line: "refused policy 0\n",
+    },
+];
+
 // One byte more than the limit is read of a file without end.
 #[test]
 fn refuses_a_file_without_end(rt: HostRuntime) -> Result<(), Fail> {
     let alloc = rt.alloc();
-    let mut line = Vec::new(alloc);
-    for word in ["flat", "/dev/zero", MEASURE, "5"] {
-        line.push(String::from_str(alloc, word)?)?;
+    for endless in &ENDLESS {
+        let want = endless.line;
+        let mut line = Vec::new(alloc);
+        for word in endless.words {
+            line.push(String::from_str(alloc, word)?)?;
+        }
+        let mut files = RealFiles::new(rt.clone()?);
+        let mut out = MemSink::new(alloc, ROOM, ROOM, &[])?;
+        let mut bench = Bench { machine: None };
+        let status = secvisor(&rt, alloc, &line, &mut files, &mut out, &mut bench);
+        assert_eq!(rt; status, Status::Refused, "{want}");
+        assert!(rt; out.taken() == want.as_bytes(), "{want}");
     }
-    let mut files = RealFiles::new(rt.clone()?);
-    let mut out = MemSink::new(alloc, ROOM, ROOM, &[])?;
-    let mut bench = Bench { machine: None };
-    let status = secvisor(&rt, alloc, &line, &mut files, &mut out, &mut bench);
-    assert_eq!(rt; status, Status::Refused);
-    assert!(rt; out.taken() == b"refused flat 0\n".as_slice());
     Ok(())
 }

@@ -1,47 +1,117 @@
-// Runs of `gen`.
+// Runs of the generated guest: by `gen`, and by `run` over its files.
+ghost use Rattle.std.specs.Prelude.{◌≡◌, ◌≤◌, IfOk};
 
-use crate::flat::{GOOD, run};
+use crate::program::{GOOD, Handed, Left, Outside, PRINTED, Printed, call, text_of};
+use guest_gen::generate;
 use secvisor_cli::Status;
+use std::alloc::{AllocError, Global};
 use std::test::Fail;
+use std::thread::Threads;
 
 // A guest of so many calls, and all that its run prints.
 struct Row {
     calls: &'static str,
-    status: Status,
-    wanted: &'static str,
+    printed: Printed,
 }
 
-const ROWS: [Row; 4] = [
+// From the ninth beat on the disk is denied: it would write into the text.
+static ROWS: [Row; 3] = [
     Row {
         calls: "1",
-        status: Status::Done,
-        wanted: "K\nnotes 0\nturns 27 beats 3 keys 0 ticks 0\nretired 24 traps 1 enters 1 leaves 1 demotes 0\ndenied 0 dropped 0 loads 0 unloads 0 refused 0\nverdict shutdown\n",
+        printed: Printed {
+            console: "K",
+            events: "turns 27 beats 3 keys 0 ticks 0",
+            turns: "retired 24 traps 1 enters 1 leaves 1 demotes 0",
+            verdict: "verdict shutdown",
+            ..PRINTED
+        },
     },
-    // The ninth beat would write into the text.
     Row {
         calls: "10",
-        status: Status::Done,
-        wanted: "K\ndenied gpa 0x0000000080001000\nnotes 1\nturns 99 beats 14 keys 0 ticks 0\nretired 87 traps 10 enters 10 leaves 10 demotes 0\ndenied 1 dropped 0 loads 0 unloads 0 refused 0\nverdict shutdown\n",
+        printed: PRINTED_OF_TEN,
     },
     Row {
-        calls: "0",
-        status: Status::Usage,
-        wanted: "usage N\n",
-    },
-    Row {
-        calls: "1000001",
-        status: Status::Usage,
-        wanted: "usage N\n",
+        calls: "100000",
+        printed: Printed {
+            events: "turns 800019 beats 114288 keys 0 ticks 0",
+            turns: "retired 700017 traps 100000 enters 100000 leaves 100000 demotes 0",
+            ..PRINTED_OF_TEN
+        },
     },
 ];
 
+const PRINTED_OF_TEN: Printed = Printed {
+    console: "K",
+    notes: &["denied gpa 0x0000000080001000"],
+    events: "turns 99 beats 14 keys 0 ticks 0",
+    turns: "retired 87 traps 10 enters 10 leaves 10 demotes 0",
+    devices: "denied 1 dropped 0 loads 0 unloads 0 refused 0",
+    verdict: "verdict shutdown",
+};
+
 #[test]
 fn runs_of_generated_guests(rt: HostRuntime) -> Result<(), Fail> {
+    let none = files(rt.alloc())?;
     for row in &ROWS {
-        let none = Vec::new(rt.alloc());
-        let left = run(&rt, rt.alloc(), none, &["gen", row.calls], GOOD)?;
-        assert_eq!(rt; left.status, row.status);
-        assert!(rt; left.taken.as_slice() == row.wanted.as_bytes());
+        let calls = row.calls;
+        let want = text_of(rt.alloc(), &row.printed)?;
+        let left = call(&rt, rt.alloc(), &none, &["gen", calls], GOOD)?;
+        assert_eq!(rt; left.status, Status::Done, "{calls}");
+        assert!(rt; left.taken.as_slice() == want.as_bytes(), "{calls}");
+    }
+    Ok(())
+}
+
+/// The words under which the guest's files run.
+pub(crate) const WORDS: [&str; 7] = ["run", "image", "policy", "disk", "script", "1000", "saved"];
+
+// Two sectors, in which each byte is the last one of its place.
+fn disk(alloc: Global) -> Result<Vec<u8>, AllocError> {
+    let mut disk = Vec::new(alloc);
+    for place in 0..1024u32 {
+        disk.push((place % 256) as u8)?;
+    }
+    Ok(disk)
+}
+
+// Seven turns and a beat, over and over.
+fn script(alloc: Global) -> Result<Vec<u8>, AllocError> {
+    let mut text = Vec::new(alloc);
+    for _ in 0..17 {
+        text.extend_from_slice(b"turn 0 7\nbeat 1\n")?;
+    }
+    Ok(text)
+}
+
+/// The image, the policy, the disk and the script of the guest that calls its kernel ten times.
+pub(crate) fn files(alloc: Global) -> Result<Handed, AllocError> {
+    let (image, policy) = generate(alloc, 10)?;
+    Ok(Handed {
+        image,
+        policy: policy::write(alloc, &policy)?,
+        disk: disk(alloc)?,
+        script: script(alloc)?,
+    })
+}
+
+/// The run of these files.
+pub(crate) fn run<R: Threads + Sync>(
+    rt: &R,
+    alloc: Global,
+    outside: Outside,
+) -> Result<Left, AllocError> {
+    call(rt, alloc, &files(alloc)?, &WORDS, outside)
+}
+
+#[test]
+fn runs_the_generated_guest_from_files(rt: HostRuntime) -> Result<(), Fail> {
+    let left = run(&rt, rt.alloc(), GOOD)?;
+    let want = text_of(rt.alloc(), &PRINTED_OF_TEN)?;
+    assert_eq!(rt; left.status, Status::Done);
+    assert!(rt; left.taken.as_slice() == want.as_bytes());
+    match &left.saved {
+        Some(saved) => assert!(rt; saved.as_slice() == disk(rt.alloc())?.as_slice()),
+        None => assert!(rt; false),
     }
     Ok(())
 }

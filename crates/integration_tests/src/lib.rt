@@ -2,10 +2,28 @@
 #![tactic(auto)]
 
 #[cfg(test)]
+mod devices;
+#[cfg(test)]
+mod faults;
+#[cfg(test)]
 mod flat;
 #[cfg(test)]
 mod generated;
 #[cfg(test)]
+mod harts;
+#[cfg(test)]
+mod images;
+#[cfg(test)]
+mod kernel;
+#[cfg(test)]
+mod measure;
+#[cfg(test)]
+mod modules;
+#[cfg(test)]
+mod program;
+#[cfg(test)]
 mod real;
 #[cfg(test)]
-mod run;
+mod texts;
+#[cfg(test)]
+mod translation;

@@ -4,7 +4,7 @@ use Rattle.secvisor_cli.specs.CommandLine.{judged}
 use Rattle.secvisor_cli.specs.Plans.{plan_of}
 use Rattle.secvisor_cli.specs.Reading.{MayFollow}
 use Rattle.secvisor_cli.proofs.PlanLemmas.{may_follow}
-use Rattle.integration_tests.proofs.run.run.Goals as goal
+use Rattle.integration_tests.proofs.program.call.Goals as goal
 
 words_follow : (words : List (List ℕ)) (files : FilesState) → ((names : List (List ℕ)) → IsTrue (files.permits names)) →
     ((name bytes : List ℕ) → IsTrue (files.permits_save name bytes)) → MayFollow (plan_of (judged words)) files

@@ -1,0 +1,156 @@
+// Calls of the program over files and a sink in memory.
+ghost use Rattle.std.specs.Prelude.{◌≡◌, ◌<◌, IfOk};
+
+use outside::{Files, MemFiles, MemSink};
+use secvisor_cli::{Bench, Status, secvisor};
+use std::alloc::{AllocError, Global};
+use std::thread::Threads;
+
+// So many files are put there before a call.
+const HANDED: u64 = 4;
+
+// The most bytes of all files of a call.
+const FILE_ROOM: usize = 8_388_608;
+
+// The most bytes that a call prints.
+const PRINTED_ROOM: usize = 20_000;
+
+/// The files before a call, each under the name of its field.
+#[derive(Drop)]
+pub(crate) struct Handed {
+    pub(crate) image: Vec<u8>,
+    pub(crate) policy: Vec<u8>,
+    pub(crate) disk: Vec<u8>,
+    pub(crate) script: Vec<u8>,
+}
+
+/// What a call left behind.
+#[derive(Drop)]
+pub(crate) struct Left {
+    pub(crate) status: Status,
+    pub(crate) taken: Vec<u8>,
+    /// What lies under the name `saved`.
+    pub(crate) saved: Option<Vec<u8>>,
+    pub(crate) is_booted: bool,
+}
+
+/// What the outside does: the read, the write and the save that fail, counted from 1, and the most bytes that a write
+/// takes.
+#[derive(Clone, Copy)]
+pub(crate) struct Outside {
+    pub(crate) failing_read: u64,
+    pub(crate) failing_write: u64,
+    pub(crate) failing_save: u64,
+    pub(crate) piece: usize,
+}
+
+pub(crate) const GOOD: Outside = Outside {
+    failing_read: 0,
+    failing_write: 0,
+    failing_save: 0,
+    piece: PRINTED_ROOM,
+};
+
+/// What the program prints of a run.
+#[derive(Clone, Copy)]
+pub(crate) struct Printed {
+    pub(crate) console: &'static str,
+    pub(crate) notes: &'static [&'static str],
+    pub(crate) events: &'static str,
+    pub(crate) turns: &'static str,
+    pub(crate) devices: &'static str,
+    pub(crate) verdict: &'static str,
+}
+
+pub(crate) const PRINTED: Printed = Printed {
+    console: "",
+    notes: &[],
+    events: "turns 0 beats 0 keys 0 ticks 0",
+    turns: "retired 0 traps 0 enters 0 leaves 0 demotes 0",
+    devices: "denied 0 dropped 0 loads 0 unloads 0 refused 0",
+    verdict: "verdict ended",
+};
+
+/// The printed lines as one text.
+pub(crate) fn text_of(alloc: Global, printed: &Printed) -> Result<String, AllocError> {
+    let console = printed.console;
+    let mut text = format!(in alloc; "{console}\n")?;
+    for note in printed.notes {
+        text.push_str(note)?;
+        text.push_str("\n")?;
+    }
+    let notes = printed.notes.len();
+    let events = printed.events;
+    let turns = printed.turns;
+    let devices = printed.devices;
+    let verdict = printed.verdict;
+    let counts = format!(in alloc; "notes {notes}\n{events}\n{turns}\n{devices}\n{verdict}\n")?;
+    text.push_str(counts.as_str())?;
+    Ok(text)
+}
+
+// The number of the failing save, behind those that put the files there.
+fn save_number(outside: Outside) -> u64 {
+    if outside.failing_save == 0 {
+        0
+    } else {
+        outside.failing_save.saturating_add(HANDED)
+    }
+}
+
+// Holds the files, with room for one more.
+fn hold(alloc: Global, handed: &Handed, outside: Outside) -> Result<MemFiles, AllocError>
+    ensures reads { IfOk result (λ files. files.read_faults ≡ 0) }
+    ensures saves { IfOk result (λ files. files.save_faults ≡ 0) }
+{
+    let failing_reads = [outside.failing_read];
+    let failing_saves = [save_number(outside)];
+    let saves = HANDED as usize + 1;
+    let mut files = MemFiles::new(alloc, &[], saves, FILE_ROOM, &failing_reads, &failing_saves)?;
+    if files.save("image", &handed.image).is_err() {
+        return Err(AllocError);
+    }
+    if files.save("policy", &handed.policy).is_err() {
+        return Err(AllocError);
+    }
+    if files.save("disk", &handed.disk).is_err() {
+        return Err(AllocError);
+    }
+    if files.save("script", &handed.script).is_err() {
+        return Err(AllocError);
+    }
+    Ok(files)
+}
+
+/// The call with these words, over these files.
+pub(crate) fn call<R: Threads + Sync>(
+    rt: &R,
+    alloc: Global,
+    handed: &Handed,
+    words: &[&str],
+    outside: Outside,
+) -> Result<Left, AllocError> {
+    let mut line = Vec::new(alloc);
+    for word in words {
+        line.push(String::from_str(alloc, word)?)?;
+    }
+    let mut files = hold(alloc, handed, outside)?;
+    let mut out = MemSink::new(
+        alloc,
+        PRINTED_ROOM,
+        outside.piece.max(1),
+        &[outside.failing_write],
+    )?;
+    let mut bench = Bench { machine: None };
+    let status = secvisor(rt, alloc, &line, &mut files, &mut out, &mut bench);
+    let saved = match files.bytes("saved") {
+        Some(bytes) => Some(bytes.to_vec(alloc)?),
+        None => None,
+    };
+    Ok(Left {
+        status,
+        taken: out.taken().to_vec(alloc)?,
+        saved,
+        is_booted: bench.machine.is_some(),
+    })
+}
