@@ -60,8 +60,8 @@ impl Side {
     }
 
     /// The hypervisor registers of a hart on this side.
-    pub fn registers(&self) -> HRegs
-        ensures { result ≡ hregs_in self.now }
+    pub fn registers(&self) -> &HRegs
+        ensures { result.now ≡ hregs_in self.now }
     {
         match &self.half {
             Half::Kernel(side) => side.registers(),

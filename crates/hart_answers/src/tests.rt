@@ -33,7 +33,7 @@ fn a_hart_through_all_answers(rt: HostRuntime) -> Result<(), Fail> {
         (hart.regs.get(10), hart.regs.get(11), hart.started),
         (1, 7, true)
     );
-    let kernel = side.registers();
+    let kernel = *side.registers();
     pass(&mut hart);
     set(&mut hart, 5, 9);
     answer(&mut hart, 2, 3);

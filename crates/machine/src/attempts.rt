@@ -33,7 +33,7 @@ fn attempt_in_seat(
     ensures usable { IsUsable mem.new.tables cache.new }
 {
     let regs = seat.side.registers();
-    cpu.attempt(&mut seat.hart, &regs, cache, mem, lines)
+    cpu.attempt(&mut seat.hart, regs, cache, mem, lines)
 }
 
 /// One attempt of a hart among all harts, each with its cache.

@@ -305,6 +305,7 @@ impl Parts {
 
     // A turn of a hart, the count of turns raised already.
     #[tactic(auto)]
+    #[inline(always)]
     fn serve_turn(&mut self, which: u8)
         requires count { self.old.attempts < 2 ^ 64 - 1 }
         requires counts { MayCount self.old.journal.counts }
@@ -329,6 +330,7 @@ impl Parts {
 
     /// A turn of a hart, which is counted.
     #[tactic(auto)]
+    #[inline(always)]
     pub(crate) fn turn(&mut self, which: u8)
         requires turns { self.old.journal.counts.turns < 2 ^ 64 - 1 }
         requires count { self.old.attempts < 2 ^ 64 - 1 }

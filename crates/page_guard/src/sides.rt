@@ -74,10 +74,10 @@ impl Guard {
 
 impl InKernel {
     /// The hypervisor registers of a hart on this side.
-    pub fn registers(&self) -> HRegs
-        ensures { result ≡ hregs_in Kernel }
+    pub fn registers(&self) -> &HRegs
+        ensures { result.now ≡ hregs_in Kernel }
     {
-        self.regs
+        &self.regs
     }
 
     /// A return from a trap to user mode.
@@ -97,10 +97,10 @@ impl InKernel {
 
 impl InUser {
     /// The hypervisor registers of a hart on this side.
-    pub fn registers(&self) -> HRegs
-        ensures { result ≡ hregs_in User }
+    pub fn registers(&self) -> &HRegs
+        ensures { result.now ≡ hregs_in User }
     {
-        self.regs
+        &self.regs
     }
 
     /// Enters the kernel at a permitted address. The side comes back as it was where the target isn't one.
