@@ -1,4 +1,0 @@
-pub mod Canonical
-pub mod PlainWords
-pub mod Shapes
-pub mod Walks
