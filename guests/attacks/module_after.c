@@ -8,11 +8,7 @@ const struct export exports[] = { { "put", put }, { "tell", tell }, { 0, 0 } };
 
 int main(void)
 {
-    u64 object = new_page();
-    for (int i = 1; i < 3; i++)
-        new_page();
-    fetch_object(object, DISK_SECTORS);
-    struct module m = place(object);
+    struct module m = fetch_module();
     int (*begin)(void) = (int (*)(void))m.begin;
     tell("load", module_load(0, m.text, m.text, m.data));
     tell("answer", begin());

@@ -123,3 +123,12 @@ struct module place(u64 object)
             relocate((struct rela *)(object + sections[i].offset), sections[i].size / 24, base[sections[i].info]);
     return m;
 }
+
+struct module fetch_module(void)
+{
+    u64 object = new_page();
+    for (int i = 1; i < 3; i++)
+        new_page();
+    fetch_object(object, DISK_SECTORS);
+    return place(object);
+}

@@ -12,4 +12,6 @@ struct module { u64 text, pages, data, begin; };
 void fetch_object(u64 object, u32 sectors);
 /* Relocates the object to fresh pages; `begin` is the address of its symbol `module_begin`. */
 struct module place(u64 object);
+/* Reads the object from the disk to three fresh pages, and places it. */
+struct module fetch_module(void);
 #endif
