@@ -10,15 +10,16 @@ use secvisor_cli::Status;
 use std::alloc::{AllocError, Global};
 use std::test::Fail;
 
-// A field of an image, with its width in bytes.
+/// A field of a file, with its width in bytes.
 #[derive(Clone, Copy)]
-struct Field {
-    place: usize,
-    width: usize,
-    value: u64,
+pub(crate) struct Field {
+    pub(crate) place: usize,
+    pub(crate) width: usize,
+    pub(crate) value: u64,
 }
 
-fn put_fields(image: &mut [u8], fields: &[Field]) {
+/// Puts fields at their places.
+pub(crate) fn put_fields(image: &mut [u8], fields: &[Field]) {
     for field in fields {
         if let Some(bytes) = field.value.to_le_bytes().get(..field.width) {
             put(image, field.place, bytes);
@@ -26,16 +27,17 @@ fn put_fields(image: &mut [u8], fields: &[Field]) {
     }
 }
 
-// The generated guest's image, cut and changed, and the number that refuses it.
-struct Bad {
-    what: &'static str,
-    length: usize,
-    fields: &'static [Field],
-    line: &'static str,
+/// A file that is cut and changed, and the line that refuses it.
+pub(crate) struct Bad {
+    pub(crate) what: &'static str,
+    pub(crate) length: usize,
+    pub(crate) fields: &'static [Field],
+    pub(crate) line: &'static str,
 }
 
 const WHOLE: usize = 8200;
 
+// Of the generated guest's image.
 static BAD: [Bad; 24] = [
     Bad {
         what: "empty",

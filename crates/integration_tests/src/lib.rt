@@ -20,6 +20,8 @@ mod measure;
 #[cfg(test)]
 mod modules;
 #[cfg(test)]
+mod objects;
+#[cfg(test)]
 mod program;
 #[cfg(test)]
 mod real;
