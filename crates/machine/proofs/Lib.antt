@@ -8,6 +8,5 @@ pub mod Seated
 pub mod Called
 pub mod Moduled
 pub mod BeatsFit
-pub mod TurnGains
 pub mod Ready
 pub mod Stepped

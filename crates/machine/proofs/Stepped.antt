@@ -23,7 +23,7 @@ use Rattle.answer_laws.proofs.LawsHold.{running}
 use Rattle.machine_model.specs.Reaches.{without_first_printed}
 use Rattle.answer_laws.proofs.RunsReach.{clear_law}
 use Rattle.answer_laws.proofs.TurnsServed.{step_law}
-use Rattle.machine.proofs.TurnGains.{turn_gains}
+use Rattle.run_laws.proofs.StepsGrow.{turn_gains}
 
 -- ---- the two laws of a step
 

@@ -97,7 +97,7 @@ unfolding turn_of
 hart_turn_gains r h None = still r.journal
 hart_turn_gains r h (Some hart) = choose_gains r hart.started _ _ (started_gains r h hart r.loading) (still r.journal)
 
-turn_gains : (r : State) (h : ℕ) → Gains r (turn r h)
+pub turn_gains : (r : State) (h : ℕ) → Gains r (turn r h)
 unfolding turn
 turn_gains r h = hart_turn_gains r h (slice_get r.harts h)
 
