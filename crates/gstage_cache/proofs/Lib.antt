@@ -1,3 +1,3 @@
 pub mod Walks
 pub mod Lines
-pub mod Fences
+pub mod WritesAndWalks

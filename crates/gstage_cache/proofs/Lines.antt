@@ -1,15 +1,14 @@
--- Lines of a cache: what they answer, how they are filled, and what a fence leaves.
+-- Lines of a cache: what they answer, and how they are filled.
 use Rattle.std.proofs.Common.{◌≡◌, ℕ, zero, suc, ◌+◌, ◌-◌, ◌*◌, ◌/◌, ◌%◌, ◌^◌, ◌<◌, ◌⊎◌, inl, inr, List, length, get_or, set, replicate, refl, sym, ◌∙◌, ap, subst, arith, Bool, true, false, ◌&&◌}
-use Rattle.std.specs.Prelude.{Option, Some, None, IfSome, if◌then◌else◌, ◌==◌, map}
+use Rattle.std.specs.Prelude.{Option, Some, None, IfSome, if◌then◌else◌, ◌==◌}
 use Rattle.std.specs.Option.{ok_or}
 use Rattle.std.specs.Result.{result_ok}
 use Rattle.std.proofs.lemmas.Bool.Decides.{nat_tests, eqb_tells}
-use Rattle.std.proofs.lemmas.List.{get_or-set_same, get_or-set_other, ext_get_or, length-set, length-map}
-use Rattle.std.proofs.Math.ListN.{get_or-map}
+use Rattle.std.proofs.lemmas.List.{get_or-set_same, get_or-set_other}
 use Rattle.sv_types.specs.Regions.{Region}
 use Rattle.sv_types.specs.Translation.{Destination, At, PageFault, Unreadable}
 use Rattle.sv_types.specs.SecondStage.{walk_guest, address_at, entry_in_region, entry_in_tables, guest_destination, permits_guest, WalksApart}
-use Rattle.sv_types.specs.CachedWalks.{UnderViews, line_permits, line_leads, line_at, LineAgrees, CacheAgrees, FilledUnder, no_lines, without_page}
+use Rattle.sv_types.specs.CachedWalks.{UnderViews, line_permits, line_leads, line_at, LineAgrees, CacheAgrees, FilledUnder, no_lines}
 use Rattle.sv_types.specs.declared.cached.CacheLine.{CacheLine}
 use Rattle.sv_types.specs.declared.translation.GuestFault.{GuestFault}
 use Rattle.sv_types.specs.declared.wires.Access.{Access}
@@ -17,7 +16,7 @@ use Rattle.sv_types.specs.declared.wires.Access.TheVariants.{Fetch, Load, Store}
 use Rattle.sv_types.proofs.Walks.{walk_guest_fits}
 use Rattle.sv39_walk.specs.Mappings.{mapping_answer}
 use Rattle.sv39_walk.specs.declared.second_stage.Mapping.{Mapping}
-use Rattle.gstage_cache.specs.Lookup.{tagged, line_for, is_held, IsPlaced, line_of_mapping, IsKept, is_of_page}
+use Rattle.gstage_cache.specs.Lookup.{tagged, line_for, is_held, IsPlaced, line_of_mapping, IsKept}
 use Rattle.gstage_cache.proofs.Walks.{IsReadable, moved, leads_in_region, region_readable, page_moves, answer_near, answer_is}
 
 -- ---- what a line answers
@@ -187,52 +186,3 @@ none_under_views = record { root = λ i line e. let none = none_at 256 i in absu
 
 pub none_placed : IsPlaced no_lines
 none_placed = record { size = refl; place = λ i line e. let none = none_at 256 i in absurd (cc) }
-
--- ---- fences
-
-emptied_test : (page : ℕ) (line : CacheLine) (b : Bool) → (line.page == page) ≡ b → b ≡ true → without_page page (Some line) ≡ None
-emptied_test page line b test is = ap (λ (t : Bool). if t then None else Some line) (test ∙ is)
-
-emptied : (page : ℕ) (o : Option CacheLine) → is_of_page page o ≡ true → without_page page o ≡ None
-emptied page None is = refl
-emptied page (Some line) is = emptied_test page line (line.page == page) refl is
-
-left : (page : ℕ) (o : Option CacheLine) → is_of_page page o ≡ false → without_page page o ≡ o
-left page None other = refl
-left page (Some line) other = ap (λ (t : Bool). if t then None else Some line) other
-
--- a line of another place is of another page
-other_place : (page i : ℕ) (o : Option CacheLine) → ((line : CacheLine) → o ≡ Some line → line.page % 256 ≡ i) → (i ≡ page % 256 → ⊥) → is_of_page page o ≡ false
-other_place page i None placed other = refl
-other_place page i (Some line) placed other =
-    let at : line.page % 256 ≡ i = placed line refl in
-    let differs : line.page ≡ page → ⊥ = λ same. other (sym at ∙ ap (λ (p : ℕ). p % 256) same) in grind (arith, nat_tests)
-
-map_at : (page : ℕ) (lines : List (Option CacheLine)) (i : ℕ) → get_or (map (without_page page) lines) i None ≡ without_page page (get_or lines i None)
-map_at page lines i = get_or-map (without_page page) lines i None
-
-fence_at : (lines : List (Option CacheLine)) (page i : ℕ) → IsPlaced lines → is_of_page page (line_at lines (page % 256)) ≡ true
-    → get_or (set lines (page % 256) None) i None ≡ without_page page (get_or lines i None)
-fence_at lines page i placed is = elim (set_at lines (page % 256) i None (kept_fits lines page placed.size)) [
-  | inl same ↦ same.1 ∙ sym (ap (λ (k : ℕ). without_page page (get_or lines k None)) same.0 ∙ emptied page (line_at lines (page % 256)) is)
-  | inr other ↦ other.1 ∙ sym (left page (get_or lines i None) (other_place page i (get_or lines i None) (placed.place i) other.0))
-]
-
-pub fence_empties : (lines : List (Option CacheLine)) (page : ℕ) → IsPlaced lines → is_of_page page (line_at lines (page % 256)) ≡ true
-    → set lines (page % 256) None ≡ map (without_page page) lines
-fence_empties lines page placed is =
-    ext_get_or None (set lines (page % 256) None) (map (without_page page) lines) (length-set lines (page % 256) None ∙ sym (length-map lines (without_page page)))
-    (λ i below. fence_at lines page i placed is ∙ sym (map_at page lines i))
-
-left_at : (lines : List (Option CacheLine)) (page i : ℕ) → IsPlaced lines → is_of_page page (line_at lines (page % 256)) ≡ false
-    → get_or lines i None ≡ without_page page (get_or lines i None)
-left_at lines page i placed none = elim (eqb_tells i (page % 256)) [
-  | inl same ↦ sym (left page (get_or lines i None) (ap (λ (k : ℕ). is_of_page page (get_or lines k None)) same.1 ∙ none))
-  | inr other ↦ sym (left page (get_or lines i None) (other_place page i (get_or lines i None) (placed.place i) other.1))
-]
-
-pub fence_leaves : (lines : List (Option CacheLine)) (page : ℕ) → IsPlaced lines → is_of_page page (line_at lines (page % 256)) ≡ false
-    → lines ≡ map (without_page page) lines
-fence_leaves lines page placed none =
-    ext_get_or None lines (map (without_page page) lines) (sym (length-map lines (without_page page)))
-    (λ i below. left_at lines page i placed none ∙ sym (map_at page lines i))

@@ -40,7 +40,3 @@ line_of_mapping hgatp gpa mapping = record {
 pub record IsKept (before after : List (Option CacheLine)) (line : CacheLine) : Type 0 where
   pub size : length before ≡ lines_of_cache
   pub is : after ≡ slice_set before (line.page % lines_of_cache) (Some line)
-
-abbrev pub is_of_page : ℕ → Option CacheLine → Bool
-is_of_page page None = false
-is_of_page page (Some line) = line.page == page

@@ -3,8 +3,8 @@
 ghost use Rattle.std.specs.Prelude.{◌≡◌, ℕ, ◌+◌, ◌*◌, ◌/◌, ◌%◌, ◌^◌, ◌<◌, ◌≤◌, Some, None, IfOk, IfSome, true, slice_set};
 ghost use Rattle.std.specs.Option.{ok_or};
 ghost use Rattle.sv_types.specs.SecondStage.{walk_guest, WalksApart};
-ghost use Rattle.sv_types.specs.CachedWalks.{line_permits, no_lines, LineAgrees, CacheAgrees, FilledUnder, fenced};
-ghost use Rattle.gstage_cache.specs.Lookup.{line_for, is_held, is_of_page, line_of_mapping, IsKept};
+ghost use Rattle.sv_types.specs.CachedWalks.{line_permits, no_lines, LineAgrees, CacheAgrees, FilledUnder};
+ghost use Rattle.gstage_cache.specs.Lookup.{line_for, is_held, line_of_mapping, IsKept};
 ghost use Rattle.gstage_cache.specs.Fills.{nothing_filled, filled_further};
 
 use host_mem::HostMem;
@@ -15,9 +15,6 @@ use sv39_walk::{Mapping, SecondStage, find_mapping};
 
 /// The lines of a cache.
 const LINES: u64 = 256;
-
-/// The number of RAM's first page among those of guest-physical addresses.
-const RAM_PAGE: u64 = 0x8_0000;
 
 /// A cache of second-stage translations. Contracts see its lines, each held or empty.
 #[derive(Drop)]
@@ -193,18 +190,6 @@ impl Cache {
         self.lines[(line.page % LINES) as usize] = Some(line);
     }
 
-    /// Empties the lines of a page of RAM, where pages are counted from 0, under every `hgatp` value.
-    pub fn fence(&mut self, page: u32)
-        ensures { self.new ≡ fenced page self.old }
-    {
-        let page = RAM_PAGE + u64::from(page);
-        let place = (page % LINES) as usize;
-        let held = self.lines[place];
-        if is_of_page(&held, page) {
-            self.lines[place] = None;
-        }
-    }
-
     /// Empties all lines.
     pub fn fence_all(&mut self)
         ensures { self.new ≡ no_lines }
@@ -217,15 +202,6 @@ fn empty() -> [Option<CacheLine>; 256]
     ensures { result ≡ no_lines }
 {
     [None; 256]
-}
-
-fn is_of_page(held: &Option<CacheLine>, page: u64) -> bool
-    ensures { result ≡ is_of_page page held.now }
-{
-    match held {
-        Some(line) => line.page == page,
-        None => false,
-    }
 }
 
 // The line that keeps where the walk of an address led.

@@ -113,7 +113,7 @@ pub(crate) fn load_reserved(
 }
 
 /// A store of the `width` lowest bytes of a value.
-#[tactic(auto, using(gstage_cache::proofs::Fences::write_behind), unfolding(sv_types::specs::HardwareMemory::after_store))]
+#[tactic(auto, using(gstage_cache::proofs::WritesAndWalks::write_behind), unfolding(sv_types::specs::HardwareMemory::after_store))]
 pub(crate) fn store(
     hart: &mut Hart,
     regs: &HRegs,
@@ -153,7 +153,7 @@ fn covers(reservation: Option<u64>, hpa: u64, width: u8) -> bool
 }
 
 /// A store that is carried out where its bytes lie in the hart's reservation, which goes in both cases.
-#[tactic(auto, using(gstage_cache::proofs::Fences::write_behind), unfolding(sv_types::specs::HardwareMemory::after_store_conditional))]
+#[tactic(auto, using(gstage_cache::proofs::WritesAndWalks::write_behind), unfolding(sv_types::specs::HardwareMemory::after_store_conditional))]
 pub(crate) fn store_conditional(
     hart: &mut Hart,
     regs: &HRegs,
@@ -197,7 +197,7 @@ pub(crate) struct Operation {
 }
 
 /// An atomic instruction: a load, and a store of what the operation makes of the loaded word.
-#[tactic(auto, using(gstage_cache::proofs::Fences::write_behind), unfolding(sv_types::specs::HardwareMemory::after_amo))]
+#[tactic(auto, using(gstage_cache::proofs::WritesAndWalks::write_behind), unfolding(sv_types::specs::HardwareMemory::after_amo))]
 pub(crate) fn atomic(
     hart: &mut Hart,
     regs: &HRegs,

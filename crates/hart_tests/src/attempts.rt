@@ -423,9 +423,8 @@ fn an_attempt_fills_the_cache(rt: HostRuntime) -> Result<(), AllocError> {
         cache.walk(&mem, regs.hgatp, KERNEL_PC, Access::Store),
         Err(GuestFault { gpa: KERNEL_PC })
     );
-    cache.fence(0);
-    assert!(rt; !cache.holds(regs.hgatp, KERNEL_PC));
     cache.fence_all();
+    assert!(rt; !cache.holds(regs.hgatp, KERNEL_PC));
     assert_eq!(rt;
         cpu.attempt(&mut hart, &regs, &mut cache, &mut mem, &QUIET),
         DONE

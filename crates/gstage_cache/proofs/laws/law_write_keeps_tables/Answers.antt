@@ -1,4 +1,4 @@
-use Rattle.gstage_cache.proofs.Fences.{write_behind}
+use Rattle.gstage_cache.proofs.WritesAndWalks.{write_behind}
 use Rattle.gstage_cache.proofs.laws.law_write_keeps_tables.Goals as goal
 
 pub returns : goal.returns
