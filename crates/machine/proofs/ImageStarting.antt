@@ -8,19 +8,17 @@ use Rattle.elf64_load.specs.declared.image.KernelImage.{KernelImage}
 use Rattle.machine_model.specs.Machine.{Machine}
 use Rattle.machine_model.specs.Reaches.{IsNew}
 use Rattle.reference.specs.Start.{AreWords, boot_start}
-use Rattle.reference.specs.Protections.{with_each}
 use Rattle.reference.specs.States.{has_number}
 use Rattle.sv_types.specs.ApprovedPages.{numbers_from}
 use Rattle.sv_types.specs.Bytes.{padded}
-use Rattle.sv_types.specs.Kernel.{LoadedSegment, filled_part, is_text_of, kernel_segments, segments_ram, text_page, text_page_in, text_of, text_pages}
+use Rattle.sv_types.specs.Kernel.{LoadedSegment, filled_part, header_entry, is_text_of, segments_ram, text_page, text_page_in, text_of, text_pages}
 use Rattle.sv_types.specs.Policies.{Rules, rules_within}
 use Rattle.sv_types.specs.Regions.{Region}
 use Rattle.sv_types.specs.SecondStage.{with_ram}
 use Rattle.sv_types.specs.declared.wires.Protection.{Protection}
-use Rattle.sv_types.specs.declared.wires.Protection.TheVariants.{Free, Approved}
 use Rattle.start_laws.proofs.StartsStand.{image_start_law}
 use Rattle.start_laws.specs.Starts.{machine_at_boot, image_machine, image_protections, IsGuarded}
-use Rattle.machine.specs.Boot.{IsImageOf, ram_of_image, guard_of_image, machine_of_image, RefusesFlat, RefusesImage}
+use Rattle.machine.specs.Boot.{IsImageOf, RefusesFlat, RefusesImage}
 use Rattle.machine.specs.declared.boot.BootRefusal.{BootRefusal}
 use Rattle.machine.specs.declared.boot.BootRefusal.TheVariants.{Measure, Entry, Memory}
 
@@ -89,26 +87,22 @@ are_words entries fits = λ entry there. word_at entries entry fits there
 
 -- ---- the machine
 
-pub image_made : (m : Machine) (rules : Rules) (image : KernelImage) (region : Region) (guard : List Protection) (disk : List ℕ) → m ≡ machine_at_boot rules region image.entry guard disk
-    → region.ram ≡ ram_of_image image rules.ram_pages → guard ≡ guard_of_image image rules.ram_pages → m ≡ machine_of_image m.region.tables rules image disk
-unfolding machine_at_boot
-image_made m rules image region guard disk made ram approved =
+pub image_made : (m : Machine) (rules : Rules) (entry : ℕ) (segments : List LoadedSegment) (region : Region) (guard : List Protection) (disk : List ℕ)
+    → m ≡ machine_at_boot rules region entry guard disk → region.ram ≡ segments_ram segments rules.ram_pages
+    → guard ≡ image_protections rules.ram_pages segments → m ≡ image_machine m.region.tables rules entry segments disk
+unfolding machine_at_boot image_machine
+image_made m rules entry segments region guard disk made ram approved =
     made
-    ∙ ap (λ (ram : List ℕ). machine_at_boot rules (with_ram region.tables ram) image.entry guard disk) ram
-    ∙ ap (λ (guard : List Protection). machine_at_boot rules (with_ram region.tables (ram_of_image image rules.ram_pages)) image.entry guard disk) approved
-    ∙ ap (λ (tables : List ℕ). machine_of_image tables rules image disk) (sym (ap (λ (m : Machine). m.region.tables) made))
-
-image_same : (tables : List ℕ) (rules : Rules) (image : KernelImage) (file disk : List ℕ) → IsImageOf file rules.ram_pages image
-    → machine_of_image tables rules image disk ≡ image_machine tables rules file disk
-unfolding image_machine
-image_same tables rules image file disk is =
-    ap (λ (ss : List LoadedSegment). machine_at_boot rules (with_ram tables (segments_ram ss rules.ram_pages)) image.entry (with_each (replicate rules.ram_pages Free) (text_pages ss) Approved) disk) is.segments
-    ∙ ap (λ (entry : ℕ). machine_at_boot rules (with_ram tables (segments_ram (kernel_segments file) rules.ram_pages)) entry (image_protections rules file) disk) is.entry
+    ∙ ap (λ (ram : List ℕ). machine_at_boot rules (with_ram region.tables ram) entry guard disk) ram
+    ∙ ap (λ (guard : List Protection). machine_at_boot rules (with_ram region.tables (segments_ram segments rules.ram_pages)) entry guard disk) approved
+    ∙ ap (λ (tables : List ℕ). image_machine tables rules entry segments disk) (sym (ap (λ (m : Machine). m.region.tables) made))
 
 -- it stands for the start of the image's file
 pub image_new : (m : Machine) (rules : Rules) (image : KernelImage) (file disk : List ℕ) → IsTrue (rules_within rules) → AreWords rules.entries
-    → has_number rules.entries image.entry ≡ true → IsGuarded m → m ≡ machine_of_image m.region.tables rules image disk
+    → has_number rules.entries image.entry ≡ true → IsGuarded m → m ≡ image_machine m.region.tables rules image.entry (segments_of image) disk
     → IsImageOf file rules.ram_pages image → IsNew m (boot_start rules file disk)
 image_new m rules image file disk within words permitted guarded made is =
     image_start_law m rules file disk within words is.accepted (ap (has_number rules.entries) (sym is.entry) ∙ permitted) guarded
-    (made ∙ image_same m.region.tables rules image file disk is)
+    (made
+    ∙ ap (λ (entry : ℕ). image_machine m.region.tables rules entry (segments_of image) disk) is.entry
+    ∙ ap (λ (segments : List LoadedSegment). image_machine m.region.tables rules (header_entry file) segments disk) is.segments)

@@ -10,7 +10,8 @@ use Rattle.std.specs.Prelude.{None}
 use Rattle.sv_types.specs.Kernel.{header_entry, kernel_refusal, kernel_segments}
 use Rattle.sv_types.specs.Policies.{Rules}
 use Rattle.machine_model.specs.Reaches.{IsNew}
-use Rattle.machine.specs.Boot.{journal_at_boot, IsImageOf, IsRead}
+use Rattle.start_laws.specs.Starts.{journal_at_boot}
+use Rattle.machine.specs.Boot.{IsImageOf, IsRead}
 use Rattle.machine.specs.Machines.{IsFit}
 use Rattle.machine.specs.declared.machine.Machine.TheInside.{Inside}
 

@@ -2,6 +2,7 @@
 
 ghost use Rattle.std.specs.Prelude.{◌≡◌, ℕ, ◌≤◌, ◌*◌, ◌%◌, List, length, true, IfOk, OnOk, IfErr, IsTrue};
 ghost use Rattle.sv_types.specs.Bytes.{page_size};
+ghost use Rattle.sv_types.specs.Kernel.{segments_ram};
 ghost use Rattle.sv_types.specs.Measure.{measure};
 ghost use Rattle.sv_types.specs.Policies.{rules_of, rules_within};
 ghost use Rattle.sv_types.specs.Regions.{most_ram_pages};
@@ -12,8 +13,8 @@ ghost use Rattle.image_loader.specs.Placed.{ArePlaced};
 ghost use Rattle.reference.specs.Start.{boot_start, AreWords};
 ghost use Rattle.reference.specs.States.{has_number};
 ghost use Rattle.machine_model.specs.Reaches.{IsNew};
-ghost use Rattle.start_laws.specs.Starts.{image_machine, IsGuarded};
-ghost use Rattle.machine.specs.Boot.{journal_at_boot, IsImageOf, image_text, ram_of_image, guard_of_image, machine_of_image, RefusesImage};
+ghost use Rattle.start_laws.specs.Starts.{image_machine, image_protections, journal_at_boot, IsGuarded};
+ghost use Rattle.machine.specs.Boot.{IsImageOf, image_text, RefusesImage};
 
 use crate::boot::BootRefusal;
 use crate::parts::Parts;
@@ -30,7 +31,7 @@ use sv_types::Policy;
 impl Parts {
     /// A machine of a kernel's image under a policy: the image's segments in RAM, its text approved, and hart 0 at its
     /// entry. First the text is measured against the policy, and the entry has to be one of the policy's.
-    #[tactic(auto, unfolding(start_laws::specs::Starts::machine_at_boot))]
+    #[tactic(auto, unfolding(start_laws::specs::Starts::machine_at_boot, start_laws::specs::Starts::image_machine))]
     pub(crate) fn boot<R: Threads + Sync>(
         rt: &R,
         alloc: Global,
@@ -41,7 +42,7 @@ impl Parts {
         requires within { IsTrue (rules_within (rules_of policy)) }
         requires placed { ArePlaced policy.ram_pages (segments_of image.now) }
         requires sectors { length disk.items % 512 ≡ 0 }
-        ensures made { IfOk result (λ p. p ≡ machine_of_image p.region.tables (rules_of policy) image.now disk.items) }
+        ensures made { IfOk result (λ p. p ≡ image_machine p.region.tables (rules_of policy) image.now.entry (segments_of image.now) disk.items) }
         ensures new { (file : List ℕ) → IsImageOf file policy.ram_pages image.now → IfOk result (λ p. IsNew p (boot_start (rules_of policy) file disk.items)) }
         ensures journal { IfOk result (λ p. p.journal ≡ journal_at_boot) }
         ensures guarded { IfOk result IsGuarded }
@@ -93,7 +94,7 @@ fn assemble(
     requires within { IsTrue (rules_within (rules_of policy)) }
     requires placed { ArePlaced policy.ram_pages (segments_of image.now) }
     requires sectors { length disk.items % 512 ≡ 0 }
-    ensures made { IfOk result (λ p. p ≡ machine_of_image p.region.tables (rules_of policy) image.now disk.items) }
+    ensures made { IfOk result (λ p. p ≡ image_machine p.region.tables (rules_of policy) image.now.entry (segments_of image.now) disk.items) }
     ensures guarded { IfOk result IsGuarded }
 {
     let mut mem = image_region(alloc, image, policy.ram_pages)?;
@@ -108,7 +109,7 @@ fn image_region(alloc: Global, image: &KernelImage, ram_pages: u32) -> Result<Ho
     requires few { ram_pages ≤ most_ram_pages }
     requires placed { ArePlaced ram_pages (segments_of image.now) }
     ensures tables { IfOk result (λ m. length m.tables ≡ table_size ram_pages) }
-    ensures ram { IfOk result (λ m. m.ram ≡ ram_of_image image.now ram_pages) }
+    ensures ram { IfOk result (λ m. m.ram ≡ segments_ram (segments_of image.now) ram_pages) }
     ensures size { IfOk result (λ m. length m.ram ≡ page_size * ram_pages) }
 {
     let tables = Trees::table_bytes(ram_pages as usize);
@@ -127,7 +128,7 @@ fn image_guard(
     requires size { length mem.old.ram ≡ page_size * ram_pages }
     requires tables { length mem.old.tables ≡ table_size ram_pages }
     requires placed { ArePlaced ram_pages (segments_of image.now) }
-    ensures guard { IfOk result (λ g. g ≡ guard_of_image image.now ram_pages) }
+    ensures guard { IfOk result (λ g. g ≡ image_protections ram_pages (segments_of image.now)) }
     ensures theirs { IfOk result (λ g. IsTheirs mem.new g) }
     ensures ram { mem.new.ram ≡ mem.old.ram }
 {

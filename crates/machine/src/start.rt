@@ -11,8 +11,8 @@ ghost use Rattle.page_guard.specs.Guarded.{IsTheirs};
 ghost use Rattle.hart_answers.specs.Hosts.{host_at, hosts_of};
 ghost use Rattle.reference.specs.Start.{flat_rules, flat_start};
 ghost use Rattle.machine_model.specs.Reaches.{IsNew};
-ghost use Rattle.start_laws.specs.Starts.{host_at_boot, hosts_at_boot, machine_at_boot, first_approved, flat_ram, flat_machine, IsGuarded};
-ghost use Rattle.machine.specs.Boot.{journal_at_boot, RefusesFlat};
+ghost use Rattle.start_laws.specs.Starts.{host_at_boot, hosts_at_boot, machine_at_boot, first_approved, flat_ram, flat_machine, journal_at_boot, IsGuarded};
+ghost use Rattle.machine.specs.Boot.{RefusesFlat};
 
 use crate::boot::BootRefusal;
 use crate::parts::Parts;

@@ -155,10 +155,12 @@ flat_new tables pages digest fits guarded =
 
 image_new : (tables : List ℕ) (rules : Rules) (file disk : List ℕ)
     → CanStart rules (segments_ram (kernel_segments file) rules.ram_pages) (text_pages (kernel_segments file)) (header_entry file)
-    → IsGuarded (image_machine tables rules file disk) → IsNew (image_machine tables rules file disk) (boot_start rules file disk)
+    → IsGuarded (image_machine tables rules (header_entry file) (kernel_segments file) disk)
+    → IsNew (image_machine tables rules (header_entry file) (kernel_segments file) disk) (boot_start rules file disk)
 unfolding image_machine boot_start
 image_new tables rules file disk can guarded =
-    given_new tables rules (segments_ram (kernel_segments file) rules.ram_pages) (text_pages (kernel_segments file)) (header_entry file) disk (image_protections rules file) can
+    given_new tables rules (segments_ram (kernel_segments file) rules.ram_pages) (text_pages (kernel_segments file)) (header_entry file) disk
+    (image_protections rules.ram_pages (kernel_segments file)) can
     (start_protections rules (segments_ram (kernel_segments file) rules.ram_pages) (text_pages (kernel_segments file)) (header_entry file) disk
     ∙ sym (each_approved rules.ram_pages (text_pages (kernel_segments file)))) guarded
 

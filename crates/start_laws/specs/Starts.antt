@@ -4,7 +4,7 @@ use Rattle.sv_types.specs.Boot.{no_counts, flat_ram_pages}
 use Rattle.sv_types.specs.Bytes.{padded, page_size, ram_base}
 use Rattle.sv_types.specs.Clock.{clock_at_boot}
 use Rattle.sv_types.specs.HypervisorRegisters.{registers_at_boot}
-use Rattle.sv_types.specs.Kernel.{header_entry, kernel_refusal, kernel_segments, segments_ram, text_pages}
+use Rattle.sv_types.specs.Kernel.{LoadedSegment, header_entry, kernel_refusal, kernel_segments, segments_ram, text_pages}
 use Rattle.sv_types.specs.Policies.{Rules, rules_within}
 use Rattle.sv_types.specs.Regions.{Region, IsRegion}
 use Rattle.sv_types.specs.SecondStage.{AreViews, with_ram}
@@ -14,7 +14,7 @@ use Rattle.sv_types.specs.declared.wires.Protection.{Protection}
 use Rattle.sv_types.specs.declared.wires.Protection.TheVariants.{Free, Held, Approved}
 use Rattle.reference.specs.Protections.{is_free, protection_at, with_pages, with_each}
 use Rattle.reference.specs.Start.{AreWords, block_at_boot, flat_rules, flat_start, boot_start}
-use Rattle.reference.specs.States.{has_number}
+use Rattle.reference.specs.States.{Journal, has_number}
 use Rattle.machine_model.specs.Machine.{Machine, HostHart}
 use Rattle.machine_model.specs.Reaches.{IsNew}
 use Rattle.machine_model.specs.StandsFor.{hregs_in}
@@ -40,6 +40,10 @@ hosts_at_boot harts entry = host_at_boot entry true ∷ replicate (harts - 1) (h
 
 -- ---- the machine
 
+-- nothing is recorded, and the machine runs
+abbrev pub journal_at_boot : Journal
+journal_at_boot = record { printed = []; notes = []; counts = no_counts; verdict = Running }
+
 -- nothing is loaded or recorded, no byte printed, and no attempt made
 unfoldable pub machine_at_boot : Rules → Region → ℕ → List Protection → List ℕ → Machine
 machine_at_boot rules region entry protections disk = record {
@@ -52,7 +56,7 @@ machine_at_boot rules region entry protections disk = record {
   loading = None;
   retired = false;
   devices = record { console = []; disk = record { block = block_at_boot; bytes = disk }; clock = clock_at_boot };
-  journal = record { printed = []; notes = []; counts = no_counts; verdict = Running };
+  journal = journal_at_boot;
   cleared = 0;
   attempts = 0;
 }
@@ -76,14 +80,15 @@ flat_machine tables pages digest =
 
 -- ---- a machine of a kernel's image
 
--- the image's text is approved
-abbrev pub image_protections : Rules → List ℕ → List Protection
-image_protections rules file = with_each (replicate rules.ram_pages Free) (text_pages (kernel_segments file)) Approved
+-- the pages of the segments' text are approved
+abbrev pub image_protections : ℕ → List LoadedSegment → List Protection
+image_protections ram_pages segments = with_each (replicate ram_pages Free) (text_pages segments) Approved
 
-unfoldable pub image_machine : List ℕ → Rules → (file disk : List ℕ) → Machine
-image_machine tables rules file disk =
-    machine_at_boot rules (with_ram tables (segments_ram (kernel_segments file) rules.ram_pages)) (header_entry file)
-    (image_protections rules file) disk
+-- an image's segments in RAM, and hart 0 at its entry
+unfoldable pub image_machine : List ℕ → Rules → ℕ → List LoadedSegment → List ℕ → Machine
+image_machine tables rules entry segments disk =
+    machine_at_boot rules (with_ram tables (segments_ram segments rules.ram_pages)) entry
+    (image_protections rules.ram_pages segments) disk
 
 -- ---- the laws
 
@@ -102,4 +107,5 @@ abbrev pub ImageStartLaw : Type 0
 ImageStartLaw = (m : Machine) (rules : Rules) (file disk : List ℕ)
     → IsTrue (rules_within rules) → AreWords rules.entries
     → kernel_refusal file rules.ram_pages ≡ None → has_number rules.entries (header_entry file) ≡ true → IsGuarded m
-    → m ≡ image_machine m.region.tables rules file disk → IsNew m (boot_start rules file disk)
+    → m ≡ image_machine m.region.tables rules (header_entry file) (kernel_segments file) disk
+    → IsNew m (boot_start rules file disk)
