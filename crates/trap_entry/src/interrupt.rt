@@ -35,10 +35,6 @@ fn is_taken(csrs: &Csrs, regs: &HRegs, lines: &Lines, interrupt: Interrupt) -> b
 pub fn pending(csrs: &Csrs, regs: &HRegs, lines: &Lines) -> Option<Interrupt>
     ensures { result ≡ pending regs.now csrs.now lines.now }
 {
-    // In most turns none is enabled.
-    if csrs.hie == 0 {
-        return None;
-    }
     if csrs.hip(lines) & csrs.hie == 0 {
         return None;
     }

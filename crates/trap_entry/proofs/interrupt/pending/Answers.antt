@@ -1,14 +1,7 @@
 use Rattle.std.proofs.Common.{◌≡◌, ℕ, ◌∙◌, sym, ap, bit_and}
-use Rattle.std.specs.Int.Bits.{and_zero_r}
-use Rattle.sv_types.specs.HypervisorRegisters.{HypervisorRegisters, hip_value}
+use Rattle.sv_types.specs.HypervisorRegisters.{HypervisorRegisters}
 use Rattle.trap_entry.proofs.Quiet.{none_pending}
 use Rattle.trap_entry.proofs.interrupt.pending.Goals as goal
-
-pub returns-then-csrs-eq0 : goal.returns-then-csrs-eq0
-returns-then-csrs-eq0 c =
-    let pending_bits : ℕ = hip_value c.args.csrs.now.hvip c.args.lines.now in
-    let none : c.args.csrs.now.hie ≡ 0 = search (ap (λ (r : HypervisorRegisters). r.hie) c.csrs.view_is, c.if-csrs-eq0.true) in
-    sym (none_pending c.args.regs.now c.args.csrs.now c.args.lines.now (ap (bit_and pending_bits) none ∙ and_zero_r pending_bits))
 
 pub returns-then-hip-csrs-eq0 : goal.returns-then-hip-csrs-eq0
 returns-then-hip-csrs-eq0 c =
