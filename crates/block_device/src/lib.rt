@@ -15,9 +15,10 @@ use host_mem::HostMem;
 use std::marker::Model;
 use sv_types::BlockState;
 
-/// The bytes of a sector, and of a beat.
-const SECTOR_BYTES: u64 = 512;
+/// The bytes of a sector.
+pub const SECTOR_BYTES: u64 = 512;
 
+/// The bytes of a beat.
 const BEAT_BYTES: u64 = 64;
 
 /// How a device stands.

@@ -13,7 +13,8 @@ use sv_types::{Counts, Mode, Note, Rule, Verdict};
 
 const MOST_NOTES: usize = 4096;
 
-const PRINTED_ROOM: usize = 4096;
+/// The printed bytes for which there is room.
+pub const PRINTED_ROOM: usize = 4096;
 
 /// Printed bytes, the first 4,096 notes, counts and the verdict. Contracts see them.
 ///

@@ -13,5 +13,7 @@ mod start;
 #[cfg(test)]
 mod tests;
 
+pub use block_device::SECTOR_BYTES;
 pub use boot::BootRefusal;
+pub use journal_records::PRINTED_ROOM;
 pub use machine::Machine;

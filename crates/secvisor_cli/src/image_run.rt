@@ -13,7 +13,7 @@ use crate::ready::{Booted, Ready, Stop};
 use crate::refusal::{Part, Refusal};
 use crate::words::{Run, Source};
 use elf64_load::{ElfRefusal, KernelImage, read_kernel};
-use machine::Machine;
+use machine::{Machine, SECTOR_BYTES};
 use outside::Files;
 use policy::PolicyRefusal;
 use script::{Script, ScriptRefusal, auto, rounds};
@@ -29,8 +29,6 @@ pub const MOST_IMAGE_BYTES: usize = 64 << 20;
 const MOST_DISK_BYTES: usize = 64 << 20;
 
 const MOST_SCRIPT_BYTES: usize = 1 << 20;
-
-const SECTOR_BYTES: usize = 512;
 
 /// Reads the policy, the image, the disk and the script, each judged before the next, and boots a machine.
 pub fn prepare_run<'a, R: Threads + Sync, F: Files>(
@@ -142,7 +140,7 @@ fn is_whole_sectors(bytes: &[u8]) -> bool
     ensures value { result ≡ (length bytes.now % 512 == 0) }
     ensures whole { IsTrue result → length bytes.now % 512 ≡ 0 }
 {
-    bytes.len() % SECTOR_BYTES == 0
+    bytes.len() % SECTOR_BYTES as usize == 0
 }
 
 // ---- the script

@@ -6,12 +6,10 @@ ghost use Rattle.outside.specs.Outside.{BreaksOff};
 ghost use Rattle.secvisor_cli.specs.Standing.{HasState};
 ghost use Rattle.secvisor_cli.specs.Console.{Flushed, HasTaken, HasRunFromStart, RunBrokeFromStart};
 
-use machine::Machine;
+use machine::{Machine, PRINTED_ROOM};
 use outside::{Failed, Sink, write_all};
 use script::Script;
 use sv_types::Verdict;
-
-const CONSOLE_ROOM: usize = 4096;
 
 /// Writes the console's bytes where 4,096 of them stand.
 #[tactic(auto, using(crate::proofs::Standing::flushed_all, crate::proofs::Standing::flushed_none))]
@@ -25,7 +23,7 @@ fn flush_full<O: Sink>(machine: &mut Machine, out: &mut O) -> Result<(), Failed>
     ensures full { OnErr result (length machine.old.journal.printed ≡ 4096) }
     ensures failed { OnErr result (BreaksOff (O.state out.old) (O.state out.new) machine.old.journal.printed) }
 {
-    if machine.printed().len() == CONSOLE_ROOM {
+    if machine.printed().len() == PRINTED_ROOM {
         write_all(out, machine.printed())?;
         machine.clear_printed();
     }
