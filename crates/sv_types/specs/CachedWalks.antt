@@ -1,8 +1,8 @@
 -- A cache of second-stage translations, and when it agrees with the tables.
 -- RISC-V Privileged manual, H extension: "Hypervisor Guest Address Translation and Protection (hgatp) Register" for the
 -- VMID, "Hypervisor Memory-Management Fence Instructions" for what a cache may keep of the tables.
-use Rattle.std.specs.Prelude.{◌≡◌, ℕ, ◌+◌, ◌*◌, ◌/◌, ◌^◌, ◌<◌, ◌⊎◌, Bool, ◌==◌, if◌then◌else◌, List, map, replicate, Option, Some, None, slice_index_or}
-use Rattle.sv_types.specs.Bytes.{page_size, ram_base}
+use Rattle.std.specs.Prelude.{◌≡◌, ℕ, ◌+◌, ◌*◌, ◌^◌, ◌<◌, ◌⊎◌, Bool, if◌then◌else◌, List, replicate, Option, Some, None, slice_index_or}
+use Rattle.sv_types.specs.Bytes.{page_size}
 use Rattle.sv_types.specs.Translation.{Destination, At, PageFault}
 use Rattle.sv_types.specs.SecondStage.{entry_in_tables, guest_destination, view_hgatp}
 use Rattle.sv_types.specs.declared.cached.CacheLine.{CacheLine}
@@ -55,18 +55,3 @@ pub record FilledUnder (tables : List ℕ) (hgatp : ℕ) (before after : List (O
 -- every line that is held was walked under the root of a view
 pub record UnderViews (lines : List (Option CacheLine)) : Type 0 where
   pub root : (i : ℕ) (line : CacheLine) → line_at lines i ≡ Some line → (line.hgatp ≡ view_hgatp Kernel) ⊎ (line.hgatp ≡ view_hgatp User)
-
--- ---- fences
-
--- a line is emptied where it is of that page, under whichever hgatp value
-abbrev pub without_page : ℕ → Option CacheLine → Option CacheLine
-without_page page None = None
-without_page page (Some line) = if line.page == page then None else Some line
-
--- the number of a page of RAM among those of guest-physical addresses
-abbrev pub guest_page : ℕ → ℕ
-guest_page ram_page = ram_base / page_size + ram_page
-
--- a fence of a page of RAM
-unfoldable pub fenced : ℕ → List (Option CacheLine) → List (Option CacheLine)
-fenced ram_page lines = map (without_page (guest_page ram_page)) lines
