@@ -68,6 +68,13 @@ impl Console {
         !self.queue.is_empty()
     }
 
+    /// The bytes that wait, the next one first.
+    pub fn queue(&self) -> &[u8]
+        ensures { result.now ≡ self.now }
+    {
+        &self.queue
+    }
+
     fn status(&self) -> u64
         ensures { result ≡ register_value self.now Status }
     {

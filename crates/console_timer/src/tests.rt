@@ -49,6 +49,7 @@ fn console_rows(rt: HostRuntime) {
         );
     }
     assert!(rt; console.line());
+    assert_eq!(rt; console.queue().first(), Some(&3));
     for byte in 3..=255 {
         assert_eq!(rt; console.take(), Some(byte));
     }

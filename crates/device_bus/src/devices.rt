@@ -1,6 +1,6 @@
 // Accesses to the devices, and the events that reach them.
 ghost use Rattle.std.specs.Prelude.{◌≡◌, ◌<◌, length, slice_get, is_some, option_map};
-ghost use Rattle.sv_types.specs.Clock.{after_tick, with_timer};
+ghost use Rattle.sv_types.specs.Clock.{after_tick, timer_of, with_timer};
 ghost use Rattle.sv_types.specs.Console.{has_room, after_key, without_first};
 ghost use Rattle.reference.specs.Devices.{DeviceLoad, device_load, device_store, lines_at, external_line};
 ghost use Rattle.reference.specs.Disk.{is_writable, disk_beat};
@@ -137,6 +137,35 @@ impl<D: DiskPort> Devices<D> {
         ensures { self.new ≡ record self.old { clock = with_timer self.old.clock hart at } }
     {
         self.clock.set(hart, at);
+    }
+
+    /// The bytes of input that wait, the next one first.
+    pub fn input(&self) -> &[u8]
+        ensures { result.now ≡ self.now.console }
+    {
+        self.console.queue()
+    }
+
+    /// The block device.
+    pub fn port(&self) -> &D
+        ensures { D.state result.now ≡ self.now.disk }
+    {
+        &self.disk
+    }
+
+    /// The time, in ticks.
+    pub fn time(&self) -> u64
+        ensures { result ≡ self.now.clock.time }
+    {
+        self.clock.now()
+    }
+
+    /// A hart's timer. 2^64 - 1 means never.
+    pub fn timer(&self, hart: u8) -> u64
+        requires is_hart { hart < 4 }
+        ensures { result ≡ timer_of self.now.clock hart }
+    {
+        self.clock.at(hart)
     }
 
     /// The bytes of the disk.

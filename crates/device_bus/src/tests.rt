@@ -54,7 +54,10 @@ fn accesses_and_events(rt: HostRuntime) -> Result<(), Fail> {
         timer: true,
     };
     assert_eq!(rt; (devices.lines(0), devices.lines(1)), (first, second));
+    assert_eq!(rt; devices.input(), [66].as_slice());
     assert_eq!(rt; devices.take_input(), Some(66));
+    assert_eq!(rt; (devices.time(), devices.timer(1)), (5, 5));
+    assert_eq!(rt; devices.port().state().count, 1);
     assert_eq!(rt; devices.disk().first(), Some(&7));
     Ok(())
 }

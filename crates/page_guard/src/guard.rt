@@ -86,6 +86,13 @@ impl Guard {
         self.protections[page as usize]
     }
 
+    /// The protections of all pages of RAM.
+    pub fn protections(&self) -> &[Protection]
+        ensures { result.now ≡ self.now }
+    {
+        &self.protections
+    }
+
     /// Which pages a device may write: the free ones.
     pub fn dma(&self) -> &DmaGuard
         ensures { result.now ≡ map is_free self.now }

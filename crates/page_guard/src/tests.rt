@@ -24,7 +24,10 @@ fn a_span_held_approved_and_freed(rt: HostRuntime) -> Result<(), Fail> {
     let hold = guard.hold(&mut mem, text)?;
     assert_eq!(rt; guard.protection(4), Protection::Held);
     guard.approve(&mut mem, hold);
-    assert_eq!(rt; guard.protection(4), Protection::Approved);
+    assert_eq!(rt;
+        guard.protections().get(4).copied(),
+        Some(Protection::Approved)
+    );
     guard.unapprove(&mut mem, text);
     assert!(rt; guard.dma().may_write(2));
     Ok(())

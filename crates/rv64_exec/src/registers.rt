@@ -39,6 +39,13 @@ impl Regs {
         self.values[usize::from(n)]
     }
 
+    /// The values of all registers.
+    pub fn values(&self) -> [u64; 32]
+        ensures { result ≡ self.now }
+    {
+        self.values
+    }
+
     /// Sets a register. Register 0 stays 0.
     pub fn set(&mut self, n: u8, value: u64)
         requires { n < 32 }
