@@ -11,7 +11,7 @@ use Rattle.reference.specs.Start.{AreWords, boot_start}
 use Rattle.reference.specs.States.{has_number}
 use Rattle.sv_types.specs.ApprovedPages.{numbers_from}
 use Rattle.sv_types.specs.Bytes.{padded}
-use Rattle.sv_types.specs.Kernel.{LoadedSegment, filled_part, header_entry, is_text_of, segments_ram, text_page, text_page_in, text_of, text_pages}
+use Rattle.sv_types.specs.Kernel.{LoadedSegment, filled_part, header_entry, is_text_of, segments_ram, text_page, text_page_in, text_of}
 use Rattle.sv_types.specs.Policies.{Rules, rules_within}
 use Rattle.sv_types.specs.Regions.{Region}
 use Rattle.sv_types.specs.SecondStage.{with_ram}

@@ -10,3 +10,4 @@ pub mod Moduled
 pub mod BeatsFit
 pub mod Ready
 pub mod Stepped
+pub mod Kept

@@ -9,6 +9,7 @@ mod image_start;
 mod machine;
 mod machine_start;
 mod parts;
+mod saved;
 mod start;
 #[cfg(test)]
 mod tests;

@@ -1,0 +1,117 @@
+-- What plain data keeps of a machine is the state that the machine stands for.
+use Rattle.std.proofs.Common.{◌≡◌, ℕ, suc, ◌+◌, ◌-◌, ◌*◌, ◌<◌, List, drop, get_or, drop-cons, add-one, [], ◌∷◌, ◌++◌, length, refl, sym, ◌∙◌, ap, subst, Bool, true, false, arith, append_assoc, append-nil}
+use Rattle.std.specs.Prelude.{IfOk, Option, Some, None, option_map, Result, Ok, Err, slice_get}
+use Rattle.sv_types.specs.Bits.{flag}
+use Rattle.sv_types.specs.Clock.{Clock, timer_of}
+use Rattle.sv_types.specs.HypervisorRegisters.{HypervisorRegisters, at_guest_places, virtual_software_bit}
+use Rattle.sv_types.specs.Policies.{Rules, ModuleRule}
+use Rattle.sv_types.specs.declared.wires.Mode.{Mode}
+use Rattle.sv_types.specs.declared.wires.Mode.TheVariants.{Kernel, User}
+use Rattle.reference.specs.States.{State, Hart, Loading}
+use Rattle.machine_model.specs.Machine.{Machine}
+use Rattle.machine_model.specs.StandsFor.{StandsFor, Unseen, IsRightFor, machine_of, host_hart, host_harts, host_reservation, hregs_in, load_kept, load_kept_by}
+use Rattle.saved_machine.specs.SavedStates.{gpa_at, saved_hart, saved_harts, saved_load, IsSaved}
+use Rattle.saved_machine.specs.declared.harts.SavedHart.{SavedHart}
+use Rattle.saved_machine.specs.declared.whole.Saved.{Saved}
+use Rattle.hart_answers.specs.Hosts.{host_at, hosts_of}
+use Rattle.hart_answers.specs.declared.seats.Seat.{Seat}
+use Rattle.machine.specs.Keeping.{gpa_behind, kept_hart, kept_harts, kept_load, IsKept}
+
+-- ---- harts
+
+mode_kept : (mode : Mode) → (hregs_in mode).mode ≡ mode
+mode_kept Kernel = refl
+mode_kept User = refl
+
+enabled_kept : (sie : ℕ) → at_guest_places (2 * sie) ≡ sie
+enabled_kept sie = omega arith
+
+software_kept : (set : Bool) → at_guest_places (virtual_software_bit * flag set) ≡ 2 * flag set
+software_kept true = refl
+software_kept false = refl
+
+reservation_kept : (tables : ℕ) (reservation : Option ℕ) → option_map (gpa_behind tables) (host_reservation tables reservation) ≡ option_map gpa_at reservation
+reservation_kept tables None = refl
+reservation_kept tables (Some place) = let same : tables + place - tables ≡ place = omega arith in ap (λ (p : ℕ). Some (gpa_at p)) same
+
+hart_kept : (tables : ℕ) (exits : HypervisorRegisters) (clock : Clock) (h : ℕ) (hart : Hart)
+    → kept_hart tables (timer_of clock h) (host_hart tables exits hart) ≡ saved_hart clock h hart
+hart_kept tables exits clock h hart =
+    rw (mode_kept hart.mode, enabled_kept hart.supervisor.sie, software_kept hart.supervisor.software, reservation_kept tables hart.reservation) refl
+
+harts_kept : (tables : ℕ) (exits : List HypervisorRegisters) (clock : Clock) (h : ℕ) (harts : List Hart) → length exits ≡ length harts
+    → kept_harts tables clock h (host_harts tables exits harts) ≡ saved_harts clock h harts
+unfolding host_harts kept_harts saved_harts
+harts_kept tables [] clock h [] size = refl
+harts_kept tables [] clock h (y ∷ harts) size = cc
+harts_kept tables (x ∷ exits) clock h [] size = cc
+harts_kept tables (x ∷ exits) clock h (y ∷ harts) size =
+    rw (hart_kept tables x clock h y, harts_kept tables exits clock (h + 1) harts (cc)) refl
+
+-- ---- harts, one after another
+
+pub next_kept : (tables : ℕ) (clock : Clock) (seats : List Seat) (h : ℕ) (seat : Seat) (hart : SavedHart) (before whole : List SavedHart) → h < length seats
+    → seat ≡ get_or seats h seat → hart ≡ kept_hart tables (timer_of clock h) (host_at seat)
+    → before ++ kept_harts tables clock h (hosts_of (drop h seats)) ≡ whole
+    → (before ++ hart ∷ []) ++ kept_harts tables clock (h + 1) (hosts_of (drop (h + 1) seats)) ≡ whole
+unfolding kept_harts
+next_kept tables clock seats h seat hart before whole below is made so_far =
+    let later : List Seat = drop (suc h) seats in
+    let split : drop h seats ≡ seat ∷ later = drop-cons seats h seat below ∙ ap (λ (s : Seat). s ∷ later) (sym is) in
+    let rest : List SavedHart = kept_harts tables clock (h + 1) (hosts_of later) in
+    let joined : (before ++ hart ∷ []) ++ rest ≡ before ++ hart ∷ rest = append_assoc before (hart ∷ []) rest in
+    let placed : before ++ hart ∷ rest ≡ before ++ kept_hart tables (timer_of clock h) (host_at seat) ∷ rest = ap (λ (x : SavedHart). before ++ x ∷ rest) made in
+    let back : before ++ kept_harts tables clock h (hosts_of (seat ∷ later)) ≡ before ++ kept_harts tables clock h (hosts_of (drop h seats)) =
+    ap (λ (xs : List Seat). before ++ kept_harts tables clock h (hosts_of xs)) (sym split) in
+    subst (λ (k : ℕ). (before ++ hart ∷ []) ++ kept_harts tables clock (h + 1) (hosts_of (drop k seats)) ≡ whole) (sym (add-one h)) (joined ∙ placed ∙ back ∙ so_far)
+
+none_after : (seats : List Seat) → drop (length seats) seats ≡ []
+none_after [] = refl
+none_after (seat ∷ seats) = none_after seats
+
+pub all_kept : (tables : ℕ) (clock : Clock) (seats : List Seat) (h : ℕ) (harts whole : List SavedHart) → h ≡ length seats
+    → harts ++ kept_harts tables clock h (hosts_of (drop h seats)) ≡ whole → harts ≡ whole
+unfolding kept_harts
+all_kept tables clock seats h harts whole end e =
+    let none : drop h seats ≡ [] = ap (λ (k : ℕ). drop k seats) end ∙ none_after seats in
+    let last : harts ++ kept_harts tables clock h (hosts_of (drop h seats)) ≡ harts ++ [] =
+    ap (λ (xs : List Seat). harts ++ kept_harts tables clock h (hosts_of xs)) none in
+    sym (append-nil harts) ∙ sym last ∙ e
+
+-- ---- a load under way
+
+about_kept : (rules : Rules) (ram : List ℕ) (load : Loading) (rule : Option ModuleRule) → kept_load (load_kept_by rules ram load rule) ≡ saved_load load
+unfolding load_kept_by
+about_kept rules ram load None = refl
+about_kept rules ram load (Some rule) = refl
+
+loading_kept : (rules : Rules) (ram : List ℕ) (loading : Option Loading) → option_map kept_load (option_map (load_kept rules ram) loading) ≡ option_map saved_load loading
+loading_kept rules ram None = refl
+loading_kept rules ram (Some load) = ap Some (about_kept rules ram load (slice_get rules.modules load.about.id))
+
+-- ---- the whole
+
+state_kept : (o : Unseen) (r : State) (s : Saved) → IsRightFor o r → IsKept (machine_of o r) s → IsSaved r s
+unfolding machine_of
+state_kept o r s right kept = record {
+  harts = kept.harts ∙ harts_kept (length o.tables) o.exits r.devices.clock 0 r.harts right.exits;
+  ram = kept.ram;
+  protection = kept.protection;
+  modules = kept.modules;
+  retired = kept.retired;
+  loading = kept.loading ∙ loading_kept r.rules r.ram r.loading;
+  console = kept.console;
+  block = kept.block;
+  disk = kept.disk;
+  time = kept.time;
+  counts = kept.counts;
+  notes = kept.notes;
+  verdict = kept.verdict;
+}
+
+kept_saved : (m : Machine) (r : State) (s : Saved) → StandsFor m r → IsKept m s → IsSaved r s
+kept_saved m r s stands kept = state_kept stands.unseen r s stands.unseen_is_right (subst (λ (x : Machine). IsKept x s) stands.same kept)
+
+pub kept_states : {E : Type 0} (m : Machine) (saved : Result Saved E) → IfOk saved (IsKept m) → IfOk saved (λ s. (r : State) → StandsFor m r → IsSaved r s)
+kept_states m (Ok s) kept = λ r stands. kept_saved m r s stands kept
+kept_states m (Err e) kept = kept

@@ -1,0 +1,63 @@
+-- What plain data keeps of the machine: SecVisor's own parts are left out. This project's own.
+use Rattle.std.specs.Prelude.{◌≡◌, ℕ, ◌+◌, ◌-◌, List, [], ◌∷◌, length, option_map}
+use Rattle.sv_types.specs.Clock.{Clock, timer_of}
+use Rattle.sv_types.specs.HypervisorRegisters.{at_guest_places}
+use Rattle.machine_model.specs.Machine.{Machine, HostHart, HostLoad}
+use Rattle.saved_machine.specs.SavedStates.{gpa_at}
+use Rattle.saved_machine.specs.declared.harts.SavedHart.{SavedHart}
+use Rattle.saved_machine.specs.declared.whole.Saved.{Saved}
+use Rattle.saved_machine.specs.declared.whole.SavedLoad.{SavedLoad}
+
+-- ---- harts
+
+-- the guest-physical address of a host place behind so many bytes of tables
+abbrev pub gpa_behind : ℕ → ℕ → ℕ
+gpa_behind tables place = gpa_at (place - tables)
+
+-- a hart of the hardware, as its guest sees it
+abbrev pub kept_hart : (tables timer : ℕ) → HostHart → SavedHart
+kept_hart tables timer host = record {
+  started = host.started;
+  mode = host.core.hregs.mode;
+  pc = host.core.pc;
+  registers = host.core.registers;
+  sstatus = host.core.csrs.vsstatus;
+  sie = at_guest_places host.core.csrs.hie;
+  stvec = host.core.csrs.vstvec;
+  scounteren = host.core.csrs.scounteren;
+  sscratch = host.core.csrs.vsscratch;
+  sepc = host.core.csrs.vsepc;
+  scause = host.core.csrs.vscause;
+  stval = host.core.csrs.vstval;
+  sip = at_guest_places host.core.csrs.hvip;
+  satp = host.core.csrs.vsatp;
+  reservation = option_map (gpa_behind tables) host.core.reservation;
+  timer = timer;
+}
+
+-- the harts from one on
+unfoldable pub kept_harts : ℕ → Clock → ℕ → List HostHart → List SavedHart
+kept_harts tables clock h [] = []
+kept_harts tables clock h (host ∷ hosts) = kept_hart tables (timer_of clock h) host ∷ kept_harts tables clock (h + 1) hosts
+
+-- ---- a load under way
+
+abbrev pub kept_load : HostLoad → SavedLoad
+kept_load load = record { hart = load.hart; «module» = load.about; left = load.left }
+
+-- ---- the whole
+
+pub record IsKept (m : Machine) (s : Saved) : Type 0 where
+  pub harts : s.harts.items ≡ kept_harts (length m.region.tables) m.devices.clock 0 m.harts
+  pub ram : s.ram.items ≡ m.region.ram
+  pub protection : s.protection.items ≡ m.protections
+  pub modules : s.modules.items ≡ m.loaded
+  pub retired : s.retired ≡ m.retired
+  pub loading : s.loading ≡ option_map kept_load m.loading
+  pub console : s.console.items ≡ m.devices.console
+  pub block : s.block ≡ m.devices.disk.block
+  pub disk : s.disk.items ≡ m.devices.disk.bytes
+  pub time : s.time ≡ m.devices.clock.time
+  pub counts : s.counts ≡ m.journal.counts
+  pub notes : s.notes.items ≡ m.journal.notes
+  pub verdict : s.verdict ≡ m.journal.verdict

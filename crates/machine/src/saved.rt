@@ -1,0 +1,129 @@
+// The whole machine as plain data.
+
+ghost use Rattle.std.specs.Prelude.{◌≡◌, ◌≤◌, length, IfOk, option_map};
+ghost use Rattle.sv_types.specs.Clock.{timer_of};
+ghost use Rattle.reference.specs.States.{State};
+ghost use Rattle.machine_model.specs.StandsFor.{StandsFor};
+ghost use Rattle.hart_answers.specs.Hosts.{host_at, hosts_of};
+ghost use Rattle.module_answers.specs.Parts.{loading_of};
+ghost use Rattle.saved_machine.specs.SavedStates.{IsSaved};
+ghost use Rattle.machine.specs.Keeping.{gpa_behind, kept_hart, kept_harts, kept_load, IsKept};
+
+use crate::machine::Machine;
+use crate::parts::Parts;
+use block_device::Block;
+use device_bus::Devices;
+use hart_answers::Seat;
+use module_answers::Modules;
+use saved_machine::{Saved, SavedHart, SavedLoad};
+use std::alloc::{AllocError, Global};
+use sv_types::RAM_BASE;
+
+impl Machine {
+    /// The whole machine as plain data. Nothing of it changes. Want of memory is the one refusal.
+    pub fn saved(&self, alloc: Global) -> Result<Saved, AllocError>
+        ensures state { IfOk result (λ s. (r : State) → StandsFor self.now r → IsSaved r s) }
+    {
+        self.parts.saved(alloc)
+    }
+}
+
+impl Parts {
+    /// The parts that the guest's state lies in, as plain data.
+    pub(crate) fn saved(&self, alloc: Global) -> Result<Saved, AllocError>
+        ensures { IfOk result (IsKept self.now) }
+    {
+        let harts = saved_harts(alloc, &self.seats, &self.devices, self.mem.table_bytes())?;
+        let ram = self.mem.ram().to_vec(alloc)?;
+        let protection = self.guard.protections().to_vec(alloc)?;
+        let modules = self.modules.gate.loaded().to_vec(alloc)?;
+        let console = self.devices.input().to_vec(alloc)?;
+        let disk = self.devices.disk().to_vec(alloc)?;
+        let notes = self.journal.notes().to_vec(alloc)?;
+        Ok(Saved {
+            harts,
+            ram,
+            protection,
+            modules,
+            retired: self.modules.gate.retired(),
+            loading: saved_loading(&self.modules),
+            console,
+            block: self.devices.port().state(),
+            disk,
+            time: self.devices.time(),
+            counts: self.journal.counts(),
+            notes,
+            verdict: self.journal.verdict(),
+        })
+    }
+}
+
+fn saved_loading(modules: &Modules) -> Option<SavedLoad>
+    ensures { result ≡ option_map kept_load (loading_of modules.now) }
+{
+    let under_way = modules.loading.as_ref()?;
+    Some(SavedLoad {
+        hart: under_way.hart,
+        module: under_way.load.about(),
+        left: under_way.load.left(),
+    })
+}
+
+// ---- harts
+
+#[tactic(auto, using(crate::proofs::Kept::next_kept))]
+fn saved_harts(
+    alloc: Global,
+    seats: &[Seat],
+    devices: &Devices<Block>,
+    tables: usize,
+) -> Result<Vec<SavedHart>, AllocError>
+    requires few { length seats.now ≤ 4 }
+    ensures { IfOk result (λ harts. harts.items ≡ kept_harts tables devices.now.clock 0 (hosts_of seats.now)) }
+{
+    let mut harts = Vec::new(alloc);
+    'saved: for h in 0..seats.len() {
+        let timer = devices.timer(h as u8);
+        harts.push(saved_hart(&seats[h], timer, tables)?)?;
+    }
+    Ok(harts)
+}
+
+fn saved_hart(seat: &Seat, timer: u64, tables: usize) -> Result<SavedHart, AllocError>
+    ensures { IfOk result (λ hart. hart ≡ kept_hart tables timer (host_at seat.now)) }
+{
+    let hart = &seat.hart;
+    let csrs = &hart.csrs;
+    let reservation = saved_reservation(hart.reservation, tables)?;
+    Ok(SavedHart {
+        started: hart.started,
+        mode: seat.side.registers().mode,
+        pc: hart.pc,
+        registers: hart.regs.values(),
+        sstatus: csrs.vsstatus,
+        sie: csrs.hie >> 1,
+        stvec: csrs.vstvec,
+        scounteren: csrs.scounteren,
+        sscratch: csrs.vsscratch,
+        sepc: csrs.vsepc,
+        scause: csrs.vscause,
+        stval: csrs.vstval,
+        sip: csrs.hvip >> 1,
+        satp: csrs.vsatp,
+        reservation,
+        timer,
+    })
+}
+
+// The guest-physical address of a host place that is reserved. It is less than 2^64 wherever the place lies in RAM.
+fn saved_reservation(reservation: Option<u64>, tables: usize) -> Result<Option<u64>, AllocError>
+    ensures { IfOk result (λ gpa. gpa ≡ option_map (gpa_behind tables) reservation) }
+{
+    let Some(place) = reservation else {
+        return Ok(None);
+    };
+    match RAM_BASE.checked_add(place.saturating_sub(tables as u64)) {
+        Some(gpa) => Ok(Some(gpa)),
+        None => Err(AllocError),
+    }
+}
