@@ -10,6 +10,7 @@ ghost use Rattle.machine_model.specs.HostExits.{with_tables};
 ghost use Rattle.machine_model.specs.Machine.{Machine};
 ghost use Rattle.page_guard.specs.Guarded.{IsTheirs};
 ghost use Rattle.hart_answers.specs.Hosts.{host_of};
+ghost use Rattle.module_answers.specs.Changes.{load_changes, unload_changes, retire_changes, call_changes};
 ghost use Rattle.module_answers.specs.Conditions.{AreJoined, AreGuarded};
 ghost use Rattle.module_answers.specs.Parts.{moduled, asked_of, loading_of};
 
@@ -42,7 +43,7 @@ pub struct ModuleCall {
     pub data_va: u64,
 }
 
-// A load begins, and the hart stays at its call, or a code is the answer. Says whether a protection changed.
+// A load begins, and the hart stays at its call, or a code is the answer. Says whether it set protections.
 fn load_call(
     which: u8,
     hart: &mut Hart,
@@ -58,6 +59,7 @@ fn load_call(
     requires counts { MayCount journal.old.counts }
     requires joined { AreJoined (rules_of policy.now) modules.old }
     ensures machine { (m : Machine) (mode : Privilege) (extension : ℕ) → moduled m (rules_of policy.now) mem.new which (host_of hart.new mode) guard.new modules.new journal.new ≡ with_tables (host_load_call (moduled m (rules_of policy.now) mem.old which (host_of hart.old mode) guard.old modules.old journal.old) which (asked_of extension call.now) (slice_get (rules_of policy.now).modules call.now.id)) mem.new.tables }
+    ensures changed { result ≡ load_changes (rules_of policy.now) mem.old.ram guard.old modules.old.gate call.now }
     ensures kept { result ≡ false → (guard.new ≡ guard.old) × (mem.new ≡ mem.old) }
     ensures joined { AreJoined (rules_of policy.now) modules.new }
     ensures size { length guard.new ≡ length guard.old }
@@ -79,7 +81,7 @@ fn load_call(
     }
 }
 
-// A loaded module's pages become free, or a code is the answer. Says whether a protection changed.
+// A loaded module's pages become free, or a code is the answer. Says whether it set protections.
 fn unload_call(
     which: u8,
     hart: &mut Hart,
@@ -95,6 +97,7 @@ fn unload_call(
     requires joined { AreJoined (rules_of policy.now) modules.old }
     requires guarded { AreGuarded (rules_of policy.now) guard.old modules.old.gate.loaded (loading_of modules.old) }
     ensures machine { (m : Machine) (mode : Privilege) → moduled m (rules_of policy.now) mem.new which (host_of hart.new mode) guard.new modules.new journal.new ≡ with_tables (host_unload_call (moduled m (rules_of policy.now) mem.old which (host_of hart.old mode) guard.old modules.old journal.old) which id (find_module modules.old.gate.loaded id)) mem.new.tables }
+    ensures changed { result ≡ unload_changes modules.old.gate id }
     ensures kept { result ≡ false → (guard.new ≡ guard.old) × (mem.new ≡ mem.old) }
     ensures joined { AreJoined (rules_of policy.now) modules.new }
     ensures size { length guard.new ≡ length guard.old }
@@ -115,7 +118,7 @@ fn unload_call(
     }
 }
 
-// The kernel's init pages become free, or a code is the answer. Says whether a protection changed.
+// The kernel's init pages become free, or a code is the answer. Says whether it set protections.
 fn retire_call(
     which: u8,
     hart: &mut Hart,
@@ -131,6 +134,7 @@ fn retire_call(
     requires joined { AreJoined (rules_of policy.now) modules.old }
     requires guarded { AreGuarded (rules_of policy.now) guard.old modules.old.gate.loaded (loading_of modules.old) }
     ensures machine { (m : Machine) (mode : Privilege) → moduled m (rules_of policy.now) mem.new which (host_of hart.new mode) guard.new modules.new journal.new ≡ with_tables (host_retire_call (moduled m (rules_of policy.now) mem.old which (host_of hart.old mode) guard.old modules.old journal.old) which (rules_of policy.now).init) mem.new.tables }
+    ensures changed { result ≡ retire_changes (rules_of policy.now) modules.old.gate }
     ensures kept { result ≡ false → (guard.new ≡ guard.old) × (mem.new ≡ mem.old) }
     ensures joined { AreJoined (rules_of policy.now) modules.new }
     ensures size { length guard.new ≡ length guard.old }
@@ -150,8 +154,8 @@ fn retire_call(
     }
 }
 
-/// The answer to a call about modules. Says whether a protection changed.
-#[tactic(auto, unfolding(machine_model::specs::HostCalls::host_module_call), using(crate::proofs::Joined::update_there))]
+/// The answer to a call about modules. Says whether it set protections.
+#[tactic(auto, unfolding(machine_model::specs::HostCalls::host_module_call, crate::specs::Changes::call_changes), using(crate::proofs::Joined::update_there))]
 pub fn serve_module_call(
     which: u8,
     hart: &mut Hart,
@@ -168,6 +172,7 @@ pub fn serve_module_call(
     requires joined { AreJoined (rules_of policy.now) modules.old }
     requires guarded { AreGuarded (rules_of policy.now) guard.old modules.old.gate.loaded (loading_of modules.old) }
     ensures machine { (m : Machine) (mode : Privilege) (extension : ℕ) → moduled m (rules_of policy.now) mem.new which (host_of hart.new mode) guard.new modules.new journal.new ≡ with_tables (host_module_call (moduled m (rules_of policy.now) mem.old which (host_of hart.old mode) guard.old modules.old journal.old) which (asked_of extension call.now)) mem.new.tables }
+    ensures changed { result ≡ call_changes (rules_of policy.now) mem.old.ram guard.old modules.old.gate call.now }
     ensures kept { result ≡ false → (guard.new ≡ guard.old) × (mem.new ≡ mem.old) }
     ensures joined { AreJoined (rules_of policy.now) modules.new }
     ensures size { length guard.new ≡ length guard.old }

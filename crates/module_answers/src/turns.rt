@@ -16,6 +16,7 @@ ghost use Rattle.machine_model.specs.Machine.{Machine};
 ghost use Rattle.page_guard.specs.Guarded.{with_span, IsInRam, AllAre, IsTheirs};
 ghost use Rattle.hart_answers.specs.Hosts.{host_of};
 ghost use Rattle.module_gate.specs.Gates.{host_load, load_span, decided};
+ghost use Rattle.module_answers.specs.Changes.{turn_changes};
 ghost use Rattle.module_answers.specs.Conditions.{AreJoined, AreGuarded};
 ghost use Rattle.module_answers.specs.Parts.{moduled, loading_of, decision};
 
@@ -112,7 +113,7 @@ fn decide(
 }
 
 /// A turn of a load under way, if one is: the next page is counted, or, where none is left, the load is decided. Says
-/// whether a protection changed.
+/// whether it set protections.
 pub fn serve_load_turn(
     which: u8,
     hart: &mut Hart,
@@ -128,6 +129,7 @@ pub fn serve_load_turn(
     requires joined { AreJoined (rules_of policy.now) modules.old }
     requires guarded { AreGuarded (rules_of policy.now) guard.old modules.old.gate.loaded (loading_of modules.old) }
     ensures machine { (m : Machine) (mode : Privilege) → moduled m (rules_of policy.now) mem.new which (host_of hart.new mode) guard.new modules.new journal.new ≡ with_tables (served_load_turn (moduled m (rules_of policy.now) mem.old which (host_of hart.old mode) guard.old modules.old journal.old) which) mem.new.tables }
+    ensures changed { result ≡ turn_changes modules.old.loading }
     ensures kept { result ≡ false → (guard.new ≡ guard.old) × (mem.new ≡ mem.old) }
     ensures joined { AreJoined (rules_of policy.now) modules.new }
     ensures size { length guard.new ≡ length guard.old }
