@@ -57,10 +57,6 @@ kernel_digest kernel ram_pages = digest_behind (kernel_refusal kernel ram_pages)
 unfoldable pub names_with : List (List ℕ) → List ℕ → Judged (List (List ℕ))
 names_with names object = in_module (names_judged object) >>= λ wanted. Ok (names ++ wanted)
 
-abbrev pub names_from : List (List ℕ) → List ModuleFile → Judged (List (List ℕ))
-names_from names [] = Ok names
-names_from names (o ∷ os) = names_with names o.bytes >>= λ more. names_from more os
-
 abbrev pub once_from : List (List ℕ) → List (List ℕ) → List (List ℕ)
 once_from once [] = once
 once_from once (name ∷ names) = once_from (replace_key (slice_cmp nat_cmp) once name) names
@@ -131,9 +127,3 @@ unfoldable pub policy_behind : Terms → (kernel digest : List ℕ) → List (Li
 policy_behind s kernel digest names objects =
     exports_wanted kernel names >>= λ exports. modules_made exports objects >>= λ modules.
     within_limits (rules_with s digest exports modules)
-
--- all stages
-unfoldable pub policy_made : Terms → List ℕ → List ModuleFile → Judged Rules
-policy_made s kernel objects =
-    kernel_digest kernel s.ram_pages >>= λ digest. names_from [] objects >>= λ names.
-    policy_behind s kernel digest names objects

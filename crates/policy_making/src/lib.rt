@@ -15,7 +15,7 @@ pub use kernel::kernel_digest;
 pub use laws::{law_exports_of_names, law_within_limits};
 pub use modules::{ObjectFile, made_modules};
 pub use names::want_names;
-pub use policy::{Settings, made_policy, policy_behind};
+pub use policy::{Settings, policy_behind};
 pub use refusal::MakingRefusal;
 
 #[cfg(test)]

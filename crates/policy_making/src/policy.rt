@@ -1,14 +1,12 @@
 // The policy of a kernel and its modules.
 
-ghost use Rattle.std.specs.Prelude.{◌≡◌, true, Ok, [], map, IfOk, IfErr};
+ghost use Rattle.std.specs.Prelude.{◌≡◌, true, Ok, map, IfOk, IfErr};
 ghost use Rattle.sv_types.specs.Policies.{rules_of, rules_within};
 ghost use Rattle.policy_making.specs.Making as spec;
 ghost use Rattle.policy_making.specs.Refusals.{Refuses};
 
 use crate::exports::wanted_exports;
-use crate::kernel::kernel_digest;
 use crate::modules::{ObjectFile, made_modules};
-use crate::names::want_names;
 use crate::refusal::MakingRefusal;
 use policy_limits::within;
 use std::alloc::Global;
@@ -70,36 +68,4 @@ pub fn policy_behind<R: Threads + Sync>(
         init,
         modules,
     })
-}
-
-// The names that all objects want, in their order.
-fn all_names(alloc: Global, objects: &[ObjectFile]) -> Result<Vec<Name>, MakingRefusal>
-    ensures names { IfOk result (λ names. spec.names_from [] (map spec.file_of objects.now) ≡ Ok names.items) }
-    ensures refused { IfErr result (Refuses (spec.names_from [] (map spec.file_of objects.now))) }
-{
-    let mut names = Vec::new(alloc);
-    'objects: for object in objects {
-        want_names(alloc, &mut names, &object.bytes)?;
-    }
-    Ok(names)
-}
-
-/// The policy of a kernel and of modules, by their files. Refuses for the first fault in the order of the stages: the kernel
-/// by 1 to 15; each object's names; the exports; each object's module; and the limits. Want of memory may come at any
-/// stage. The policy is within its limits.
-#[tactic(auto, unfolding(crate::specs::Making::policy_made))]
-pub fn made_policy<R: Threads + Sync>(
-    rt: &R,
-    alloc: Global,
-    settings: Settings,
-    kernel: &[u8],
-    objects: &[ObjectFile],
-) -> Result<Policy, MakingRefusal>
-    ensures policy { IfOk result (λ policy. spec.policy_made (spec.terms_of settings) kernel.now (map spec.file_of objects.now) ≡ Ok (rules_of policy)) }
-    ensures within { IfOk result (λ policy. rules_within (rules_of policy) ≡ true) }
-    ensures refused { IfErr result (Refuses (spec.policy_made (spec.terms_of settings) kernel.now (map spec.file_of objects.now))) }
-{
-    let digest = kernel_digest(rt, alloc, kernel, settings.ram_pages)?;
-    let names = all_names(alloc, objects)?;
-    policy_behind(rt, alloc, settings, kernel, digest, &names, objects)
 }

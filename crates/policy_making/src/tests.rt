@@ -160,7 +160,12 @@ fn made<R: Threads + Sync>(
         entries: vec![in alloc; 0x8000_0000; 1]?,
         init: None,
     };
-    made_policy(rt, alloc, settings, &kernel, &objects)
+    let digest = kernel_digest(rt, alloc, &kernel, settings.ram_pages)?;
+    let mut names = Vec::new(alloc);
+    for object in &objects {
+        want_names(alloc, &mut names, &object.bytes)?;
+    }
+    policy_behind(rt, alloc, settings, &kernel, digest, &names, &objects)
 }
 
 // The digests are those of Python's hashlib; the module's is that of its text with both fields of the call cleared.
