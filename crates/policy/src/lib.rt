@@ -7,8 +7,6 @@ mod modules;
 mod printing;
 mod refusal;
 mod sites;
-#[cfg(test)]
-mod tests;
 mod text;
 mod values;
 

@@ -1,0 +1,9 @@
+//! Tests of the text of policies.
+#![tactic(auto)]
+
+#[cfg(test)]
+mod changes;
+#[cfg(test)]
+mod largest;
+#[cfg(test)]
+mod texts;
