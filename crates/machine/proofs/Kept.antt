@@ -1,5 +1,5 @@
 -- What plain data keeps of a machine is the state that the machine stands for.
-use Rattle.std.proofs.Common.{◌≡◌, ℕ, suc, ◌+◌, ◌-◌, ◌*◌, ◌<◌, List, drop, get_or, drop-cons, add-one, [], ◌∷◌, ◌++◌, length, refl, sym, ◌∙◌, ap, subst, Bool, true, false, arith, append_assoc, append-nil}
+use Rattle.std.proofs.Common.{◌≡◌, ℕ, zero, suc, ◌+◌, ◌-◌, ◌*◌, ◌<◌, List, drop, get_or, drop-cons, add-one, [], ◌∷◌, ◌++◌, length, refl, sym, ◌∙◌, ap, subst, Bool, true, false, arith, append_assoc, append-nil}
 use Rattle.std.specs.Prelude.{IfOk, Option, Some, None, option_map, Result, Ok, Err, slice_get}
 use Rattle.sv_types.specs.Bits.{flag}
 use Rattle.sv_types.specs.Clock.{Clock, timer_of}
@@ -8,14 +8,16 @@ use Rattle.sv_types.specs.Policies.{Rules, ModuleRule}
 use Rattle.sv_types.specs.declared.wires.Mode.{Mode}
 use Rattle.sv_types.specs.declared.wires.Mode.TheVariants.{Kernel, User}
 use Rattle.reference.specs.States.{State, Hart, Loading}
-use Rattle.machine_model.specs.Machine.{Machine}
+use Rattle.machine_model.specs.Machine.{Machine, HostHart}
 use Rattle.machine_model.specs.StandsFor.{StandsFor, Unseen, IsRightFor, machine_of, host_hart, host_harts, host_reservation, hregs_in, load_kept, load_kept_by}
 use Rattle.saved_machine.specs.SavedStates.{gpa_at, saved_hart, saved_harts, saved_load, IsSaved}
 use Rattle.saved_machine.specs.declared.harts.SavedHart.{SavedHart}
 use Rattle.saved_machine.specs.declared.whole.Saved.{Saved}
 use Rattle.hart_answers.specs.Hosts.{host_at, hosts_of}
 use Rattle.hart_answers.specs.declared.seats.Seat.{Seat}
-use Rattle.machine.specs.Keeping.{gpa_behind, kept_hart, kept_harts, kept_load, IsKept}
+use Rattle.machine.specs.Machines.{HasAddress, HaveAddresses}
+use Rattle.machine.proofs.Hosts.{host_there}
+use Rattle.machine.specs.Keeping.{AreKeepable, IsKeepable, gpa_behind, kept_hart, kept_harts, kept_load, IsKept}
 
 -- ---- harts
 
@@ -77,6 +79,34 @@ all_kept tables clock seats h harts whole end e =
     let last : harts ++ kept_harts tables clock h (hosts_of (drop h seats)) ≡ harts ++ [] =
     ap (λ (xs : List Seat). harts ++ kept_harts tables clock h (hosts_of xs)) none in
     sym (append-nil harts) ∙ sym last ∙ e
+
+-- ---- reservations
+
+reservation_keepable : (tables : ℕ) (reservation : Option ℕ) → HasAddress reservation → IsKeepable tables (host_reservation tables reservation)
+reservation_keepable tables None has = tt
+reservation_keepable tables (Some place) has = record { behind = omega arith; small = omega (arith, has) }
+
+hosts_keepable : (tables : ℕ) (exits : List HypervisorRegisters) (harts : List Hart) → HaveAddresses harts → AreKeepable tables (host_harts tables exits harts)
+unfolding host_harts
+hosts_keepable tables [] harts have h = tt
+hosts_keepable tables (x ∷ exits) [] have h = tt
+hosts_keepable tables (x ∷ exits) (y ∷ harts) have zero = reservation_keepable tables y.reservation have.0
+hosts_keepable tables (x ∷ exits) (y ∷ harts) have (suc h) = hosts_keepable tables exits harts have.1 h
+
+abbrev IsMachineKeepable : Machine → Type 0
+IsMachineKeepable m = AreKeepable (length m.region.tables) m.harts
+
+of_state : (o : Unseen) (r : State) → HaveAddresses r.harts → IsMachineKeepable (machine_of o r)
+unfolding machine_of
+of_state o r have = hosts_keepable (length o.tables) o.exits r.harts have
+
+pub machine_keepable : (m : Machine) (r : State) → StandsFor m r → HaveAddresses r.harts → AreKeepable (length m.region.tables) m.harts
+machine_keepable m r stands have = subst IsMachineKeepable (sym stands.same) (of_state stands.unseen r have)
+
+pub seat_keepable : (tables : ℕ) (seats : List Seat) (h : ℕ) (seat : Seat) → h < length seats → seat ≡ get_or seats h seat → AreKeepable tables (hosts_of seats)
+    → IsKeepable tables seat.hart.reservation
+seat_keepable tables seats h seat below is are =
+    subst (λ (x : HostHart). IsKeepable tables x.core.reservation) (host_there seats h seat below ∙ ap host_at (sym is)) (are h)
 
 -- ---- a load under way
 

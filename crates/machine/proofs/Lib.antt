@@ -11,3 +11,4 @@ pub mod BeatsFit
 pub mod Ready
 pub mod Stepped
 pub mod Kept
+pub mod Addressed

@@ -1,10 +1,11 @@
 -- A machine that has just started is fit for its first event.
-use Rattle.std.proofs.Common.{◌≡◌, List, ℕ, length, ap, arith}
+use Rattle.std.proofs.Common.{◌≡◌, ◌-◌, List, [], ℕ, zero, suc, length, replicate, ap, arith}
 use Rattle.elf64_load.specs.Images.{segments_of}
 use Rattle.elf64_load.specs.declared.image.KernelImage.{KernelImage}
 use Rattle.image_loader.proofs.Accepted.{image_placed}
 use Rattle.image_loader.specs.Placed.{ArePlaced}
-use Rattle.reference.specs.Start.{boot_start}
+use Rattle.reference.specs.Calls.{hart_at, stopped_hart}
+use Rattle.reference.specs.Start.{boot_start, flat_rules, flat_start, start}
 use Rattle.reference.specs.States.{State, Journal}
 use Rattle.std.specs.Prelude.{None}
 use Rattle.sv_types.specs.Kernel.{header_entry, kernel_refusal, kernel_segments}
@@ -12,15 +13,36 @@ use Rattle.sv_types.specs.Policies.{Rules}
 use Rattle.machine_model.specs.Reaches.{IsNew}
 use Rattle.start_laws.specs.Starts.{journal_at_boot}
 use Rattle.machine.specs.Boot.{IsImageOf, IsRead}
-use Rattle.machine.specs.Machines.{IsFit}
+use Rattle.machine.specs.Machines.{HaveAddresses, IsFit}
 use Rattle.machine.specs.declared.machine.Machine.TheInside.{Inside}
 
-pub new_fit : (m : Inside) (start : State) → IsNew m.parts start → m.parts.journal ≡ journal_at_boot → IsFit m
-new_fit m start new none =
+-- no hart has a reservation at the start
+none_reserved : (n : ℕ) → HaveAddresses (replicate n stopped_hart)
+unfolding stopped_hart hart_at
+none_reserved zero = tt
+none_reserved (suc n) = (tt, none_reserved n)
+
+start_addressed : (rules : Rules) (ram text : List ℕ) (entry : ℕ) (disk : List ℕ) → HaveAddresses (start rules ram text entry disk).harts
+unfolding start hart_at
+start_addressed rules ram text entry disk = (tt, none_reserved (rules.harts - 1))
+
+flat_addressed : (pages wanted : List ℕ) → HaveAddresses (flat_start pages wanted).harts
+unfolding flat_start
+flat_addressed pages wanted = start_addressed (flat_rules wanted) _ _ _ []
+
+boot_addressed : (rules : Rules) (file disk : List ℕ) → HaveAddresses (boot_start rules file disk).harts
+unfolding boot_start
+boot_addressed rules file disk = start_addressed rules _ _ _ disk
+
+new_fit : (m : Inside) (start : State) → HaveAddresses start.harts → IsNew m.parts start → m.parts.journal ≡ journal_at_boot → IsFit m
+new_fit m start have new none =
     let attempts = new.attempts in
     let cleared = new.cleared in
     let printed : length m.parts.journal.printed ≡ 0 = ap (λ (j : Journal). length j.printed) none in
-    record { state = start; stands = new.stands; attempts = omega arith; printed = omega arith }
+    record { state = start; stands = new.stands; addresses = have; attempts = omega arith; printed = omega arith }
+
+pub flat_fit : (m : Inside) (pages wanted : List ℕ) → IsNew m.parts (flat_start pages wanted) → m.parts.journal ≡ journal_at_boot → IsFit m
+flat_fit m pages wanted new none = new_fit m (flat_start pages wanted) (flat_addressed pages wanted) new none
 
 -- what reading a file gives
 pub is_read : (file : List ℕ) (ram_pages : ℕ) (image : KernelImage) → kernel_refusal file ram_pages ≡ None → image.entry ≡ header_entry file
@@ -33,4 +55,4 @@ read_placed ram_pages image read = image_placed read.file ram_pages (segments_of
 
 pub image_fit : (m : Inside) (rules : Rules) (ram_pages : ℕ) (image : KernelImage) (disk : List ℕ) → IsRead ram_pages image
     → ((file : List ℕ) → IsImageOf file ram_pages image → IsNew m.parts (boot_start rules file disk)) → m.parts.journal ≡ journal_at_boot → IsFit m
-image_fit m rules ram_pages image disk read new none = new_fit m (boot_start rules read.file disk) (new read.file read.is) none
+image_fit m rules ram_pages image disk read new none = new_fit m (boot_start rules read.file disk) (boot_addressed rules read.file disk) (new read.file read.is) none

@@ -1,9 +1,10 @@
 -- What plain data keeps of the machine: SecVisor's own parts are left out. This project's own.
-use Rattle.std.specs.Prelude.{◌≡◌, ℕ, ◌+◌, ◌-◌, List, [], ◌∷◌, length, option_map}
+use Rattle.std.specs.Prelude.{◌≡◌, ℕ, ◌+◌, ◌-◌, ◌^◌, ◌<◌, ◌≤◌, List, [], ◌∷◌, length, IfSome, Option, option_map}
 use Rattle.sv_types.specs.Clock.{Clock, timer_of}
 use Rattle.sv_types.specs.HypervisorRegisters.{at_guest_places}
 use Rattle.machine_model.specs.Machine.{Machine, HostHart, HostLoad}
 use Rattle.saved_machine.specs.SavedStates.{gpa_at}
+use Rattle.machine.specs.Attempts.{hart_in}
 use Rattle.saved_machine.specs.declared.harts.SavedHart.{SavedHart}
 use Rattle.saved_machine.specs.declared.whole.Saved.{Saved}
 use Rattle.saved_machine.specs.declared.whole.SavedLoad.{SavedLoad}
@@ -13,6 +14,18 @@ use Rattle.saved_machine.specs.declared.whole.SavedLoad.{SavedLoad}
 -- the guest-physical address of a host place behind so many bytes of tables
 abbrev pub gpa_behind : ℕ → ℕ → ℕ
 gpa_behind tables place = gpa_at (place - tables)
+
+-- it is a number of 64 bits
+pub record IsAddressed (tables place : ℕ) : Type 0 where
+  pub behind : tables ≤ place
+  pub small : gpa_behind tables place < 2 ^ 64
+
+abbrev pub IsKeepable : ℕ → Option ℕ → Type 0
+IsKeepable tables reservation = IfSome reservation (IsAddressed tables)
+
+-- so has every reservation
+abbrev pub AreKeepable : ℕ → List HostHart → Type 0
+AreKeepable tables hosts = (h : ℕ) → IsKeepable tables (hart_in hosts h).core.reservation
 
 -- a hart of the hardware, as its guest sees it
 abbrev pub kept_hart : (tables timer : ℕ) → HostHart → SavedHart

@@ -1,12 +1,23 @@
 -- What is true of a machine between two events. This project's own.
-use Rattle.std.specs.Prelude.{◌+◌, ◌≤◌, length}
-use Rattle.reference.specs.States.{State}
+use Rattle.std.specs.Prelude.{◌+◌, ◌^◌, ◌<◌, ◌≤◌, ℕ, List, [], ◌∷◌, length, Option, Some, None}
+use Rattle.reference.specs.States.{State, Hart}
 use Rattle.machine_model.specs.StandsFor.{StandsFor}
+use Rattle.saved_machine.specs.SavedStates.{gpa_at}
 use Rattle.machine.specs.declared.machine.Machine.TheInside.{Inside}
 
--- it stands for a state of the reference machine, and no more attempts were made and bytes printed than turns
+-- the guest-physical address of a reservation is a number of 64 bits
+abbrev pub HasAddress : Option ℕ → Type 0
+HasAddress None = Unit {0}
+HasAddress (Some place) = gpa_at place < 2 ^ 64
+
+abbrev pub HaveAddresses : List Hart → Type 0
+HaveAddresses [] = Unit {0}
+HaveAddresses (hart ∷ harts) = HasAddress hart.reservation × HaveAddresses harts
+
+-- it stands for a state of the reference machine whose reservations have addresses, and no more attempts were made and bytes printed than turns
 pub record IsFit (m : Inside) : Type 0 where
   pub state : State
   pub stands : StandsFor m.parts state
+  pub addresses : HaveAddresses state.harts
   pub attempts : m.parts.attempts ≤ m.parts.journal.counts.turns
   pub printed : m.parts.cleared + length m.parts.journal.printed ≤ m.parts.journal.counts.turns

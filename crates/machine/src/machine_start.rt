@@ -21,7 +21,6 @@ impl Machine {
     /// A machine of 16 pages of RAM with these pages at their start, all of them approved, where the hart begins. It has
     /// one hart, no modules and an empty disk. The pages are measured first: the SHA-256 of the pages' SHA-256 digests
     /// has to be the digest that is wanted.
-    #[tactic(auto, using(crate::proofs::NewFit::new_fit))]
     pub fn flat<R: Threads + Sync>(
         rt: &R,
         alloc: Global,
@@ -40,7 +39,6 @@ impl Machine {
     }
     /// A machine of a kernel's image under a policy: the image's segments in RAM, its text approved, and hart 0 at its
     /// entry. First the text is measured against the policy, and the entry has to be one of the policy's.
-    #[tactic(auto, using(crate::proofs::NewFit::image_fit))]
     pub fn boot<R: Threads + Sync>(
         rt: &R,
         alloc: Global,

@@ -7,7 +7,7 @@ ghost use Rattle.machine_model.specs.StandsFor.{StandsFor};
 ghost use Rattle.hart_answers.specs.Hosts.{host_at, hosts_of};
 ghost use Rattle.module_answers.specs.Parts.{loading_of};
 ghost use Rattle.saved_machine.specs.SavedStates.{IsSaved};
-ghost use Rattle.machine.specs.Keeping.{gpa_behind, kept_hart, kept_harts, kept_load, IsKept};
+ghost use Rattle.machine.specs.Keeping.{gpa_behind, AreKeepable, IsKeepable, kept_hart, kept_harts, kept_load, IsKept};
 
 use crate::machine::Machine;
 use crate::parts::Parts;
@@ -31,6 +31,7 @@ impl Machine {
 impl Parts {
     /// The parts that the guest's state lies in, as plain data.
     pub(crate) fn saved(&self, alloc: Global) -> Result<Saved, AllocError>
+        requires { AreKeepable (length self.now.region.tables) self.now.harts }
         ensures { IfOk result (IsKept self.now) }
     {
         let harts = saved_harts(alloc, &self.seats, &self.devices, self.mem.table_bytes())?;
@@ -79,23 +80,24 @@ fn saved_harts(
     tables: usize,
 ) -> Result<Vec<SavedHart>, AllocError>
     requires few { length seats.now ≤ 4 }
+    requires addresses { AreKeepable tables (hosts_of seats.now) }
     ensures { IfOk result (λ harts. harts.items ≡ kept_harts tables devices.now.clock 0 (hosts_of seats.now)) }
 {
     let mut harts = Vec::new(alloc);
     'saved: for h in 0..seats.len() {
         let timer = devices.timer(h as u8);
-        harts.push(saved_hart(&seats[h], timer, tables)?)?;
+        harts.push(saved_hart(&seats[h], timer, tables))?;
     }
     Ok(harts)
 }
 
-fn saved_hart(seat: &Seat, timer: u64, tables: usize) -> Result<SavedHart, AllocError>
-    ensures { IfOk result (λ hart. hart ≡ kept_hart tables timer (host_at seat.now)) }
+fn saved_hart(seat: &Seat, timer: u64, tables: usize) -> SavedHart
+    requires { IsKeepable tables seat.now.hart.reservation }
+    ensures { result ≡ kept_hart tables timer (host_at seat.now) }
 {
     let hart = &seat.hart;
     let csrs = &hart.csrs;
-    let reservation = saved_reservation(hart.reservation, tables)?;
-    Ok(SavedHart {
+    SavedHart {
         started: hart.started,
         mode: seat.side.registers().mode,
         pc: hart.pc,
@@ -110,20 +112,16 @@ fn saved_hart(seat: &Seat, timer: u64, tables: usize) -> Result<SavedHart, Alloc
         stval: csrs.vstval,
         sip: csrs.hvip >> 1,
         satp: csrs.vsatp,
-        reservation,
+        reservation: saved_reservation(hart.reservation, tables),
         timer,
-    })
+    }
 }
 
-// The guest-physical address of a host place that is reserved. It is less than 2^64 wherever the place lies in RAM.
-fn saved_reservation(reservation: Option<u64>, tables: usize) -> Result<Option<u64>, AllocError>
-    ensures { IfOk result (λ gpa. gpa ≡ option_map (gpa_behind tables) reservation) }
+// The guest-physical address of a host place that is reserved.
+fn saved_reservation(reservation: Option<u64>, tables: usize) -> Option<u64>
+    requires { IsKeepable tables reservation }
+    ensures { result ≡ option_map (gpa_behind tables) reservation }
 {
-    let Some(place) = reservation else {
-        return Ok(None);
-    };
-    match RAM_BASE.checked_add(place.saturating_sub(tables as u64)) {
-        Some(gpa) => Ok(Some(gpa)),
-        None => Err(AllocError),
-    }
+    let place = reservation?;
+    Some(RAM_BASE + (place - tables as u64))
 }

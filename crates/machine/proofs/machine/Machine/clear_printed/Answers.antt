@@ -17,6 +17,7 @@ invariant_of-self c =
     record {
       state = c.self.invariant.state;
       stands = subst (λ (m : Machine). StandsFor m c.self.invariant.state) (sym c.clear_printed.ensures) (cleared_stands c.self.inside.parts c.self.invariant.state c.self.invariant.stands);
+      addresses = c.self.invariant.addresses;
       attempts = bounded.attempts;
       printed = bounded.printed;
     }

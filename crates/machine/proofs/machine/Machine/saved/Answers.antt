@@ -1,9 +1,12 @@
 use Rattle.std.proofs.Common.{subst}
 use Rattle.std.specs.Prelude.{IfOk}
 use Rattle.machine_model.specs.Machine.{Machine}
-use Rattle.machine.proofs.Kept.{kept_states}
+use Rattle.machine.proofs.Kept.{kept_states, machine_keepable}
 use Rattle.machine.specs.Keeping.{IsKept}
 use Rattle.machine.proofs.machine.Machine.saved.Goals as goal
+
+pub saved-requires : goal.saved-requires
+saved-requires c = machine_keepable c.self.inside.parts c.self.invariant.state c.self.invariant.stands c.self.invariant.addresses
 
 pub returns : goal.returns
 returns c = record {

@@ -3,6 +3,7 @@ use Rattle.reference.specs.Run.{step}
 use Rattle.machine_model.specs.Machine.{Machine}
 use Rattle.machine_model.specs.StandsFor.{StandsFor}
 use Rattle.machine_model.specs.Steps.{IsStep}
+use Rattle.machine.proofs.Addressed.{step_addressed}
 use Rattle.machine.proofs.Ready.{guarded, may_attempt}
 use Rattle.machine.proofs.Stepped.{step_bounded, step_happens, step_stands}
 use Rattle.machine.proofs.machine.Machine.step.Goals as goal
@@ -20,6 +21,7 @@ invariant_of-self c =
     record {
       state = step c.self.invariant.state c.args.event;
       stands = step_stands c.self.inside.parts c.step.new.self c.args.event c.step.ensures c.self.invariant.state c.self.invariant.stands;
+      addresses = step_addressed c.self.invariant.state c.args.event c.self.invariant.stands.unseen_is_right.region.most c.self.invariant.addresses;
       attempts = bounded.attempts;
       printed = bounded.printed;
     }
