@@ -1,8 +1,6 @@
 -- Lines of a cache: what they answer, and how they are filled.
 use Rattle.std.proofs.Common.{◌≡◌, ℕ, zero, suc, ◌+◌, ◌-◌, ◌*◌, ◌/◌, ◌%◌, ◌^◌, ◌<◌, ◌⊎◌, inl, inr, List, length, get_or, set, replicate, refl, sym, ◌∙◌, ap, subst, arith, Bool, true, false, ◌&&◌}
 use Rattle.std.specs.Prelude.{Option, Some, None, IfSome, if◌then◌else◌, ◌==◌}
-use Rattle.std.specs.Option.{ok_or}
-use Rattle.std.specs.Result.{result_ok}
 use Rattle.std.proofs.lemmas.Bool.Decides.{nat_tests, eqb_tells}
 use Rattle.std.proofs.lemmas.List.{get_or-set_same, get_or-set_other}
 use Rattle.sv_types.specs.Regions.{Region}
@@ -10,7 +8,6 @@ use Rattle.sv_types.specs.Translation.{Destination, At, PageFault, Unreadable}
 use Rattle.sv_types.specs.SecondStage.{walk_guest, address_at, entry_in_region, entry_in_tables, guest_destination, permits_guest, WalksApart}
 use Rattle.sv_types.specs.CachedWalks.{UnderViews, line_permits, line_leads, line_at, LineAgrees, CacheAgrees, FilledUnder, no_lines}
 use Rattle.sv_types.specs.declared.cached.CacheLine.{CacheLine}
-use Rattle.sv_types.specs.declared.translation.GuestFault.{GuestFault}
 use Rattle.sv_types.specs.declared.wires.Access.{Access}
 use Rattle.sv_types.specs.declared.wires.Access.TheVariants.{Fetch, Load, Store}
 use Rattle.sv_types.proofs.Walks.{walk_guest_fits}
@@ -166,9 +163,9 @@ unfolding line_for
 found_is lines hgatp page line e = tagged_is hgatp page (line_at lines (page % 256)) line e
 
 -- what a walk leads to is found
-pub leads_there : (o : Option ℕ) (fault : GuestFault) → IfSome (result_ok (ok_or o fault)) (λ place. o ≡ Some place)
-leads_there None fault = tt
-leads_there (Some place) fault = refl
+pub leads_there : (o : Option ℕ) → IfSome o (λ place. o ≡ Some place)
+leads_there None = tt
+leads_there (Some place) = refl
 
 -- ---- empty lines
 

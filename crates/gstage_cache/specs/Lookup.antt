@@ -1,9 +1,10 @@
 -- Where a cache keeps the line of a page. This project's own.
-use Rattle.std.specs.Prelude.{◌≡◌, ℕ, ◌-◌, ◌/◌, ◌%◌, Bool, true, false, ◌&&◌, ◌==◌, if◌then◌else◌, List, length, Option, Some, None, slice_set}
+use Rattle.std.specs.Prelude.{◌≡◌, ℕ, ◌+◌, ◌-◌, ◌/◌, ◌%◌, Bool, true, false, ◌&&◌, ◌==◌, if◌then◌else◌, List, length, Option, Some, None, slice_set}
 use Rattle.sv_types.specs.Bytes.{page_size}
 use Rattle.sv_types.specs.SecondStage.{permits_guest}
-use Rattle.sv_types.specs.CachedWalks.{line_at, lines_of_cache}
+use Rattle.sv_types.specs.CachedWalks.{line_at, line_permits, lines_of_cache}
 use Rattle.sv_types.specs.declared.cached.CacheLine.{CacheLine}
+use Rattle.sv_types.specs.declared.wires.Access.{Access}
 use Rattle.sv_types.specs.declared.wires.Access.TheVariants.{Fetch, Load, Store}
 use Rattle.sv39_walk.specs.declared.second_stage.Mapping.{Mapping}
 
@@ -19,6 +20,15 @@ line_for lines hgatp page = tagged hgatp page (line_at lines (page % lines_of_ca
 abbrev pub is_held : Option CacheLine → Bool
 is_held None = false
 is_held (Some line) = true
+
+-- where a line of its page leads an access from an address, if it permits it
+abbrev pub place_by : CacheLine → (gpa : ℕ) → Access → Option ℕ
+place_by line gpa access = if line_permits line access then Some (line.host + gpa % page_size) else None
+
+-- where an access from an address is led without a walk: its page's line is held, and permits it
+abbrev pub place_held : Option CacheLine → (gpa : ℕ) → Access → Option ℕ
+place_held None gpa access = None
+place_held (Some line) gpa access = place_by line gpa access
 
 -- each line that is held stands at its page's place
 pub record IsPlaced (lines : List (Option CacheLine)) : Type 0 where

@@ -4,7 +4,7 @@ ghost use Rattle.std.specs.Prelude.{◌≡◌, ℕ, ◌+◌, ◌*◌, ◌/◌, �
 ghost use Rattle.std.specs.Option.{ok_or};
 ghost use Rattle.sv_types.specs.SecondStage.{walk_guest, WalksApart};
 ghost use Rattle.sv_types.specs.CachedWalks.{line_permits, no_lines, LineAgrees, CacheAgrees, FilledUnder};
-ghost use Rattle.gstage_cache.specs.Lookup.{line_for, is_held, line_of_mapping, IsKept};
+ghost use Rattle.gstage_cache.specs.Lookup.{line_for, is_held, place_by, place_held, line_of_mapping, IsKept};
 ghost use Rattle.gstage_cache.specs.Fills.{nothing_filled, filled_further};
 
 use host_mem::HostMem;
@@ -68,17 +68,18 @@ impl Cache {
         }
     }
 
-    /// The host place of a guest-physical address, where a translation that permits the access is held. It is where the
-    /// walk leads.
+    /// The host place of a guest-physical address, exactly where a translation that permits the access is held. It is where
+    /// the walk leads.
     ///
     /// Every line agrees with the tables.
     #[inline(always)]
     pub fn held_place(&self, mem: &HostMem, hgatp: u64, gpa: u64, access: Access) -> Option<u64>
         requires agrees { CacheAgrees mem.now.tables self.now }
-        ensures { IfSome result (λ hpa. walk_guest mem.now hgatp gpa access ≡ Some hpa) }
+        ensures held { result ≡ place_held (line_for self.now hgatp (gpa / 4096)) gpa access }
+        ensures walk { IfSome result (λ hpa. walk_guest mem.now hgatp gpa access ≡ Some hpa) }
     {
         match self.line(hgatp, gpa / PAGE_BYTES) {
-            Some(line) => hit(mem, &line, gpa, access).ok(),
+            Some(line) => place_by(mem, &line, gpa, access),
             None => None,
         }
     }
@@ -228,16 +229,29 @@ fn permits(line: &CacheLine, access: Access) -> bool
     }
 }
 
+// Where a line of the address's page leads an access, if it permits it.
+fn place_by(mem: &HostMem, line: &CacheLine, gpa: u64, access: Access) -> Option<u64>
+    requires page { line.now.page ≡ gpa / 4096 }
+    requires agrees { LineAgrees mem.now.tables line.now }
+    ensures held { result ≡ place_by line.now gpa access }
+    ensures walk { result ≡ walk_guest mem.now line.now.hgatp gpa access }
+{
+    if permits(line, access) {
+        Some(line.host + gpa % PAGE_BYTES)
+    } else {
+        None
+    }
+}
+
 // What a line of the address's page answers.
 fn hit(mem: &HostMem, line: &CacheLine, gpa: u64, access: Access) -> Result<u64, GuestFault>
     requires page { line.now.page ≡ gpa / 4096 }
     requires agrees { LineAgrees mem.now.tables line.now }
     ensures { result ≡ ok_or (walk_guest mem.now line.now.hgatp gpa access) (record { gpa = gpa }) }
 {
-    if permits(line, access) {
-        Ok(line.host + gpa % PAGE_BYTES)
-    } else {
-        Err(GuestFault { gpa })
+    match place_by(mem, line, gpa, access) {
+        Some(hpa) => Ok(hpa),
+        None => Err(GuestFault { gpa }),
     }
 }
 

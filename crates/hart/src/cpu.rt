@@ -10,11 +10,12 @@ ghost use Rattle.hart.specs.Conditions.{KeepsMode};
 use crate::decoder::Decoder;
 use crate::execution::attempt;
 use crate::hart::Hart;
+use crate::wires::Wires;
 use gstage_cache::Cache;
 use host_mem::HostMem;
 use std::alloc::{AllocError, Global};
 use std::marker::Model;
-use sv_types::{HRegs, Lines, Outcome};
+use sv_types::{HRegs, Outcome};
 
 /// Counts the attempts that are made through it. Contracts see the count.
 #[derive(Drop)]
@@ -52,13 +53,13 @@ impl Cpu {
     ///
     /// `hgatp` has mode 8 (Sv39x4). Walks under it read the tables alone and lead to RAM, and every line of the cache
     /// agrees with the tables.
-    pub fn attempt(
+    pub fn attempt<W: Wires>(
         &mut self,
         hart: &mut Hart,
         regs: &HRegs,
         cache: &mut Cache,
         mem: &mut HostMem,
-        lines: &Lines,
+        wires: &W,
     ) -> Outcome
         requires count { self.old < 2 ^ 64 - 1 }
         requires aligned { hart.old.pc % 4 ≡ 0 }
@@ -67,7 +68,7 @@ impl Cpu {
         requires apart { WalksApart mem.old regs.now.hgatp }
         requires agrees { CacheAgrees mem.old.tables cache.old }
         ensures counted { self.new ≡ self.old + 1 }
-        ensures attempted { attempted_of mem.new hart.new regs.now result ≡ attempt mem.old (core_of hart.old regs.now) lines.now }
+        ensures attempted { attempted_of mem.new hart.new regs.now result ≡ attempt mem.old (core_of hart.old regs.now) (W.seen wires.now) }
         ensures id { hart.new.id ≡ hart.old.id }
         ensures started { hart.new.started ≡ hart.old.started }
         ensures pc { hart.new.pc % 4 ≡ 0 }
@@ -77,6 +78,6 @@ impl Cpu {
         ensures written { OnlyWrites mem.old mem.new result }
     {
         self.count += 1;
-        attempt(&mut self.decoder, hart, regs, cache, mem, lines)
+        attempt(&mut self.decoder, hart, regs, cache, mem, wires)
     }
 }

@@ -6,6 +6,7 @@ ghost use Rattle.sv_types.specs.SecondStage.{WalksApart};
 ghost use Rattle.sv_types.specs.CachedWalks.{CacheAgrees, FilledUnder};
 ghost use Rattle.sv_types.specs.Effects.{set_register};
 ghost use Rattle.sv_types.specs.Encoding.{fits};
+ghost use Rattle.sv_types.specs.HypervisorRegisters.{pending};
 ghost use Rattle.sv_types.specs.Requests.{IsRequest};
 ghost use Rattle.sv_types.specs.HardwareMemory.{load_htinst, store_htinst, atomic_htinst};
 ghost use Rattle.sv_types.specs.HardwareAttempt.{after_effect, after_instruction, after_word, after_fetch, attempt, OnlyWrites};
@@ -20,28 +21,29 @@ use crate::system::{
     CsrAccess, call, csr, csr_reached, illegal, sret, supervisor_only, virtual_instruction,
 };
 use crate::trap::{interrupt, plain_exception, raise};
+use crate::wires::Wires;
 use gstage_cache::Cache;
 use host_mem::HostMem;
 use rv64_exec::effect;
-use sv_types::{Access, Cause, Effect, Exception, HRegs, Instr, Lines, Outcome};
+use sv_types::{Access, Cause, Effect, Exception, HRegs, Instr, Interrupt, Outcome};
 use trap_entry::pending;
 
 /// What `Cpu::attempt` does, without the count.
 #[tactic(auto, using(gstage_cache::specs::Fills::nothing_filled, gstage_cache::specs::Fills::filled_further), unfolding(sv_types::specs::HardwareAttempt::attempt, sv_types::specs::HardwareAttempt::after_pending))]
-pub(crate) fn attempt(
+pub(crate) fn attempt<W: Wires>(
     decoder: &mut Decoder,
     hart: &mut Hart,
     regs: &HRegs,
     cache: &mut Cache,
     mem: &mut HostMem,
-    lines: &Lines,
+    wires: &W,
 ) -> Outcome
     requires aligned { hart.old.pc % 4 ≡ 0 }
     requires mode { KeepsMode regs.now }
     requires second { regs.now.hgatp / 2 ^ 60 ≡ 8 }
     requires apart { WalksApart mem.old regs.now.hgatp }
     requires agrees { CacheAgrees mem.old.tables cache.old }
-    ensures attempted { attempted_of mem.new hart.new regs.now result ≡ attempt mem.old (core_of hart.old regs.now) lines.now }
+    ensures attempted { attempted_of mem.new hart.new regs.now result ≡ attempt mem.old (core_of hart.old regs.now) (W.seen wires.now) }
     ensures id { hart.new.id ≡ hart.old.id }
     ensures started { hart.new.started ≡ hart.old.started }
     ensures pc { hart.new.pc % 4 ≡ 0 }
@@ -50,24 +52,35 @@ pub(crate) fn attempt(
     ensures agrees { CacheAgrees mem.new.tables cache.new }
     ensures written { OnlyWrites mem.old mem.new result }
 {
-    match pending(&hart.csrs, regs, lines) {
+    match interrupt_due(hart, regs, wires) {
         Some(taken) => interrupt(hart, regs, taken),
         None => {
             let place = translated(hart, regs, cache, mem, Access::Fetch, hart.pc, 0);
-            fetch(decoder, hart, regs, cache, mem, lines, place)
+            fetch(decoder, hart, regs, cache, mem, wires, place)
         }
     }
 }
 
+// The interrupt that is taken. Where none is enabled, no wire is read.
+#[tactic(auto, unfolding(sv_types::specs::HypervisorRegisters::pending, sv_types::specs::HypervisorRegisters::is_taken))]
+fn interrupt_due<W: Wires>(hart: &Hart, regs: &HRegs, wires: &W) -> Option<Interrupt>
+    ensures { result ≡ pending regs.now hart.now.csrs (W.seen wires.now) }
+{
+    if hart.csrs.hie == 0 {
+        return None;
+    }
+    pending(&hart.csrs, regs, &wires.lines())
+}
+
 // The word at the place that the pc reached, carried out.
 #[tactic(auto, using(gstage_cache::specs::Fills::nothing_filled), unfolding(sv_types::specs::HardwareAttempt::after_fetch))]
-fn fetch(
+fn fetch<W: Wires>(
     decoder: &mut Decoder,
     hart: &mut Hart,
     regs: &HRegs,
     cache: &mut Cache,
     mem: &mut HostMem,
-    lines: &Lines,
+    wires: &W,
     place: Result<u64, Exception>,
 ) -> Outcome
     requires aligned { hart.old.pc % 4 ≡ 0 }
@@ -76,7 +89,7 @@ fn fetch(
     requires apart { WalksApart mem.old regs.now.hgatp }
     requires agrees { CacheAgrees mem.old.tables cache.old }
     requires place { IfOk place (λ hpa. IsHostPlace mem.old hpa 4) }
-    ensures attempted { attempted_of mem.new hart.new regs.now result ≡ after_fetch mem.old (core_of hart.old regs.now) lines.now place }
+    ensures attempted { attempted_of mem.new hart.new regs.now result ≡ after_fetch mem.old (core_of hart.old regs.now) (W.seen wires.now) place }
     ensures id { hart.new.id ≡ hart.old.id }
     ensures started { hart.new.started ≡ hart.old.started }
     ensures pc { hart.new.pc % 4 ≡ 0 }
@@ -86,20 +99,20 @@ fn fetch(
     match place {
         Ok(hpa) => {
             let word = mem.read(hpa as usize, 4) as u32;
-            carry_out(decoder, hart, regs, cache, mem, lines, word)
+            carry_out(decoder, hart, regs, cache, mem, wires, word)
         }
         Err(exception) => raise(hart, regs, exception),
     }
 }
 
 #[tactic(auto, using(gstage_cache::specs::Fills::nothing_filled), unfolding(sv_types::specs::HardwareAttempt::after_word, sv_types::specs::HardwareAttempt::after_instruction))]
-fn carry_out(
+fn carry_out<W: Wires>(
     decoder: &mut Decoder,
     hart: &mut Hart,
     regs: &HRegs,
     cache: &mut Cache,
     mem: &mut HostMem,
-    lines: &Lines,
+    wires: &W,
     word: u32,
 ) -> Outcome
     requires aligned { hart.old.pc % 4 ≡ 0 }
@@ -107,7 +120,7 @@ fn carry_out(
     requires second { regs.now.hgatp / 2 ^ 60 ≡ 8 }
     requires apart { WalksApart mem.old regs.now.hgatp }
     requires agrees { CacheAgrees mem.old.tables cache.old }
-    ensures attempted { attempted_of mem.new hart.new regs.now result ≡ after_word mem.old (core_of hart.old regs.now) lines.now word }
+    ensures attempted { attempted_of mem.new hart.new regs.now result ≡ after_word mem.old (core_of hart.old regs.now) (W.seen wires.now) word }
     ensures id { hart.new.id ≡ hart.old.id }
     ensures started { hart.new.started ≡ hart.old.started }
     ensures pc { hart.new.pc % 4 ≡ 0 }
@@ -115,18 +128,18 @@ fn carry_out(
     ensures filled { FilledUnder mem.old.tables regs.now.hgatp cache.old cache.new }
 {
     match &decoder.decoded(hart.pc, word).instr {
-        Some(instr) => execute(hart, regs, cache, mem, lines, word, instr),
+        Some(instr) => execute(hart, regs, cache, mem, wires, word, instr),
         None => raise(hart, regs, illegal(word)),
     }
 }
 
 #[tactic(auto, using(sv_types::proofs::EffectRequests::is_request), unfolding(sv_types::specs::HardwareAttempt::after_instruction))]
-fn execute(
+fn execute<W: Wires>(
     hart: &mut Hart,
     regs: &HRegs,
     cache: &mut Cache,
     mem: &mut HostMem,
-    lines: &Lines,
+    wires: &W,
     word: u32,
     instr: &Instr,
 ) -> Outcome
@@ -136,7 +149,7 @@ fn execute(
     requires apart { WalksApart mem.old regs.now.hgatp }
     requires agrees { CacheAgrees mem.old.tables cache.old }
     requires fits { IsTrue (fits instr.now) }
-    ensures attempted { attempted_of mem.new hart.new regs.now result ≡ after_instruction mem.old (core_of hart.old regs.now) lines.now word (Some instr.now) }
+    ensures attempted { attempted_of mem.new hart.new regs.now result ≡ after_instruction mem.old (core_of hart.old regs.now) (W.seen wires.now) word (Some instr.now) }
     ensures id { hart.new.id ≡ hart.old.id }
     ensures started { hart.new.started ≡ hart.old.started }
     ensures pc { hart.new.pc % 4 ≡ 0 }
@@ -144,7 +157,7 @@ fn execute(
     ensures filled { FilledUnder mem.old.tables regs.now.hgatp cache.old cache.new }
 {
     let effect = effect(instr, &hart.regs, hart.pc);
-    apply(hart, regs, cache, mem, lines, word, effect)
+    apply(hart, regs, cache, mem, wires, word, effect)
 }
 
 fn load_htinst(word: u32) -> u32
@@ -176,12 +189,12 @@ fn set(hart: &mut Hart, rd: u8, value: u64, next: u64) -> Outcome
 }
 
 #[tactic(auto, using(gstage_cache::specs::Fills::nothing_filled), unfolding(sv_types::specs::HardwareAttempt::after_effect))]
-fn apply(
+fn apply<W: Wires>(
     hart: &mut Hart,
     regs: &HRegs,
     cache: &mut Cache,
     mem: &mut HostMem,
-    lines: &Lines,
+    wires: &W,
     word: u32,
     effect: Effect,
 ) -> Outcome
@@ -191,7 +204,7 @@ fn apply(
     requires apart { WalksApart mem.old regs.now.hgatp }
     requires agrees { CacheAgrees mem.old.tables cache.old }
     requires request { IsRequest effect }
-    ensures attempted { attempted_of mem.new hart.new regs.now result ≡ after_effect mem.old (core_of hart.old regs.now) lines.now word effect }
+    ensures attempted { attempted_of mem.new hart.new regs.now result ≡ after_effect mem.old (core_of hart.old regs.now) (W.seen wires.now) word effect }
     ensures id { hart.new.id ≡ hart.old.id }
     ensures started { hart.new.started ≡ hart.old.started }
     ensures pc { hart.new.pc % 4 ≡ 0 }
@@ -253,7 +266,7 @@ fn apply(
         } => {
             let reached = csr_reached(hart, regs, word, number, writes);
             let access = CsrAccess { op, value, writes };
-            csr(hart, regs, lines, rd, access, reached)
+            csr(hart, regs, &wires.lines(), rd, access, reached)
         }
         Effect::Ecall => call(hart, regs),
         Effect::Ebreak => raise(hart, regs, plain_exception(Cause::Breakpoint, hart.pc)),

@@ -9,7 +9,9 @@ mod memory;
 mod requests;
 mod system;
 mod trap;
+mod wires;
 
 pub use cpu::Cpu;
 pub use hart::Hart;
 pub use sv_types::{Outcome, Wrote};
+pub use wires::Wires;

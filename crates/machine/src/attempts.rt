@@ -7,54 +7,54 @@ ghost use Rattle.hart_answers.specs.Hosts.{host_at, hosts_of};
 ghost use Rattle.machine.specs.Attempts.{hart_in, IsReady, IsUsable, AreUsable};
 
 use gstage_cache::Cache;
-use hart::Cpu;
+use hart::{Cpu, Wires};
 use hart_answers::{Seat, forget};
 use host_mem::HostMem;
-use sv_types::{Lines, Outcome};
+use sv_types::Outcome;
 
 // An attempt of a hart on its side, with its cache.
-fn attempt_in_seat(
+fn attempt_in_seat<W: Wires>(
     cpu: &mut Cpu,
     seat: &mut Seat,
     cache: &mut Cache,
     mem: &mut HostMem,
-    lines: &Lines,
+    wires: &W,
 ) -> Outcome
     requires count { cpu.old < 2 ^ 64 - 1 }
-    requires ready { IsReady mem.old (host_at seat.old) lines.now }
+    requires ready { IsReady mem.old (host_at seat.old) (W.seen wires.now) }
     requires usable { IsUsable mem.old.tables cache.old }
     ensures counted { cpu.new ≡ cpu.old + 1 }
-    ensures host { host_at seat.new ≡ running (attempt mem.old (host_at seat.old).core lines.now).core }
-    ensures region { mem.new ≡ (attempt mem.old (host_at seat.old).core lines.now).region }
-    ensures outcome { result ≡ (attempt mem.old (host_at seat.old).core lines.now).outcome }
+    ensures host { host_at seat.new ≡ running (attempt mem.old (host_at seat.old).core (W.seen wires.now)).core }
+    ensures region { mem.new ≡ (attempt mem.old (host_at seat.old).core (W.seen wires.now)).region }
+    ensures outcome { result ≡ (attempt mem.old (host_at seat.old).core (W.seen wires.now)).outcome }
     ensures aligned { seat.new.hart.pc % 4 ≡ 0 }
     ensures tables { mem.new.tables ≡ mem.old.tables }
     ensures ram { length mem.new.ram ≡ length mem.old.ram }
     ensures usable { IsUsable mem.new.tables cache.new }
 {
     let regs = seat.side.registers();
-    cpu.attempt(&mut seat.hart, regs, cache, mem, lines)
+    cpu.attempt(&mut seat.hart, regs, cache, mem, wires)
 }
 
 /// One attempt of a hart among all harts, each with its cache.
 #[tactic(auto)]
-pub(crate) fn attempt(
+pub(crate) fn attempt<W: Wires>(
     cpu: &mut Cpu,
     seats: &mut [Seat],
     caches: &mut [Cache],
     which: u8,
     mem: &mut HostMem,
-    lines: &Lines,
+    wires: &W,
 ) -> Outcome
     requires there { which < length seats.old }
     requires number { length caches.old ≡ length seats.old }
     requires count { cpu.old < 2 ^ 64 - 1 }
-    requires ready { IsReady mem.old (hart_in (hosts_of seats.old) which) lines.now }
+    requires ready { IsReady mem.old (hart_in (hosts_of seats.old) which) (W.seen wires.now) }
     requires usable { AreUsable mem.old.tables caches.old }
     ensures counted { cpu.new ≡ cpu.old + 1 }
-    ensures harts { hosts_of seats.new ≡ all_forget result (slice_set (hosts_of seats.old) which (running (attempt mem.old (hart_in (hosts_of seats.old) which).core lines.now).core)) }
-    ensures region { mem.new ≡ (attempt mem.old (hart_in (hosts_of seats.old) which).core lines.now).region }
-    ensures outcome { result ≡ (attempt mem.old (hart_in (hosts_of seats.old) which).core lines.now).outcome }
+    ensures harts { hosts_of seats.new ≡ all_forget result (slice_set (hosts_of seats.old) which (running (attempt mem.old (hart_in (hosts_of seats.old) which).core (W.seen wires.now)).core)) }
+    ensures region { mem.new ≡ (attempt mem.old (hart_in (hosts_of seats.old) which).core (W.seen wires.now)).region }
+    ensures outcome { result ≡ (attempt mem.old (hart_in (hosts_of seats.old) which).core (W.seen wires.now)).outcome }
     ensures aligned { (hart_in (hosts_of seats.new) which).core.pc % 4 ≡ 0 }
     ensures seats { length seats.new ≡ length seats.old }
     ensures caches { length caches.new ≡ length caches.old }
@@ -64,7 +64,7 @@ pub(crate) fn attempt(
 {
     let seat = &mut seats[which as usize];
     let cache = &mut caches[which as usize];
-    let outcome = attempt_in_seat(cpu, seat, cache, mem, lines);
+    let outcome = attempt_in_seat(cpu, seat, cache, mem, wires);
     forget_wrote(seats, outcome);
     outcome
 }

@@ -13,6 +13,7 @@ mod saved;
 mod start;
 #[cfg(test)]
 mod tests;
+mod wires;
 
 pub use block_device::SECTOR_BYTES;
 pub use boot::BootRefusal;

@@ -20,6 +20,7 @@ ghost use Rattle.machine.specs.Turns.{IsGuarded, MayAttempt, Finished};
 use crate::attempts::attempt;
 use crate::beats::beat_disk;
 use crate::caches::fence;
+use crate::wires::HartWires;
 use block_device::Block;
 use call_answers::Asked;
 use device_bus::Devices;
@@ -83,14 +84,17 @@ impl Parts {
         ensures aligned { (hart_in self.new.harts which).core.pc % 4 ≡ 0 }
         ensures number { length self.new.harts ≡ length self.old.harts }
     {
-        let lines = self.devices.lines(which);
+        let wires = HartWires {
+            devices: &self.devices,
+            hart: which,
+        };
         attempt(
             &mut self.cpu,
             &mut self.seats,
             &mut self.caches,
             which,
             &mut self.mem,
-            &lines,
+            &wires,
         )
     }
 

@@ -7,11 +7,11 @@ pub returns-then-hart-eq0-clause-value : goal.returns-then-hart-eq0-clause-value
 returns-then-hart-eq0-clause-value c =
     some_further c.held_place.result
     (λ hpa walked htinst. bare_place c.args.mem.now (core_of c.args.hart.now c.args.regs.now) c.args.va hpa htinst c.args.access (search rules) walked)
-    c.held_place.ensures
+    c.held_place.ensures.walk
 
 pub returns-then-hart-eq0-clause-place : goal.returns-then-hart-eq0-clause-place
 returns-then-hart-eq0-clause-place c =
     some_further c.held_place.result
     (λ hpa walked width is_width aligned. walk_places c.args.mem.now c.args.regs.now.hgatp c.args.va c.args.va hpa width c.args.access
     c.table_bytes-table_bytes.ensures.region (apart_inside c.args.mem.now c.args.regs.now.hgatp c.requires.apart) is_width aligned refl walked)
-    c.held_place.ensures
+    c.held_place.ensures.walk

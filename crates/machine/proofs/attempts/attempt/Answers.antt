@@ -9,27 +9,27 @@ use Rattle.machine.specs.Attempts.{hart_in}
 use Rattle.machine.proofs.attempts.attempt.Goals as goal
 
 pub attempt_in_seat-outcome-requires-clause-usable : goal.attempt_in_seat-outcome-requires-clause-usable
-attempt_in_seat-outcome-requires-clause-usable c =
+attempt_in_seat-outcome-requires-clause-usable g c =
     usable_there c.args.mem.now.tables c.args.caches.now c.args.which c.index-caches-which.result c.requires.usable
     (subst (λ (n : ℕ). c.args.which < n) (sym c.requires.number) c.requires.there)
 
 pub returns-clause-harts : goal.returns-clause-harts
-returns-clause-harts c =
+returns-clause-harts g c =
     let there = host_there c.args.seats.now c.args.which c.index-seats-which.result c.requires.there in
     c.forget_wrote.ensures.hosts
     ∙ ap (all_forget c.attempt_in_seat-outcome.result)
     (sym (hosts_set c.args.seats.now c.args.which c.attempt_in_seat-outcome.new.seat)
     ∙ ap (slice_set (hosts_of c.args.seats.now) c.args.which)
     (c.attempt_in_seat-outcome.ensures.host
-    ∙ ap (λ (host : HostHart). running (attempt c.args.mem.now host.core c.args.lines.now).core) (sym there)))
+    ∙ ap (λ (host : HostHart). running (attempt c.args.mem.now host.core (g.W.Wires.seen c.args.wires.now)).core) (sym there)))
 
 pub returns-clause-usable : goal.returns-clause-usable
-returns-clause-usable c =
+returns-clause-usable g c =
     usable_set c.args.mem.now.tables c.attempt_in_seat-outcome.new.mem.tables c.args.caches.now c.args.which c.attempt_in_seat-outcome.new.cache
     c.requires.usable c.attempt_in_seat-outcome.ensures.tables c.attempt_in_seat-outcome.ensures.usable
 
 pub returns-clause-aligned : goal.returns-clause-aligned
-returns-clause-aligned c =
+returns-clause-aligned g c =
     subst (λ (pc : ℕ). pc % 4 ≡ 0)
     (sym (ap (λ (harts : List HostHart). (hart_in harts c.args.which).core.pc) c.forget_wrote.ensures.hosts
     ∙ pc_there c.attempt_in_seat-outcome.result c.args.seats.now c.args.which c.attempt_in_seat-outcome.new.seat c.requires.there))

@@ -1,0 +1,25 @@
+// The wires of a hart.
+
+ghost use Rattle.std.specs.Prelude.{◌<◌};
+ghost use Rattle.reference.specs.Devices.{lines_at};
+
+use block_device::Block;
+use device_bus::Devices;
+use hart::Wires;
+use sv_types::Lines;
+
+/// The wires of a hart, behind the devices.
+#[derive(Clone, Copy, Drop)]
+pub(crate) struct HartWires<'a> {
+    pub(crate) devices: &'a Devices<Block>,
+    pub(crate) hart: u8,
+    ghost is_hart: { hart < 4 },
+}
+
+impl Wires for HartWires<'_> {
+    ghost seen = { λ wires. lines_at wires.devices.now wires.hart };
+
+    fn lines(&self) -> Lines {
+        self.devices.lines(self.hart)
+    }
+}
