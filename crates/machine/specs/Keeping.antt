@@ -15,15 +15,16 @@ use Rattle.saved_machine.specs.declared.whole.SavedLoad.{SavedLoad}
 abbrev pub gpa_behind : ℕ → ℕ → ℕ
 gpa_behind tables place = gpa_at (place - tables)
 
--- it is a number of 64 bits
+-- the place lies behind the tables, and its address is a number of 64 bits
 pub record IsAddressed (tables place : ℕ) : Type 0 where
   pub behind : tables ≤ place
   pub small : gpa_behind tables place < 2 ^ 64
 
+-- a reservation that can be kept as an address
 abbrev pub IsKeepable : ℕ → Option ℕ → Type 0
 IsKeepable tables reservation = IfSome reservation (IsAddressed tables)
 
--- so has every reservation
+-- the reservation of every hart can
 abbrev pub AreKeepable : ℕ → List HostHart → Type 0
 AreKeepable tables hosts = (h : ℕ) → IsKeepable tables (hart_in hosts h).core.reservation
 

@@ -14,7 +14,8 @@ abbrev pub HaveAddresses : List Hart → Type 0
 HaveAddresses [] = Unit {0}
 HaveAddresses (hart ∷ harts) = HasAddress hart.reservation × HaveAddresses harts
 
--- it stands for a state of the reference machine whose reservations have addresses, and no more attempts were made and bytes printed than turns
+-- it stands for a state of the reference machine whose reservations have addresses, and no more attempts were made and
+-- bytes printed than turns
 pub record IsFit (m : Inside) : Type 0 where
   pub state : State
   pub stands : StandsFor m.parts state
