@@ -1,5 +1,5 @@
 -- The stages of a plan that makes a policy.
-use Rattle.std.proofs.Common.{◌≡◌, ℕ, List, [], ◌∷◌, ◌++◌, map, length, true, refl, sym, ap, subst, inr, string_bytes, String, Global, Option, Ok, Err, ◌&&◌, Bool, IsTrue, ◌∙◌}
+use Rattle.std.proofs.Common.{◌≡◌, ℕ, List, [], ◌∷◌, ◌++◌, map, length, true, refl, sym, ap, subst, inr, Option, Ok, Err, ◌&&◌, Bool, IsTrue, ◌∙◌}
 use Rattle.std.specs.Prelude.{not}
 use Rattle.std.specs.List.{list_all}
 use Rattle.std.proofs.lemmas.Bool.{and_parts}
@@ -207,14 +207,14 @@ behind_same terms wanted file kernel digest names given objects held t f n o =
 
 -- ---- the words
 
-each_named : (before : List (List ℕ)) (words : List (String Global)) → each_within is_new_name before (map string_bytes words) ≡ true → list_all (λ (w : String Global). is_name (string_bytes w)) words ≡ true
-each_named before [] new = refl
-each_named before (w ∷ ws) new =
-    let parts = and_parts (is_new_name before (string_bytes w)) (each_within is_new_name (before ++ string_bytes w ∷ []) (map string_bytes ws)) new in
-    let name = (and_parts (is_name (string_bytes w)) (not (is_among before (string_bytes w))) parts.0).0 in
-    ap (λ (b : Bool). b && list_all (λ (v : String Global). is_name (string_bytes v)) ws) name ∙ each_named (before ++ string_bytes w ∷ []) ws parts.1
+each_named : {A : Type 0} (bytes : A → List ℕ) (before : List (List ℕ)) (words : List A) → each_within is_new_name before (map bytes words) ≡ true → list_all (λ w. is_name (bytes w)) words ≡ true
+each_named bytes before [] new = refl
+each_named bytes before (w ∷ ws) new =
+    let parts = and_parts (is_new_name before (bytes w)) (each_within is_new_name (before ++ bytes w ∷ []) (map bytes ws)) new in
+    let name = (and_parts (is_name (bytes w)) (not (is_among before (bytes w))) parts.0).0 in
+    ap (λ (b : Bool). b && list_all (λ v. is_name (bytes v)) ws) name ∙ each_named bytes (before ++ bytes w ∷ []) ws parts.1
 
 -- names of modules are names
-pub modules_named : (words : List (String Global)) → IsTrue (are_module_names (map string_bytes words)) → IsTrue (list_all (λ (w : String Global). is_name (string_bytes w)) words)
-modules_named words good =
-    each_named [] words (and_parts (modules_count_within (length (map string_bytes words))) (all_new_names (map string_bytes words)) good).1
+pub modules_named : {A : Type 0} (bytes : A → List ℕ) (words : List A) → IsTrue (are_module_names (map bytes words)) → IsTrue (list_all (λ w. is_name (bytes w)) words)
+modules_named bytes words good =
+    each_named bytes [] words (and_parts (modules_count_within (length (map bytes words))) (all_new_names (map bytes words)) good).1

@@ -1,5 +1,6 @@
 -- The stages of a run's plan, and its boot.
 use Rattle.std.proofs.Common.{◌≡◌, ◌≢◌, ◌%◌, ◌==◌, ℕ, List, [], ◌∷◌, length, Bool, IsTrue, true, false, refl, sym, ◌∙◌, ap, subst, inl, inr, Option, Some, None, Result, Ok, Err, if◌then◌else◌}
+use Rattle.std.specs.Result.{is_ok}
 use Rattle.std.specs.Str.{bytes_eq}
 use Rattle.sv_types.specs.declared.event.Event.{Event}
 use Rattle.sv_types.specs.declared.policy.Policy.{Policy}
@@ -17,12 +18,13 @@ use Rattle.machine.specs.declared.boot.BootRefusal.{BootRefusal}
 use Rattle.machine.specs.Boot.{IsImageOf, RefusesImage}
 use Rattle.outside.specs.Outside.{FilesState}
 use Rattle.secvisor_cli.specs.declared.refusal.Part.{Part}
+use Rattle.secvisor_cli.specs.declared.refusal.Refusal.{Refusal}
 use Rattle.secvisor_cli.specs.declared.refusal.Refusal.TheVariants.{File, Measure, Entry}
 use Rattle.secvisor_cli.specs.declared.ready.Ready.{Ready}
 use Rattle.secvisor_cli.specs.declared.ready.Stop.{Stop}
 use Rattle.secvisor_cli.specs.declared.ready.Stop.TheVariants.{Refused, Memory}
-use Rattle.secvisor_cli.specs.CommandLine.{RunWords, Rounds, Auto, Text}
-use Rattle.secvisor_cli.specs.Plans.{Due, Refuse, RunFrom, Plan, End, Judge, Held, found_plan, read_part, most_policy_bytes, most_disk_bytes, most_script_bytes, policy_judged, policy_part, part_judged, kernel_part, disk_refusal, disk_part, text_part, script_part, image_measure, boot_judged, boot_plan}
+use Rattle.secvisor_cli.specs.CommandLine.{Command, RunWords, Rounds, Auto, Text}
+use Rattle.secvisor_cli.specs.Plans.{Due, Refuse, RunFrom, Plan, End, Judge, Held, found_plan, read_part, most_policy_bytes, most_disk_bytes, most_script_bytes, policy_judged, policy_part, part_judged, kernel_part, disk_refusal, disk_part, text_part, script_part, image_measure, boot_judged, boot_plan, command_plan, plan_of}
 use Rattle.secvisor_cli.specs.Reading.{FoundAs, Follows, MayFollow}
 use Rattle.secvisor_cli.specs.Ready.{PartRead, stop_of, IsReady, Prepares, Passes, Staged, MayStage, IsPolicy, IsKernel, IsScript}
 use Rattle.secvisor_cli.proofs.ReadyLemmas.{end_ready, read_ready, stopped_ready, bytes_eq-same, bytes_eq-other}
@@ -39,6 +41,31 @@ judge_ready plan old new result p = record { reached = p.reached; follows = inr 
 
 pub judge_wants : (plan : Plan) (files : FilesState) → Prepares (Judge plan) files files (Err Memory)
 judge_wants plan files = record { reached = None; follows = inl (refl, refl); ready = refl }
+
+-- ---- the words
+
+pub words_refused : (asked : Result Command Refusal) (refusal : Refusal) (files : FilesState) → asked ≡ Err refusal → Prepares (plan_of asked) files files (Err (Refused refusal))
+unfolding plan_of
+words_refused asked refusal files is =
+    subst (λ (j : Result Command Refusal). Prepares (plan_of j) files files (Err (Refused refusal))) (sym is) (end_ready (Refuse refusal) files _ refl)
+
+-- memory was wanting for reading them by their names
+pub words_want : (asked : Result Command Refusal) (files : FilesState) → IsTrue (is_ok asked) → Prepares (plan_of asked) files files (Err Memory)
+unfolding plan_of
+words_want (Ok command) files good = judge_wants (command_plan command) files
+words_want (Err refusal) files good = absurd (cc good)
+
+pub words_may : (asked : Result Command Refusal) (command : Command) (files : FilesState) → asked ≡ Ok command → MayFollow (plan_of asked) files → MayFollow (command_plan command) files
+unfolding plan_of
+words_may asked command files is may = subst (λ (j : Result Command Refusal). MayFollow (plan_of j) files) is may
+
+pub words_ready : (asked : Result Command Refusal) (command : Command) (old new : FilesState) (result : Result Ready Stop) → asked ≡ Ok command →
+    Prepares (command_plan command) old new result → Prepares (plan_of asked) old new result
+unfolding plan_of
+words_ready asked command old new result is p =
+    subst (λ (j : Result Command Refusal). Prepares (plan_of j) old new result) (sym is) (judge_ready (command_plan command) old new result p)
+
+-- ---- a part
 
 -- a part that was read
 pub read_follows : (part : Part) (name : List ℕ) (limit : ℕ) (next : List ℕ → Plan) (old now last : FilesState) (bytes : List ℕ) (reached : Option Due) →

@@ -1,8 +1,7 @@
 -- From what is ready to what is answered, and from the answer with its trouble to the status.
-use Rattle.std.proofs.Common.{◌≡◌, ◌≢◌, ℕ, ◌≤◌, ◌<◌, List, [], ◌∷◌, string_bytes, Bool, true, false, IsTrue, refl, sym, ◌∙◌, ap, subst, arith, inl, inr, ◌⊎◌, Option, Some, None, Result, Ok, Err, IsErrOf, if◌then◌else◌}
+use Rattle.std.proofs.Common.{◌≡◌, ◌≢◌, ℕ, ◌≤◌, ◌<◌, List, [], ◌∷◌, string_bytes, true, false, IsTrue, refl, sym, ◌∙◌, ap, subst, arith, inl, inr, ◌⊎◌, Option, Some, None, Result, Ok, Err, IsErrOf, if◌then◌else◌}
 use Rattle.std.specs.Option.{option_copied}
 use Rattle.std.specs.Result.{is_ok}
-use Rattle.std.specs.List.{list_any}
 use Rattle.std.specs.Str.{bytes_eq}
 use Rattle.sv_types.specs.declared.event.Event.{Event}
 use Rattle.sv_types.specs.declared.event.Verdict.{Verdict}
@@ -27,12 +26,9 @@ use Rattle.policy_making.specs.declared.refusal.MakingRefusal.{MakingRefusal}
 use Rattle.policy_making.specs.declared.refusal.MakingRefusal.TheVariants as making
 use Rattle.policy_making.specs.Refusals.{Judged as Judging}
 use Rattle.policy_making.specs.Making.{kernel_digest, names_with, policy_behind}
-use Rattle.policy_words.specs.Ranges.{are_module_names}
-use Rattle.sv_types.specs.declared.module.Span.{Span}
 use Rattle.secvisor_cli.specs.declared.refusal.Refusal.{Refusal}
-use Rattle.secvisor_cli.specs.declared.refusal.Word.{Word}
 use Rattle.secvisor_cli.specs.declared.refusal.Part.{Part}
-use Rattle.secvisor_cli.specs.declared.refusal.Refusal.TheVariants.{NoCommand, OutOfRange, File, Measure, Entry}
+use Rattle.secvisor_cli.specs.declared.refusal.Refusal.TheVariants.{File, Measure, Entry}
 use Rattle.secvisor_cli.specs.declared.ready.Booted.{Booted}
 use Rattle.secvisor_cli.specs.declared.ready.Made.{Made}
 use Rattle.secvisor_cli.specs.declared.ready.Ready.{Ready}
@@ -43,12 +39,12 @@ use Rattle.secvisor_cli.specs.declared.ready.Stop.TheVariants as stop
 use Rattle.secvisor_cli.specs.declared.trouble.Trouble.{Trouble}
 use Rattle.secvisor_cli.specs.declared.trouble.Trouble.TheVariants.{Write, Memory}
 use Rattle.secvisor_cli.specs.Refusals.{refusal_line, refusal_status, takes_memory}
-use Rattle.sv_types.specs.Numbers.{number_within, digest_of}
-use Rattle.secvisor_cli.specs.CommandLine.{Command, has_dash, word_at, most_events, most_calls, flat_file, flat_words, is_flat, gen_words, is_gen, run_words, is_run, RunWords, Source, Rounds, Auto, Text, source_of, MakePolicy, PolicyWords, entries_judged, init_of, module_words, policy_of, init_judged, making_words, is_measure, making_judged, judged}
-use Rattle.secvisor_cli.specs.Plans.{Due, Refuse, RunFrom, Make, measured_line, Exactly, Saving, policy_saving, saves_due, most_image_bytes, most_object_bytes, making_refusal, made_judged, made_part, Kernel, digest_part, Modules, no_modules, with_module, module_part, modules_part, making_plan, measure_plan, Plan, End, bytes_due, status_due, found_plan, flat_plan, plan_of, measure_judged, pages_judged, is_whole_pages, flat_events, gen_due, gen_disk, policy_judged, policy_part, part_judged, kernel_part, disk_refusal, disk_part, text_part, script_part, image_measure, boot_judged, boot_plan, image_plan, run_plan}
+use Rattle.secvisor_cli.specs.CommandLine.{Command, Flat, Generated, Run, RunWords, Source, Rounds, Auto, Text, MakePolicy, PolicyWords, most_events, judged}
+use Rattle.secvisor_cli.specs.Plans.{Due, Refuse, RunFrom, Make, measured_line, Exactly, Saving, policy_saving, saves_due, most_image_bytes, most_object_bytes, making_refusal, made_judged, made_part, Kernel, digest_part, Modules, no_modules, with_module, module_part, modules_part, making_plan, measure_plan, Plan, End, bytes_due, status_due, found_plan, flat_plan, command_plan, plan_of, measure_judged, pages_judged, is_whole_pages, flat_events, gen_due, gen_disk, policy_judged, policy_part, part_judged, kernel_part, disk_refusal, disk_part, text_part, script_part, image_measure, boot_judged, boot_plan, image_plan, run_plan}
 use Rattle.secvisor_cli.specs.Reading.{Follows, MayFollow, MaySave, Saved, SaveBroke, SavesUnder}
 use Rattle.secvisor_cli.specs.Ready.{IsMade, IsReady, IsReadyWhere, IsFresh, MayCarryOut, MaySaveRun, Prepares}
 use Rattle.secvisor_cli.specs.Answers.{Outside, outside, Writes, SavedBehind, SavesAndWrites, WritesAndSaves, Answers, AnswersReached, Performs, MeetsSaves, MeetsSavesBehind, Meets, MeetsReached, Headline, BenchAfter, may_want, settled}
+use Rattle.secvisor_cli.proofs.WordLemmas.{NoReadFault, words_no_read_fault}
 use Rattle.secvisor_cli.proofs.EndLemmas.{runs_under}
 use Rattle.secvisor_cli.proofs.PlanLemmas.{HasFoundFaults, HasFault, Keeps, follows_keeps, may_save, read_fault, saves_under}
 use Rattle.secvisor_cli.proofs.SaveLemmas.{Changes, Wrote, changes, changes_same, changes_saved, changes_broke, unchanged, not_saved, no_memory, wrote, meets_saves, meets_faults}
@@ -527,52 +523,20 @@ measure_found_faults words =
     (λ file digest. modules_part words.modules no_modules (making_plan words (record { file = file; digest = digest })))
     (λ file digest. modules_found_faults words.modules no_modules (making_plan words (record { file = file; digest = digest })) (making_found_faults words (record { file = file; digest = digest })))
 
-modules_words_found_faults : (are_names : Bool) (words : PolicyWords) → HasFoundFaults (plan_of (if are_names then Ok (MakePolicy words) else Err (OutOfRange Word.Modules)))
+command_found_faults : (command : Command) → HasFoundFaults (command_plan command)
+unfolding command_plan
+command_found_faults (Flat file wanted events) = flat_found_faults file wanted events
+command_found_faults (Generated calls) = gen_found_faults calls
+command_found_faults (Run words) = run_found_faults words
+command_found_faults (MakePolicy words) = measure_found_faults words
+
+words_found_faults : (asked : Result Command Refusal) → NoReadFault asked → HasFoundFaults (plan_of asked)
 unfolding plan_of
-modules_words_found_faults true words = measure_found_faults words
-modules_words_found_faults false words = λ e. cc e
-
-init_found_faults : (words : List (List ℕ)) (ram_pages harts : ℕ) (entries : List ℕ) (init : Option (Option Span)) → HasFoundFaults (plan_of (init_judged words ram_pages harts entries init))
-unfolding plan_of init_judged
-init_found_faults words ram_pages harts entries None = λ e. cc e
-init_found_faults words ram_pages harts entries (Some init) =
-    modules_words_found_faults (are_module_names (module_words words)) (policy_of words (record { harts = harts; ram_pages = ram_pages; entries = entries; init = init }))
-
-measure_words_found_faults : (words : List (List ℕ)) (ram_pages harts : Option ℕ) (entries : Option (List ℕ)) → HasFoundFaults (plan_of (making_words words ram_pages harts entries))
-unfolding plan_of making_words
-measure_words_found_faults words None harts entries = λ e. cc e
-measure_words_found_faults words (Some ram_pages) None entries = λ e. cc e
-measure_words_found_faults words (Some ram_pages) (Some harts) None = λ e. cc e
-measure_words_found_faults words (Some ram_pages) (Some harts) (Some entries) = init_found_faults words ram_pages harts entries (init_of ram_pages (word_at words 6))
-
-rest_found_faults : (is_measure : Bool) (measure : Result Command Refusal) → HasFoundFaults (plan_of measure) → HasFoundFaults (plan_of (if is_measure then measure else Err NoCommand))
-unfolding plan_of
-rest_found_faults true measure never = never
-rest_found_faults false measure never = λ e. cc e
-
-words_found_faults : (has_dash is_flat is_gen is_run : Bool) (file : List ℕ) (wanted : Option (List ℕ)) (events calls : Option ℕ) (words : List (List ℕ)) (source : Option Source) (most : Option ℕ)
-    (rest : Result Command Refusal) → HasFoundFaults (plan_of rest) →
-    HasFoundFaults (plan_of (if has_dash then Err NoCommand else if is_flat then flat_words file wanted events else if is_gen then gen_words calls else if is_run then run_words words source most else rest))
-unfolding plan_of flat_words gen_words run_words
-words_found_faults true is_flat is_gen is_run file wanted events calls words source most rest never = λ e. cc e
-words_found_faults false false false false file wanted events calls words source most rest never = never
-words_found_faults false false false true file wanted events calls words None most rest never = λ e. cc e
-words_found_faults false false false true file wanted events calls words (Some source) None rest never = λ e. cc e
-words_found_faults false false false true file wanted events calls words (Some source) (Some most) rest never = run_found_faults _
-words_found_faults false false true is_run file wanted events None words source most rest never = λ e. cc e
-words_found_faults false false true is_run file wanted events (Some calls) words source most rest never = gen_found_faults calls
-words_found_faults false true is_gen is_run file None events calls words source most rest never = λ e. cc e
-words_found_faults false true is_gen is_run file (Some wanted) None calls words source most rest never = λ e. cc e
-words_found_faults false true is_gen is_run file (Some wanted) (Some events) calls words source most rest never = flat_found_faults file wanted events
+words_found_faults (Ok command) is = command_found_faults command
+words_found_faults (Err refusal) is = is
 
 judged_found_faults : (words : List (List ℕ)) → HasFoundFaults (plan_of (judged words))
-unfolding judged
-judged_found_faults words =
-    words_found_faults (list_any has_dash words) (is_flat words) (is_gen words) (is_run words) (flat_file words) (digest_of (word_at words 2)) (number_within 0 most_events (word_at words 3))
-    (number_within 1 most_calls (word_at words 1)) words (source_of (word_at words 4)) (number_within 0 most_events (word_at words 5))
-    (if is_measure words then making_judged words else Err NoCommand)
-    (rest_found_faults (is_measure words) (making_judged words)
-    (measure_words_found_faults words (number_within 16 65536 (word_at words 3)) (number_within 1 4 (word_at words 4)) (entries_judged (word_at words 5))))
+judged_found_faults words = words_found_faults (judged words) (words_no_read_fault words)
 
 reached_fault : (plan : Plan) (reached : Option Due) (f0 f1 : FilesState) (old new : Outside) → HasFoundFaults plan → Follows plan f0 f1 reached →
     MeetsReached reached old new Status.ReadFault → HasFault plan f0 f1

@@ -1,7 +1,8 @@
--- The words of a command line: what they ask for, or the first one that is out of its range. This project's own.
-use Rattle.std.specs.Prelude.{ℕ, ◌^◌, Bool, false, ◌&&◌, ◌-◌, List, [], ◌∷◌, length, ◌==◌, if◌then◌else◌, nat_le, Option, Some, None, option_map, take, drop, Result, Ok, Err, codes, slice_index_or}
-use Rattle.std.specs.List.{list_any}
+-- The words of a command line by their names: what they ask for, or the first one that is out of its range. This
+-- project's own.
+use Rattle.std.specs.Prelude.{ℕ, ◌^◌, ◌-◌, List, if◌then◌else◌, Option, Some, None, option_map, take, drop, Result, Ok, Err, codes}
 use Rattle.std.specs.Str.{bytes_eq}
+use Rattle.command_words.specs.Commands.{Split, FlatSplit, RunSplit, MeasureSplit, split_words}
 use Rattle.sv_types.specs.Numbers.{number_within, digest_of}
 use Rattle.sv_types.specs.declared.module.Span.{Span}
 use Rattle.policy_making.specs.Making.{Terms}
@@ -47,34 +48,19 @@ pub data Command : Type 0 where
   Run : RunWords → Command
   MakePolicy : PolicyWords → Command
 
--- a word begins with a dash
-abbrev pub has_dash : List ℕ → Bool
-has_dash [] = false
-has_dash (first ∷ rest) = first == 45
-
--- the word at a place
-abbrev pub word_at : List (List ℕ) → ℕ → List ℕ
-word_at words i = slice_index_or words i []
-
 -- ---- flat FILE MEASURE EVENTS
 
 abbrev pub most_events : ℕ
 most_events = 2 ^ 32
-
-abbrev pub flat_file : List (List ℕ) → List ℕ
-flat_file words = word_at words 1
 
 unfoldable pub flat_words : List ℕ → Option (List ℕ) → Option ℕ → Result Command Refusal
 flat_words file None events = Err (OutOfRange Word.Measure)
 flat_words file (Some wanted) None = Err (OutOfRange Word.Events)
 flat_words file (Some wanted) (Some events) = Ok (Flat file wanted events)
 
-abbrev pub is_flat : List (List ℕ) → Bool
-is_flat words = length words == 4 && bytes_eq (word_at words 0) (codes "flat")
-
 -- the ranges are judged from left to right
-abbrev pub flat_judged : List (List ℕ) → Result Command Refusal
-flat_judged words = flat_words (flat_file words) (digest_of (word_at words 2)) (number_within 0 most_events (word_at words 3))
+abbrev pub flat_judged : FlatSplit → Result Command Refusal
+flat_judged w = flat_words w.file (digest_of w.wanted) (number_within 0 most_events w.events)
 
 -- ---- gen N
 
@@ -85,11 +71,8 @@ unfoldable pub gen_words : Option ℕ → Result Command Refusal
 gen_words None = Err (OutOfRange Word.Calls)
 gen_words (Some calls) = Ok (Generated calls)
 
-abbrev pub is_gen : List (List ℕ) → Bool
-is_gen words = length words == 2 && bytes_eq (word_at words 0) (codes "gen")
-
-abbrev pub gen_judged : List (List ℕ) → Result Command Refusal
-gen_judged words = gen_words (number_within 1 most_calls (word_at words 1))
+abbrev pub gen_judged : List ℕ → Result Command Refusal
+gen_judged calls = gen_words (number_within 1 most_calls calls)
 
 -- ---- run IMAGE POLICY DISK SCRIPT EVENTS SAVE
 
@@ -107,26 +90,23 @@ source_of word =
     else if bytes_eq (take 5 word) (codes "auto:") then auto_of (drop 5 word)
     else Some (Text word)
 
-abbrev pub run_of : List (List ℕ) → Source → ℕ → RunWords
-run_of words script events = record {
-  image = word_at words 1;
-  policy = word_at words 2;
-  disk = unless_none (word_at words 3);
+abbrev pub run_of : RunSplit → Source → ℕ → RunWords
+run_of w script events = record {
+  image = w.image;
+  policy = w.policy;
+  disk = unless_none w.disk;
   script = script;
   events = events;
-  save = unless_none (word_at words 6);
+  save = unless_none w.save;
 }
 
-unfoldable pub run_words : List (List ℕ) → Option Source → Option ℕ → Result Command Refusal
-run_words words None events = Err (OutOfRange Word.Script)
-run_words words (Some script) None = Err (OutOfRange Word.Events)
-run_words words (Some script) (Some events) = Ok (Run (run_of words script events))
+unfoldable pub run_words : RunSplit → Option Source → Option ℕ → Result Command Refusal
+run_words w None events = Err (OutOfRange Word.Script)
+run_words w (Some script) None = Err (OutOfRange Word.Events)
+run_words w (Some script) (Some events) = Ok (Run (run_of w script events))
 
-abbrev pub is_run : List (List ℕ) → Bool
-is_run words = length words == 7 && bytes_eq (word_at words 0) (codes "run")
-
-abbrev pub run_judged : List (List ℕ) → Result Command Refusal
-run_judged words = run_words words (source_of (word_at words 4)) (number_within 0 most_events (word_at words 5))
+abbrev pub run_judged : RunSplit → Result Command Refusal
+run_judged w = run_words w (source_of w.script) (number_within 0 most_events w.events)
 
 -- ---- measure OUT KERNEL RAM HARTS ENTRIES INIT MODULES...
 
@@ -137,44 +117,40 @@ entries_judged word = if are_entries word then Some (entries_of word) else None
 unfoldable pub init_of : (ram_pages : ℕ) → List ℕ → Option (Option Span)
 init_of ram_pages word = if bytes_eq word (codes "none") then Some None else option_map Some (span_of ram_pages word)
 
--- the words from the seventh on
-abbrev pub module_words : List (List ℕ) → List (List ℕ)
-module_words words = drop 7 words
+unfoldable pub terms_with : (ram_pages harts : ℕ) → (entries : List ℕ) → Option (Option Span) → Result Terms Refusal
+terms_with ram_pages harts entries None = Err (OutOfRange Word.Init)
+terms_with ram_pages harts entries (Some init) = Ok (record { harts = harts; ram_pages = ram_pages; entries = entries; init = init })
 
-abbrev pub policy_of : List (List ℕ) → Terms → PolicyWords
-policy_of words terms = record { out = word_at words 1; kernel = word_at words 2; terms = terms; modules = module_words words }
+unfoldable pub terms_words : (init : List ℕ) → Option ℕ → Option ℕ → Option (List ℕ) → Result Terms Refusal
+terms_words init None harts entries = Err (OutOfRange Word.Ram)
+terms_words init (Some ram_pages) None entries = Err (OutOfRange Word.Harts)
+terms_words init (Some ram_pages) (Some harts) None = Err (OutOfRange Word.Entries)
+terms_words init (Some ram_pages) (Some harts) (Some entries) = terms_with ram_pages harts entries (init_of ram_pages init)
+
+abbrev pub terms_judged : (ram harts entries init : List ℕ) → Result Terms Refusal
+terms_judged ram harts entries init = terms_words init (number_within 16 65536 ram) (number_within 1 4 harts) (entries_judged entries)
 
 -- the modules are judged behind the other words
-abbrev pub modules_judged : List (List ℕ) → Terms → Result Command Refusal
-modules_judged words terms =
-    if are_module_names (module_words words) then Ok (MakePolicy (policy_of words terms)) else Err (OutOfRange Word.Modules)
+unfoldable pub making_words : MeasureSplit → Result Terms Refusal → Result Command Refusal
+making_words w (Err refusal) = Err refusal
+making_words w (Ok terms) =
+    if are_module_names w.modules then Ok (MakePolicy (record { out = w.out; kernel = w.kernel; terms = terms; modules = w.modules }))
+    else Err (OutOfRange Word.Modules)
 
-unfoldable pub init_judged : List (List ℕ) → (ram_pages harts : ℕ) → (entries : List ℕ) → Option (Option Span) → Result Command Refusal
-init_judged words ram_pages harts entries None = Err (OutOfRange Word.Init)
-init_judged words ram_pages harts entries (Some init) =
-    modules_judged words (record { harts = harts; ram_pages = ram_pages; entries = entries; init = init })
-
-unfoldable pub making_words : List (List ℕ) → Option ℕ → Option ℕ → Option (List ℕ) → Result Command Refusal
-making_words words None harts entries = Err (OutOfRange Word.Ram)
-making_words words (Some ram_pages) None entries = Err (OutOfRange Word.Harts)
-making_words words (Some ram_pages) (Some harts) None = Err (OutOfRange Word.Entries)
-making_words words (Some ram_pages) (Some harts) (Some entries) =
-    init_judged words ram_pages harts entries (init_of ram_pages (word_at words 6))
-
-abbrev pub is_measure : List (List ℕ) → Bool
-is_measure words = nat_le 7 (length words) && bytes_eq (word_at words 0) (codes "measure")
-
-abbrev pub making_judged : List (List ℕ) → Result Command Refusal
-making_judged words =
-    making_words words (number_within 16 65536 (word_at words 3)) (number_within 1 4 (word_at words 4)) (entries_judged (word_at words 5))
+abbrev pub making_judged : MeasureSplit → Result Command Refusal
+making_judged w = making_words w (terms_judged w.ram w.harts w.entries w.init)
 
 -- ---- all commands
 
+abbrev pub command_judged : Split → Result Command Refusal
+command_judged (Split.Flat w) = flat_judged w
+command_judged (Split.Gen calls) = gen_judged calls
+command_judged (Split.Run w) = run_judged w
+command_judged (Split.Measure w) = making_judged w
+
+abbrev pub split_judged : Option Split → Result Command Refusal
+split_judged None = Err NoCommand
+split_judged (Some words) = command_judged words
+
 unfoldable pub judged : List (List ℕ) → Result Command Refusal
-judged words =
-    if list_any has_dash words then Err NoCommand
-    else if is_flat words then flat_judged words
-    else if is_gen words then gen_judged words
-    else if is_run words then run_judged words
-    else if is_measure words then making_judged words
-    else Err NoCommand
+judged words = split_judged (split_words words)

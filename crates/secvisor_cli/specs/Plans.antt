@@ -95,7 +95,7 @@ pub data Plan : Type 0 where
   End : Due → Plan
   -- at most so many bytes are read under a name, once, and what is found decides how it goes on
   Read : (name : List ℕ) → (limit : ℕ) → (next : Found → Plan) → Plan
-  -- what was read is judged, for which memory may be wanting, before it goes on
+  -- the words, or what was read of a file, are judged, for which memory may be wanting, before it goes on
   Judge : (next : Plan) → Plan
 
 -- a part that is not read is refused, and else its bytes decide
@@ -284,9 +284,13 @@ measure_plan words =
 
 -- ---- all commands
 
+unfoldable pub command_plan : Command → Plan
+command_plan (Flat file wanted events) = flat_plan file wanted events
+command_plan (Generated calls) = End (gen_due calls)
+command_plan (Run words) = run_plan words
+command_plan (MakePolicy words) = measure_plan words
+
+-- words that are refused never want memory, and else memory may be wanting for reading them by their names
 unfoldable pub plan_of : Result Command Refusal → Plan
 plan_of (Err refusal) = End (Refuse refusal)
-plan_of (Ok (Flat file wanted events)) = flat_plan file wanted events
-plan_of (Ok (Generated calls)) = End (gen_due calls)
-plan_of (Ok (Run words)) = run_plan words
-plan_of (Ok (MakePolicy words)) = measure_plan words
+plan_of (Ok command) = Judge (command_plan command)

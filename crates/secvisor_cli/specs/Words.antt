@@ -1,14 +1,18 @@
--- What judging the words answers.
-use Rattle.std.specs.Prelude.{◌≡◌, ◌≤◌, ◌^◌, IsTrue, map, string_bytes, Result, Ok, Err}
+-- What judging and reading the words answers.
+use Rattle.std.specs.Prelude.{◌≡◌, ◌≤◌, ◌^◌, IsTrue, map, Result, Ok, Err}
+use Rattle.std.specs.Option.{option_copied}
+use Rattle.std.specs.Result.{is_ok}
+use Rattle.policy_making.specs.Making.{Terms}
+use Rattle.policy_words.specs.Ranges.{entries_of, are_module_names}
+use Rattle.command_words.specs.Commands.{Split}
 use Rattle.secvisor_cli.specs.declared.refusal.Refusal.{Refusal}
 use Rattle.secvisor_cli.specs.declared.words.Command.{Command as Asked}
 use Rattle.secvisor_cli.specs.declared.words.Command.TheVariants as asked
-use Rattle.std.specs.Option.{option_copied}
 use Rattle.secvisor_cli.specs.declared.words.Source.{Source as Named}
 use Rattle.secvisor_cli.specs.declared.words.Source.TheVariants as named
 use Rattle.secvisor_cli.specs.declared.words.Run.{Run as AskedRun}
+use Rattle.secvisor_cli.specs.declared.words.Terms.{Terms as AskedTerms}
 use Rattle.secvisor_cli.specs.declared.words.MakePolicy.{MakePolicy as AskedPolicy}
-use Rattle.policy_words.specs.Ranges.{entries_of, are_module_names}
 use Rattle.secvisor_cli.specs.CommandLine.{Command, Flat, Generated, Run, RunWords, MakePolicy, PolicyWords, Source, Rounds, Auto, Text}
 
 -- where the events come from, by value
@@ -28,12 +32,15 @@ run_value run = record {
 }
 
 -- a word for the entries stands for its addresses
+abbrev pub terms_value : AskedTerms → Terms
+terms_value t = record { harts = t.harts; ram_pages = t.ram_pages; entries = entries_of t.entries.now; init = t.init }
+
 abbrev pub policy_value : AskedPolicy → PolicyWords
 policy_value p = record {
   out = p.out.now;
   kernel = p.kernel.now;
-  terms = record { harts = p.harts; ram_pages = p.ram_pages; entries = entries_of p.entries.now; init = p.init };
-  modules = map string_bytes p.modules.now;
+  terms = terms_value p.terms;
+  modules = map (λ name. name.now) p.modules.items;
 }
 
 -- the values of the words
@@ -43,12 +50,28 @@ command_of (asked.Generated calls) = Generated calls
 command_of (asked.Run run) = Run (run_value run)
 command_of (asked.MakePolicy policy) = MakePolicy (policy_value policy)
 
-abbrev pub IsJudged : Result Command Refusal → Result Asked Refusal → Type 0
-IsJudged due (Ok command) = due ≡ Ok (command_of command)
+-- the command of these values, or the first word that is out of its range
+abbrev pub IsRead : Result Command Refusal → Result Asked Refusal → Type 0
+IsRead due (Ok command) = due ≡ Ok (command_of command)
+IsRead due (Err refusal) = due ≡ Err refusal
+
+abbrev pub HasTerms : Result Terms Refusal → Result AskedTerms Refusal → Type 0
+HasTerms due (Ok terms) = due ≡ Ok (terms_value terms)
+HasTerms due (Err refusal) = due ≡ Err refusal
+
+-- the same without the values
+abbrev pub IsJudged : Result Command Refusal → Result (Unit {0}) Refusal → Type 0
+IsJudged due (Ok done) = IsTrue (is_ok due)
 IsJudged due (Err refusal) = due ≡ Err refusal
+
+abbrev pub HasModuleNames : Split → Type 0
+HasModuleNames (Split.Flat w) = Unit {0}
+HasModuleNames (Split.Gen calls) = Unit {0}
+HasModuleNames (Split.Run w) = Unit {0}
+HasModuleNames (Split.Measure w) = IsTrue (are_module_names w.modules)
 
 abbrev pub IsInRange : Asked → Type 0
 IsInRange (asked.Flat flat) = flat.events ≤ 2 ^ 32
 IsInRange (asked.Generated calls) = (1 ≤ calls) × (calls ≤ 1000000)
 IsInRange (asked.Run run) = run.events ≤ 2 ^ 32
-IsInRange (asked.MakePolicy policy) = IsTrue (are_module_names (map string_bytes policy.modules.now))
+IsInRange (asked.MakePolicy policy) = IsTrue (are_module_names (map (λ name. name.now) policy.modules.items))

@@ -13,7 +13,7 @@ ghost use Rattle.sv_types.specs.Schedule.{first_events};
 ghost use Rattle.secvisor_cli.specs.Refusals.{refusal_line, refusal_status, takes_memory};
 ghost use Rattle.secvisor_cli.specs.CommandLine.{judged};
 ghost use Rattle.secvisor_cli.specs.Words.{command_of, IsInRange};
-ghost use Rattle.secvisor_cli.specs.Plans.{Due, Exactly, RunFrom, plan_of};
+ghost use Rattle.secvisor_cli.specs.Plans.{Due, Exactly, RunFrom, command_plan, plan_of};
 ghost use Rattle.secvisor_cli.specs.Reading.{MayFollow, IsNamed, SavesUnder};
 ghost use Rattle.secvisor_cli.specs.Ready.{Prepares, IsReady, IsFresh, MayCarryOut, MaySaveRun};
 ghost use Rattle.secvisor_cli.specs.Answers.{outside, Writes, Answers, SavesAndWrites, Performs, RunsTo, RunsAndSaves, Headline, settled};
@@ -21,13 +21,15 @@ ghost use Rattle.secvisor_cli.specs.Answers.{outside, Writes, Answers, SavesAndW
 use crate::flat::prepare_flat;
 use crate::generated::prepare_gen;
 use crate::image_run::prepare_run;
+use crate::judgement::judge;
 use crate::making::prepare_policy;
 use crate::ready::{Booted, Made, Ready, Stop};
 use crate::refusal::Refusal;
 use crate::run::run;
 use crate::save::save_disk;
 use crate::trouble::Trouble;
-use crate::words::{Command, judge};
+use crate::words::{Command, read_words};
+use command_words::split;
 use machine::Machine;
 use outside::{Files, Sink, write_all};
 use report::{report, status_of};
@@ -120,7 +122,7 @@ fn answer<R: Threads + Sync, F: Files, O: Sink>(
     }
 }
 
-// The words, judged, and the files that they name.
+// The words, judged without memory and then read by their names, and the files that they name.
 fn prepare<'a, R: Threads + Sync, F: Files>(
     rt: &R,
     alloc: Global,
@@ -131,23 +133,23 @@ fn prepare<'a, R: Threads + Sync, F: Files>(
     requires reads { (F.state files.old).read_faults < 2 ^ 64 - 1 }
     ensures { Prepares (plan_of (judged (map string_bytes words.now))) (F.state files.old) (F.state files.new) result }
 {
-    match judge(words) {
-        Ok(command) => prepare_command(rt, alloc, &command, files),
-        Err(refusal) => Err(Stop::Refused(refusal)),
-    }
+    judge(words)?;
+    let words = split(alloc, words)?;
+    let command = read_words(words)?;
+    prepare_command(rt, alloc, &command, files)
 }
 
-#[tactic(auto, unfolding(crate::specs::Plans::plan_of))]
+#[tactic(auto, unfolding(crate::specs::Plans::command_plan))]
 fn prepare_command<'a, R: Threads + Sync, F: Files>(
     rt: &R,
     alloc: Global,
     command: &Command<'a>,
     files: &mut F,
 ) -> Result<Ready<'a>, Stop>
-    requires permitted { MayFollow (plan_of (Ok (command_of command.now))) (F.state files.old) }
+    requires permitted { MayFollow (command_plan (command_of command.now)) (F.state files.old) }
     requires reads { (F.state files.old).read_faults < 2 ^ 64 - 1 }
     requires range { IsInRange command.now }
-    ensures { Prepares (plan_of (Ok (command_of command.now))) (F.state files.old) (F.state files.new) result }
+    ensures { Prepares (command_plan (command_of command.now)) (F.state files.old) (F.state files.new) result }
 {
     match command {
         Command::Flat(flat) => prepare_flat(rt, alloc, flat, files),

@@ -5,6 +5,7 @@ mod answer;
 mod flat;
 mod generated;
 mod image_run;
+mod judgement;
 mod making;
 mod parts;
 mod ready;

@@ -8,13 +8,13 @@ ghost use Rattle.outside.specs.Outside.{FilesState};
 ghost use Rattle.secvisor_cli.specs.Plans.{Plan, Modules, digest_part, no_modules, module_part, modules_part, making_plan, measure_plan, measured_line};
 ghost use Rattle.secvisor_cli.specs.Reading.{MayFollow};
 ghost use Rattle.secvisor_cli.specs.Ready.{IsMade, Prepares, Passes, Staged, MayStage, kernel_value, modules_value};
-ghost use Rattle.secvisor_cli.specs.Words.{policy_value};
+ghost use Rattle.secvisor_cli.specs.Words.{policy_value, terms_value};
 
 use crate::image_run::MOST_IMAGE_BYTES;
 use crate::parts::read_part;
 use crate::ready::{Made, Ready, Stop};
 use crate::refusal::Part;
-use crate::words::MakePolicy;
+use crate::words::{MakePolicy, Terms};
 use outside::Files;
 use policy_making::{ObjectFile, Settings, kernel_digest, policy_behind, want_names};
 use policy_words::entries_of;
@@ -48,11 +48,11 @@ pub fn prepare_policy<'a, R: Threads + Sync, F: Files>(
 ) -> Result<Ready<'a>, Stop>
     requires permitted { MayFollow (measure_plan (policy_value asked.now)) (F.state files.old) }
     requires reads { (F.state files.old).read_faults < 2 ^ 64 - 1 }
-    requires names { IsTrue (are_module_names (map string_bytes asked.now.modules.now)) }
+    requires names { IsTrue (are_module_names (policy_value asked.now).modules) }
     ensures { Prepares (measure_plan (policy_value asked.now)) (F.state files.old) (F.state files.new) result }
 {
-    let kernel = measure_kernel(rt, alloc, asked.kernel, asked.ram_pages, files)?;
-    let modules = read_modules(alloc, asked.modules, files)?;
+    let kernel = measure_kernel(rt, alloc, asked.kernel, asked.terms.ram_pages, files)?;
+    let modules = read_modules(alloc, &asked.modules, files)?;
     make_ready(rt, alloc, asked, &kernel, &modules)
 }
 
@@ -78,20 +78,20 @@ fn measure_kernel<R: Threads + Sync, F: Files>(
 
 fn read_modules<F: Files>(
     alloc: Global,
-    words: &[String],
+    words: &[&str],
     files: &mut F,
 ) -> Result<WantingModules, Stop>
-    requires permitted { MayStage (modules_part (map string_bytes words.now) no_modules) (F.state files.old) }
+    requires permitted { MayStage (modules_part (map (λ word. word.now) words.now) no_modules) (F.state files.old) }
     requires reads { (F.state files.old).read_faults < 2 ^ 64 - 1 }
-    requires names { IsTrue (list_all (λ word. is_name (string_bytes word)) words.now) }
-    ensures { Staged (modules_part (map string_bytes words.now) no_modules) modules_value (F.state files.old) (F.state files.new) result }
+    requires names { IsTrue (list_all (λ word. is_name word.now) words.now) }
+    ensures { Staged (modules_part (map (λ word. word.now) words.now) no_modules) modules_value (F.state files.old) (F.state files.new) result }
 {
     let mut modules = WantingModules {
         names: Vec::new(alloc),
         objects: Vec::new(alloc),
     };
     'words: for word in words {
-        read_module(alloc, word.as_str(), &mut modules, files)?;
+        read_module(alloc, word, &mut modules, files)?;
     }
     Ok(modules)
 }
@@ -130,7 +130,7 @@ fn make_ready<'a, R: Threads + Sync>(
 ) -> Result<Ready<'a>, Stop>
     ensures { (files : FilesState) → Prepares (making_plan (policy_value asked.now) (kernel_value kernel.now) (modules_value modules.now)) files files result }
 {
-    let settings = settings(alloc, asked)?;
+    let settings = settings(alloc, &asked.terms)?;
     let policy = policy_behind(
         rt,
         alloc,
@@ -145,15 +145,15 @@ fn make_ready<'a, R: Threads + Sync>(
 }
 
 // What the words say of a policy beside its files.
-fn settings(alloc: Global, asked: &MakePolicy<'_>) -> Result<Settings, AllocError>
-    ensures { IfOk result (λ settings. terms_of settings ≡ (policy_value asked.now).terms) }
+fn settings(alloc: Global, terms: &Terms<'_>) -> Result<Settings, AllocError>
+    ensures { IfOk result (λ settings. terms_of settings ≡ terms_value terms.now) }
 {
-    let entries = entries_of(alloc, asked.entries)?;
+    let entries = entries_of(alloc, terms.entries)?;
     Ok(Settings {
-        harts: asked.harts,
-        ram_pages: asked.ram_pages,
+        harts: terms.harts,
+        ram_pages: terms.ram_pages,
         entries,
-        init: asked.init,
+        init: terms.init,
     })
 }
 

@@ -1,15 +1,16 @@
-// The words of the command line.
-ghost use Rattle.std.specs.Prelude.{◌≡◌, ◌≤◌, ◌^◌, map, drop, length, option_map, IfOk, IsTrue, string_bytes};
-ghost use Rattle.std.specs.List.{list_any};
+// What the words of a command ask for.
+ghost use Rattle.std.specs.Prelude.{◌≡◌, option_map, IfOk, IsTrue};
 ghost use Rattle.std.specs.Option.{option_copied};
-ghost use Rattle.secvisor_cli.specs.CommandLine.{has_dash, is_flat, is_gen, is_run, is_measure, judged, flat_judged, gen_judged, run_judged, making_judged, init_judged, modules_judged, unless_none, source_of, auto_of, run_of, init_of, word_at};
-ghost use Rattle.policy_words.specs.Ranges.{entries_of};
 ghost use Rattle.sv_types.specs.Numbers.{number_within};
-ghost use Rattle.secvisor_cli.specs.Words.{IsJudged, IsInRange, source_value, run_value};
+ghost use Rattle.policy_words.specs.Ranges.{entries_of, are_module_names};
+ghost use Rattle.command_words.specs.Values.{split_of, flat_split_of, run_split_of, measure_split_of};
+ghost use Rattle.secvisor_cli.specs.CommandLine.{command_judged, flat_judged, gen_judged, run_judged, run_of, unless_none, source_of, auto_of, making_judged, terms_judged, terms_with, init_of};
+ghost use Rattle.secvisor_cli.specs.Words.{IsRead, HasTerms, HasModuleNames, IsInRange, source_value, run_value};
 
 use crate::refusal::{Refusal, Word};
+use command_words::{CommandWords, FlatWords, MeasureWords, RunWords};
 use policy_limits::{FEWEST_RAM_PAGES, MOST_HARTS, MOST_RAM_PAGES};
-use policy_words::{are_entries, are_module_names, span_of};
+use policy_words::{are_entries, span_of};
 use sv_types::Span;
 use text_numbers::{digest_of, number_within};
 
@@ -54,12 +55,18 @@ pub struct Run<'a> {
 pub struct MakePolicy<'a> {
     pub out: &'a str,
     pub kernel: &'a str,
+    pub terms: Terms<'a>,
+    pub modules: Vec<&'a str>,
+}
+
+/// What a policy says beside its files.
+#[derive(Drop)]
+pub struct Terms<'a> {
     pub ram_pages: u32,
     pub harts: u8,
     /// The word of the entries, which are all in range.
     pub entries: &'a str,
     pub init: Option<Span>,
-    pub modules: &'a [String],
 }
 
 /// Where the events of a run come from.
@@ -73,141 +80,81 @@ pub enum Source<'a> {
     Text(&'a str),
 }
 
-/// Judges the words, from left to right.
-#[tactic(auto, using(policy_words::proofs::WordLemmas::list_any_map), unfolding(crate::specs::CommandLine::judged))]
-pub fn judge(words: &[String]) -> Result<Command<'_>, Refusal>
-    ensures judged { IsJudged (judged (map string_bytes words.now)) result }
+/// What the words of a command ask for, or the first one that is out of its range. The names of modules were judged
+/// before.
+pub fn read_words(words: CommandWords<'_>) -> Result<Command<'_>, Refusal>
+    requires { HasModuleNames (split_of words) }
+    ensures read { IsRead (command_judged (split_of words.entry)) result }
     ensures range { IfOk result IsInRange }
 {
-    if any_has_dash(words) {
-        return Err(Refusal::NoCommand);
-    }
-    if is_flat(words) {
-        return judge_flat(words);
-    }
-    if is_gen(words) {
-        return judge_gen(words);
-    }
-    if is_run(words) {
-        return judge_run(words);
-    }
-    if is_measure(words) {
-        return judge_measure(words);
-    }
-    Err(Refusal::NoCommand)
-}
-
-fn any_has_dash(words: &[String]) -> bool
-    ensures { result ≡ list_any (λ word. has_dash (string_bytes word)) words.now }
-{
-    words.iter().any(|word| has_dash(word.as_str()))
-}
-
-fn has_dash(word: &str) -> bool
-    ensures { result ≡ has_dash word.now }
-{
-    match word.as_bytes() {
-        [first, ..] => *first == b'-',
-        [] => false,
+    match words {
+        CommandWords::Flat(words) => read_flat(&words),
+        CommandWords::Generated(calls) => read_generated(calls),
+        CommandWords::Run(words) => read_run(&words),
+        CommandWords::Measure(words) => read_measure(words),
     }
 }
 
-// ---- flat
-
-/// The words are four, and the first is the command's name.
-fn is_flat(words: &[String]) -> bool
-    ensures value { result ≡ is_flat (map string_bytes words.now) }
-    ensures four { IsTrue result → length words.now ≡ 4 }
-{
-    words.len() == 4 && words[0].as_str() == "flat"
-}
-
+/// The words of `flat`.
 #[tactic(auto, unfolding(crate::specs::CommandLine::flat_words))]
-fn judge_flat(words: &[String]) -> Result<Command<'_>, Refusal>
-    requires { length words.now ≡ 4 }
-    ensures judged { IsJudged (flat_judged (map string_bytes words.now)) result }
+pub fn read_flat<'a>(words: &FlatWords<'a>) -> Result<Command<'a>, Refusal>
+    ensures read { IsRead (flat_judged (flat_split_of words.now)) result }
     ensures range { IfOk result IsInRange }
 {
-    let Some(wanted) = digest_of(words[2].as_str()) else {
+    let Some(wanted) = digest_of(words.wanted) else {
         return Err(Refusal::OutOfRange {
             word: Word::Measure,
         });
     };
-    let Some(events) = number_within(words[3].as_str().as_bytes(), 0, MOST_EVENTS) else {
+    let Some(events) = number_within(words.events.as_bytes(), 0, MOST_EVENTS) else {
         return Err(Refusal::OutOfRange { word: Word::Events });
     };
-    let file = words[1].as_str();
     Ok(Command::Flat(Flat {
-        file,
+        file: words.file,
         wanted,
         events,
     }))
 }
 
-// ---- gen
-
-/// The words are two, and the first is the command's name.
-fn is_gen(words: &[String]) -> bool
-    ensures value { result ≡ is_gen (map string_bytes words.now) }
-    ensures two { IsTrue result → length words.now ≡ 2 }
-{
-    words.len() == 2 && words[0].as_str() == "gen"
-}
-
+/// The word of `gen`.
 #[tactic(auto, unfolding(crate::specs::CommandLine::gen_words))]
-fn judge_gen(words: &[String]) -> Result<Command<'_>, Refusal>
-    requires { length words.now ≡ 2 }
-    ensures judged { IsJudged (gen_judged (map string_bytes words.now)) result }
+pub fn read_generated(calls: &str) -> Result<Command<'_>, Refusal>
+    ensures read { IsRead (gen_judged calls.now) result }
     ensures range { IfOk result IsInRange }
 {
-    match number_within(words[1].as_str().as_bytes(), 1, MOST_CALLS) {
+    match number_within(calls.as_bytes(), 1, MOST_CALLS) {
         Some(calls) => Ok(Command::Generated(calls)),
         None => Err(Refusal::OutOfRange { word: Word::Calls }),
     }
 }
 
-// ---- run
-
-/// The words are seven, and the first is the command's name.
-fn is_run(words: &[String]) -> bool
-    ensures value { result ≡ is_run (map string_bytes words.now) }
-    ensures seven { IsTrue result → length words.now ≡ 7 }
-{
-    words.len() == 7 && words[0].as_str() == "run"
-}
-
+/// The words of `run`.
 #[tactic(auto, unfolding(crate::specs::CommandLine::run_words))]
-fn judge_run(words: &[String]) -> Result<Command<'_>, Refusal>
-    requires { length words.now ≡ 7 }
-    ensures judged { IsJudged (run_judged (map string_bytes words.now)) result }
+pub fn read_run<'a>(words: &RunWords<'a>) -> Result<Command<'a>, Refusal>
+    ensures read { IsRead (run_judged (run_split_of words.now)) result }
     ensures range { IfOk result IsInRange }
 {
-    let Some(script) = source_of(words[4].as_str()) else {
+    let Some(script) = source_of(words.script) else {
         return Err(Refusal::OutOfRange { word: Word::Script });
     };
-    let Some(events) = number_within(words[5].as_str().as_bytes(), 0, MOST_EVENTS) else {
+    let Some(events) = number_within(words.events.as_bytes(), 0, MOST_EVENTS) else {
         return Err(Refusal::OutOfRange { word: Word::Events });
     };
     let run = run_of(words, script, events);
     Ok(Command::Run(run))
 }
 
-fn run_of<'a>(words: &'a [String], script: Source<'a>, events: u64) -> Run<'a>
-    requires { length words.now ≡ 7 }
-    ensures value { run_value result ≡ run_of (map string_bytes words.now) (source_value script.entry) events }
+fn run_of<'a>(words: &RunWords<'a>, script: Source<'a>, events: u64) -> Run<'a>
+    ensures value { run_value result ≡ run_of (run_split_of words.now) (source_value script.entry) events }
     ensures events { result.events ≡ events }
 {
-    let image = words[1].as_str();
-    let policy = words[2].as_str();
-    let disk = unless_none(words[3].as_str());
-    let save = unless_none(words[6].as_str());
     Run {
-        image,
-        policy,
-        disk,
+        image: words.image,
+        policy: words.policy,
+        disk: unless_none(words.disk),
         script,
         events,
-        save,
+        save: unless_none(words.save),
     }
 }
 
@@ -240,34 +187,64 @@ fn auto_of(number: &str) -> Option<Source<'_>>
     }
 }
 
-// ---- measure
-
-/// The words are seven at least, and the first is the command's name.
-fn is_measure(words: &[String]) -> bool
-    ensures value { result ≡ is_measure (map string_bytes words.now) }
-    ensures seven { IsTrue result → 7 ≤ length words.now }
-{
-    7 <= words.len() && words[0].as_str() == "measure"
-}
-
+// The words of `measure`.
 #[tactic(auto, unfolding(crate::specs::CommandLine::making_words))]
-fn judge_measure(words: &[String]) -> Result<Command<'_>, Refusal>
-    requires { 7 ≤ length words.now }
-    ensures judged { IsJudged (making_judged (map string_bytes words.now)) result }
+fn read_measure(words: MeasureWords<'_>) -> Result<Command<'_>, Refusal>
+    requires { IsTrue (are_module_names (measure_split_of words).modules) }
+    ensures read { IsRead (making_judged (measure_split_of words.entry)) result }
     ensures range { IfOk result IsInRange }
 {
-    let Some(ram_pages) = ram_pages_of(words[3].as_str()) else {
+    let terms = read_terms(words.ram, words.harts, words.entries, words.init)?;
+    Ok(Command::MakePolicy(MakePolicy {
+        out: words.out,
+        kernel: words.kernel,
+        terms,
+        modules: words.modules,
+    }))
+}
+
+/// What a policy says beside its files.
+#[tactic(auto, unfolding(crate::specs::CommandLine::terms_words))]
+pub fn read_terms<'a>(
+    ram: &str,
+    harts: &str,
+    entries: &'a str,
+    init: &str,
+) -> Result<Terms<'a>, Refusal>
+    ensures { HasTerms (terms_judged ram.now harts.now entries.now init.now) result }
+{
+    let Some(ram_pages) = ram_pages_of(ram) else {
         return Err(Refusal::OutOfRange { word: Word::Ram });
     };
-    let Some(harts) = harts_of(words[4].as_str()) else {
+    let Some(harts) = harts_of(harts) else {
         return Err(Refusal::OutOfRange { word: Word::Harts });
     };
-    if !are_entries(words[5].as_str()) {
+    if !are_entries(entries) {
         return Err(Refusal::OutOfRange {
             word: Word::Entries,
         });
     }
-    judge_init(words, ram_pages, harts)
+    terms_with(ram_pages, harts, entries, init_of(ram_pages, init))
+}
+
+#[tactic(auto, unfolding(crate::specs::CommandLine::terms_with))]
+fn terms_with(
+    ram_pages: u32,
+    harts: u8,
+    entries: &str,
+    init: Option<Option<Span>>,
+) -> Result<Terms<'_>, Refusal>
+    ensures { HasTerms (terms_with ram_pages harts (entries_of entries.now) init) result }
+{
+    match init {
+        Some(init) => Ok(Terms {
+            ram_pages,
+            harts,
+            entries,
+            init,
+        }),
+        None => Err(Refusal::OutOfRange { word: Word::Init }),
+    }
 }
 
 fn ram_pages_of(word: &str) -> Option<u32>
@@ -289,19 +266,6 @@ fn harts_of(word: &str) -> Option<u8>
     }
 }
 
-#[tactic(auto, unfolding(crate::specs::CommandLine::init_judged))]
-fn judge_init(words: &[String], ram_pages: u32, harts: u8) -> Result<Command<'_>, Refusal>
-    requires { 7 ≤ length words.now }
-    ensures judged { let bytes = map string_bytes words.now in
-        IsJudged (init_judged bytes ram_pages harts (entries_of (word_at bytes 5)) (init_of ram_pages (word_at bytes 6))) result }
-    ensures range { IfOk result IsInRange }
-{
-    let Some(init) = init_of(ram_pages, words[6].as_str()) else {
-        return Err(Refusal::OutOfRange { word: Word::Init });
-    };
-    judge_modules(words, ram_pages, harts, init)
-}
-
 // None where the word names no pages, and else those that it names, if it isn't `none`.
 #[tactic(auto, unfolding(crate::specs::CommandLine::init_of))]
 fn init_of(ram_pages: u32, word: &str) -> Option<Option<Span>>
@@ -314,35 +278,4 @@ fn init_of(ram_pages: u32, word: &str) -> Option<Option<Span>>
         Some(span) => Some(Some(span)),
         None => None,
     }
-}
-
-fn judge_modules(
-    words: &[String],
-    ram_pages: u32,
-    harts: u8,
-    init: Option<Span>,
-) -> Result<Command<'_>, Refusal>
-    requires { 7 ≤ length words.now }
-    ensures judged { let bytes = map string_bytes words.now in
-        IsJudged (modules_judged bytes (record { harts = harts; ram_pages = ram_pages; entries = entries_of (word_at bytes 5); init = init })) result }
-    ensures range { IfOk result IsInRange }
-{
-    let modules = &words[7..];
-    if !are_module_names(modules) {
-        return Err(Refusal::OutOfRange {
-            word: Word::Modules,
-        });
-    }
-    let out = words[1].as_str();
-    let kernel = words[2].as_str();
-    let entries = words[5].as_str();
-    Ok(Command::MakePolicy(MakePolicy {
-        out,
-        kernel,
-        ram_pages,
-        harts,
-        entries,
-        init,
-        modules,
-    }))
 }

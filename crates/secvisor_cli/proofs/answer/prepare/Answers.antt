@@ -1,24 +1,43 @@
-use Rattle.std.proofs.Common.{subst, sym, Result, refl, Err}
-use Rattle.secvisor_cli.specs.declared.refusal.Refusal.{Refusal}
-use Rattle.secvisor_cli.specs.declared.ready.Stop.TheVariants.{Refused}
-use Rattle.secvisor_cli.specs.CommandLine.{Command}
-use Rattle.secvisor_cli.specs.Plans.{Refuse, plan_of}
-use Rattle.secvisor_cli.specs.Reading.{MayFollow}
+use Rattle.std.proofs.Common.{◌∙◌, map, string_bytes}
+use Rattle.secvisor_cli.specs.declared.ready.Stop.TheVariants.{Refused, Memory}
+use Rattle.secvisor_cli.specs.CommandLine.{judged}
+use Rattle.secvisor_cli.specs.Words.{command_of}
+use Rattle.secvisor_cli.specs.Plans.{plan_of}
 use Rattle.secvisor_cli.specs.Ready.{Prepares}
-use Rattle.secvisor_cli.proofs.ReadyLemmas.{end_ready}
+use Rattle.secvisor_cli.proofs.ReadyLemmas.{err_by}
+use Rattle.secvisor_cli.proofs.StageLemmas.{words_refused, words_want, words_may, words_ready}
+use Rattle.secvisor_cli.proofs.WordLemmas.{has_command, has_module_names, judged_by_name}
 use Rattle.secvisor_cli.proofs.answer.prepare.Goals as goal
+
+pub returns-in_err-judge : goal.returns-in_err-judge
+returns-in_err-judge g c =
+    err_by _ (Refused c.in_err-judge.field-0.0) (λ r. Prepares (plan_of (judged (map string_bytes c.args.words.now))) (g.F.Files.state c.args.files.now) (g.F.Files.state c.args.files.now) r)
+    c.from_residual.ensures.1
+    (words_refused _ c.in_err-judge.field-0.0 _ c.in_err-judge.ensures)
+
+pub split-requires : goal.split-requires
+split-requires g c = has_command (map string_bytes c.args.words.now) c.in_ok-judge.ensures
+
+pub returns-in_err-words : goal.returns-in_err-words
+returns-in_err-words g c =
+    err_by _ Memory (λ r. Prepares (plan_of (judged (map string_bytes c.args.words.now))) (g.F.Files.state c.args.files.now) (g.F.Files.state c.args.files.now) r)
+    c.from_residual-in_err-words.ensures.1
+    (words_want _ _ c.in_ok-judge.ensures)
+
+pub read_words-requires : goal.read_words-requires
+read_words-requires g c = has_module_names (map string_bytes c.args.words.now) _ c.in_ok-words.ensures c.in_ok-judge.ensures
+
+pub returns-in_err-command : goal.returns-in_err-command
+returns-in_err-command g c =
+    err_by _ (Refused c.in_err-command.field-0.0) (λ r. Prepares (plan_of (judged (map string_bytes c.args.words.now))) (g.F.Files.state c.args.files.now) (g.F.Files.state c.args.files.now) r)
+    c.from_residual-in_err-command.ensures.1
+    (words_refused _ c.in_err-command.field-0.0 _ (judged_by_name (map string_bytes c.args.words.now) _ c.in_ok-words.ensures ∙ c.in_err-command.ensures.read))
 
 pub prepare_command-requires-clause-permitted : goal.prepare_command-requires-clause-permitted
 prepare_command-requires-clause-permitted g c = λ κs lives.
-    subst (λ (j : Result Command Refusal). MayFollow (plan_of j) (g.F.Files.state c.args.files.now)) c.in-Ok.ensures.judged c.requires.permitted
+    words_may _ (command_of c.in_ok-command.command) _ (judged_by_name (map string_bytes c.args.words.now) _ c.in_ok-words.ensures ∙ c.in_ok-command.ensures.read) c.requires.permitted
 
-pub returns-in-Ok : goal.returns-in-Ok
-returns-in-Ok g c =
-    subst (λ (j : Result Command Refusal). Prepares (plan_of j) (g.F.Files.state c.args.files.now) (g.F.Files.state c.prepare_command.new.files) c.prepare_command.result) (sym c.in-Ok.ensures.judged)
-    c.prepare_command.ensures
-
-pub returns-in-Err : goal.returns-in-Err
-unfolding plan_of
-returns-in-Err g c =
-    subst (λ (j : Result Command Refusal). Prepares (plan_of j) (g.F.Files.state c.args.files.now) (g.F.Files.state c.args.files.now) (Err (Refused c.in-Err.refusal))) (sym c.in-Err.ensures.judged)
-    (end_ready (Refuse c.in-Err.refusal) _ _ refl)
+pub returns : goal.returns
+returns g c =
+    words_ready _ (command_of c.in_ok-command.command) _ _ c.prepare_command.result
+    (judged_by_name (map string_bytes c.args.words.now) _ c.in_ok-words.ensures ∙ c.in_ok-command.ensures.read) c.prepare_command.ensures

@@ -1,4 +1,4 @@
-use Rattle.std.proofs.Common.{drop, map, string_bytes}
+use Rattle.std.proofs.Common.{List, ℕ, Bor, drop, map}
 use Rattle.secvisor_cli.specs.Plans.{modules_part, no_modules}
 use Rattle.secvisor_cli.specs.Ready.{modules_value}
 use Rattle.secvisor_cli.proofs.MakingLemmas.{GoesOn}
@@ -6,5 +6,5 @@ use Rattle.secvisor_cli.proofs.making.read_modules.Given as goal
 
 abbrev pub invariant-words : goal.invariant-words
 invariant-words g l =
-    GoesOn (modules_part (map string_bytes l.words) no_modules) (modules_part (map string_bytes (drop l.word-index l.words)) (modules_value l.modules)) (g.F.Files.state l.initial.files)
+    GoesOn (modules_part (map (λ (w : Bor (List ℕ)). w.now) l.words) no_modules) (modules_part (map (λ (w : Bor (List ℕ)). w.now) (drop l.word-index l.words)) (modules_value l.modules)) (g.F.Files.state l.initial.files)
     (g.F.Files.state l.files)

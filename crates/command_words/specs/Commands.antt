@@ -1,0 +1,90 @@
+-- The commands of the program, and the words of each by their names. This project's own.
+use Rattle.std.specs.Prelude.{ℕ, Bool, false, ◌==◌, List, [], ◌∷◌, Option, Some, None, codes, if◌then◌else◌}
+use Rattle.std.specs.List.{list_any}
+use Rattle.std.specs.Str.{bytes_eq}
+
+-- flat FILE MEASURE EVENTS
+pub record FlatSplit : Type 0 where
+  pub file : List ℕ
+  pub wanted : List ℕ
+  pub events : List ℕ
+
+-- run IMAGE POLICY DISK SCRIPT EVENTS SAVE
+pub record RunSplit : Type 0 where
+  pub image : List ℕ
+  pub policy : List ℕ
+  pub disk : List ℕ
+  pub script : List ℕ
+  pub events : List ℕ
+  pub save : List ℕ
+
+-- measure OUT KERNEL RAM HARTS ENTRIES INIT MODULES..
+pub record MeasureSplit : Type 0 where
+  pub out : List ℕ
+  pub kernel : List ℕ
+  pub ram : List ℕ
+  pub harts : List ℕ
+  pub entries : List ℕ
+  pub init : List ℕ
+  pub modules : List (List ℕ)
+
+pub data Split : Type 0 where
+  Flat : FlatSplit → Split
+  -- gen N
+  Gen : (calls : List ℕ) → Split
+  Run : RunSplit → Split
+  Measure : MeasureSplit → Split
+
+-- ---- by the number of words behind the name
+
+abbrev pub flat_split : List (List ℕ) → Option Split
+flat_split (file ∷ wanted ∷ events ∷ []) = Some (Flat (record { file = file; wanted = wanted; events = events }))
+flat_split _ = None
+
+abbrev pub gen_split : List (List ℕ) → Option Split
+gen_split (calls ∷ []) = Some (Gen calls)
+gen_split _ = None
+
+abbrev pub run_split : List (List ℕ) → Option Split
+run_split (image ∷ policy ∷ disk ∷ script ∷ events ∷ save ∷ []) = Some (Run (record {
+  image = image;
+  policy = policy;
+  disk = disk;
+  script = script;
+  events = events;
+  save = save;
+}))
+run_split _ = None
+
+abbrev pub measure_split : List (List ℕ) → Option Split
+measure_split (out ∷ kernel ∷ ram ∷ harts ∷ entries ∷ init ∷ modules) = Some (Measure (record {
+  out = out;
+  kernel = kernel;
+  ram = ram;
+  harts = harts;
+  entries = entries;
+  init = init;
+  modules = modules;
+}))
+measure_split _ = None
+
+abbrev pub named_split : List ℕ → List (List ℕ) → Option Split
+named_split name rest =
+    if bytes_eq name (codes "flat") then flat_split rest
+    else if bytes_eq name (codes "gen") then gen_split rest
+    else if bytes_eq name (codes "run") then run_split rest
+    else if bytes_eq name (codes "measure") then measure_split rest
+    else None
+
+abbrev pub shape_split : List (List ℕ) → Option Split
+shape_split [] = None
+shape_split (name ∷ rest) = named_split name rest
+
+-- a word begins with a dash
+abbrev pub has_dash : List ℕ → Bool
+has_dash [] = false
+has_dash (first ∷ rest) = first == 45
+
+-- the words of a command by their names, where no word begins with a dash and a command has words of this shape
+unfoldable pub split_words : List (List ℕ) → Option Split
+split_words words = if list_any has_dash words then None else shape_split words

@@ -1,0 +1,42 @@
+// The words of a command by their names.
+
+/// The words of a command.
+#[derive(Drop)]
+pub enum CommandWords<'a> {
+    Flat(FlatWords<'a>),
+    /// `gen N`
+    Generated(&'a str),
+    Run(RunWords<'a>),
+    Measure(MeasureWords<'a>),
+}
+
+/// `flat FILE MEASURE EVENTS`
+#[derive(Drop)]
+pub struct FlatWords<'a> {
+    pub file: &'a str,
+    pub wanted: &'a str,
+    pub events: &'a str,
+}
+
+/// `run IMAGE POLICY DISK SCRIPT EVENTS SAVE`
+#[derive(Drop)]
+pub struct RunWords<'a> {
+    pub image: &'a str,
+    pub policy: &'a str,
+    pub disk: &'a str,
+    pub script: &'a str,
+    pub events: &'a str,
+    pub save: &'a str,
+}
+
+/// `measure OUT KERNEL RAM HARTS ENTRIES INIT MODULES..`
+#[derive(Drop)]
+pub struct MeasureWords<'a> {
+    pub out: &'a str,
+    pub kernel: &'a str,
+    pub ram: &'a str,
+    pub harts: &'a str,
+    pub entries: &'a str,
+    pub init: &'a str,
+    pub modules: Vec<&'a str>,
+}

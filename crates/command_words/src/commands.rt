@@ -1,0 +1,75 @@
+// The commands, as `clap` is told them.
+ghost use Rattle.std.specs.Prelude.{◌≡◌, IfOk, false, fold, map, take, drop};
+ghost use Rattle.clap.specs.Words.{app_of, rule_of};
+ghost use Rattle.clap.specs.declared.builder.Command.TheViews.{out-Command};
+ghost use Rattle.command_words.specs.Parsing.{wanted_rule, list_rule, with_wanted, wanting, measure_app, bare_app, whole_app, flat_app, gen_app, run_app};
+
+use clap::{Arg, ArgAction, Command};
+use std::alloc::{AllocError, Global};
+
+const FLAT: [&str; 3] = ["FILE", "MEASURE", "EVENTS"];
+
+const GEN: [&str; 1] = ["N"];
+
+const RUN: [&str; 6] = ["IMAGE", "POLICY", "DISK", "SCRIPT", "EVENTS", "SAVE"];
+
+const MEASURE: [&str; 6] = ["OUT", "KERNEL", "RAM", "HARTS", "ENTRIES", "INIT"];
+
+/// All commands, each as a subcommand. Nothing answers with help.
+pub fn program<'a>(alloc: Global) -> Result<Command<'a>, AllocError>
+    ensures { IfOk result (λ c. app_of c ≡ whole_app) }
+{
+    let flat = wanting(alloc, "flat", &FLAT)?;
+    let generated = wanting(alloc, "gen", &GEN)?;
+    let run = wanting(alloc, "run", &RUN)?;
+    let measure = measure(alloc)?;
+    let program = bare(alloc).subcommand(flat)?.subcommand(generated)?;
+    program.subcommand(run)?.subcommand(measure)
+}
+
+// The words begin with the name of a command.
+fn bare<'a>(alloc: Global) -> Command<'a>
+    ensures { app_of result ≡ bare_app }
+{
+    Command::new(alloc, "secvisor")
+        .no_binary_name(true)
+        .disable_help_flag(true)
+        .disable_help_subcommand(true)
+        .subcommand_required(true)
+}
+
+fn measure<'a>(alloc: Global) -> Result<Command<'a>, AllocError>
+    ensures app { IfOk result (λ c. app_of c ≡ measure_app) }
+    ensures local { IfOk result (λ c. (out-Command c).has_globals ≡ false) }
+{
+    wanting(alloc, "measure", &MEASURE)?.arg(list(alloc, "MODULES"))
+}
+
+// A command that wants a word under each of the names.
+fn wanting<'a>(alloc: Global, name: &'a str, words: &[&'a str]) -> Result<Command<'a>, AllocError>
+    ensures app { IfOk result (λ c. app_of c ≡ wanting name.entry.now (map (λ w. w.now) words.now)) }
+    ensures local { IfOk result (λ c. (out-Command c).has_globals ≡ false) }
+{
+    let mut command = Command::new(alloc, name);
+    for word in words {
+        command = command.arg(wanted(alloc, word))?;
+    }
+    Ok(command)
+}
+
+fn wanted<'a>(alloc: Global, name: &'a str) -> Arg<'a>
+    ensures rule { rule_of result ≡ wanted_rule name.entry.now }
+    ensures local { result.global ≡ false }
+{
+    Arg::new(alloc, name).required(true).action(ArgAction::Set)
+}
+
+// Any number of words, none too.
+fn list<'a>(alloc: Global, name: &'a str) -> Arg<'a>
+    ensures rule { rule_of result ≡ list_rule name.entry.now }
+    ensures local { result.global ≡ false }
+{
+    Arg::new(alloc, name)
+        .action(ArgAction::Append)
+        .num_args(0..)
+}

@@ -1,0 +1,12 @@
+//! The words of a command line by their names, read with `clap`.
+#![tactic(auto)]
+
+mod command;
+mod commands;
+mod found;
+mod reading;
+#[cfg(test)]
+mod tests;
+
+pub use command::{CommandWords, FlatWords, MeasureWords, RunWords};
+pub use reading::split;
