@@ -1,10 +1,12 @@
 // Runs of `flat`, and the words and files that are refused before one.
-ghost use Rattle.std.specs.Prelude.{◌≡◌, ◌<◌, ◌≤◌, IfOk, vec_len};
+ghost use Rattle.std.specs.Prelude.{◌≡◌, ◌<◌, ◌≤◌, ◌-◌, ◌^◌, ℕ, List, IfOk, OnOk, IsTrue, vec_len};
 
-use crate::program::{GOOD, Handed, Left, Outside, PRINTED, Printed, call, text_of};
-use outside::{MemSink, RealFiles};
+use crate::program::{
+    GOOD, Handed, Left, Outside, PRINTED, Printed, answer_on, call, line_of, text_of,
+};
+use outside::{Files, MemSink, RealFiles};
 use page_measure::{join_digests, page_digest};
-use secvisor_cli::{Bench, Status, secvisor};
+use secvisor_cli::Status;
 use std::alloc::{AllocError, Global};
 use std::process::Abort;
 use std::test::Fail;
@@ -24,10 +26,17 @@ pub(crate) fn page(alloc: Global, words: &[u32], vector: &[u32]) -> Result<Vec<u
 {
     let mut bytes = Vec::new(alloc);
     push_words(&mut bytes, words)?;
-    bytes.resize(256, 0)?;
+    fill(&mut bytes, 256)?;
     push_words(&mut bytes, vector)?;
-    bytes.resize(4096, 0)?;
+    fill(&mut bytes, 4096)?;
     Ok(bytes)
+}
+
+/// Cuts bytes, or fills them up with zeros, to so many.
+pub(crate) fn fill(bytes: &mut Vec<u8>, count: usize) -> Result<(), AllocError>
+    ensures { OnOk result (vec_len bytes.new ≡ count) }
+{
+    bytes.resize(count, 0)
 }
 
 /// Puts words behind the bytes.
@@ -646,7 +655,7 @@ fn console_of_5000(alloc: Global) -> Result<Vec<u8>, AllocError> {
 fn boots_the_largest_file(rt: HostRuntime) -> Result<(), Fail> {
     let alloc = rt.alloc();
     let mut image = page(alloc, &PRINTS_A_AND_SHUTS_DOWN, &[])?;
-    image.resize(65536, 0)?;
+    fill(&mut image, 65536)?;
     let mut digests = Vec::new(alloc);
     for page in image.chunks_exact(4096) {
         digests.push(page_digest(page))?;
@@ -676,22 +685,39 @@ static ENDLESS: [Endless; 2] = [
     },
 ];
 
+// The call with these words, over files that may be asked for any name and save under any.
+fn call_on<R: Threads + Sync, F: Files>(
+    rt: &R,
+    alloc: Global,
+    files: &mut F,
+    words: &[&str],
+) -> Result<Left, AllocError>
+    requires names { (names : List (List ℕ)) → IsTrue ((F.state files.old).permits names) }
+    requires saving { (name bytes : List ℕ) → IsTrue ((F.state files.old).permits_save name bytes) }
+    requires reads { (F.state files.old).read_faults < 2 ^ 64 - 1 }
+    requires saves { (F.state files.old).save_faults < 2 ^ 64 - 1 }
+{
+    let line = line_of(alloc, words)?;
+    let mut out = MemSink::new(alloc, ROOM, ROOM, &[])?;
+    let answer = answer_on(rt, alloc, &line, files, &mut out);
+    Ok(Left {
+        status: answer.status,
+        taken: out.taken().to_vec(alloc)?,
+        saved: None,
+        is_booted: answer.is_booted,
+    })
+}
+
 // One byte more than the limit is read of a file without end.
 #[test]
 fn refuses_a_file_without_end(rt: HostRuntime) -> Result<(), Fail> {
     let alloc = rt.alloc();
     for endless in &ENDLESS {
         let want = endless.line;
-        let mut line = Vec::new(alloc);
-        for word in endless.words {
-            line.push(String::from_str(alloc, word)?)?;
-        }
         let mut files = RealFiles::new(rt.clone()?);
-        let mut out = MemSink::new(alloc, ROOM, ROOM, &[])?;
-        let mut bench = Bench { machine: None };
-        let status = secvisor(&rt, alloc, &line, &mut files, &mut out, &mut bench);
-        assert_eq!(rt; status, Status::Refused, "{want}");
-        assert!(rt; out.taken() == want.as_bytes(), "{want}");
+        let left = call_on(&rt, alloc, &mut files, endless.words)?;
+        assert_eq!(rt; left.status, Status::Refused, "{want}");
+        assert!(rt; left.taken.as_slice() == want.as_bytes(), "{want}");
     }
     Ok(())
 }

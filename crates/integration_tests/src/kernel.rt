@@ -1,7 +1,7 @@
 // Kernels under test: their files, their policies, and their runs.
 ghost use Rattle.std.specs.Prelude.{◌≡◌, ◌≤◌, IfOk, length, vec_len};
 
-use crate::flat::push_words;
+use crate::flat::{fill, push_words};
 use crate::program::{GOOD, Handed, Left, PRINTED, Printed, call, text_of};
 use guest_gen::image;
 use page_measure::{join_digests, page_digest};
@@ -213,7 +213,7 @@ fn text(alloc: Global, kernel: &Kernel) -> Result<Vec<u8>, AllocError> {
     let mut text = Vec::new(alloc);
     push_words(&mut text, kernel.start)?;
     push_words(&mut text, kernel.text)?;
-    text.resize(256, 0)?;
+    fill(&mut text, 256)?;
     push_words(&mut text, kernel.vector)?;
     Ok(text)
 }
@@ -286,7 +286,7 @@ fn disk(alloc: Global, first: &[u64]) -> Result<Vec<u8>, AllocError> {
     for double in first {
         disk.extend_from_slice(&double.to_le_bytes())?;
     }
-    disk.resize(512, 0)?;
+    fill(&mut disk, 512)?;
     Ok(disk)
 }
 

@@ -1,7 +1,7 @@
 // Calls of the program over files and a sink in memory.
-ghost use Rattle.std.specs.Prelude.{◌≡◌, ◌<◌, IfOk};
+ghost use Rattle.std.specs.Prelude.{◌≡◌, ◌<◌, ◌-◌, ◌^◌, ℕ, List, IfOk, IsTrue};
 
-use outside::{Files, MemFiles, MemSink};
+use outside::{Files, MemFiles, MemSink, Sink};
 use secvisor_cli::{Bench, Status, secvisor};
 use std::alloc::{AllocError, Global};
 use std::thread::Threads;
@@ -122,7 +122,46 @@ fn hold(alloc: Global, handed: &Handed, outside: Outside) -> Result<MemFiles, Al
     Ok(files)
 }
 
-/// The call with these words, over these files.
+/// The words of a call.
+pub(crate) fn line_of(alloc: Global, words: &[&str]) -> Result<Vec<String>, AllocError> {
+    let mut line = Vec::new(alloc);
+    for word in words {
+        line.push(String::from_str(alloc, word)?)?;
+    }
+    Ok(line)
+}
+
+/// What a call answers, and whether a machine was booted.
+#[derive(Clone, Copy)]
+pub(crate) struct Answer {
+    pub(crate) status: Status,
+    pub(crate) is_booted: bool,
+}
+
+/// The call with these words, over files that may be asked for any name and save under any.
+pub(crate) fn answer_on<R: Threads + Sync, F: Files, O: Sink>(
+    rt: &R,
+    alloc: Global,
+    line: &[String],
+    files: &mut F,
+    out: &mut O,
+) -> Answer
+    requires names { (names : List (List ℕ)) → IsTrue ((F.state files.old).permits names) }
+    requires saving { (name bytes : List ℕ) → IsTrue ((F.state files.old).permits_save name bytes) }
+    requires is_open { IsTrue (O.state out.old).is_open }
+    requires reads { (F.state files.old).read_faults < 2 ^ 64 - 1 }
+    requires saves { (F.state files.old).save_faults < 2 ^ 64 - 1 }
+    requires writes { (O.state out.old).faults < 2 ^ 64 - 1 }
+{
+    let mut bench = Bench { machine: None };
+    let status = secvisor(rt, alloc, line, files, out, &mut bench);
+    Answer {
+        status,
+        is_booted: bench.machine.is_some(),
+    }
+}
+
+/// The call with these words, over these files in memory.
 pub(crate) fn call<R: Threads + Sync>(
     rt: &R,
     alloc: Global,
@@ -130,10 +169,7 @@ pub(crate) fn call<R: Threads + Sync>(
     words: &[&str],
     outside: Outside,
 ) -> Result<Left, AllocError> {
-    let mut line = Vec::new(alloc);
-    for word in words {
-        line.push(String::from_str(alloc, word)?)?;
-    }
+    let line = line_of(alloc, words)?;
     let mut files = hold(alloc, handed, outside)?;
     let mut out = MemSink::new(
         alloc,
@@ -141,16 +177,15 @@ pub(crate) fn call<R: Threads + Sync>(
         outside.piece.max(1),
         &[outside.failing_write],
     )?;
-    let mut bench = Bench { machine: None };
-    let status = secvisor(rt, alloc, &line, &mut files, &mut out, &mut bench);
+    let answer = answer_on(rt, alloc, &line, &mut files, &mut out);
     let saved = match files.bytes("saved") {
         Some(bytes) => Some(bytes.to_vec(alloc)?),
         None => None,
     };
     Ok(Left {
-        status,
+        status: answer.status,
         taken: out.taken().to_vec(alloc)?,
         saved,
-        is_booted: bench.machine.is_some(),
+        is_booted: answer.is_booted,
     })
 }
