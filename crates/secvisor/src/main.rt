@@ -26,7 +26,9 @@ fn main(rt: HostRuntime) -> ExitCode {
     ExitCode::from(status.number())
 }
 
-// The words behind the program's name. Where one is no UTF-8 text they are none, which are of no command.
+// The words behind the program's name. Where one is no UTF-8 text they are none, which are of no command. They are read
+// once, so this is kept out of line.
+#[inline(never)]
 fn words(rt: &HostRuntime) -> Result<Vec<String>, AllocError> {
     let mut words = Vec::new(rt.alloc());
     match env::args(rt) {
