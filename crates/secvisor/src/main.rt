@@ -26,8 +26,8 @@ fn main(rt: HostRuntime) -> ExitCode {
     ExitCode::from(status.number())
 }
 
-// The words behind the program's name. Where one is no UTF-8 text they are none, which are of no command. They are read
-// once, so this is kept out of line.
+// The words behind the program's name. Where one is no UTF-8 text they are none, which are of no command. It is
+// out of line for where that lays the loop over the events (README, "Speed").
 #[inline(never)]
 fn words(rt: &HostRuntime) -> Result<Vec<String>, AllocError> {
     let mut words = Vec::new(rt.alloc());
