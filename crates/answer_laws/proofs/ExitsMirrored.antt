@@ -1,6 +1,6 @@
 -- Every exit: SecVisor's answer goes with the reference machine's.
-use Rattle.std.proofs.Common.{◌≡◌, ℕ, List, length, refl, sym, ◌∙◌, ap, subst, true, slice_get}
-use Rattle.std.specs.Prelude.{Option, Some, ◌==◌}
+use Rattle.std.proofs.Common.{◌≡◌, ℕ, List, length, refl, sym, ◌∙◌, ap, subst, true, false, slice_get}
+use Rattle.std.specs.Prelude.{Option, Some}
 use Rattle.sv_types.specs.HypervisorRegisters.{HypervisorRegisters}
 use Rattle.sv_types.specs.Policies.{Rules}
 use Rattle.sv_types.specs.Regions.{IsRegion}
@@ -10,71 +10,66 @@ use Rattle.sv_types.specs.declared.wires.Mode.{Mode}
 use Rattle.sv_types.specs.declared.wires.Protection.{Protection}
 use Rattle.attempt_laws.specs.Agree.{IsAt}
 use Rattle.answer_laws.specs.Laws.{MakesAttempt, TablesLaw}
-use Rattle.machine_model.specs.HardwareEvent.{attempted}
+use Rattle.machine_model.specs.HardwareEvent.{attempted, left_by}
 use Rattle.sv_types.specs.declared.outcome.Outcome.{Outcome}
-use Rattle.machine_model.specs.Steps.{AreTables, left_by}
-use Rattle.reference.specs.Calls.{Asked, asked_by}
+use Rattle.machine_model.specs.Steps.{AreTables}
 use Rattle.machine_model.specs.HardwareEvent.{Answers}
-use Rattle.machine_model.specs.HostCalls.{host_call_of}
-use Rattle.machine_model.specs.HostExits.{host_exit, served_by, served_exit, with_tables}
+use Rattle.machine_model.specs.HostExits.{host_exit_answered, host_exit, served_by, served_exit, with_tables}
 use Rattle.machine_model.specs.Machine.{Machine, HostHart}
-use Rattle.reference.specs.ModuleCalls.{call_of}
 use Rattle.reference.specs.Protections.{protection_at}
 use Rattle.reference.specs.States.{State, Hart, protection_in}
-use Rattle.machine_model.specs.Served.{serve_exit}
-use Rattle.machine_model.specs.StandsFor.{StandsFor, Unseen, IsRightFor, machine_of, protections_of}
+use Rattle.machine_model.specs.Served.{seen_of, exit_answer, exit_answered, serve_exit, is_again}
+use Rattle.machine_model.specs.declared.exits.ExitAnswer.{ExitAnswer}
+use Rattle.machine_model.specs.declared.exits.ExitAnswer.TheVariants.{Traps, Returns, Demotes, LeavesEntry, StopsAtWrite, LoadsDevice, StoresDevice, Calls}
+use Rattle.reference.specs.Devices.{device_load}
+use Rattle.machine_model.specs.StandsFor.{StandsFor, Unseen, IsRightFor, machine_of, protections_of, bound_pages}
 use Rattle.reference.specs.Soundness.{IsSound}
 use Rattle.reference.specs.Turn.{turn}
-use Rattle.answer_laws.proofs.CallsMirrored.{refuse_mirrors, set_timer_mirrors, put_char_mirrors, get_char_mirrors, shut_down_mirrors, base_mirrors, timer_mirrors, ipi_mirrors, fence_mirrors, hart_call_mirrors, reset_mirrors}
-use Rattle.answer_laws.proofs.HartsMirrored.{host_in, fetch_mirrors, access_mirrors, other_mirrors}
+use Rattle.answer_laws.proofs.CallsMirrored.{call_mirrors}
+use Rattle.answer_laws.proofs.HartsMirrored.{host_in, trap_mirrors, return_mirrors, demote_mirrors, write_stop_mirrors, device_load_mirrors, load_leaves_time, device_store_mirrors}
 use Rattle.attempt_laws.proofs.Hosts.{hosts_get}
-use Rattle.answer_laws.proofs.LawsHold.{exit_turn}
-use Rattle.answer_laws.proofs.Mirrored.{Mirrors, choose, host_there}
-use Rattle.answer_laws.proofs.ModulesMirrored.{module_call_mirrors}
+use Rattle.answer_laws.proofs.LawsHold.{exit_turn, asked, asked_same}
+use Rattle.answer_laws.proofs.Mirrored.{Mirrors, host_there}
 use Rattle.answer_laws.proofs.ProtectionsChange.{views_from, views_to}
 use Rattle.run_laws.proofs.StepsSound.{turn_goes}
 use Rattle.attempt_laws.proofs.Under.{same_mode}
 
--- ---- calls
-
-call_by : (o : Unseen) (r : State) (h : ℕ) (hart : Hart) (c : HypervisorRegisters) (ask : Asked) → IsAt o r h hart c → Mirrors o r h (host_call_of (machine_of o r) h ask) (call_of r h hart ask)
-unfolding host_call_of call_of
-call_by o r h hart c ask at =
-    choose o r h (ask.extension == 0) _ _ _ _ (set_timer_mirrors o r h hart c ask.a0 at)
-    (choose o r h (ask.extension == 1) _ _ _ _ (put_char_mirrors o r h hart c ask.a0 at)
-    (choose o r h (ask.extension == 2) _ _ _ _ (get_char_mirrors o r h hart c at)
-    (choose o r h (ask.extension == 8) _ _ _ _ (shut_down_mirrors o r h hart c at)
-    (choose o r h (ask.extension == 0x10) _ _ _ _ (base_mirrors o r h hart c ask at)
-    (choose o r h (ask.extension == 0x54494D45) _ _ _ _ (timer_mirrors o r h hart c ask at)
-    (choose o r h (ask.extension == 0x735049) _ _ _ _ (ipi_mirrors o r h hart c ask at)
-    (choose o r h (ask.extension == 0x52464E43) _ _ _ _ (fence_mirrors o r h hart c ask at)
-    (choose o r h (ask.extension == 0x48534D) _ _ _ _ (hart_call_mirrors o r h hart c ask at)
-    (choose o r h (ask.extension == 0x53525354) _ _ _ _ (reset_mirrors o r h hart c ask at)
-    (choose o r h (ask.extension == 0x08534543) _ _ _ _ (module_call_mirrors o r h hart c ask at) (refuse_mirrors o r h hart c at)))))))))))
-
 -- ---- exits
 
-exit_by : (o : Unseen) (r : State) (h : ℕ) (hart : Hart) (c : HypervisorRegisters) (exit : Exit) → IsAt o r h hart c
+-- each answer that doesn't ask for a second attempt
+exit_mirrors : (o : Unseen) (r : State) (h : ℕ) (hart : Hart) (c : HypervisorRegisters) (a : ExitAnswer) → IsAt o r h hart c → is_again a ≡ false
+    → Mirrors o r h (host_exit_answered (machine_of o r) h (host_in o c hart) hart.mode a) (exit_answered r h hart a)
+unfolding machine_of host_exit_answered exit_answered is_again
+exit_mirrors o r h hart c (Traps interrupt cause tval) at once = trap_mirrors o r h hart c interrupt cause tval at
+exit_mirrors o r h hart c Returns at once = return_mirrors o r h hart c at
+exit_mirrors o r h hart c (Demotes gpa) at once = demote_mirrors o r h hart c gpa at
+exit_mirrors o r h hart c LeavesEntry at once = absurd (cc)
+exit_mirrors o r h hart c (StopsAtWrite gpa) at once = write_stop_mirrors o r h hart c gpa at
+exit_mirrors o r h hart c (LoadsDevice rd address width signed gpa) at once =
+    device_load_mirrors o r h hart c rd address width signed (device_load r.devices gpa width) at (load_leaves_time r.devices gpa width)
+exit_mirrors o r h hart c (StoresDevice address gpa width value) at once = device_store_mirrors o r h hart c address gpa width value at
+exit_mirrors o r h hart c Calls at once = call_mirrors o r h hart c at
+
+-- SecVisor's answer to the exit is the last of the turn
+abbrev pub IsLast : State → Hart → Exit → Type 0
+IsLast r hart exit = is_again (exit_answer (seen_of r hart exit) exit) ≡ false
+
+exit_by : (o : Unseen) (r : State) (h : ℕ) (hart : Hart) (c : HypervisorRegisters) (exit : Exit) → IsAt o r h hart c → IsLast r hart exit
     → Mirrors o r h (host_exit (machine_of o r) h (host_in o c hart) hart.mode exit) (serve_exit r h hart exit)
-unfolding host_exit serve_exit
-exit_by o r h hart c exit at =
-    choose o r h exit.interrupt _ _ _ _ (other_mirrors o r h hart c exit at)
-    (choose o r h (exit.cause == 10) _ _ _ _ (call_by o r h hart c (asked_by hart.registers) at)
-    (choose o r h (exit.cause == 20) _ _ _ _ (fetch_mirrors o r h hart c hart.mode exit at refl)
-    (choose o r h (exit.cause == 21) _ _ _ _ (access_mirrors o r h hart c exit at)
-    (choose o r h (exit.cause == 23) _ _ _ _ (access_mirrors o r h hart c exit at) (other_mirrors o r h hart c exit at)))))
+unfolding machine_of host_exit serve_exit
+exit_by o r h hart c exit at last = exit_mirrors o r h hart c (exit_answer (seen_of r hart exit) exit) at last
 
 by_mode : (o : Unseen) (r : State) (h : ℕ) (hart : Hart) (c : HypervisorRegisters) (exit : Exit) → IsAt o r h hart c
-    → Mirrors o r h (host_exit (machine_of o r) h (host_in o c hart) (host_in o c hart).core.hregs.mode exit) (serve_exit r h hart exit)
-by_mode o r h hart c exit at =
-    subst (λ (mode : Mode). Mirrors o r h (host_exit (machine_of o r) h (host_in o c hart) mode exit) (serve_exit r h hart exit)) (sym (same_mode hart.mode)) (exit_by o r h hart c exit at)
+    → IsLast r hart exit → Mirrors o r h (host_exit (machine_of o r) h (host_in o c hart) (host_in o c hart).core.hregs.mode exit) (serve_exit r h hart exit)
+by_mode o r h hart c exit at once =
+    subst (λ (mode : Mode). Mirrors o r h (host_exit (machine_of o r) h (host_in o c hart) mode exit) (serve_exit r h hart exit)) (sym (same_mode hart.mode hart.entry)) (exit_by o r h hart c exit at once)
 
 pub served_mirrors : (o : Unseen) (r : State) (h : ℕ) (hart : Hart) (c : HypervisorRegisters) (exit : Exit) → IsAt o r h hart c
-    → Mirrors o r h (served_exit (machine_of o r) h exit) (serve_exit r h hart exit)
+    → IsLast r hart exit → Mirrors o r h (served_exit (machine_of o r) h exit) (serve_exit r h hart exit)
 unfolding machine_of served_exit served_by
-served_mirrors o r h hart c exit at =
+served_mirrors o r h hart c exit at once =
     subst (λ (x : Option HostHart). Mirrors o r h (served_by (machine_of o r) h exit x) (serve_exit r h hart exit))
-    (sym (host_there (length o.tables) o.exits r.harts h c hart at.exits at.found)) (by_mode o r h hart c exit at)
+    (sym (host_there (length o.tables) o.exits r.harts h c hart at.exits at.found)) (by_mode o r h hart c exit at once)
 
 -- ---- with tables
 
@@ -101,15 +96,15 @@ protections_same : (p : Unseen) (x : State) → (machine_of p x).protections ≡
 unfolding machine_of
 protections_same p x = refl
 
-views_same : (after : Machine) (p : Unseen) (r next : State) (tables : List ℕ) → after ≡ machine_of p next → next.rules ≡ r.rules → AreViews tables r.rules.ram_pages (protection_at after.protections)
-    → AreViews tables next.rules.ram_pages (protection_in next.approved next.held)
+views_same : (after : Machine) (p : Unseen) (r next : State) (tables : List ℕ) → after ≡ machine_of p next → next.rules ≡ r.rules → AreViews tables r.rules.ram_pages (bound_pages r.rules) (protection_at after.protections)
+    → AreViews tables next.rules.ram_pages (bound_pages next.rules) (protection_in next.approved next.held)
 views_same after p r next tables same rules views =
     let here : after.protections ≡ protections_of next = ap (λ (x : Machine). x.protections) same ∙ protections_same p next in
-    views_from tables next (subst (λ (n : ℕ). AreViews tables n (protection_at (protections_of next))) (sym (ap (λ (x : Rules). x.ram_pages) rules))
-    (subst (λ (list : List Protection). AreViews tables r.rules.ram_pages (protection_at list)) here views))
+    views_from tables next (subst (λ (x : Rules). AreViews tables x.ram_pages (bound_pages x) (protection_at (protections_of next))) (sym rules)
+    (subst (λ (list : List Protection). AreViews tables r.rules.ram_pages (bound_pages r.rules) (protection_at list)) here views))
 
 open_behind : (o : Unseen) (r : State) (h : ℕ) (after : Machine) (next : State) (tables : List ℕ) → IsRightFor o r → (k : Mirrors o r h after next) → length tables ≡ length o.tables
-    → AreViews tables r.rules.ram_pages (protection_at after.protections) → IsRightFor (record k.unseen { tables = tables }) next
+    → AreViews tables r.rules.ram_pages (bound_pages r.rules) (protection_at after.protections) → IsRightFor (record k.unseen { tables = tables }) next
 open_behind o r h after next tables p k size views = record {
   views = views_same after k.unseen r next tables k.same k.rules views;
   region = region_same o.tables tables r.ram next.ram size k.ram p.region;
@@ -132,28 +127,29 @@ stands_behind o r h after next tables p k s t = (
 )
 
 served_at : (o : Unseen) (r : State) (h : ℕ) (hart : Hart) (exit : Exit) (next : State) (tables : List ℕ) → IsRightFor o r → IsSound r → slice_get r.harts h ≡ Some hart → hart.started ≡ true
-    → next ≡ serve_exit r h hart exit → IsSound next → AreTables (machine_of o r) (served_exit (machine_of o r) h exit) tables
+    → next ≡ serve_exit r h hart exit → IsLast r hart exit → IsSound next → AreTables (machine_of o r) (served_exit (machine_of o r) h exit) tables
     → Answered (machine_of o r) h (with_tables (served_exit (machine_of o r) h exit) tables) next
-served_at o r h hart exit next tables p s found started same sound t =
+served_at o r h hart exit next tables p s found started same last sound t =
     let c = hosts_get (length o.tables) o.exits r.harts h hart p.exits found in
     let at : IsAt o r h hart c.0 = record { right = p; sound = s; found = found; exits = c.1.0; started = started } in
     stands_behind o r h (served_exit (machine_of o r) h exit) next tables p
-    (subst (Mirrors o r h (served_exit (machine_of o r) h exit)) (sym same) (served_mirrors o r h hart c.0 exit at)) sound t
+    (subst (Mirrors o r h (served_exit (machine_of o r) h exit)) (sym same) (served_mirrors o r h hart c.0 exit at last)) sound t
 
 pub served_stands : (m : Machine) (r : State) (h : ℕ) (hart : Hart) (exit : Exit) (next : State) (tables : List ℕ) → StandsFor m r → slice_get r.harts h ≡ Some hart → hart.started ≡ true
-    → next ≡ serve_exit r h hart exit → IsSound next → AreTables m (served_exit m h exit) tables
+    → next ≡ serve_exit r h hart exit → IsLast r hart exit → IsSound next → AreTables m (served_exit m h exit) tables
     → Answered m h (with_tables (served_exit m h exit) tables) next
-served_stands m r h hart exit next tables stands found started same sound t =
+served_stands m r h hart exit next tables stands found started same last sound t =
     subst (λ (x : Machine). AreTables x (served_exit x h exit) tables → Answered x h (with_tables (served_exit x h exit) tables) next) (sym stands.same)
-    (served_at stands.unseen r h hart exit next tables stands.unseen_is_right stands.sound found started same sound) t
+    (served_at stands.unseen r h hart exit next tables stands.unseen_is_right stands.sound found started same last sound) t
 
 -- an exit, over a turn whose count was raised already
 pub served_turn : (m : Machine) (r : State) (h : ℕ) (host : HostHart) (hart : Hart) (exit : Exit) (tables : List ℕ) → MakesAttempt m r h host hart
-    → (attempted m h host).outcome ≡ Outcome.Exit exit → AreTables (left_by m h host) (served_exit (left_by m h host) h exit) tables
+    → (attempted m h host).outcome ≡ Outcome.Exit exit → is_again (asked m host exit) ≡ false
+    → AreTables (left_by m h host) (served_exit (left_by m h host) h exit) tables
     → Answered (left_by m h host) h (with_tables (served_exit (left_by m h host) h exit) tables) (turn r h)
-served_turn m r h host hart exit tables makes left t =
+served_turn m r h host hart exit tables makes left once t =
     let k = exit_turn m r h host hart exit makes left in
-    served_stands (left_by m h host) r h hart exit (turn r h) tables k.0 makes.hart_is makes.started k.1 (turn_goes r h makes.stands.sound).sound t
+    served_stands (left_by m h host) r h hart exit (turn r h) tables k.0 makes.hart_is makes.started k.1 (subst (λ (a : ExitAnswer). is_again a ≡ false) (asked_same m r h host hart exit makes) once) (turn_goes r h makes.stands.sound).sound t
 
 tables_at : (o : Unseen) (r : State) → IsRightFor o r → AreTables (machine_of o r) (machine_of o r) (machine_of o r).region.tables
 unfolding machine_of

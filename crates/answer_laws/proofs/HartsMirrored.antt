@@ -1,17 +1,14 @@
--- Traps, returns, demotion, fetches and accesses: SecVisor's answers go with the reference machine's.
-use Rattle.std.proofs.Common.{◌≡◌, ℕ, ◌-◌, ◌%◌, ◌≤◌, [], ◌∷◌, length, refl, sym, ap, subst, Bool, true, false}
-use Rattle.std.specs.Prelude.{Option, Some, None, option_map, ◌==◌}
-use Rattle.sv_types.specs.Bytes.{in_ram}
+-- Traps, returns, demotion, accesses of devices: SecVisor's answers go with the reference machine's.
+use Rattle.std.proofs.Common.{◌≡◌, ℕ, ◌%◌, ◌≤◌, [], ◌∷◌, length, refl, sym, ap, subst, Bool, false}
+use Rattle.std.specs.Prelude.{Option, Some, None, option_map}
 use Rattle.sv_types.specs.Causes.{cause_number}
 use Rattle.sv_types.specs.HypervisorRegisters.{registers_at_trap, HypervisorRegisters, registers_at_return}
+use Rattle.sv_types.specs.Policies.{Rules}
 use Rattle.sv_types.specs.Requests.{loaded_value}
 use Rattle.sv_types.specs.Console.{after_load, loaded}
 use Rattle.sv_types.specs.Traps.{supervisor_at_trap, trap_target, supervisor_at_return, mode_at_return}
 use Rattle.sv_types.specs.declared.cause.Cause.{Cause}
-use Rattle.sv_types.specs.declared.effect.Effect.{Effect}
-use Rattle.sv_types.specs.declared.wires.Exit.{Exit}
 use Rattle.sv_types.specs.declared.wires.Mode.{Mode}
-use Rattle.sv_types.specs.declared.wires.Mode.TheVariants.{Kernel, User}
 use Rattle.sv_types.specs.declared.event.Note.TheVariants.{Demote}
 use Rattle.sv_types.specs.declared.event.Rule.TheVariants.{Entry, Write}
 use Rattle.sv_types.specs.declared.event.Verdict.TheVariants.{Stopped}
@@ -19,14 +16,13 @@ use Rattle.attempt_laws.specs.Agree.{IsAt}
 use Rattle.reference.specs.Counting.{counted, noted, machine_ended, count_retired, count_return, count_demote, count_trap, printed_low}
 use Rattle.reference.specs.Disk.{disk_load}
 use Rattle.reference.specs.Devices.{port_load, device_load_of, DeviceLoad, DeviceStore, Port, ConsoleAt, DiskAt, Nowhere, device_load, device_store, port_store, port_at}
-use Rattle.machine_model.specs.HostHarts.{host_at_return, host_demoted, host_passed, host_with, host_trap, host_exception, host_illegal, host_return, host_demote, served_fetch, host_transformed, host_device_load, host_device_store, host_load, host_store, host_write_stopped, host_write, served_access, host_virtual, served_trap, host_at_trap}
+use Rattle.machine_model.specs.HostHarts.{host_at_return, host_demoted, host_outside, host_passed, host_with, host_trap, host_exception, host_return, host_demote, host_device_load, host_device_store, host_write_stopped, host_at_trap}
 use Rattle.machine_model.specs.Machine.{HostHart}
 use Rattle.reference.specs.States.{State, Hart, Devices, Disk, Journal, without_reservation}
 use Rattle.reference.specs.Requests.{carry_out_device_load, carry_out_device_store, write_stopped, stepped, stepped_with}
-use Rattle.machine_model.specs.Served.{serve_fetch, serve_load, serve_store, serve_write, serve_access, serve_virtual, serve_trap, is_implicit, exit_gpa, is_sret_word, transformed}
 use Rattle.machine_model.specs.StandsFor.{Unseen, machine_of, host_hart, without_printed}
 use Rattle.reference.specs.Trapping.{hart_at_trap, hart_at_return, trap_from, exception, returned_from_trap, may_enter}
-use Rattle.reference.specs.Turn.{demote, demoted, illegal_instruction}
+use Rattle.reference.specs.Turn.{demote, demoted, outside}
 use Rattle.attempt_laws.proofs.Under.{same_mode}
 use Rattle.answer_laws.proofs.Mirrored.{Mirrors, choose, one_hart, no_hart, Adds, prints_none, dropped_more}
 
@@ -40,23 +36,23 @@ stopped : (o : Unseen) (r : State) (h : ℕ) (hart : Hart) (c : HypervisorRegist
 unfolding machine_of
 stopped o r h hart c j at adds = no_hart o r h hart c r.loading _ j at refl adds
 
-pub mirror_trap : (t : ℕ) (c : HypervisorRegisters) (hart : Hart) (interrupt : Bool) (cause tval : ℕ)
-    → host_at_trap interrupt cause tval (host_hart t c hart) ≡ host_hart t c (hart_at_trap hart hart.mode interrupt cause tval)
+pub mirror_trap : (t : ℕ) (c : HypervisorRegisters) (rules : Rules) (hart : Hart) (interrupt : Bool) (cause tval : ℕ)
+    → host_at_trap rules interrupt cause tval (host_hart t c hart) ≡ host_hart t c (hart_at_trap rules hart hart.mode interrupt cause tval)
 unfolding host_at_trap hart_at_trap registers_at_trap supervisor_at_trap
-mirror_trap t c hart interrupt cause tval = rw (same_mode hart.mode) refl
+mirror_trap t c rules hart interrupt cause tval = rw (same_mode hart.mode hart.entry) refl
 
-same_counteren : (hart : Hart) (from : Mode) (interrupt : Bool) (cause tval : ℕ)
-    → hart.supervisor.scounteren ≡ (hart_at_trap hart from interrupt cause tval).supervisor.scounteren
+same_counteren : (rules : Rules) (hart : Hart) (from : Mode) (interrupt : Bool) (cause tval : ℕ)
+    → hart.supervisor.scounteren ≡ (hart_at_trap rules hart from interrupt cause tval).supervisor.scounteren
 unfolding hart_at_trap supervisor_at_trap
-same_counteren hart from interrupt cause tval = refl
+same_counteren rules hart from interrupt cause tval = refl
 
 pub trap_mirrors : (o : Unseen) (r : State) (h : ℕ) (hart : Hart) (c : HypervisorRegisters) (interrupt : Bool) (cause tval : ℕ) → IsAt o r h hart c
     → Mirrors o r h (host_trap (machine_of o r) h (host_in o c hart) hart.mode interrupt cause tval) (trap_from r h hart hart.mode interrupt cause tval)
 unfolding machine_of trap_from
 trap_mirrors o r h hart c interrupt cause tval at =
     choose o r h (may_enter r.rules hart.mode (trap_target hart.supervisor.stvec interrupt cause)) _ _ _ _
-    (one_hart o r h hart (hart_at_trap hart hart.mode interrupt cause tval) c (host_at_trap interrupt cause tval) r.devices (counted (count_trap hart.mode) r.journal) at
-    (mirror_trap (length o.tables) c hart interrupt cause tval) (same_counteren hart hart.mode interrupt cause tval) refl (prints_none r.journal.printed))
+    (one_hart o r h hart (hart_at_trap r.rules hart hart.mode interrupt cause tval) c (host_at_trap r.rules interrupt cause tval) r.devices (counted (count_trap hart.mode) r.journal) at
+    (mirror_trap (length o.tables) c r.rules hart interrupt cause tval) (same_counteren r.rules hart hart.mode interrupt cause tval) refl (prints_none r.journal.printed))
     (stopped o r h hart c (machine_ended (Stopped (Entry (trap_target hart.supervisor.stvec interrupt cause)) h r.journal.counts.turns) r.journal) at (prints_none r.journal.printed))
 
 pub exception_mirrors : (o : Unseen) (r : State) (h : ℕ) (hart : Hart) (c : HypervisorRegisters) (cause : Cause) (tval : ℕ) → IsAt o r h hart c
@@ -80,28 +76,23 @@ return_mirrors o r h hart c at =
     one_hart o r h hart (hart_at_return hart) c host_at_return r.devices (counted (count_return (mode_at_return hart.supervisor.sstatus)) r.journal) at
     (mirror_return (length o.tables) c hart) (returned_counteren hart) refl (prints_none r.journal.printed)
 
--- ---- demotion and fetches
+-- ---- demotion
 
 mirror_demoted : (t : ℕ) (c : HypervisorRegisters) (hart : Hart) → host_demoted (host_hart t c hart) ≡ host_hart t c (demoted hart)
 unfolding host_demoted
 mirror_demoted t c hart = refl
 
-demote_mirrors : (o : Unseen) (r : State) (h : ℕ) (hart : Hart) (c : HypervisorRegisters) (gpa : ℕ) → IsAt o r h hart c
+pub demote_mirrors : (o : Unseen) (r : State) (h : ℕ) (hart : Hart) (c : HypervisorRegisters) (gpa : ℕ) → IsAt o r h hart c
     → Mirrors o r h (host_demote (machine_of o r) h (host_in o c hart) gpa) (demote r h hart gpa)
 unfolding machine_of
 demote_mirrors o r h hart c gpa at =
     one_hart o r h hart (demoted hart) c host_demoted r.devices (noted (Demote h r.journal.counts.turns hart.pc gpa) (counted count_demote r.journal)) at
     (mirror_demoted (length o.tables) c hart) refl refl (prints_none r.journal.printed)
 
-pub fetch_mirrors : (o : Unseen) (r : State) (h : ℕ) (hart : Hart) (c : HypervisorRegisters) (mode : Mode) (exit : Exit) → IsAt o r h hart c → hart.mode ≡ mode
-    → Mirrors o r h (served_fetch (machine_of o r) h (host_in o c hart) mode exit) (serve_fetch r h hart mode exit)
-unfolding machine_of served_fetch serve_fetch
-fetch_mirrors o r h hart c User exit at e = subst (λ (mode : Mode). Mirrors o r h (host_exception (machine_of o r) h (host_in o c hart) mode Cause.InstrAccess exit.stval) (exception r h hart Cause.InstrAccess exit.stval)) e (exception_mirrors o r h hart c Cause.InstrAccess exit.stval at)
-fetch_mirrors o r h hart c Kernel exit at e =
-    let refused : Mirrors o r h (host_exception (machine_of o r) h (host_in o c hart) Kernel Cause.InstrAccess exit.stval) (exception r h hart Cause.InstrAccess exit.stval) =
-    subst (λ (mode : Mode). Mirrors o r h (host_exception (machine_of o r) h (host_in o c hart) mode Cause.InstrAccess exit.stval) (exception r h hart Cause.InstrAccess exit.stval)) e (exception_mirrors o r h hart c Cause.InstrAccess exit.stval at) in
-    choose o r h (is_implicit exit) _ _ _ _ refused
-    (choose o r h (in_ram r.ram (exit_gpa exit) 4) _ _ _ _ (demote_mirrors o r h hart c (exit_gpa exit) at) refused)
+-- the entry is left
+pub mirror_outside : (t : ℕ) (c : HypervisorRegisters) (hart : Hart) → host_outside (host_hart t c hart) ≡ host_hart t c (outside hart)
+unfolding host_outside
+mirror_outside t c hart = rw (same_mode hart.mode hart.entry) refl
 
 -- ---- what is printed
 
@@ -137,11 +128,11 @@ port_loads_time d (ConsoleAt offset) width = loads_time d (record d { console = 
 port_loads_time d (DiskAt offset) width = loads_time d d (disk_load d.disk offset width) refl
 port_loads_time d Nowhere width = tt
 
-load_leaves_time : (d : Devices) (gpa width : ℕ) → LeavesTime d (device_load d gpa width)
+pub load_leaves_time : (d : Devices) (gpa width : ℕ) → LeavesTime d (device_load d gpa width)
 unfolding device_load
 load_leaves_time d gpa width = port_loads_time d (port_at gpa) width
 
-device_load_mirrors : (o : Unseen) (r : State) (h : ℕ) (hart : Hart) (c : HypervisorRegisters) (rd address width : ℕ) (signed : Bool) (x : Option DeviceLoad) → IsAt o r h hart c
+pub device_load_mirrors : (o : Unseen) (r : State) (h : ℕ) (hart : Hart) (c : HypervisorRegisters) (rd address width : ℕ) (signed : Bool) (x : Option DeviceLoad) → IsAt o r h hart c
     → LeavesTime r.devices x
     → Mirrors o r h (host_device_load (machine_of o r) h (host_in o c hart) hart.mode rd address width signed x) (carry_out_device_load r h hart rd address width signed x)
 unfolding machine_of host_device_load carry_out_device_load
@@ -188,7 +179,7 @@ stored_by o r h hart c address None at leaves = exception_mirrors o r h hart c C
 stored_by o r h hart c address (Some s) at leaves =
     one_hart o r h hart (stepped (without_reservation hart)) c host_passed s.devices (counted count_retired s.journal) at (mirror_passed (length o.tables) c hart) refl leaves.0 leaves.1
 
-device_store_mirrors : (o : Unseen) (r : State) (h : ℕ) (hart : Hart) (c : HypervisorRegisters) (address gpa width value : ℕ) → IsAt o r h hart c
+pub device_store_mirrors : (o : Unseen) (r : State) (h : ℕ) (hart : Hart) (c : HypervisorRegisters) (address gpa width value : ℕ) → IsAt o r h hart c
     → Mirrors o r h (host_device_store (machine_of o r) h (host_in o c hart) hart.mode address (device_store (machine_of o r).devices (machine_of o r).journal gpa width value))
     (carry_out_device_store r h hart address (device_store r.devices r.journal gpa width value))
 unfolding machine_of device_store
@@ -198,58 +189,9 @@ device_store_mirrors o r h hart c address gpa width value at =
     (carry_out_device_store r h hart address (port_store r.devices r.journal (port_at gpa) width value)))
     (sym k.0) (stored_by o r h hart c address (port_store r.devices r.journal (port_at gpa) width value) at k.1)
 
--- ---- accesses
+-- ---- a store that stops the machine
 
-load_mirrors : (o : Unseen) (r : State) (h : ℕ) (hart : Hart) (c : HypervisorRegisters) (exit : Exit) (x : Option Effect) → IsAt o r h hart c
-    → Mirrors o r h (host_load (machine_of o r) h (host_in o c hart) hart.mode exit x) (serve_load r h hart exit x)
-unfolding machine_of host_load serve_load
-load_mirrors o r h hart c exit (Some (Effect.Load rd address width signed)) at =
-    device_load_mirrors o r h hart c rd exit.stval width signed (device_load r.devices (exit_gpa exit) width) at
-    (load_leaves_time r.devices (exit_gpa exit) width)
-load_mirrors o r h hart c exit _ at = exception_mirrors o r h hart c Cause.LoadAccess exit.stval at
-
-store_mirrors : (o : Unseen) (r : State) (h : ℕ) (hart : Hart) (c : HypervisorRegisters) (exit : Exit) (x : Option Effect) → IsAt o r h hart c
-    → Mirrors o r h (host_store (machine_of o r) h (host_in o c hart) hart.mode exit x) (serve_store r h hart exit x)
-unfolding host_store serve_store
-store_mirrors o r h hart c exit (Some (Effect.Store address width value)) at =
-    device_store_mirrors o r h hart c exit.stval (exit_gpa exit) width value at
-store_mirrors o r h hart c exit _ at = exception_mirrors o r h hart c Cause.StoreAccess exit.stval at
-
-write_stop_mirrors : (o : Unseen) (r : State) (h : ℕ) (hart : Hart) (c : HypervisorRegisters) (gpa : ℕ) → IsAt o r h hart c
+pub write_stop_mirrors : (o : Unseen) (r : State) (h : ℕ) (hart : Hart) (c : HypervisorRegisters) (gpa : ℕ) → IsAt o r h hart c
     → Mirrors o r h (host_write_stopped (machine_of o r) h (host_in o c hart) gpa) (write_stopped r h hart gpa)
 unfolding machine_of
 write_stop_mirrors o r h hart c gpa at = stopped o r h hart c (machine_ended (Stopped (Write hart.pc gpa) h r.journal.counts.turns) r.journal) at (prints_none r.journal.printed)
-
-write_mirrors : (o : Unseen) (r : State) (h : ℕ) (hart : Hart) (c : HypervisorRegisters) (exit : Exit) → IsAt o r h hart c
-    → Mirrors o r h (host_write (machine_of o r) h (host_in o c hart) hart.mode exit) (serve_write r h hart exit)
-unfolding machine_of host_write serve_write host_transformed transformed
-write_mirrors o r h hart c exit at =
-    choose o r h (is_implicit exit) _ _ _ _ (exception_mirrors o r h hart c Cause.StoreAccess exit.stval at)
-    (choose o r h (in_ram r.ram (exit_gpa exit) 1) _ _ _ _ (write_stop_mirrors o r h hart c (exit_gpa exit) at) (store_mirrors o r h hart c exit (transformed exit.htinst hart) at))
-
-pub access_mirrors : (o : Unseen) (r : State) (h : ℕ) (hart : Hart) (c : HypervisorRegisters) (exit : Exit) → IsAt o r h hart c
-    → Mirrors o r h (served_access (machine_of o r) h (host_in o c hart) hart.mode exit) (serve_access r h hart exit)
-unfolding served_access serve_access host_transformed transformed
-access_mirrors o r h hart c exit at =
-    choose o r h (exit.cause == 21) _ _ _ _ (load_mirrors o r h hart c exit (transformed exit.htinst hart) at) (write_mirrors o r h hart c exit at)
-
--- ---- the other traps
-
-illegal_mirrors : (o : Unseen) (r : State) (h : ℕ) (hart : Hart) (c : HypervisorRegisters) (mode : Mode) (w : ℕ) → IsAt o r h hart c → hart.mode ≡ mode
-    → Mirrors o r h (host_illegal (machine_of o r) h (host_in o c hart) mode w) (illegal_instruction r h hart w)
-illegal_mirrors o r h hart c mode w at e =
-    subst (λ (mode : Mode). Mirrors o r h (host_illegal (machine_of o r) h (host_in o c hart) mode w) (illegal_instruction r h hart w)) e (exception_mirrors o r h hart c Cause.Illegal w at)
-
-virtual_mirrors : (o : Unseen) (r : State) (h : ℕ) (hart : Hart) (c : HypervisorRegisters) (mode : Mode) (exit : Exit) → IsAt o r h hart c → hart.mode ≡ mode
-    → Mirrors o r h (host_virtual (machine_of o r) h (host_in o c hart) mode exit) (serve_virtual r h hart mode exit)
-unfolding host_virtual serve_virtual
-virtual_mirrors o r h hart c Kernel exit at e =
-    choose o r h (is_sret_word exit.stval) _ _ _ _ (return_mirrors o r h hart c at) (illegal_mirrors o r h hart c Kernel exit.stval at e)
-virtual_mirrors o r h hart c User exit at e = illegal_mirrors o r h hart c User exit.stval at e
-
-pub other_mirrors : (o : Unseen) (r : State) (h : ℕ) (hart : Hart) (c : HypervisorRegisters) (exit : Exit) → IsAt o r h hart c
-    → Mirrors o r h (served_trap (machine_of o r) h (host_in o c hart) hart.mode exit) (serve_trap r h hart exit)
-unfolding served_trap serve_trap
-other_mirrors o r h hart c exit at =
-    choose o r h exit.interrupt _ _ _ _ (trap_mirrors o r h hart c true (exit.cause - 1) 0 at)
-    (choose o r h (exit.cause == 22) _ _ _ _ (virtual_mirrors o r h hart c hart.mode exit at refl) (trap_mirrors o r h hart c false exit.cause exit.stval at))

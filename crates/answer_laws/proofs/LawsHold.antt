@@ -1,16 +1,21 @@
 -- The laws of attempts.
-use Rattle.std.proofs.Common.{◌≡◌, ℕ, ◌+◌, length, refl, sym, ◌∙◌, ap, subst, true, false, slice_get, slice_set}
+use Rattle.std.proofs.Common.{◌≡◌, ℕ, ◌+◌, length, refl, sym, ◌∙◌, ap, subst, Bool, true, false, slice_get, slice_set}
 use Rattle.std.specs.Prelude.{Option, Some, None, ◌==◌}
 use Rattle.sv_types.specs.Hardware.{Attempted, leave, with_region}
 use Rattle.sv_types.specs.HypervisorRegisters.{HypervisorRegisters, registers_at_exit}
 use Rattle.sv_types.specs.declared.outcome.Outcome.{Outcome}
 use Rattle.sv_types.specs.declared.wires.Exit.{Exit}
 use Rattle.reference.specs.States.{State, Hart, Loading}
-use Rattle.machine_model.specs.Machine.{Machine, HostHart, raised, after_attempt, after_quiet_attempt, all_forget}
+use Rattle.machine_model.specs.Machine.{Machine, HostHart, raised, after_attempt, after_quiet_attempt, all_forget, with_core}
+use Rattle.machine_model.specs.HostHarts.{with_host, host_outside, host_seen}
+use Rattle.attempt_laws.proofs.Under.{same_mode}
+use Rattle.machine_model.specs.declared.exits.ExitAnswer.{ExitAnswer}
+use Rattle.machine_model.specs.declared.exits.ExitAnswer.TheVariants.{Traps, Returns, Demotes, LeavesEntry, StopsAtWrite, LoadsDevice, StoresDevice, Calls}
+use Rattle.answer_laws.proofs.HartsMirrored.{mirror_outside}
 use Rattle.machine_model.specs.StandsFor.{StandsFor, Unseen, IsRightFor, machine_of, host_hart, host_harts}
 use Rattle.reference.specs.Soundness.{IsSound}
-use Rattle.machine_model.specs.Served.{serve_exit}
-use Rattle.reference.specs.Turn.{turn}
+use Rattle.machine_model.specs.Served.{seen_of, exit_answer, exit_answered, serve_exit, is_again}
+use Rattle.reference.specs.Turn.{turn, outside, leave_entry}
 use Rattle.reference.specs.Run.{step, happen, happen_under}
 use Rattle.reference.specs.Counting.{count, count_turn}
 use Rattle.sv_types.specs.declared.event.Event.TheVariants.{Turn}
@@ -19,10 +24,10 @@ use Rattle.sv_types.specs.declared.event.Verdict.TheVariants.{Running}
 use Rattle.attempt_laws.specs.Agree.{IsAt, AgreesBy, IsNotLoading, region_at, core_at, one_attempt_more}
 use Rattle.answer_laws.specs.Laws.{MakesAttempt, IsQuiet, QuietLaw, ExitLaw}
 use Rattle.machine_model.specs.HardwareEvent.{attempted}
-use Rattle.attempt_laws.proofs.Hosts.{hosts_get, hosts_exit}
-use Rattle.attempt_laws.proofs.Stays.{running_host, length_set}
+use Rattle.attempt_laws.proofs.Hosts.{hosts_get, hosts_exit, hosts_update}
+use Rattle.attempt_laws.proofs.Stays.{length_set}
 use Rattle.attempt_laws.proofs.AttemptLawHolds.{attempt_law}
-use Rattle.run_laws.proofs.StepsSound.{turn_goes, counted_sound}
+use Rattle.run_laws.proofs.StepsSound.{turn_goes, counted_sound, leave_goes}
 
 not_loading : (h : ℕ) (x : Option Loading) → ((load : Loading) → x ≡ Some load → (load.hart == h) ≡ false) → IsNotLoading h x
 not_loading h None other = tt
@@ -75,8 +80,7 @@ left : (o : Unseen) (r : State) (h : ℕ) (hart : Hart) (c : HypervisorRegisters
 unfolding machine_of all_forget leave registers_at_exit
 left o r h hart c exit at =
     let d : HypervisorRegisters = registers_at_exit c exit in
-    rw (ap (slice_set (host_harts (length o.tables) o.exits r.harts) h) (running_host (length o.tables) d hart at.started)
-    ∙ hosts_exit (length o.tables) o.exits r.harts h d hart at.found) refl
+    rw (hosts_exit (length o.tables) o.exits r.harts h c d hart (with_core (core_at o d hart)) at.exits at.found refl) refl
 
 exit_by : (o : Unseen) (r : State) (h : ℕ) (hart : Hart) (c : HypervisorRegisters) (a : Attempted) (x : Outcome) (exit : Exit) → IsAt o r h hart c
     → AgreesBy x o r h hart c a (turn r h) → x ≡ Outcome.Exit exit
@@ -127,6 +131,72 @@ exit_turn m r h host hart exit makes left_by =
     exit_same m r h host hart exit makes.stands.unseen makes.stands.same makes.stands.unseen_is_right makes.stands.sound makes.host_is makes.hart_is makes.started
     (not_loading h r.loading makes.loads) left_by
 
+-- ---- a second attempt
+
+outside_at : (o : Unseen) (r : State) (h : ℕ) (hart : Hart) → IsRightFor o r → IsSound r → slice_get r.harts h ≡ Some hart
+    → StandsFor (with_host (machine_of o r) h host_outside) (leave_entry r h hart)
+unfolding machine_of
+outside_at o r h hart p s found =
+    let c = hosts_get (length o.tables) o.exits r.harts h hart p.exits found in
+    record {
+      unseen = o;
+      same = rw (hosts_update (length o.tables) o.exits r.harts h c.0 hart (outside hart) host_outside c.1.0 found (mirror_outside (length o.tables) c.0 hart)) refl;
+      unseen_is_right = record { views = p.views; region = p.region; exits = p.exits ∙ sym (length_set r.harts h (outside hart)); cleared = p.cleared };
+      sound = (leave_goes r h hart s (s.harts h hart found)).sound;
+    }
+
+-- a machine whose hart has left its entry stands for the state where it has
+pub outside_stands : (m : Machine) (r : State) (h : ℕ) (hart : Hart) → StandsFor m r → slice_get r.harts h ≡ Some hart
+    → StandsFor (with_host m h host_outside) (leave_entry r h hart)
+outside_stands m r h hart stands found =
+    subst (λ (x : Machine). StandsFor (with_host x h host_outside) (leave_entry r h hart)) (sym stands.same)
+    (outside_at stands.unseen r h hart stands.unseen_is_right stands.sound found)
+
+harts_of : (o : Unseen) (r : State) (h : ℕ) (x : Option HostHart) → slice_get (host_harts (length o.tables) o.exits r.harts) h ≡ x → slice_get (machine_of o r).harts h ≡ x
+unfolding machine_of
+harts_of o r h x e = e
+
+-- what SecVisor answers
+abbrev pub asked : Machine → HostHart → Exit → ExitAnswer
+asked m host exit = exit_answer (host_seen m.region.ram m.rules host host.core.hregs.mode exit) exit
+
+asked_at : (o : Unseen) (r : State) (c : HypervisorRegisters) (hart : Hart) (exit : Exit)
+    → asked (machine_of o r) (host_hart (length o.tables) c hart) exit ≡ exit_answer (seen_of r hart exit) exit
+unfolding machine_of
+asked_at o r c hart exit = rw (same_mode hart.mode hart.entry) refl
+
+-- it's what the state tells
+pub asked_same : (m : Machine) (r : State) (h : ℕ) (host : HostHart) (hart : Hart) (exit : Exit) → MakesAttempt m r h host hart
+    → asked m host exit ≡ exit_answer (seen_of r hart exit) exit
+asked_same m r h host hart exit makes =
+    let o = makes.stands.unseen in
+    let c = hosts_get (length o.tables) o.exits r.harts h hart makes.stands.unseen_is_right.exits makes.hart_is in
+    let there : slice_get (machine_of o r).harts h ≡ Some host = subst (λ (x : Machine). slice_get x.harts h ≡ Some host) makes.stands.same makes.host_is in
+    let same : host ≡ host_hart (length o.tables) c.0 hart =
+    same_host (slice_get (machine_of o r).harts h) host (host_hart (length o.tables) c.0 hart) there (harts_of o r h _ c.1.1) in
+    subst (λ (x : Machine). asked x host exit ≡ exit_answer (seen_of r hart exit) exit) (sym makes.stands.same)
+    (subst (λ (x : HostHart). asked (machine_of o r) x exit ≡ exit_answer (seen_of r hart exit) exit) (sym same) (asked_at o r c.0 hart exit))
+
+again_by : (r : State) (h : ℕ) (hart : Hart) (a : ExitAnswer) → is_again a ≡ true → exit_answered r h hart a ≡ turn (leave_entry r h hart) h
+unfolding is_again exit_answered
+again_by r h hart (Traps interrupt cause tval) again = absurd (cc)
+again_by r h hart Returns again = absurd (cc)
+again_by r h hart (Demotes gpa) again = absurd (cc)
+again_by r h hart LeavesEntry again = refl
+again_by r h hart (StopsAtWrite gpa) again = absurd (cc)
+again_by r h hart (LoadsDevice rd address width signed gpa) again = absurd (cc)
+again_by r h hart (StoresDevice address gpa width value) again = absurd (cc)
+again_by r h hart Calls again = absurd (cc)
+
+-- the turn in which a hart is sent to attempt again is the turn of the state where it has left its entry
+pub again_turn : (m : Machine) (r : State) (h : ℕ) (host : HostHart) (hart : Hart) (exit : Exit) → MakesAttempt m r h host hart
+    → (attempted m h host).outcome ≡ Outcome.Exit exit → is_again (asked m host exit) ≡ true → turn r h ≡ turn (leave_entry r h hart) h
+unfolding serve_exit
+again_turn m r h host hart exit makes left again =
+    (exit_turn m r h host hart exit makes left).1
+    ∙ again_by r h hart (exit_answer (seen_of r hart exit) exit)
+    (subst (λ (a : ExitAnswer). is_again a ≡ true) (asked_same m r h host hart exit makes) again)
+
 -- ---- over a step
 
 pub raised_at : (o : Unseen) (r : State) → IsRightFor o r → IsSound r → StandsFor (raised (machine_of o r) count_turn) (count r count_turn)
@@ -147,7 +217,7 @@ pub running : (r : State) (h : ℕ) → r.journal.verdict ≡ Running → step r
 unfolding step happen_under happen
 running r h on = ap (λ (v : Verdict). happen_under v r (Turn h)) on
 
-makes_raised : (m : Machine) (r : State) (h : ℕ) (host : HostHart) (hart : Hart) → MakesAttempt m r h host hart
+pub makes_raised : (m : Machine) (r : State) (h : ℕ) (host : HostHart) (hart : Hart) → MakesAttempt m r h host hart
     → MakesAttempt (raised m count_turn) (count r count_turn) h host hart
 makes_raised m r h host hart k = record {
   stands = raised_stands m r k.stands;

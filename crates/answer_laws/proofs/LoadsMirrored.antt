@@ -6,31 +6,27 @@ use Rattle.sv_types.specs.Bytes.{page_size, page_of, page_bytes, part, ram_place
 use Rattle.sv_types.specs.HypervisorRegisters.{HypervisorRegisters}
 use Rattle.sv_types.specs.Measure.{measure, page_digest, page_digests, joined_digests}
 use Rattle.sv_types.specs.Policies.{Rules, ModuleRule}
-use Rattle.sv_types.specs.declared.wires.Protection.TheVariants.{Free, Approved}
 use Rattle.sv_types.proofs.ByteLemmas.{length_before}
-use Rattle.sv_types.specs.declared.event.Note.TheVariants.{Load}
 use Rattle.sv_types.specs.declared.saved.SavedModule.{SavedModule}
 use Rattle.attempt_laws.specs.Agree.{IsAt}
 use Rattle.machine_model.specs.Steps.{AreTables}
-use Rattle.reference.specs.Calls.{success, code_word, with_answer}
-use Rattle.reference.specs.Counting.{counted, noted, count_load, count_refused}
-use Rattle.machine_model.specs.HostExits.{host_is_good, host_load_approved, host_load_released, host_decide, page_sites, page_counted, load_counted, host_load_step, load_served, served_load_turn, with_tables}
-use Rattle.machine_model.specs.HostHarts.{host_answered}
-use Rattle.reference.specs.Loads.{module_text, module_bases, is_as_measured, is_good, load_approved, load_refused, decide, load_step_of}
+use Rattle.reference.specs.Answers.{answered}
+use Rattle.reference.specs.declared.answers.Answer.{Answer}
+use Rattle.machine_model.specs.HostExits.{host_is_good, host_decide, page_sites, page_counted, load_counted, host_load_step, load_served, served_load_turn, with_tables}
+use Rattle.machine_model.specs.HostCalls.{host_given}
+use Rattle.reference.specs.Loads.{module_text, module_bases, is_as_measured, is_good, decide, load_step_of}
 use Rattle.machine_model.specs.Machine.{Machine, HostLoad}
-use Rattle.reference.specs.ModuleCalls.{refused_by_measure}
-use Rattle.reference.specs.Protections.{with_pages}
-use Rattle.reference.specs.States.{State, Hart, Loading, pages_in_rule, with_module}
+use Rattle.reference.specs.ModuleCalls.{load_decision}
+use Rattle.reference.specs.States.{State, Hart, Loading, pages_in_rule}
 use Rattle.reference.specs.Relocations.{masked, fields_right}
-use Rattle.machine_model.specs.StandsFor.{StandsFor, Unseen, IsRightFor, machine_of, load_kept, load_kept_by, kept_digests, kept_answer, protections_of}
+use Rattle.machine_model.specs.StandsFor.{StandsFor, Unseen, IsRightFor, machine_of, load_kept, load_kept_by, kept_digests, kept_answer}
 use Rattle.reference.specs.Soundness.{IsSound, IsSoundLoad, HoldsModule}
 use Rattle.reference.specs.Turn.{turn, turn_of, turn_of_started}
-use Rattle.answer_laws.proofs.CallsMirrored.{mirror_answered}
+use Rattle.answer_laws.proofs.CallsMirrored.{given_mirrors}
 use Rattle.answer_laws.proofs.ExitsMirrored.{Answered, stands_behind}
 use Rattle.attempt_laws.proofs.Hosts.{hosts_get}
-use Rattle.answer_laws.proofs.Mirrored.{Mirrors, tested, one_paged, no_hart, prints_none}
-use Rattle.run_laws.proofs.ModulesSound.{approves}
-use Rattle.answer_laws.proofs.ProtectionsChange.{approved_protections, released_protections}
+use Rattle.answer_laws.proofs.Mirrored.{Mirrors, no_hart, prints_none}
+use Rattle.run_laws.proofs.AnswersMay.{decision_may}
 use Rattle.answer_laws.proofs.SitesInPages.{AllLieIn, rule_lies, digest_more, length_masked, page_masked, right_more, all_below, below}
 use Rattle.run_laws.proofs.StepsSound.{turn_goes}
 
@@ -72,24 +68,6 @@ good_is r load (Some rule) s k none known =
     let size = length_masked text rule.sites all ∙ text_size r load rule s k known in
     rw (all_counted rule.pages load none, measured_same text rule.pages rule size, all_below rule.pages rule.sites (rule_lies r.rules load.about.id rule s.within known)) refl
 
-approved_mirrors : (o : Unseen) (r : State) (h : ℕ) (hart : Hart) (c : HypervisorRegisters) (load : Loading) → IsAt o r h hart c → HoldsModule r.rules r.approved r.loaded r.held load
-    → Mirrors o r h (host_load_approved (machine_of o r) h load.about) (load_approved r h hart load.about)
-unfolding machine_of
-approved_mirrors o r h hart c load at k =
-    one_paged o r h hart (with_answer hart (code_word success) 0) c (host_answered (code_word success) 0) (approves r load.about).approved [] (with_module r.loaded load.about)
-    None r.retired (noted (Load h r.journal.counts.turns load.about.id success) (counted count_load r.journal))
-    (with_pages (protections_of r) (page_of load.about.gpa) (pages_in_rule (slice_get r.rules.modules load.about.id)) Approved) None at
-    (mirror_answered (length o.tables) c hart (code_word success) 0) refl (approved_protections r load k) refl (prints_none r.journal.printed)
-
-released_mirrors : (o : Unseen) (r : State) (h : ℕ) (hart : Hart) (c : HypervisorRegisters) (load : Loading) → IsAt o r h hart c → HoldsModule r.rules r.approved r.loaded r.held load
-    → Mirrors o r h (host_load_released (machine_of o r) h load.about) (load_refused r h hart load.about)
-unfolding machine_of
-released_mirrors o r h hart c load at k =
-    one_paged o r h hart (with_answer hart (code_word refused_by_measure) 0) c (host_answered (code_word refused_by_measure) 0) r.approved [] r.loaded
-    None r.retired (noted (Load h r.journal.counts.turns load.about.id refused_by_measure) (counted count_refused r.journal))
-    (with_pages (protections_of r) (page_of load.about.gpa) (pages_in_rule (slice_get r.rules.modules load.about.id)) Free) None at
-    (mirror_answered (length o.tables) c hart (code_word refused_by_measure) 0) refl (released_protections r load k) refl (prints_none r.journal.printed)
-
 about_is : (rules : Rules) (ram : List ℕ) (load : Loading) (x : Option ModuleRule) → (load_kept_by rules ram load x).about ≡ load.about
 unfolding load_kept_by
 about_is rules ram load None = refl
@@ -100,18 +78,20 @@ unfolding load_kept_by
 left_is rules ram load None = refl
 left_is rules ram load (Some rule) = refl
 
-decided_by : (o : Unseen) (r : State) (h : ℕ) (load : Loading) (about : SavedModule) → about ≡ load.about
-    → (if host_is_good (load_kept r.rules r.ram load) (slice_get r.rules.modules about.id) then host_load_approved (machine_of o r) h about else host_load_released (machine_of o r) h about)
-    ≡ (if host_is_good (load_kept r.rules r.ram load) (slice_get r.rules.modules load.about.id) then host_load_approved (machine_of o r) h load.about else host_load_released (machine_of o r) h load.about)
-decided_by o r h load about e = rw e refl
+rules_are : (o : Unseen) (r : State) → (machine_of o r).rules ≡ r.rules
+unfolding machine_of
+rules_are o r = refl
 
 decision_mirrors : (o : Unseen) (r : State) (h : ℕ) (hart : Hart) (c : HypervisorRegisters) (load : Loading) → IsAt o r h hart c → HoldsModule r.rules r.approved r.loaded r.held load → load.left ≡ 0
     → Mirrors o r h (host_decide (machine_of o r) h (load_kept r.rules r.ram load)) (decide r h hart load.about)
-unfolding machine_of host_decide decide
+unfolding host_decide decide
 decision_mirrors o r h hart c load at k none =
-    subst (λ (m : Machine). Mirrors o r h m (decide r h hart load.about)) (sym (decided_by o r h load (load_kept r.rules r.ram load).about (about_is r.rules r.ram load (slice_get r.rules.modules load.about.id))))
-    (tested o r h (host_is_good (load_kept r.rules r.ram load) (slice_get r.rules.modules load.about.id)) (is_good r.rules r.ram load.about (slice_get r.rules.modules load.about.id)) _ _ _ _
-    (good_is r load (slice_get r.rules.modules load.about.id) at.sound k none refl) (λ _. approved_mirrors o r h hart c load at k) (λ _. released_mirrors o r h hart c load at k))
+    let kept : HostLoad = load_kept r.rules r.ram load in
+    let good : Bool = is_good r.rules r.ram load.about (slice_get r.rules.modules load.about.id) in
+    subst (λ (a : Answer). Mirrors o r h (host_given (machine_of o r) h a) (answered r h hart (load_decision good load.about)))
+    (sym (ap (λ (m : SavedModule). load_decision (host_is_good kept (slice_get (machine_of o r).rules.modules m.id)) m) (about_is r.rules r.ram load (slice_get r.rules.modules load.about.id))
+    ∙ ap (λ (b : Bool). load_decision b load.about) (ap (λ (rules : Rules). host_is_good kept (slice_get rules.modules load.about.id)) (rules_are o r) ∙ good_is r load (slice_get r.rules.modules load.about.id) at.sound k none refl)))
+    (given_mirrors o r h hart c (load_decision good load.about) at (decision_may r load good k refl))
 
 -- ---- a page turn
 

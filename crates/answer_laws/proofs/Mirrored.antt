@@ -12,6 +12,7 @@ use Rattle.reference.specs.Protections.{is_free}
 use Rattle.machine_model.specs.Machine.{Machine, HostHart, HostLoad, update}
 use Rattle.machine_model.specs.StandsFor.{Unseen, IsRightFor, machine_of, host_hart, host_harts, load_kept, protections_of, without_printed}
 use Rattle.attempt_laws.specs.Agree.{IsAt}
+use Rattle.attempt_laws.proofs.Hosts.{hosts_update}
 use Rattle.machine_model.specs.HardwareEvent.{Answers, Others, Nobody, MayChange, others_changed, hart_answered, devices_answered, journal_answered}
 
 -- bytes are printed behind those that were
@@ -54,16 +55,6 @@ pub choose : (o : Unseen) (r : State) (h : ℕ) (b : Bool) (m n : Machine) (x y 
     → Mirrors o r h (if b then m else n) (if b then x else y)
 choose o r h true m n x y s t = s
 choose o r h false m n x y s t = t
-
-pub decided : (o : Unseen) (r : State) (h : ℕ) (b : Bool) (m n : Machine) (x y : State) → (b ≡ true → Mirrors o r h m x) → (b ≡ false → Mirrors o r h n y)
-    → Mirrors o r h (if b then m else n) (if b then x else y)
-decided o r h true m n x y s t = s refl
-decided o r h false m n x y s t = t refl
-
--- the machine's test is the state's
-pub tested : (o : Unseen) (r : State) (h : ℕ) (a b : Bool) (m n : Machine) (x y : State) → a ≡ b → (b ≡ true → Mirrors o r h m x) → (b ≡ false → Mirrors o r h n y)
-    → Mirrors o r h (if a then m else n) (if b then x else y)
-tested o r h a b m n x y same s t = rw same (decided o r h b m n x y s t)
 
 -- ---- the state and the machine with all parts changed that an answer may change
 
@@ -181,16 +172,31 @@ mirrored o r h exits hosts host others harts approved held loaded loading retire
   frame = all_frame o r h hosts host others loaded retired d j protections hl e2 may time adds p.cleared;
 }
 
--- ---- one hart
+-- what an answer changes but for pages and modules, on both sides
+pub record Changed (o : Unseen) (r : State) (h : ℕ) : Type 0 where
+  pub exits : List HypervisorRegisters
+  pub hosts : List HostHart
+  pub host : HostHart
+  pub others : Others
+  pub harts : List Hart
+  pub devices : Devices
+  pub journal : Journal
+  pub same : hosts ≡ host_harts (length o.tables) exits harts
+  pub frame : hosts ≡ others_changed others (update (hosts_in o r) h (hart_answered host))
+  pub may : MayChange (hosts_in o r) others
+  pub size : length exits ≡ length harts
+  pub time : devices.clock.time ≡ r.devices.clock.time
+  pub adds : Adds r.journal.printed journal.printed
 
-pub hosts_update : (t : ℕ) (exits : List HypervisorRegisters) (harts : List Hart) (h : ℕ) (c : HypervisorRegisters) (hart next : Hart) (change : HostHart → HostHart)
-    → slice_get exits h ≡ Some c → slice_get harts h ≡ Some hart → change (host_hart t c hart) ≡ host_hart t c next
-    → update (host_harts t exits harts) h change ≡ host_harts t exits (slice_set harts h next)
-unfolding host_harts update
-hosts_update t [] harts h c hart next change e f g = cc
-hosts_update t (d ∷ exits) [] h c hart next change e f g = cc
-hosts_update t (d ∷ exits) (x ∷ harts) zero c hart next change e f g = let p : d ≡ c = cc in let q : x ≡ hart = cc in rw (p, q, g) refl
-hosts_update t (d ∷ exits) (x ∷ harts) (suc h) c hart next change e f g = ap (◌∷◌ (host_hart t d x)) (hosts_update t exits harts h c hart next change e f g)
+pub with_parts : (o : Unseen) (r : State) (h : ℕ) (x : Changed o r h) (approved : List ApprovedPage) (held : List ℕ) (loaded : List SavedModule) (loading : Option Loading) (retired : Bool)
+    (protections : List Protection) (hl : Option HostLoad) → IsRightFor o r
+    → protections_of (record r { approved = approved; held = held }) ≡ protections
+    → option_map (load_kept r.rules r.ram) loading ≡ hl
+    → Mirrors o r h (hosted o r x.hosts protections loaded hl retired x.devices x.journal) (stepped r x.harts approved held loaded loading retired x.devices x.journal)
+with_parts o r h x approved held loaded loading retired protections hl right e f =
+    mirrored o r h x.exits x.hosts x.host x.others x.harts approved held loaded loading retired x.devices x.journal protections hl right x.same x.frame x.may x.size e f x.time x.adds
+
+-- ---- one hart
 
 pub update_sets : (harts : List HostHart) (h : ℕ) (host : HostHart) (change : HostHart → HostHart) → slice_get harts h ≡ Some host
     → update harts h change ≡ slice_set harts h (change host)
@@ -221,25 +227,6 @@ framed o r h hart next c change at e same =
     update_sets (hosts_in o r) h (host_hart t c hart) change there
     ∙ ap (slice_set (hosts_in o r) h) (e ∙ own_same t c hart next same)
     ∙ sym (update_sets (hosts_in o r) h (host_hart t c hart) (hart_answered (host_hart t c next)) there)
-
--- a hart is changed on both sides; pages and modules may change with it
-pub one_paged : (o : Unseen) (r : State) (h : ℕ) (hart next : Hart) (c : HypervisorRegisters) (change : HostHart → HostHart)
-    (approved : List ApprovedPage) (held : List ℕ) (loaded : List SavedModule) (loading : Option Loading) (retired : Bool) (j : Journal)
-    (protections : List Protection) (hl : Option HostLoad)
-    → IsAt o r h hart c → change (host_hart (length o.tables) c hart) ≡ host_hart (length o.tables) c next
-    → hart.supervisor.scounteren ≡ next.supervisor.scounteren
-    → protections_of (record r { approved = approved; held = held }) ≡ protections
-    → option_map (load_kept r.rules r.ram) loading ≡ hl
-    → Adds r.journal.printed j.printed
-    → Mirrors o r h (hosted o r (update (hosts_in o r) h change) protections loaded hl retired r.devices j)
-    (stepped r (slice_set r.harts h next) approved held loaded loading retired r.devices j)
-unfolding others_changed
-one_paged o r h hart next c change approved held loaded loading retired j protections hl at e same f g adds =
-    mirrored o r h o.exits (update (hosts_in o r) h change) (host_hart (length o.tables) c next) Nobody (slice_set r.harts h next)
-    approved held loaded loading retired r.devices j protections hl at.right
-    (hosts_update (length o.tables) o.exits r.harts h c hart next change at.exits at.found e)
-    (framed o r h hart next c change at e same)
-    _ (at.right.exits ∙ sym (length_set r.harts h next)) f g refl adds
 
 -- a hart, devices and the journal
 pub one_hart : (o : Unseen) (r : State) (h : ℕ) (hart next : Hart) (c : HypervisorRegisters) (change : HostHart → HostHart) (d : Devices) (j : Journal)

@@ -1,63 +1,37 @@
--- Calls that load and unload modules and retire the init text: SecVisor's answers go with the reference machine's.
-use Rattle.std.proofs.Common.{◌≡◌, ℕ, zero, suc, ◌+◌, ◌-◌, ◌*◌, ◌%◌, ◌<◌, ◌≤◌, inl, inr, List, [], ◌∷◌, length, map, filter, refl, sym, ◌∙◌, ap, subst, Bool, true, false, not, ◌&&◌, ◌||◌, arith, slice_get}
-use Rattle.std.specs.Prelude.{Option, Some, None, option_map, if◌then◌else◌, ◌==◌, nat_lt, is_some, ℤ}
-use Rattle.std.specs.List.{list_any, list_all}
+-- Pages and modules: the machine knows of them what the state says, and SecVisor's answers change them as the reference
+-- machine's do.
+use mathlib.Core.Path.{fun_ext}
+use Rattle.std.proofs.Common.{◌≡◌, ℕ, zero, suc, ◌+◌, ◌-◌, ◌*◌, ◌/◌, ◌<◌, ◌≤◌, inl, inr, List, [], ◌∷◌, length, map, filter, refl, sym, ◌∙◌, ap, subst, Bool, true, false, not, ◌&&◌, ◌||◌, arith, slice_get}
+use Rattle.std.specs.Prelude.{Option, Some, None, option_map, if◌then◌else◌, ◌==◌, nat_lt, is_some}
+use Rattle.std.specs.List.{list_any}
 use Rattle.std.proofs.lemmas.Bool.Decides.{nat_tests}
-use Rattle.sv_types.specs.Bytes.{page_size, page_of, in_ram}
+use Rattle.sv_types.specs.Bytes.{page_size, page_of, ram_place}
 use Rattle.sv_types.specs.HypervisorRegisters.{HypervisorRegisters}
 use Rattle.sv_types.specs.Policies.{ModuleRule}
 use Rattle.sv_types.specs.ApprovedPages.{numbers_from}
 use Rattle.sv_types.specs.declared.module.Site.{Site}
 use Rattle.sv_types.specs.declared.module.Span.{Span}
 use Rattle.sv_types.specs.declared.wires.Protection.{Protection}
-use Rattle.sv_types.specs.declared.wires.Protection.TheVariants.{Free, Held}
+use Rattle.sv_types.specs.declared.wires.Protection.TheVariants.{Free, Held, Approved}
 use Rattle.sv_types.proofs.ByteLemmas.{lt_or_le}
-use Rattle.sv_types.specs.declared.event.Note.{Note}
-use Rattle.sv_types.specs.declared.event.Note.TheVariants.{Load, Unload, Retire}
 use Rattle.sv_types.specs.declared.saved.SavedModule.{SavedModule}
-use Rattle.attempt_laws.specs.Agree.{IsAt}
-use Rattle.reference.specs.Calls.{Asked, success, invalid_parameter, invalid_address, already, code_word, with_answer}
-use Rattle.reference.specs.Counting.{counted, noted, count_unload}
-use Rattle.machine_model.specs.HostHarts.{host_answered, host_stayed}
-use Rattle.machine_model.specs.HostCalls.{host_noted, host_good_address, host_load_begun, host_answer_load, host_load_call, host_unloaded, host_answer_unload, host_unload_call, is_approved_one, host_init, host_retired, host_answer_retire, host_retire_call, host_module_call}
-use Rattle.machine_model.specs.Machine.{HostLoad}
-use Rattle.reference.specs.ModuleCalls.{under_way, module_asked, span_pages, count_answer, good_address, load_begun, answer_load, load_call, unloaded, answer_unload, unload_call, answer_noted, init_text, init_retired, answer_retire, retire_call, module_call}
+use Rattle.machine_model.specs.HostCalls.{host_pages_beside, is_approved_one, host_init, host_facts}
+use Rattle.machine_model.specs.Machine.{Machine, HostHart, HostLoad}
+use Rattle.reference.specs.Answers.{pages_beside, span_pages, init_text}
+use Rattle.reference.specs.Calls.{Facts, facts_of}
+use Rattle.reference.specs.declared.answers.Beside.{Beside}
+use Rattle.reference.specs.declared.answers.Beside.TheVariants.{BeginsLoad, ApprovesModule, ReleasesModule, UnloadsModule, RetiresInit}
 use Rattle.reference.specs.Origins.{AllAbove, Ascends, IsOwned, ownership, is_kernel_text}
 use Rattle.reference.specs.Protections.{protection_at, or_free, with_pages, with_each, is_free}
-use Rattle.reference.specs.States.{State, Hart, Loading, has_number, is_approved_in, is_protected, module_pages, find_module, without_module, without_pages, without_reservation, pages_in_rule, protection_in, protection_by}
+use Rattle.reference.specs.States.{State, Hart, Loading, has_number, is_approved_in, is_protected, module_pages, find_module, with_module, without_module, without_pages, pages_in_rule, protection_in, protection_by}
 use Rattle.reference.specs.Relocations.{fields_right}
-use Rattle.machine_model.specs.StandsFor.{Unseen, machine_of, load_kept, load_kept_by, kept_digests, kept_answer, protections_of}
-use Rattle.reference.specs.Soundness.{IsSound, IsSoundLoad}
-use Rattle.answer_laws.proofs.BeatsAgree.{free_by}
-use Rattle.answer_laws.proofs.CallsMirrored.{mirror_answered, mirror_stayed, refuse_mirrors}
-use Rattle.run_laws.proofs.Lookups.{not_true, both, is_there, same_number, and_both, and_first, found_id, none_there}
-use Rattle.answer_laws.proofs.Mirrored.{Mirrors, choose, decided, tested, one_hart, one_paged, prints_none}
-use Rattle.run_laws.proofs.ModulesSound.{IsGoodAddress, address_good}
-use Rattle.answer_laws.proofs.ProtectionsChange.{held_protections, unloaded_protections, retired_protections, at_page}
-
--- ---- refusals
-
-noted_mirrors : (o : Unseen) (r : State) (h : ℕ) (hart : Hart) (c : HypervisorRegisters) (code : ℤ) (line : Note) → IsAt o r h hart c
-    → Mirrors o r h (host_noted (machine_of o r) h code line) (answer_noted r h hart code line)
-unfolding machine_of
-noted_mirrors o r h hart c code line at =
-    one_hart o r h hart (with_answer hart (code_word code) 0) c (host_answered (code_word code) 0) r.devices (noted line (counted (count_answer code) r.journal)) at
-    (mirror_answered (length o.tables) c hart (code_word code) 0) refl refl (prints_none r.journal.printed)
-
-load_refused_mirrors : (o : Unseen) (r : State) (h : ℕ) (hart : Hart) (c : HypervisorRegisters) (id : ℕ) (code : ℤ) → IsAt o r h hart c
-    → Mirrors o r h (host_answer_load (machine_of o r) h id code) (answer_load r h hart id code)
-unfolding machine_of
-load_refused_mirrors o r h hart c id code at = noted_mirrors o r h hart c code (Load h r.journal.counts.turns id code) at
-
-unload_refused_mirrors : (o : Unseen) (r : State) (h : ℕ) (hart : Hart) (c : HypervisorRegisters) (id : ℕ) (code : ℤ) → IsAt o r h hart c
-    → Mirrors o r h (host_answer_unload (machine_of o r) h id code) (answer_unload r h hart id code)
-unfolding machine_of
-unload_refused_mirrors o r h hart c id code at = noted_mirrors o r h hart c code (Unload h r.journal.counts.turns id code) at
-
-retire_refused_mirrors : (o : Unseen) (r : State) (h : ℕ) (hart : Hart) (c : HypervisorRegisters) (code : ℤ) → IsAt o r h hart c
-    → Mirrors o r h (host_answer_retire (machine_of o r) h code) (answer_retire r h hart code)
-unfolding machine_of
-retire_refused_mirrors o r h hart c code at = noted_mirrors o r h hart c code (Retire h r.journal.counts.turns code) at
+use Rattle.machine_model.specs.StandsFor.{Unseen, IsRightFor, machine_of, host_harts, load_kept, load_kept_by, kept_digests, kept_answer, protections_of, without_printed}
+use Rattle.reference.specs.Soundness.{IsSound, IsSoundLoad, HoldsModule}
+use Rattle.run_laws.proofs.AnswersMay.{MayBeside}
+use Rattle.run_laws.proofs.Lookups.{not_true, both, is_there, same_number, and_both, and_first, numbers_bounds}
+use Rattle.run_laws.proofs.ModulesSound.{IsGoodAddress, approves}
+use Rattle.answer_laws.proofs.Mirrored.{Mirrors, Changed, with_parts}
+use Rattle.answer_laws.proofs.ProtectionsChange.{held_protections, approved_protections, released_protections, unloaded_protections, retired_protections, at_page}
 
 -- ---- protections of pages, in RAM and past its end
 
@@ -72,11 +46,27 @@ not_approved r page s past = not_true (is_approved_in r.approved page) (λ t. le
 past_page : (r : State) (page : ℕ) → r.rules.ram_pages ≤ page → protection_at (protections_of r) page ≡ Free
 past_page r page past = ap or_free (none_numbers (protection_in r.approved r.held) 0 r.rules.ram_pages page past)
 
-free_pages : (r : State) (page : ℕ) → IsSound r → r.held ≡ [] → is_free (protection_at (protections_of r) page) ≡ not (is_protected r page)
+not_free_by : (a b : Bool) → not (is_free (protection_by a b)) ≡ (a || b)
+unfolding protection_by
+not_free_by true b = refl
+not_free_by false true = refl
+not_free_by false false = refl
+
+beyond : (place n ram_pages page : ℕ) → place + 4096 * n ≤ 4096 * ram_pages → page < place / 4096 + n → ram_pages ≤ page → ⊥
+beyond place n ram_pages page inside below past = omega arith
+
+not_held_past : (r : State) (x : Option Loading) (page : ℕ) → IsSoundLoad r.rules r.approved r.loaded r.held x → r.rules.ram_pages ≤ page → has_number r.held page ≡ false
+not_held_past r None page k past = rw k refl
+not_held_past r (Some load) page k past = not_true (has_number r.held page) (λ t.
+    let there : has_number (module_pages r.rules load.about) page ≡ true = subst (λ (list : List ℕ). has_number list page ≡ true) k.pages t in
+    let bounds = numbers_bounds (page_of load.about.gpa) (pages_in_rule (slice_get r.rules.modules load.about.id)) page there in
+    beyond (ram_place load.about.gpa) (pages_in_rule (slice_get r.rules.modules load.about.id)) r.rules.ram_pages page k.inside bounds.1 past)
+
+protected_same : (r : State) (page : ℕ) → IsSound r → not (is_free (protection_at (protections_of r) page)) ≡ is_protected r page
 unfolding is_protected protection_in
-free_pages r page s none = elim (lt_or_le page r.rules.ram_pages) [
-  | inl below ↦ ap is_free (at_page r page below) ∙ free_by (is_approved_in r.approved page) (has_number r.held page)
-  | inr past ↦ ap is_free (past_page r page past) ∙ rw (not_approved r page s past, none) refl
+protected_same r page s = elim (lt_or_le page r.rules.ram_pages) [
+  | inl below ↦ ap (λ (p : Protection). not (is_free p)) (at_page r page below) ∙ not_free_by (is_approved_in r.approved page) (has_number r.held page)
+  | inr past ↦ ap (λ (p : Protection). not (is_free p)) (past_page r page past) ∙ rw (not_approved r page s past, not_held_past r r.loading page s.load past) refl
 ]
 
 approved_by : (a b : Bool) → is_approved_one (protection_by a b) ≡ a
@@ -92,21 +82,7 @@ approved_is r page s = elim (lt_or_le page r.rules.ram_pages) [
   | inr past ↦ ap is_approved_one (past_page r page past) ∙ sym (not_approved r page s past)
 ]
 
--- ---- load
-
-not_any : (p q : ℕ → Bool) (xs : List ℕ) → ((x : ℕ) → p x ≡ not (q x)) → list_all p xs ≡ not (list_any q xs)
-not_any p q [] same = refl
-not_any p q (x ∷ xs) same = rw (same x, not_any p q xs same) (and_not (q x) (list_any q xs))
-  where
-    and_not : (a b : Bool) → (not a && not b) ≡ not (a || b)
-    and_not true b = refl
-    and_not false b = refl
-
-same_good : (o : Unseen) (r : State) (gpa va pages : ℕ) → IsSound r → r.held ≡ [] → host_good_address (machine_of o r) gpa va pages ≡ good_address r gpa va pages
-unfolding machine_of host_good_address good_address
-same_good o r gpa va pages s none =
-    ap (λ (b : Bool). gpa % page_size == 0 && va % page_size == 0 && in_ram r.ram gpa (page_size * pages) && b)
-    (not_any (λ page. is_free (protection_at (protections_of r) page)) (is_protected r) (numbers_from (page_of gpa) pages) (λ page. free_pages r page s none))
+-- ---- a load that begins
 
 minus_self : (n : ℕ) → n - n ≡ 0
 minus_self n = omega arith
@@ -124,69 +100,9 @@ fresh_by : (r : State) (h : ℕ) (m : SavedModule) (rule : ModuleRule) → load_
 unfolding load_kept_by kept_digests kept_answer fields_right
 fresh_by r h m rule = rw (minus_self rule.pages) (rw (none_before rule.sites) refl)
 
-begun_mirrors : (o : Unseen) (r : State) (h : ℕ) (hart : Hart) (c : HypervisorRegisters) (m : SavedModule) (rule : ModuleRule) → IsAt o r h hart c
-    → slice_get r.rules.modules m.id ≡ Some rule → r.held ≡ [] → IsGoodAddress r m.gpa rule.pages
-    → Mirrors o r h (host_load_begun (machine_of o r) h m rule.pages) (load_begun r h hart m rule.pages)
-unfolding machine_of
-begun_mirrors o r h hart c m rule at known none good =
-    let load : Loading = record { hart = h; about = m; left = rule.pages } in
-    one_paged o r h hart (without_reservation hart) c host_stayed r.approved (module_pages r.rules m) r.loaded (Some load) r.retired r.journal
-    (with_pages (protections_of r) (page_of m.gpa) rule.pages Held) (Some (fresh_load h m rule.pages)) at (mirror_stayed (length o.tables) c hart) refl
-    (held_protections r m (Some load) none (λ page there. good.free page (rw known at there)) ∙ rw known refl)
-    (ap Some (rw known (fresh_by r h m rule))) (prints_none r.journal.printed)
-
-is_some_map : {A : Type 0} {B : Type 0} (f : A → B) (x : Option A) → is_some (option_map f x) ≡ is_some x
-is_some_map f None = refl
-is_some_map f (Some x) = refl
-
-same_way : (o : Unseen) (r : State) → is_some (machine_of o r).loading ≡ is_some r.loading
-unfolding machine_of
-same_way o r = is_some_map (load_kept r.rules r.ram) r.loading
-
 none_held : (r : State) (x : Option Loading) → x ≡ None → IsSoundLoad r.rules r.approved r.loaded r.held x → r.held ≡ []
 none_held r None e load = load
 none_held r (Some l) e load = absurd (cc)
-
-loaded_or : (o : Unseen) (r : State) (h : ℕ) (hart : Hart) (c : HypervisorRegisters) (ask : Asked) (rule : ModuleRule) → IsAt o r h hart c → slice_get r.rules.modules ask.a0 ≡ Some rule → r.held ≡ []
-    → Mirrors o r h (if is_some (find_module (machine_of o r).loaded ask.a0) then host_answer_load (machine_of o r) h ask.a0 already
-    else if host_good_address (machine_of o r) ask.a1 ask.a2 rule.pages then host_load_begun (machine_of o r) h (module_asked ask) rule.pages
-    else host_answer_load (machine_of o r) h ask.a0 invalid_address)
-    (if is_some (find_module r.loaded ask.a0) then answer_load r h hart ask.a0 already
-    else if good_address r ask.a1 ask.a2 rule.pages then load_begun r h hart (module_asked ask) rule.pages
-    else answer_load r h hart ask.a0 invalid_address)
-unfolding machine_of
-loaded_or o r h hart c ask rule at known none =
-    choose o r h (is_some (find_module r.loaded ask.a0)) _ _ _ _ (load_refused_mirrors o r h hart c ask.a0 already at)
-    (tested o r h (host_good_address (machine_of o r) ask.a1 ask.a2 rule.pages) (good_address r ask.a1 ask.a2 rule.pages) _ _ _ _ (same_good o r ask.a1 ask.a2 rule.pages at.sound none)
-    (λ good. begun_mirrors o r h hart c (module_asked ask) rule at known none (address_good r ask.a1 ask.a2 rule.pages at.sound.size good))
-    (λ _. load_refused_mirrors o r h hart c ask.a0 invalid_address at))
-
-load_call_mirrors : (o : Unseen) (r : State) (h : ℕ) (hart : Hart) (c : HypervisorRegisters) (ask : Asked) (x : Option ModuleRule) → IsAt o r h hart c → slice_get r.rules.modules ask.a0 ≡ x
-    → Mirrors o r h (host_load_call (machine_of o r) h ask x) (load_call r h hart ask x)
-unfolding host_load_call load_call
-load_call_mirrors o r h hart c ask None at known = load_refused_mirrors o r h hart c ask.a0 invalid_parameter at
-load_call_mirrors o r h hart c ask (Some rule) at known =
-    tested o r h (is_some (machine_of o r).loading) (is_some r.loading) _ _ _ _ (same_way o r) (λ _. load_refused_mirrors o r h hart c ask.a0 under_way at)
-    (λ idle. loaded_or o r h hart c ask rule at known (none_held r r.loading (none_there r.loading idle) at.sound.load))
-
--- ---- unload
-
-unloaded_mirrors : (o : Unseen) (r : State) (h : ℕ) (hart : Hart) (c : HypervisorRegisters) (id : ℕ) (m : SavedModule) → IsAt o r h hart c → find_module r.loaded m.id ≡ Some m
-    → Mirrors o r h (host_answer_unload (host_unloaded (machine_of o r) m) h id success) (answer_unload (unloaded r m) h hart id success)
-unfolding machine_of
-unloaded_mirrors o r h hart c id m at found =
-    one_paged o r h hart (with_answer hart (code_word success) 0) c (host_answered (code_word success) 0) (without_pages r.approved (module_pages r.rules m)) r.held (without_module r.loaded m.id)
-    r.loading r.retired (noted (Unload h r.journal.counts.turns id success) (counted count_unload r.journal))
-    (with_pages (protections_of r) (page_of m.gpa) (pages_in_rule (slice_get r.rules.modules m.id)) Free) (option_map (load_kept r.rules r.ram) r.loading) at
-    (mirror_answered (length o.tables) c hart (code_word success) 0) refl (unloaded_protections r m at.sound found) refl (prints_none r.journal.printed)
-
-unload_call_mirrors : (o : Unseen) (r : State) (h : ℕ) (hart : Hart) (c : HypervisorRegisters) (id : ℕ) (x : Option SavedModule) → IsAt o r h hart c → find_module r.loaded id ≡ x
-    → Mirrors o r h (host_unload_call (machine_of o r) h id x) (unload_call r h hart id x)
-unfolding host_unload_call unload_call
-unload_call_mirrors o r h hart c id None at found = unload_refused_mirrors o r h hart c id invalid_parameter at
-unload_call_mirrors o r h hart c id (Some m) at found =
-    tested o r h (is_some (machine_of o r).loading) (is_some r.loading) _ _ _ _ (same_way o r) (λ _. unload_refused_mirrors o r h hart c id under_way at)
-    (λ _. unloaded_mirrors o r h hart c id m at (subst (λ (i : ℕ). find_module r.loaded i ≡ Some m) (sym (found_id r.loaded id m found)) found))
 
 -- ---- which approved pages are the kernel's
 
@@ -275,29 +191,86 @@ same_init o r span s before =
     same_filter (λ page. is_approved_one (protection_at (protections_of r) page) && not (in_modules r page)) (has_number r.text) (span_pages span)
     (λ page. ap (λ (b : Bool). b && not (in_modules r page)) (approved_is r page s) ∙ text_pages r page s before)
 
--- ---- retire
+-- ---- the machine's facts are the state's
 
-retired_mirrors : (o : Unseen) (r : State) (h : ℕ) (hart : Hart) (c : HypervisorRegisters) (span : Span) → IsAt o r h hart c → r.retired ≡ false
-    → Mirrors o r h (host_answer_retire (host_retired (machine_of o r) span) h success) (answer_retire (init_retired r span) h hart success)
+is_some_map : {A : Type 0} {B : Type 0} (f : A → B) (x : Option A) → is_some (option_map f x) ≡ is_some x
+is_some_map f None = refl
+is_some_map f (Some x) = refl
+
+loads_same : (o : Unseen) (r : State) → is_some (machine_of o r).loading ≡ is_some r.loading
 unfolding machine_of
-retired_mirrors o r h hart c span at before =
-    one_paged o r h hart (with_answer hart (code_word success) 0) c (host_answered (code_word success) 0) (without_pages r.approved (init_text r span)) r.held r.loaded
-    r.loading true (noted (Retire h r.journal.counts.turns success) r.journal)
-    (with_each (protections_of r) (host_init (machine_of o r) span) Free) (option_map (load_kept r.rules r.ram) r.loading) at
-    (mirror_answered (length o.tables) c hart (code_word success) 0) refl
-    (retired_protections r span at.sound before ∙ ap (λ (pages : List ℕ). with_each (protections_of r) pages Free) (sym (same_init o r span at.sound before))) refl (prints_none r.journal.printed)
+loads_same o r = is_some_map (load_kept r.rules r.ram) r.loading
 
-retire_call_mirrors : (o : Unseen) (r : State) (h : ℕ) (hart : Hart) (c : HypervisorRegisters) (x : Option Span) → IsAt o r h hart c
-    → Mirrors o r h (host_retire_call (machine_of o r) h x) (retire_call r h hart x)
-unfolding machine_of host_retire_call retire_call
-retire_call_mirrors o r h hart c None at = retire_refused_mirrors o r h hart c invalid_parameter at
-retire_call_mirrors o r h hart c (Some span) at =
-    decided o r h r.retired _ _ _ _ (λ _. retire_refused_mirrors o r h hart c already at) (λ before. retired_mirrors o r h hart c span at before)
 
-pub module_call_mirrors : (o : Unseen) (r : State) (h : ℕ) (hart : Hart) (c : HypervisorRegisters) (ask : Asked) → IsAt o r h hart c
-    → Mirrors o r h (host_module_call (machine_of o r) h ask) (module_call r h hart ask)
-unfolding machine_of host_module_call module_call
-module_call_mirrors o r h hart c ask at =
-    choose o r h (ask.function == 0) _ _ _ _ (load_call_mirrors o r h hart c ask (slice_get r.rules.modules ask.a0) at refl)
-    (choose o r h (ask.function == 1) _ _ _ _ (unload_call_mirrors o r h hart c ask.a0 (find_module r.loaded ask.a0) at refl)
-    (choose o r h (ask.function == 2) _ _ _ _ (retire_call_mirrors o r h hart c r.rules.init at) (refuse_mirrors o r h hart c at)))
+started_same : (t : ℕ) (exits : List HypervisorRegisters) (harts : List Hart) → length exits ≡ length harts
+    → map (λ (host : HostHart). host.started) (host_harts t exits harts) ≡ map (λ (hart : Hart). hart.started) harts
+unfolding host_harts
+started_same t [] [] size = refl
+started_same t [] (x ∷ harts) size = absurd (cc)
+started_same t (c ∷ exits) [] size = refl
+started_same t (c ∷ exits) (x ∷ harts) size = ap (◌∷◌ x.started) (started_same t exits harts (cc))
+
+abbrev facts_with : State → List Bool → (ℕ → Bool) → Bool → Facts
+facts_with r started protected loads = record (facts_of r) { started = started; protected = protected; loads = loads }
+
+pub facts_same : (o : Unseen) (r : State) → IsSound r → length o.exits ≡ length r.harts → host_facts (machine_of o r) ≡ facts_of r
+unfolding machine_of
+facts_same o r s size =
+    ap (λ (x : List Bool). facts_with r x (λ page. not (is_free (protection_at (protections_of r) page))) (is_some (machine_of o r).loading)) (started_same (length o.tables) o.exits r.harts size)
+    ∙ ap (λ (x : ℕ → Bool). facts_with r (facts_of r).started x (is_some (machine_of o r).loading)) (fun_ext (λ page. protected_same r page s))
+    ∙ ap (facts_with r (facts_of r).started (is_protected r)) (loads_same o r)
+
+-- ---- what an answer does to pages, beside the other parts that it changes
+
+abbrev hosted_by : (o : Unseen) (r : State) (h : ℕ) → Beside → Changed o r h → Machine
+hosted_by o r h b x = record (host_pages_beside b h (machine_of o r)) { harts = x.hosts; devices = x.devices; journal = without_printed o.cleared x.journal }
+
+abbrev stepped_by : (o : Unseen) (r : State) (h : ℕ) → Beside → Changed o r h → State
+stepped_by o r h b x = record (pages_beside b h r) { harts = x.harts; devices = x.devices; journal = x.journal }
+
+abbrev Paged : (o : Unseen) (r : State) (h : ℕ) → Beside → Changed o r h → Type 0
+Paged o r h b x = Mirrors o r h (hosted_by o r h b x) (stepped_by o r h b x)
+
+begun_paged : (o : Unseen) (r : State) (h : ℕ) (m : SavedModule) (rule : ModuleRule) (x : Changed o r h) → IsRightFor o r → r.held ≡ []
+    → slice_get r.rules.modules m.id ≡ Some rule → IsGoodAddress r m.gpa rule.pages → Paged o r h (BeginsLoad m rule.pages) x
+unfolding machine_of pages_beside host_pages_beside
+begun_paged o r h m rule x right none known good =
+    let load : Loading = record { hart = h; about = m; left = rule.pages } in
+    with_parts o r h x r.approved (module_pages r.rules m) r.loaded (Some load) r.retired (with_pages (protections_of r) (page_of m.gpa) rule.pages Held)
+    (Some (fresh_load h m rule.pages)) right
+    (held_protections r m (Some load) none (λ page there. good.free page (rw known at there)) ∙ rw known refl)
+    (ap Some (rw known (fresh_by r h m rule)))
+
+approved_paged : (o : Unseen) (r : State) (h : ℕ) (load : Loading) (x : Changed o r h) → IsRightFor o r → HoldsModule r.rules r.approved r.loaded r.held load
+    → Paged o r h (ApprovesModule load.about) x
+unfolding machine_of pages_beside host_pages_beside
+approved_paged o r h load x right k =
+    with_parts o r h x (approves r load.about).approved [] (with_module r.loaded load.about) None r.retired
+    (with_pages (protections_of r) (page_of load.about.gpa) (pages_in_rule (slice_get r.rules.modules load.about.id)) Approved) None right (approved_protections r load k) refl
+
+released_paged : (o : Unseen) (r : State) (h : ℕ) (load : Loading) (x : Changed o r h) → IsRightFor o r → HoldsModule r.rules r.approved r.loaded r.held load
+    → Paged o r h (ReleasesModule load.about) x
+unfolding machine_of pages_beside host_pages_beside
+released_paged o r h load x right k =
+    with_parts o r h x r.approved [] r.loaded None r.retired
+    (with_pages (protections_of r) (page_of load.about.gpa) (pages_in_rule (slice_get r.rules.modules load.about.id)) Free) None right (released_protections r load k) refl
+
+pub paged : (o : Unseen) (r : State) (h : ℕ) (b : Beside) (x : Changed o r h) → IsRightFor o r → IsSound r → MayBeside r b → Paged o r h b x
+unfolding machine_of pages_beside host_pages_beside
+paged o r h (BeginsLoad m pages) x right s may =
+    subst (λ (n : ℕ). Paged o r h (BeginsLoad m n) x) may.number
+    (begun_paged o r h m may.rule x right (none_held r r.loading may.idle s.load) may.known (may.good s))
+paged o r h (ApprovesModule m) x right s may =
+    subst (λ (n : SavedModule). Paged o r h (ApprovesModule n) x) may.0.about (approved_paged o r h may.0.load x right may.0.holds)
+paged o r h (ReleasesModule m) x right s may =
+    subst (λ (n : SavedModule). Paged o r h (ReleasesModule n) x) may.about (released_paged o r h may.load x right may.holds)
+paged o r h (UnloadsModule m) x right s may =
+    with_parts o r h x (without_pages r.approved (module_pages r.rules m)) r.held (without_module r.loaded m.id) r.loading r.retired
+    (with_pages (protections_of r) (page_of m.gpa) (pages_in_rule (slice_get r.rules.modules m.id)) Free) (option_map (load_kept r.rules r.ram) r.loading) right
+    (unloaded_protections r m s may) refl
+paged o r h (RetiresInit span) x right s may =
+    with_parts o r h x (without_pages r.approved (init_text r span)) r.held r.loaded r.loading true
+    (with_each (protections_of r) (host_init (machine_of o r) span) Free) (option_map (load_kept r.rules r.ram) r.loading) right
+    (retired_protections r span s may.1 ∙ ap (λ (pages : List ℕ). with_each (protections_of r) pages Free) (sym (same_init o r span s may.1))) refl
+paged o r h _ x right s may =
+    with_parts o r h x r.approved r.held r.loaded r.loading r.retired (protections_of r) (option_map (load_kept r.rules r.ram) r.loading) right refl refl

@@ -11,10 +11,10 @@ use Rattle.sv_types.specs.declared.wires.Protection.{Protection}
 use Rattle.sv_types.specs.declared.wires.Protection.TheVariants.{Free, Held, Approved}
 use Rattle.sv_types.specs.declared.saved.SavedModule.{SavedModule}
 use Rattle.reference.specs.States.{State, Loading, protection_in, protection_by, has_number, is_approved_in, find_module, module_pages, pages_in_rule, without_pages}
-use Rattle.reference.specs.ModuleCalls.{init_text}
+use Rattle.reference.specs.Answers.{init_text}
 use Rattle.reference.specs.Protections.{or_free, protection_at, with_pages, with_each}
 use Rattle.sv_types.specs.SecondStage.{AreViews}
-use Rattle.machine_model.specs.StandsFor.{protections_of}
+use Rattle.machine_model.specs.StandsFor.{bound_pages, protections_of}
 use Rattle.reference.specs.Soundness.{IsSound, IsSoundLoad, HoldsModule}
 use Rattle.run_laws.proofs.Lookups.{not_true, both, is_there, same_number, numbers_bounds, approved_without}
 use Rattle.attempt_laws.proofs.LoadsKept.{elsewhere}
@@ -189,10 +189,10 @@ at_page r page below =
     let first : 0 + page ≡ page = omega arith in
     ap or_free (get_numbers (protection_in r.approved r.held) 0 r.rules.ram_pages page below) ∙ ap (protection_in r.approved r.held) first
 
-pub views_from : (tables : List ℕ) (r : State) → AreViews tables r.rules.ram_pages (protection_at (protections_of r)) → AreViews tables r.rules.ram_pages (protection_in r.approved r.held)
+pub views_from : (tables : List ℕ) (r : State) → AreViews tables r.rules.ram_pages (bound_pages r.rules) (protection_at (protections_of r)) → AreViews tables r.rules.ram_pages (bound_pages r.rules) (protection_in r.approved r.held)
 views_from tables r views =
-    views_meet tables r.rules.ram_pages (protection_at (protections_of r)) (protection_in r.approved r.held) (λ page below. at_page r page below) views
+    views_meet tables r.rules.ram_pages (bound_pages r.rules) (protection_at (protections_of r)) (protection_in r.approved r.held) (λ page below. at_page r page below) views
 
-pub views_to : (tables : List ℕ) (r : State) → AreViews tables r.rules.ram_pages (protection_in r.approved r.held) → AreViews tables r.rules.ram_pages (protection_at (protections_of r))
+pub views_to : (tables : List ℕ) (r : State) → AreViews tables r.rules.ram_pages (bound_pages r.rules) (protection_in r.approved r.held) → AreViews tables r.rules.ram_pages (bound_pages r.rules) (protection_at (protections_of r))
 views_to tables r views =
-    views_meet tables r.rules.ram_pages (protection_in r.approved r.held) (protection_at (protections_of r)) (λ page below. sym (at_page r page below)) views
+    views_meet tables r.rules.ram_pages (bound_pages r.rules) (protection_in r.approved r.held) (protection_at (protections_of r)) (λ page below. sym (at_page r page below)) views

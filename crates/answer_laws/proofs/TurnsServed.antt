@@ -1,29 +1,38 @@
 -- The whole turn of a machine: it stands for the state after the turn, and no more was changed than a turn may change.
-use Rattle.std.proofs.Common.{◌≡◌, ℕ, List, length, refl, sym, ◌∙◌, ap, subst, Bool, true, false, slice_get}
+use Rattle.sv_types.specs.Policies.{Rules}
+use Rattle.sv_types.specs.declared.wires.Exit.{Exit}
+use Rattle.std.proofs.Common.{◌≡◌, ℕ, zero, suc, List, [], ◌∷◌, slice_set, length, refl, sym, ◌∙◌, ap, subst, Bool, true, false, slice_get}
 use Rattle.std.specs.Prelude.{Option, Some, None, option_map, if◌then◌else◌, ◌==◌}
 use Rattle.sv_types.specs.declared.event.Event.{Event}
 use Rattle.sv_types.specs.declared.event.Event.TheVariants.{Turn, Beat, Key, Tick}
 use Rattle.sv_types.specs.declared.outcome.Outcome.{Outcome}
 use Rattle.sv_types.specs.declared.event.Verdict.{Verdict}
 use Rattle.sv_types.specs.declared.event.Verdict.TheVariants.{Running, Shutdown, Stopped}
-use Rattle.answer_laws.specs.Laws.{StepLaw}
-use Rattle.machine_model.specs.Steps.{OutcomeServed, StartedServed, HartServed, TurnServed, IsTurn, StepsUnder, IsStep, left_by}
+use Rattle.answer_laws.specs.Laws.{StepLaw, AgainLaw}
+use Rattle.machine_model.specs.Steps.{OutcomeServed, AttemptsServed, StartedServed, HartServed, TurnServed, IsTurn, StepsUnder, IsStep}
 use Rattle.reference.specs.Counting.{count, count_turn}
-use Rattle.machine_model.specs.HardwareEvent.{Answers, IsEvent, HappensUnder, is_loading, TurnOf, HartTurn, StartedTurn, AfterOutcome, SameButForCounts}
+use Rattle.machine_model.specs.HardwareEvent.{left_by, sent_again, hart_again, OneOrTwo, Answers, IsEvent, HappensUnder, is_loading, TurnOf, HartTurn, StartedTurn, AfterOutcome, SameButForCounts}
 use Rattle.answer_laws.specs.Laws.{MakesAttempt, IsQuiet}
 use Rattle.machine_model.specs.HardwareEvent.{attempted}
-use Rattle.machine_model.specs.Machine.{Machine, HostHart, HostLoad, after_attempt, after_quiet_attempt, raised}
+use Rattle.machine_model.specs.Machine.{Machine, HostHart, HostLoad, update, all_forget, with_core, after_attempt, after_quiet_attempt, raised}
+use Rattle.machine_model.specs.HostHarts.{host_outside, host_seen, asks_again}
+use Rattle.machine_model.specs.Served.{Seen, is_implicit, exit_gpa, is_sret_word, fetch_answer, load_answer, store_answer, write_answer, virtual_answer, plain_answer, answer_in, exit_answer, is_again}
+use Rattle.machine_model.specs.declared.exits.ExitAnswer.{ExitAnswer}
+use Rattle.sv_types.specs.Bytes.{in_ram}
+use Rattle.sv_types.specs.declared.effect.Effect.{Effect}
+use Rattle.sv_types.specs.declared.wires.Mode.{Mode}
+use Rattle.sv_types.specs.declared.wires.Mode.TheVariants.{Kernel, User}
 use Rattle.machine_model.specs.HostEvents.{event_served}
-use Rattle.reference.specs.States.{State, Hart, Loading}
+use Rattle.reference.specs.States.{State, Hart, Binding, Loading}
 use Rattle.reference.specs.Run.{step, happen_under}
 use Rattle.machine_model.specs.StandsFor.{StandsFor, Unseen, IsRightFor, machine_of, host_hart, host_harts, load_kept, load_kept_by}
 use Rattle.reference.specs.Soundness.{IsSound}
-use Rattle.reference.specs.Turn.{turn, turn_of, turn_of_started}
+use Rattle.reference.specs.Turn.{turn, turn_of, turn_of_started, outside, leave_entry, bound_entry}
 use Rattle.answer_laws.proofs.CallsMirrored.{none_host}
 use Rattle.answer_laws.proofs.EventsAgree.{IsNoTurn, event_law, verdict_of}
 use Rattle.answer_laws.proofs.ExitsMirrored.{served_turn}
 use Rattle.attempt_laws.proofs.Hosts.{hosts_get}
-use Rattle.answer_laws.proofs.LawsHold.{quiet_turn, running, raised_at}
+use Rattle.answer_laws.proofs.LawsHold.{asked, quiet_turn, running, raised_at, makes_raised, exit_turn, outside_stands, again_turn}
 use Rattle.answer_laws.proofs.LoadsMirrored.{load_turn}
 
 -- ---- the frame, with the count of turns left aside
@@ -58,23 +67,151 @@ quiet_frame m h host x e quiet = record {
   same = refl;
 }
 
+exit_once : (m : Machine) (host : HostHart) (exit : Exit) → asks_again m.region.ram m.rules host (Outcome.Exit exit) ≡ false → is_again (asked m host exit) ≡ false
+unfolding asks_again
+exit_once m host exit once = once
+
 outcome_served : (m after : Machine) (r : State) (h : ℕ) (host : HostHart) (hart : Hart) (x : Outcome) → MakesAttempt (raised m count_turn) (count r count_turn) h host hart
-    → (attempted m h host).outcome ≡ x → OutcomeServed x (raised m count_turn) h host after
+    → (attempted m h host).outcome ≡ x → asks_again m.region.ram m.rules host x ≡ false → OutcomeServed x (raised m count_turn) h host after
     → StandsFor after (turn (count r count_turn) h) × AfterOutcome x m h (attempted m h host) after
-outcome_served m after r h host hart (Outcome.Retired wrote) makes e served =
+outcome_served m after r h host hart (Outcome.Retired wrote) makes e once served =
     let k = quiet_frame m h host (Outcome.Retired wrote) e tt in (
       subst (λ (n : Machine). StandsFor n (turn (count r count_turn) h)) (sym served) (quiet_turn (raised m count_turn) (count r count_turn) h host hart makes (subst IsQuiet (sym e) tt)),
       same_frame (after_attempt m h (attempted m h host)) (after_quiet_attempt (raised m count_turn) h (attempted m h host)) after served k,
     )
-outcome_served m after r h host hart Outcome.GuestTrap makes e served =
+outcome_served m after r h host hart Outcome.GuestTrap makes e once served =
     let k = quiet_frame m h host Outcome.GuestTrap e tt in (
       subst (λ (n : Machine). StandsFor n (turn (count r count_turn) h)) (sym served) (quiet_turn (raised m count_turn) (count r count_turn) h host hart makes (subst IsQuiet (sym e) tt)),
       same_frame (after_attempt m h (attempted m h host)) (after_quiet_attempt (raised m count_turn) h (attempted m h host)) after served k,
     )
-outcome_served m after r h host hart (Outcome.Exit exit) makes e served =
-    let k = served_turn (raised m count_turn) (count r count_turn) h host hart exit served.tables makes e served.are in (
+outcome_served m after r h host hart (Outcome.Exit exit) makes e once served =
+    let k = served_turn (raised m count_turn) (count r count_turn) h host hart exit served.tables makes e (exit_once m host exit once) served.are in (
       subst (λ (n : Machine). StandsFor n (turn (count r count_turn) h)) (sym served.same) k.0,
       left_raised m after h host (subst (λ (n : Machine). Answers (left_by (raised m count_turn) h host) h n) (sym served.same) k.1),
+    )
+
+-- ---- one attempt, or two
+
+get_update : (harts : List HostHart) (h : ℕ) (host : HostHart) (change : HostHart → HostHart) → slice_get harts h ≡ Some host → slice_get (update harts h change) h ≡ Some (change host)
+unfolding update
+get_update [] h host change e = cc
+get_update (x ∷ harts) zero host change e = let same : x ≡ host = cc in rw same refl
+get_update (x ∷ harts) (suc h) host change e = get_update harts h host change e
+
+forgets_none : (x : Outcome) (exit : Exit) (harts : List HostHart) → x ≡ Outcome.Exit exit → all_forget x harts ≡ harts
+unfolding all_forget
+forgets_none (Outcome.Retired wrote) exit harts e = cc
+forgets_none Outcome.GuestTrap exit harts e = cc
+forgets_none (Outcome.Exit other) exit harts e = refl
+
+-- the hart that attempts again
+again_there : (m : Machine) (h : ℕ) (host : HostHart) (exit : Exit) → slice_get m.harts h ≡ Some host → (attempted m h host).outcome ≡ Outcome.Exit exit
+    → slice_get (sent_again m h host).harts h ≡ Some (hart_again m h host)
+again_there m h host exit there left =
+    get_update (left_by m h host).harts h (with_core (attempted m h host).core host) host_outside
+    (ap (λ (l : List HostHart). slice_get l h) (forgets_none (attempted m h host).outcome exit (update m.harts h (with_core (attempted m h host).core)) left)
+    ∙ get_update m.harts h host (with_core (attempted m h host).core) there)
+
+get_set_same : (harts : List Hart) (h : ℕ) (hart next : Hart) → slice_get harts h ≡ Some hart → slice_get (slice_set harts h next) h ≡ Some next
+get_set_same [] h hart next e = cc
+get_set_same (x ∷ harts) zero hart next e = refl
+get_set_same (x ∷ harts) (suc h) hart next e = get_set_same harts h hart next e
+
+makes_again : (m : Machine) (r : State) (h : ℕ) (host : HostHart) (hart : Hart) (exit : Exit) → MakesAttempt m r h host hart
+    → (attempted m h host).outcome ≡ Outcome.Exit exit → MakesAttempt (sent_again m h host) (leave_entry r h hart) h (hart_again m h host) (outside hart)
+makes_again m r h host hart exit makes left = record {
+  stands = outside_stands (left_by m h host) r h hart (exit_turn m r h host hart exit makes left).0 makes.hart_is;
+  host_is = again_there m h host exit makes.host_is left;
+  hart_is = get_set_same r.harts h hart (outside hart) makes.hart_is;
+  started = makes.started;
+  loads = makes.loads;
+}
+
+choose_once : (b : Bool) (x y : ExitAnswer) → is_again x ≡ false → is_again y ≡ false → is_again (if b then x else y) ≡ false
+choose_once true x y s t = s
+choose_once false x y s t = t
+
+fetch_once : (ram : List ℕ) (mode : Mode) (exit : Exit) → is_again (fetch_answer ram mode exit) ≡ false
+unfolding fetch_answer is_again
+fetch_once ram User exit = refl
+fetch_once ram Kernel exit = choose_once (is_implicit exit) _ _ refl (choose_once (in_ram ram (exit_gpa exit) 4) _ _ refl refl)
+
+load_once : (exit : Exit) (effect : Option Effect) → is_again (load_answer exit effect) ≡ false
+unfolding load_answer is_again
+load_once exit (Some (Effect.Load rd address width signed)) = refl
+load_once exit _ = refl
+
+store_once : (exit : Exit) (effect : Option Effect) → is_again (store_answer exit effect) ≡ false
+unfolding store_answer is_again
+store_once exit (Some (Effect.Store address width value)) = refl
+store_once exit _ = refl
+
+write_once : (ram : List ℕ) (exit : Exit) (effect : Option Effect) → is_again (write_answer ram exit effect) ≡ false
+unfolding write_answer is_again
+write_once ram exit effect = choose_once (is_implicit exit) _ _ refl (choose_once (in_ram ram (exit_gpa exit) 1) _ _ refl (store_once exit effect))
+
+virtual_once : (mode : Mode) (exit : Exit) → is_again (virtual_answer mode exit) ≡ false
+unfolding virtual_answer is_again
+virtual_once Kernel exit = choose_once (is_sret_word exit.stval) _ _ refl refl
+virtual_once User exit = refl
+
+plain_once : (seen : Seen) (exit : Exit) → is_again (plain_answer seen exit) ≡ false
+unfolding plain_answer is_again
+plain_once seen exit =
+    choose_once exit.interrupt _ _ refl
+    (choose_once (exit.cause == 10) _ _ refl
+    (choose_once (exit.cause == 20) _ _ (fetch_once seen.ram seen.mode exit)
+    (choose_once (exit.cause == 21) _ _ (load_once exit seen.effect)
+    (choose_once (exit.cause == 22) _ _ (virtual_once seen.mode exit)
+    (choose_once (exit.cause == 23) _ _ (write_once seen.ram exit seen.effect) refl)))))
+
+once_in : (seen : Seen) (exit : Exit) (x : Option Binding) → x ≡ None → is_again (answer_in seen exit x) ≡ false
+unfolding answer_in
+once_in seen exit None none = plain_once seen exit
+once_in seen exit (Some entry) none = absurd (cc)
+
+none_bound : (rules : Rules) (x : Option ℕ) → x ≡ None → bound_entry rules x ≡ None
+unfolding bound_entry
+none_bound rules None none = refl
+none_bound rules (Some i) none = absurd (cc)
+
+-- outside of an entry nothing is attempted again
+once_outside : (ram : List ℕ) (rules : Rules) (host : HostHart) (x : Outcome) → host.entry ≡ None → asks_again ram rules host x ≡ false
+unfolding asks_again exit_answer
+once_outside ram rules host (Outcome.Retired wrote) none = refl
+once_outside ram rules host Outcome.GuestTrap none = refl
+once_outside ram rules host (Outcome.Exit exit) none =
+    once_in (host_seen ram rules host host.core.hregs.mode exit) exit (bound_entry rules host.entry) (none_bound rules host.entry none)
+
+left_entry : (m : Machine) (h : ℕ) (host : HostHart) → (hart_again m h host).entry ≡ None
+unfolding host_outside
+left_entry m h host = refl
+
+again_exit : (m : Machine) (host : HostHart) (x : Outcome) → asks_again m.region.ram m.rules host x ≡ true
+    → (exit : Exit) × ((x ≡ Outcome.Exit exit) × (is_again (asked m host exit) ≡ true))
+unfolding asks_again
+again_exit m host (Outcome.Retired wrote) again = cc
+again_exit m host Outcome.GuestTrap again = cc
+again_exit m host (Outcome.Exit exit) again = (exit, (refl, again))
+
+attempts_served : (m after : Machine) (r : State) (h : ℕ) (host : HostHart) (hart : Hart) (again : Bool) → MakesAttempt (raised m count_turn) (count r count_turn) h host hart
+    → asks_again m.region.ram m.rules host (attempted m h host).outcome ≡ again → AttemptsServed again (raised m count_turn) h host after
+    → StandsFor after (turn (count r count_turn) h) × OneOrTwo again m h host after
+attempts_served m after r h host hart false makes once served = outcome_served m after r h host hart (attempted m h host).outcome makes refl once served
+attempts_served m after r h host hart true makes again served =
+    let left = again_exit m host (attempted m h host).outcome again in
+    let k = outcome_served (sent_again m h host) after (leave_entry r h hart) h (hart_again m h host) (outside hart) (attempted (sent_again m h host) h (hart_again m h host)).outcome
+    (makes_again (raised m count_turn) (count r count_turn) h host hart left.0 makes left.1.0) refl
+    (once_outside (sent_again m h host).region.ram m.rules (hart_again m h host) (attempted (sent_again m h host) h (hart_again m h host)).outcome (left_entry m h host)) served in
+    (subst (StandsFor after) (sym (again_turn (raised m count_turn) (count r count_turn) h host hart left.0 makes left.1.0 left.1.1)) k.0, k.1)
+
+pub again_law : AgainLaw
+again_law m r h host hart makes on again =
+    let left = again_exit m host (attempted m h host).outcome again in (
+      makes_again m r h host hart left.0 makes left.1.0,
+      running r h on
+          ∙ again_turn (raised m count_turn) (count r count_turn) h host hart left.0 (makes_raised m r h host hart makes) left.1.0 left.1.1
+          ∙ sym (running (leave_entry r h hart) h on),
     )
 
 -- whose load it is
@@ -110,7 +247,7 @@ started_served m after r h host hart true stands host_is hart_is on loading e se
       answers_raised m after h (subst (λ (n : Machine). Answers (raised m count_turn) h n) (sym served.same) k.1),
     )
 started_served m after r h host hart false stands host_is hart_is on loading e served =
-    outcome_served m after r h host hart (attempted m h host).outcome
+    attempts_served m after r h host hart (asks_again m.region.ram m.rules host (attempted m h host).outcome)
     (record {
       stands = stands;
       host_is = host_is;

@@ -8,10 +8,12 @@ use Rattle.sv_types.specs.declared.wires.Exit.{Exit}
 use Rattle.reference.specs.States.{State, Hart, Loading}
 use Rattle.reference.specs.Counting.{count, count_turn}
 use Rattle.reference.specs.Run.{step, run}
+use Rattle.reference.specs.Turn.{leave_entry, outside}
 use Rattle.machine_model.specs.Machine.{Machine, HostHart, raised, after_attempt, after_quiet_attempt}
 use Rattle.machine_model.specs.StandsFor.{StandsFor}
 use Rattle.machine_model.specs.Served.{serve_exit}
-use Rattle.machine_model.specs.HardwareEvent.{IsEvent, attempted}
+use Rattle.machine_model.specs.HardwareEvent.{IsEvent, attempted, sent_again, hart_again}
+use Rattle.machine_model.specs.HostHarts.{asks_again}
 use Rattle.machine_model.specs.Steps.{AreTables, IsStep}
 use Rattle.machine_model.specs.Reaches.{Cleared, IsNew, Reaches, StepsThrough}
 
@@ -40,6 +42,14 @@ abbrev pub ExitLaw : Type 0
 ExitLaw = (m : Machine) (r : State) (h : ℕ) (host : HostHart) (hart : Hart) (exit : Exit) → MakesAttempt m r h host hart → r.journal.verdict ≡ Running
     → (attempted m h host).outcome ≡ Outcome.Exit exit
     → StandsFor (after_attempt m h (attempted m h host)) r × (step r (Turn h) ≡ serve_exit (count r count_turn) h hart exit)
+
+-- a hart that SecVisor sends to attempt again has left its entry, and makes an attempt there; and the step is that of the state
+-- where it has left it
+abbrev pub AgainLaw : Type 0
+AgainLaw = (m : Machine) (r : State) (h : ℕ) (host : HostHart) (hart : Hart) → MakesAttempt m r h host hart → r.journal.verdict ≡ Running
+    → asks_again m.region.ram m.rules host (attempted m h host).outcome ≡ true
+    → MakesAttempt (sent_again m h host) (leave_entry r h hart) h (hart_again m h host) (outside hart)
+    × (step r (Turn h) ≡ step (leave_entry r h hart) (Turn h))
 
 -- ---- answers
 

@@ -2,7 +2,7 @@
 //! no more than that event may change.
 #![tactic(auto)]
 
-ghost use Rattle.answer_laws.specs.Laws.{ClearLaw, ExitLaw, QuietLaw, ReachesLaw, StepLaw, TablesLaw};
+ghost use Rattle.answer_laws.specs.Laws.{AgainLaw, ClearLaw, ExitLaw, QuietLaw, ReachesLaw, StepLaw, TablesLaw};
 
 /// An attempt of the hardware without an exit is the reference machine's step.
 pub fn law_quiet()
@@ -14,7 +14,12 @@ pub fn law_exit()
     ensures { ExitLaw }
 {}
 
-/// Tables that were there hold both views still where no protection changed.
+/// A hart that is sent to attempt again has left its entry, and makes an attempt there, whose step is the same.
+pub fn law_again()
+    ensures { AgainLaw }
+{}
+
+/// Tables that were there hold all views still where no protection changed.
 pub fn law_tables()
     ensures { TablesLaw }
 {}

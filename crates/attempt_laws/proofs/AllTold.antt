@@ -74,7 +74,7 @@ rs2_kept w =
 
 -- ---- loads, stores and atomic operations
 
-effect_given : (hart : Hart) (x : ℕ) (i : Instr) → instruction_of x ≡ Some i → transformed x hart ≡ Some (effect_of i hart.registers hart.pc)
+effect_given : (hart : Hart) (x : ℕ) (i : Instr) → instruction_of x ≡ Some i → transformed x hart.registers hart.pc ≡ Some (effect_of i hart.registers hart.pc)
 unfolding transformed
 effect_given hart x i e = ap (option_map (λ instr. effect_of instr hart.registers hart.pc)) e
 

@@ -21,7 +21,8 @@ use Rattle.reference.specs.States.{State, Hart, without_reservation}
 use Rattle.reference.specs.Devices.{hart_after_write}
 use Rattle.reference.specs.Trapping.{exception}
 use Rattle.reference.specs.Requests.{carried_out, stepped_with, carried_out_writing, ram_word, write_stopped, source_of, target_of, FromRam, ToRam, carry_out_load_reserved, carry_out_store_conditional, carry_out_amo}
-use Rattle.machine_model.specs.Served.{serve_exit, serve_access, serve_load, serve_write, serve_store, transformed}
+use Rattle.machine_model.specs.Served.{exit_answered, plain_answer, load_answer, write_answer, store_answer, transformed}
+use Rattle.attempt_laws.proofs.Plain.{serve_plain}
 use Rattle.machine_model.specs.StandsFor.{Unseen}
 use Rattle.attempt_laws.specs.Agree.{IsAt, Agrees, region_at, core_at}
 use Rattle.attempt_laws.proofs.Stays.{stays, writes, CanWrite}
@@ -40,15 +41,15 @@ IsAtomic _ = ⊥
 pub record IsAtomicWord (htinst : ℕ) (hart : Hart) : Type 0 where
   pub effect : Effect
   pub atomic : IsAtomic effect
-  pub same : transformed htinst hart ≡ Some effect
+  pub same : transformed htinst hart.registers hart.pc ≡ Some effect
   pub explicit : (htinst == implicit_read) ≡ false
 
 -- ---- exits
 
 load_exit_by : (r : State) (h : ℕ) (hart : Hart) (address htval htinst pc : ℕ) (e : Effect) → IsAtomic e
     → exception r h hart Cause.LoadAccess address
-    ≡ serve_load r h hart (record { interrupt = false; cause = 21; pc = pc; stval = address; htval = htval; htinst = htinst }) (Some e)
-unfolding serve_load
+    ≡ exit_answered r h hart (load_answer (record { interrupt = false; cause = 21; pc = pc; stval = address; htval = htval; htinst = htinst }) (Some e))
+unfolding exit_answered load_answer
 load_exit_by r h hart address htval htinst pc (Effect.LoadReserved rd a w) atomic = refl
 load_exit_by r h hart address htval htinst pc (Effect.StoreConditional rd a w v) atomic = refl
 load_exit_by r h hart address htval htinst pc (Effect.Amo rd a w op v) atomic = refl
@@ -56,8 +57,8 @@ load_exit_by r h hart address htval htinst pc e atomic = absurd atomic
 
 load_exit : (r : State) (h : ℕ) (hart : Hart) (address htval htinst pc : ℕ) → IsAtomicWord htinst hart
     → exception r h hart Cause.LoadAccess address
-    ≡ serve_exit r h hart (record { interrupt = false; cause = 21; pc = pc; stval = address; htval = htval; htinst = htinst })
-unfolding serve_exit serve_access
+    ≡ serve_plain r h hart (record { interrupt = false; cause = 21; pc = pc; stval = address; htval = htval; htinst = htinst })
+unfolding serve_plain plain_answer
 load_exit r h hart address htval htinst pc word = rw word.same (load_exit_by r h hart address htval htinst pc word.effect word.atomic)
 
 -- ---- LR
@@ -87,7 +88,7 @@ lr_agrees o r h hart c rd address width htinst at word whole =
     (record {
       ram = λ gpa. subst (λ (a : Attempted). Agrees o r h hart c a (carry_out_load_reserved r h hart rd address width (FromRam gpa)))
           (sym (reserves_there o r hart c rd width (ram_place gpa) at.right.region.tables))
-          (stays o r h hart (stepped_with (record hart { reservation = Some (reserved_at (ram_place gpa)) }) rd (loaded_value true width (ram_word r gpa width))) c at at.started);
+          (stays o r h hart (stepped_with (record hart { reservation = Some (reserved_at (ram_place gpa)) }) rd (loaded_value true width (ram_word r gpa width))) c at (refl, refl));
       device = λ gpa same. exit_agrees o r h hart c (fault_exception Access.Load address htinst (Fault.Guest gpa false)) (exception r h hart Cause.LoadAccess address) refl
           (load_exit r h hart address (gpa / 4) htinst hart.pc word);
       unreadable = λ entry. exit_agrees o r h hart c (fault_exception Access.Load address htinst (Fault.Guest entry true)) (exception r h hart Cause.LoadAccess address) refl
@@ -101,8 +102,8 @@ lr_agrees o r h hart c rd address width htinst at word whole =
 
 store_exit_by : (r : State) (h : ℕ) (hart : Hart) (address htval htinst pc : ℕ) (e : Effect) → IsAtomic e
     → exception r h hart Cause.StoreAccess address
-    ≡ serve_store r h hart (record { interrupt = false; cause = 23; pc = pc; stval = address; htval = htval; htinst = htinst }) (Some e)
-unfolding serve_store
+    ≡ exit_answered r h hart (store_answer (record { interrupt = false; cause = 23; pc = pc; stval = address; htval = htval; htinst = htinst }) (Some e))
+unfolding exit_answered store_answer
 store_exit_by r h hart address htval htinst pc (Effect.LoadReserved rd a w) atomic = refl
 store_exit_by r h hart address htval htinst pc (Effect.StoreConditional rd a w v) atomic = refl
 store_exit_by r h hart address htval htinst pc (Effect.Amo rd a w op v) atomic = refl
@@ -110,15 +111,15 @@ store_exit_by r h hart address htval htinst pc e atomic = absurd atomic
 
 store_exit : (r : State) (h : ℕ) (hart : Hart) (address gpa htinst pc : ℕ) → IsAtomicWord htinst hart → gpa % 4096 ≡ address % 4096 → in_ram r.ram gpa 1 ≡ false
     → exception r h hart Cause.StoreAccess address
-    ≡ serve_exit r h hart (record { interrupt = false; cause = 23; pc = pc; stval = address; htval = gpa / 4; htinst = htinst })
-unfolding serve_exit serve_access serve_write
+    ≡ serve_plain r h hart (record { interrupt = false; cause = 23; pc = pc; stval = address; htval = gpa / 4; htinst = htinst })
+unfolding serve_plain plain_answer write_answer
 store_exit r h hart address gpa htinst pc word same outside =
     rw (word.explicit, gpa_back gpa address same, outside, word.same) (store_exit_by r h hart address (gpa / 4) htinst pc word.effect word.atomic)
 
 guarded_exit : (r : State) (h : ℕ) (hart : Hart) (address gpa htinst pc : ℕ) → IsAtomicWord htinst hart → gpa % 4096 ≡ address % 4096 → in_ram r.ram gpa 1 ≡ true
     → write_stopped r h hart gpa
-    ≡ serve_exit r h hart (record { interrupt = false; cause = 23; pc = pc; stval = address; htval = gpa / 4; htinst = htinst })
-unfolding serve_exit serve_access serve_write
+    ≡ serve_plain r h hart (record { interrupt = false; cause = 23; pc = pc; stval = address; htval = gpa / 4; htinst = htinst })
+unfolding serve_plain plain_answer write_answer exit_answered
 guarded_exit r h hart address gpa htinst pc word same inside = rw (word.explicit, gpa_back gpa address same, inside) refl
 
 -- ---- SC, by whether the reservation covers the bytes
@@ -147,8 +148,8 @@ sc_by : (o : Unseen) (r : State) (h : ℕ) (hart : Hart) (c : HypervisorRegister
 sc_by o r h hart c rd width value p true at kept =
     subst (λ (a : Attempted). Agrees o r h hart c a (carried_out_writing r h (stepped_with (without_reservation hart) rd 0) p (low_bytes width value)))
     (sym (sc_writes o r hart c rd width value p))
-    (writes o r h hart (stepped_with (without_reservation hart) rd 0) c p width value at at.started kept)
-sc_by o r h hart c rd width value p false at kept = stays o r h hart (stepped_with (without_reservation hart) rd 1) c at at.started
+    (writes o r h hart (stepped_with (without_reservation hart) rd 0) c p width value at (refl, refl) kept)
+sc_by o r h hart c rd width value p false at kept = stays o r h hart (stepped_with (without_reservation hart) rd 1) c at (refl, refl)
 
 sc_there : (o : Unseen) (r : State) (h : ℕ) (hart : Hart) (c : HypervisorRegisters) (rd address width value gpa : ℕ)
     → IsAt o r h hart c → CanWrite r (ram_place gpa) width value
@@ -207,7 +208,7 @@ amo_there o r h hart c rd address width op value gpa at kept =
     subst (λ (a : Attempted). Agrees o r h hart c a (carry_out_amo r h hart rd address width op value (ToRam gpa)))
     (sym (amo_writes o r hart c rd width op value (ram_place gpa)))
     (writes o r h hart (stepped_with hart rd (loaded_value true width (ram_word r gpa width))) c (ram_place gpa) width
-    (amo_value op width (ram_word r gpa width) value) at at.started kept)
+    (amo_value op width (ram_word r gpa width) value) at (refl, refl) kept)
 
 pub amo_agrees : (o : Unseen) (r : State) (h : ℕ) (hart : Hart) (c : HypervisorRegisters) (rd address width : ℕ) (op : AmoOp) (value htinst : ℕ)
     → IsAt o r h hart c → IsAtomicWord htinst hart → IsWidth width → ((v : ℕ) → FreeKeeps r width v)

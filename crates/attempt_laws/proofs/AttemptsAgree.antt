@@ -1,5 +1,5 @@
 -- An attempt of the hardware's is the reference machine's: interrupts, fetches and instructions.
-use Rattle.std.proofs.Common.{◌≡◌, ℕ, length, refl, sym, ◌∙◌, ap, subst, Bool, true, false, slice_get}
+use Rattle.std.proofs.Common.{◌≡◌, ℕ, zero, suc, List, [], ◌∷◌, slice_set, length, refl, sym, ◌∙◌, ap, subst, Bool, true, false, slice_get}
 use Rattle.std.specs.Prelude.{Option, Some, None, if◌then◌else◌}
 use Rattle.sv_types.specs.Bits.{bit}
 use Rattle.sv_types.specs.Effects.{effect_of}
@@ -19,14 +19,15 @@ use Rattle.sv_types.proofs.GuestViews.{guest_pending}
 use Rattle.reference.specs.States.{State, Hart, Loading}
 use Rattle.reference.specs.Devices.{lines_at}
 use Rattle.reference.specs.Trapping.{Interrupted, trap}
-use Rattle.reference.specs.Turn.{turn, turn_of, turn_of_started, carry_out_instruction, carry_out_word, act_on_pending, act}
-use Rattle.machine_model.specs.Served.{serve_exit, serve_trap}
+use Rattle.reference.specs.Turn.{fetch_and_act, fetch_in_entry, bound_entry, outside, leave_entry, turn, turn_of, turn_of_started, carry_out_instruction, carry_out_word, act_on_pending, act}
+use Rattle.machine_model.specs.Served.{plain_answer, exit_answered}
+use Rattle.attempt_laws.proofs.Plain.{serve_plain}
 use Rattle.machine_model.specs.StandsFor.{Unseen, hregs_in, host_core}
-use Rattle.sv_types.specs.GuestView.{with_guest}
+use Rattle.sv_types.specs.GuestView.{with_guest, hideleg_in}
 use Rattle.attempt_laws.specs.Agree.{IsAt, Agrees, region_at, core_at, IsNotLoading}
-use Rattle.attempt_laws.proofs.Excepts.{exception_agrees, kernel_trap_agrees, leaves_agrees}
+use Rattle.attempt_laws.proofs.Excepts.{exception_agrees, kernel_trap_agrees, leaves_agrees, other_exit}
 use Rattle.attempt_laws.proofs.StoresAgree.{FreeKeeps}
-use Rattle.attempt_laws.proofs.FetchAgrees.{fetch_agrees, WordsAgree}
+use Rattle.attempt_laws.proofs.FetchAgrees.{fetch_agrees, WordsAgree, TurnsAgain}
 use Rattle.attempt_laws.proofs.EffectsAgree.{IsTold, effect_agrees}
 
 -- ---- words
@@ -51,18 +52,18 @@ words_agree o r h hart c at kept told w = instruction_agrees o r h hart c w (ins
 -- ---- interrupts
 
 interrupt_served : (r : State) (h : ℕ) (hart : Hart) (interrupt : Interrupt) (pc : ℕ)
-    → trap r h hart (Interrupted interrupt) ≡ serve_exit r h hart (interrupt_exit interrupt pc)
-unfolding serve_exit serve_trap
+    → trap r h hart (Interrupted interrupt) ≡ serve_plain r h hart (interrupt_exit interrupt pc)
+unfolding serve_plain plain_answer exit_answered
 interrupt_served r h hart External pc = refl
 interrupt_served r h hart Software pc = refl
 interrupt_served r h hart Timer pc = refl
 
-delegated_in : (interrupt : Interrupt) → bit (hregs_in Kernel).hideleg (virtual_number interrupt) ≡ true
+delegated_in : (interrupt : Interrupt) → bit (hideleg_in Kernel) (virtual_number interrupt) ≡ true
 delegated_in External = refl
 delegated_in Software = refl
 delegated_in Timer = refl
 
-undelegated_in : (interrupt : Interrupt) → bit (hregs_in User).hideleg (virtual_number interrupt) ≡ false
+undelegated_in : (interrupt : Interrupt) → bit (hideleg_in User) (virtual_number interrupt) ≡ false
 undelegated_in External = refl
 undelegated_in Software = refl
 undelegated_in Timer = refl
@@ -85,30 +86,33 @@ interrupt_agrees o r h hart c interrupt Kernel at kernel =
     (kernel_trap_agrees o r h hart c true (interrupt_number interrupt) 0 at kernel)
 interrupt_agrees o r h hart c interrupt User at user =
     leaves_agrees o r h hart c (after_interrupt (core_at o c hart) interrupt) (interrupt_exit interrupt hart.pc) (trap r h hart (Interrupted interrupt))
-    (user_interrupts (length o.tables) c hart interrupt user) (interrupt_served r h hart interrupt hart.pc)
+    (user_interrupts (length o.tables) c hart interrupt user)
+    (interrupt_served r h hart interrupt hart.pc ∙ sym (other_exit r h hart (interrupt_exit interrupt hart.pc) refl))
 
 -- ---- attempts
 
 pending_agrees : (o : Unseen) (r : State) (h : ℕ) (hart : Hart) (c : HypervisorRegisters) (x : Option Interrupt)
-    → IsAt o r h hart c → ((width value : ℕ) → IsWidth width → FreeKeeps r width value) → AllTold hart
+    → IsAt o r h hart c → ((width value : ℕ) → IsWidth width → FreeKeeps r width value) → AllTold hart → (x ≡ None → TurnsAgain r h hart)
     → Agrees o r h hart c (after_pending (region_at o r) (core_at o c hart) (lines_at r.devices h) x) (act_on_pending r h hart x)
 unfolding after_pending act_on_pending
-pending_agrees o r h hart c (Some interrupt) at kept told = interrupt_agrees o r h hart c interrupt hart.mode at refl
-pending_agrees o r h hart c None at kept told =
-    fetch_agrees o r h hart c at (words_agree o r h hart c at kept told) (at.sound.harts h hart at.found).aligned
+pending_agrees o r h hart c (Some interrupt) at kept told again = interrupt_agrees o r h hart c interrupt hart.mode at refl
+pending_agrees o r h hart c None at kept told again =
+    let sound = at.sound.harts h hart at.found in
+    fetch_agrees o r h hart c hart.mode hart.entry at (words_agree o r h hart c at kept told) sound.aligned (again refl) refl refl sound.entry
 
-same_pending : (r : State) (h : ℕ) (hart : Hart) (c : HypervisorRegisters) (mode : Mode) (t : ℕ)
-    → pending (hregs_in mode) (with_guest c hart.supervisor) (lines_at r.devices h) ≡ deliverable mode hart.supervisor (lines_at r.devices h)
-same_pending r h hart c Kernel t = guest_pending (hregs_in Kernel) c hart.supervisor (lines_at r.devices h) refl
-same_pending r h hart c User t = guest_pending (hregs_in User) c hart.supervisor (lines_at r.devices h) refl
+same_pending : (r : State) (h : ℕ) (hart : Hart) (c : HypervisorRegisters) (mode : Mode) (entry : Option ℕ)
+    → pending (hregs_in mode entry) (with_guest c hart.supervisor) (lines_at r.devices h) ≡ deliverable mode hart.supervisor (lines_at r.devices h)
+same_pending r h hart c Kernel entry = guest_pending (hregs_in Kernel entry) c hart.supervisor (lines_at r.devices h) refl
+same_pending r h hart c User entry = guest_pending (hregs_in User entry) c hart.supervisor (lines_at r.devices h) refl
 
 pub attempt_agrees : (o : Unseen) (r : State) (h : ℕ) (hart : Hart) (c : HypervisorRegisters)
     → IsAt o r h hart c → ((width value : ℕ) → IsWidth width → FreeKeeps r width value) → AllTold hart
+    → (deliverable hart.mode hart.supervisor (lines_at r.devices h) ≡ None → TurnsAgain r h hart)
     → Agrees o r h hart c (attempt (region_at o r) (core_at o c hart) (lines_at r.devices h)) (act r h hart)
 unfolding attempt act
-attempt_agrees o r h hart c at kept told =
-    rw (same_pending r h hart c hart.mode 0)
-    (pending_agrees o r h hart c (deliverable hart.mode hart.supervisor (lines_at r.devices h)) at kept told)
+attempt_agrees o r h hart c at kept told again =
+    rw (same_pending r h hart c hart.mode hart.entry)
+    (pending_agrees o r h hart c (deliverable hart.mode hart.supervisor (lines_at r.devices h)) at kept told again)
 
 -- ---- turns
 
@@ -122,10 +126,28 @@ unfolding turn turn_of
 turn_is r h hart found started other =
     ap (turn_of r h) found ∙ ap (λ (b : Bool). if b then turn_of_started r h hart r.loading else r) started ∙ started_turn r h hart r.loading other
 
+get_back : (harts : List Hart) (h : ℕ) (hart next : Hart) → slice_get harts h ≡ Some hart → slice_get (slice_set harts h next) h ≡ Some next
+get_back [] h hart next e = cc
+get_back (x ∷ harts) zero hart next e = refl
+get_back (x ∷ harts) (suc h) hart next e = get_back harts h hart next e
+
+-- without an interrupt a hart outside of an entry fetches
+fetches_outside : (r : State) (h : ℕ) (hart : Hart) → hart.entry ≡ None → deliverable hart.mode hart.supervisor (lines_at r.devices h) ≡ None
+    → act r h hart ≡ fetch_and_act r h hart
+unfolding act act_on_pending fetch_in_entry bound_entry
+fetches_outside r h hart none quiet = rw (quiet, none) refl
+
+-- so the rest of a turn in which a hart leaves its entry is the turn of the state that it leaves
+turns_again : (r : State) (h : ℕ) (hart : Hart) → slice_get r.harts h ≡ Some hart → hart.started ≡ true → IsNotLoading h r.loading
+    → deliverable hart.mode hart.supervisor (lines_at r.devices h) ≡ None → TurnsAgain r h hart
+turns_again r h hart found started other quiet =
+    sym (turn_is (leave_entry r h hart) h (outside hart) (get_back r.harts h hart (outside hart) found) started other
+    ∙ fetches_outside (leave_entry r h hart) h (outside hart) refl quiet)
+
 -- an attempt agrees with the reference machine's turn
 pub turn_agrees : (o : Unseen) (r : State) (h : ℕ) (hart : Hart) (c : HypervisorRegisters)
     → IsAt o r h hart c → ((width value : ℕ) → IsWidth width → FreeKeeps r width value) → AllTold hart → IsNotLoading h r.loading
     → Agrees o r h hart c (attempt (region_at o r) (core_at o c hart) (lines_at r.devices h)) (turn r h)
 turn_agrees o r h hart c at kept told other =
     subst (Agrees o r h hart c (attempt (region_at o r) (core_at o c hart) (lines_at r.devices h))) (sym (turn_is r h hart at.found at.started other))
-    (attempt_agrees o r h hart c at kept told)
+    (attempt_agrees o r h hart c at kept told (turns_again r h hart at.found at.started other))

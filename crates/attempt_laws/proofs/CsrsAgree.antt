@@ -1,6 +1,6 @@
 -- A register access of the hardware's is the reference machine's.
 use Rattle.std.proofs.Common.{◌≡◌, ℕ, refl, sym, ◌∙◌, ap, subst, Bool, true, false}
-use Rattle.std.specs.Prelude.{Some, None, Result, Ok, Err}
+use Rattle.std.specs.Prelude.{Option, Some, None, Result, Ok, Err}
 use Rattle.std.specs.Result.{result_ok}
 use Rattle.sv_types.specs.GuestView.{with_guest, hideleg_in}
 use Rattle.sv_types.specs.Hardware.{Attempted, with_region, exit_of}
@@ -19,46 +19,47 @@ use Rattle.sv_types.proofs.GuestViews.{guest_accesses, reached_reads, reached_wr
 use Rattle.reference.specs.States.{State, Hart}
 use Rattle.reference.specs.Devices.{lines_at}
 use Rattle.reference.specs.Requests.{carried_out, stepped_with, with_csr_set, csr_now, carry_out_csr, csr_asked}
-use Rattle.machine_model.specs.Served.{serve_exit, serve_trap, serve_virtual, is_sret_word}
+use Rattle.machine_model.specs.Served.{exit_answered, plain_answer, virtual_answer, is_sret_word}
+use Rattle.attempt_laws.proofs.Plain.{serve_plain}
 use Rattle.reference.specs.Turn.{illegal_instruction}
 use Rattle.machine_model.specs.StandsFor.{Unseen, hregs_in}
 use Rattle.attempt_laws.specs.Agree.{IsAt, Agrees, QuietTo, region_at, core_at}
-use Rattle.attempt_laws.proofs.Stays.{stays}
+use Rattle.attempt_laws.proofs.Stays.{GoesOn, stays}
 use Rattle.attempt_laws.proofs.Excepts.{exception_agrees, exit_agrees}
 use Rattle.attempt_laws.proofs.Under.{same_mode}
 
-pub same_hideleg : (mode : Mode) → (hregs_in mode).hideleg ≡ hideleg_in mode
-same_hideleg Kernel = refl
-same_hideleg User = refl
+pub same_hideleg : (mode : Mode) (entry : Option ℕ) → (hregs_in mode entry).hideleg ≡ hideleg_in mode
+same_hideleg Kernel entry = refl
+same_hideleg User entry = refl
 
 -- ---- a refused access
 
 virtual_served_in : (r : State) (h : ℕ) (hart : Hart) (w pc : ℕ) (mode : Mode) → is_sret_word w ≡ false
-    → illegal_instruction r h hart w ≡ serve_virtual r h hart mode (exit_of (virtual_instruction w) pc)
-unfolding serve_virtual
+    → illegal_instruction r h hart w ≡ exit_answered r h hart (virtual_answer mode (exit_of (virtual_instruction w) pc))
+unfolding exit_answered virtual_answer
 virtual_served_in r h hart w pc Kernel other = rw other refl
 virtual_served_in r h hart w pc User other = refl
 
 -- a virtual instruction but for SRET is illegal to the guest
 pub virtual_served : (r : State) (h : ℕ) (hart : Hart) (w pc : ℕ) → is_sret_word w ≡ false
-    → illegal_instruction r h hart w ≡ serve_exit r h hart (exit_of (virtual_instruction w) pc)
-unfolding serve_exit serve_trap
+    → illegal_instruction r h hart w ≡ serve_plain r h hart (exit_of (virtual_instruction w) pc)
+unfolding serve_plain plain_answer
 virtual_served r h hart w pc other = virtual_served_in r h hart w pc hart.mode other
 
 -- ---- an access that is carried out
 
 reads_here : (o : Unseen) (r : State) (h : ℕ) (hart : Hart) (c : HypervisorRegisters) (number : ℕ) (writes : Bool) (csr : Csr) → IsAt o r h hart c
     → IsLegalSupervisor hart.supervisor → guest_access hart.mode hart.supervisor number writes ≡ Some csr
-    → read_virtual (hregs_in hart.mode).hideleg (with_guest c hart.supervisor) (lines_at r.devices h) csr ≡ csr_now r h hart csr
+    → read_virtual (hregs_in hart.mode hart.entry).hideleg (with_guest c hart.supervisor) (lines_at r.devices h) csr ≡ csr_now r h hart csr
 reads_here o r h hart c number writes csr at legal allowed =
-    ap (λ (k : ℕ). read_virtual k (with_guest c hart.supervisor) (lines_at r.devices h) csr) (same_hideleg hart.mode)
+    ap (λ (k : ℕ). read_virtual k (with_guest c hart.supervisor) (lines_at r.devices h) csr) (same_hideleg hart.mode hart.entry)
     ∙ reached_reads hart.mode c hart.supervisor (lines_at r.devices h) number writes csr legal allowed
 
 writes_here : (hart : Hart) (c : HypervisorRegisters) (number : ℕ) (csr : Csr) (value : ℕ)
     → IsLegalSupervisor hart.supervisor → guest_access hart.mode hart.supervisor number true ≡ Some csr
-    → write_virtual (hregs_in hart.mode).hideleg (with_guest c hart.supervisor) csr value ≡ with_guest c (write_csr hart.supervisor csr value)
+    → write_virtual (hregs_in hart.mode hart.entry).hideleg (with_guest c hart.supervisor) csr value ≡ with_guest c (write_csr hart.supervisor csr value)
 writes_here hart c number csr value legal allowed =
-    ap (λ (k : ℕ). write_virtual k (with_guest c hart.supervisor) csr value) (same_hideleg hart.mode)
+    ap (λ (k : ℕ). write_virtual k (with_guest c hart.supervisor) csr value) (same_hideleg hart.mode hart.entry)
     ∙ reached_writes hart.mode c hart.supervisor number csr value legal allowed
 
 abbrev pub accessed : State → ℕ → Hart → CsrOp → ℕ → Bool → Csr → Hart
@@ -78,10 +79,9 @@ reached_step o r h hart c rd op operand number true csr at legal allowed =
 reached_step o r h hart c rd op operand number false csr at legal allowed =
     rw (reads_here o r h hart c number false csr at legal allowed) refl
 
-accessed_started : (r : State) (h : ℕ) (hart : Hart) (op : CsrOp) (operand : ℕ) (writes : Bool) (csr : Csr) → hart.started ≡ true
-    → (accessed r h hart op operand writes csr).started ≡ true
-accessed_started r h hart op operand true csr e = e
-accessed_started r h hart op operand false csr e = e
+accessed_goes_on : (r : State) (h : ℕ) (hart : Hart) (op : CsrOp) (operand : ℕ) (writes : Bool) (csr : Csr) → GoesOn hart (accessed r h hart op operand writes csr)
+accessed_goes_on r h hart op operand true csr = (refl, refl)
+accessed_goes_on r h hart op operand false csr = (refl, refl)
 
 accessed_ref : (r : State) (h : ℕ) (hart : Hart) (w rd : ℕ) (op : CsrOp) (operand : ℕ) (writes : Bool) (csr : Csr)
     → carry_out_csr r h hart w rd op operand writes (Some csr) ≡ carried_out r h (stepped_with (accessed r h hart op operand writes csr) rd (csr_now r h hart csr))
@@ -105,7 +105,7 @@ csr_at o r h hart c w rd op operand number writes (Ok csr) at legal other allowe
       core = core_at o c (stepped_with (accessed r h hart op operand writes csr) rd (csr_now r h hart csr));
       outcome = Outcome.Retired None;
     })) (sym (accessed_ref r h hart w rd op operand writes csr))
-    (stays o r h hart (stepped_with (accessed r h hart op operand writes csr) rd (csr_now r h hart csr)) c at (accessed_started r h hart op operand writes csr at.started)))
+    (stays o r h hart (stepped_with (accessed r h hart op operand writes csr) rd (csr_now r h hart csr)) c at (accessed_goes_on r h hart op operand writes csr)))
 csr_at o r h hart c w rd op operand number writes (Err CsrFault.Illegal) at legal other allowed = exception_agrees o r h hart c Cause.Illegal w at refl
 csr_at o r h hart c w rd op operand number writes (Err CsrFault.Virtual) at legal other allowed =
     exit_agrees o r h hart c (virtual_instruction w) (illegal_instruction r h hart w) refl (virtual_served r h hart w hart.pc other)
@@ -119,4 +119,4 @@ unfolding csr_reached
 csr_agrees o r h hart c w rd op operand number writes at legal other =
     let x : Result Csr CsrFault = csr_access hart.mode (with_guest c hart.supervisor) number writes in
     let allowed : guest_access hart.mode hart.supervisor number writes ≡ result_ok x = guest_accesses hart.mode c hart.supervisor number writes in
-    rw (allowed, same_mode hart.mode) (csr_at o r h hart c w rd op operand number writes x at legal other allowed)
+    rw (allowed, same_mode hart.mode hart.entry) (csr_at o r h hart c w rd op operand number writes x at legal other allowed)

@@ -1,4 +1,5 @@
 -- An instruction of the hardware's is the reference machine's.
+use Rattle.std.specs.Prelude.{Option}
 use Rattle.std.proofs.Common.{◌≡◌, ℕ, refl, sym, ap, true, false}
 use Rattle.sv_types.specs.Hardware.{with_region, raise, plain_exception, exit_of}
 use Rattle.sv_types.specs.HardwareAttempt.{after_effect, after_supervisor_only, after_sret, virtual_instruction, call_cause}
@@ -12,9 +13,10 @@ use Rattle.sv_types.specs.declared.wires.Mode.TheVariants.{Kernel, User}
 use Rattle.reference.specs.States.{State, Hart}
 use Rattle.reference.specs.Devices.{lines_at}
 use Rattle.reference.specs.Requests.{stepped}
-use Rattle.reference.specs.ModuleCalls.{call}
+use Rattle.reference.specs.Answers.{call}
 use Rattle.reference.specs.Turn.{with_set, carry_out_kernel_only, carry_out_ecall, carry_out_effect, illegal_instruction, carry_out_sret}
-use Rattle.machine_model.specs.Served.{serve_exit, serve_trap, serve_virtual, is_sret_word}
+use Rattle.machine_model.specs.Served.{exit_answered, plain_answer, virtual_answer, is_sret_word}
+use Rattle.attempt_laws.proofs.Plain.{serve_plain}
 use Rattle.machine_model.specs.StandsFor.{Unseen, hregs_in}
 use Rattle.attempt_laws.specs.Agree.{IsAt, Agrees, region_at, core_at}
 use Rattle.attempt_laws.proofs.Stays.{stays}
@@ -48,32 +50,32 @@ virtual_agrees o r h hart c w other = exit_agrees o r h hart c (virtual_instruct
 supervisor_agrees : (o : Unseen) (r : State) (h : ℕ) (hart : Hart) (c : HypervisorRegisters) (w : ℕ) (mode : Mode) → IsAt o r h hart c → is_sret_word w ≡ false
     → Agrees o r h hart c (with_region (region_at o r) (after_supervisor_only (core_at o c hart) w mode)) (carry_out_kernel_only r h hart w mode)
 unfolding after_supervisor_only carry_out_kernel_only
-supervisor_agrees o r h hart c w Kernel at other = stays o r h hart (stepped hart) c at at.started
+supervisor_agrees o r h hart c w Kernel at other = stays o r h hart (stepped hart) c at (refl, refl)
 supervisor_agrees o r h hart c w User at other = virtual_agrees o r h hart c w other
 
 -- an ECALL of the kernel's leaves for SecVisor
 ecall_agrees : (o : Unseen) (r : State) (h : ℕ) (hart : Hart) (c : HypervisorRegisters) (mode : Mode) → IsAt o r h hart c
     → Agrees o r h hart c (with_region (region_at o r) (raise (core_at o c hart) (plain_exception (call_cause mode) 0))) (carry_out_ecall r h hart mode)
-unfolding carry_out_ecall serve_exit
+unfolding carry_out_ecall serve_plain plain_answer exit_answered
 ecall_agrees o r h hart c Kernel at = exit_agrees o r h hart c (plain_exception Cause.GuestCall 0) (call r h hart) refl refl
 ecall_agrees o r h hart c User at = exception_agrees o r h hart c Cause.UserCall 0 at refl
 
 -- with VTSR set an SRET leaves too
 sret_served : (r : State) (h : ℕ) (hart : Hart) (w pc : ℕ) (mode : Mode) → hart.mode ≡ mode → is_sret_word w ≡ true
-    → carry_out_sret r h hart w mode ≡ serve_exit r h hart (exit_of (virtual_instruction w) pc)
-unfolding carry_out_sret serve_exit serve_trap serve_virtual
+    → carry_out_sret r h hart w mode ≡ serve_plain r h hart (exit_of (virtual_instruction w) pc)
+unfolding carry_out_sret serve_plain plain_answer virtual_answer exit_answered
 sret_served r h hart w pc Kernel e same = rw (e, same) refl
-sret_served r h hart w pc User e same = ap (λ (m : Mode). serve_virtual r h hart m (exit_of (virtual_instruction w) pc)) (sym e)
+sret_served r h hart w pc User e same = ap (λ (m : Mode). exit_answered r h hart (virtual_answer m (exit_of (virtual_instruction w) pc))) (sym e)
 
-has_vtsr : (mode : Mode) → (hregs_in mode).vtsr ≡ true
-has_vtsr Kernel = refl
-has_vtsr User = refl
+has_vtsr : (mode : Mode) (entry : Option ℕ) → (hregs_in mode entry).vtsr ≡ true
+has_vtsr Kernel entry = refl
+has_vtsr User entry = refl
 
 sret_agrees : (o : Unseen) (r : State) (h : ℕ) (hart : Hart) (c : HypervisorRegisters) (w : ℕ) (mode : Mode) → hart.mode ≡ mode → is_sret_word w ≡ true
     → Agrees o r h hart c (with_region (region_at o r) (after_sret (core_at o c hart) w mode)) (carry_out_sret r h hart w mode)
 unfolding after_sret
 sret_agrees o r h hart c w Kernel e same =
-    rw (has_vtsr hart.mode) (exit_agrees o r h hart c (virtual_instruction w) (carry_out_sret r h hart w Kernel) refl (sret_served r h hart w hart.pc Kernel e same))
+    rw (has_vtsr hart.mode hart.entry) (exit_agrees o r h hart c (virtual_instruction w) (carry_out_sret r h hart w Kernel) refl (sret_served r h hart w hart.pc Kernel e same))
 sret_agrees o r h hart c w User e same =
     exit_agrees o r h hart c (virtual_instruction w) (carry_out_sret r h hart w User) refl (sret_served r h hart w hart.pc User e same)
 
@@ -83,7 +85,7 @@ pub effect_agrees : (o : Unseen) (r : State) (h : ℕ) (hart : Hart) (c : Hyperv
     → IsAt o r h hart c → ((width value : ℕ) → IsWidth width → FreeKeeps r width value) → IsTold w hart e
     → Agrees o r h hart c (after_effect (region_at o r) (core_at o c hart) (lines_at r.devices h) w e) (carry_out_effect r h hart w e)
 unfolding after_effect carry_out_effect
-effect_agrees o r h hart c w (Effect.Set rd value next) at kept told = stays o r h hart (with_set hart rd value next) c at at.started
+effect_agrees o r h hart c w (Effect.Set rd value next) at kept told = stays o r h hart (with_set hart rd value next) c at (refl, refl)
 effect_agrees o r h hart c w (Effect.MisalignedJump target) at kept told = exception_agrees o r h hart c Cause.InstrMisaligned target at refl
 effect_agrees o r h hart c w (Effect.Load rd address width signed) at kept told =
     load_agrees o r h hart c rd address width signed (load_htinst w) at told.0 told.1
@@ -98,10 +100,10 @@ effect_agrees o r h hart c w (Effect.Amo rd address width op value) at kept told
 effect_agrees o r h hart c w (Effect.Csr rd number op operand writes) at kept told =
     csr_agrees o r h hart c w rd op operand number writes at (at.sound.harts h hart at.found).legal told
 effect_agrees o r h hart c w Effect.Ecall at kept told =
-    rw (same_mode hart.mode) (ecall_agrees o r h hart c hart.mode at)
+    rw (same_mode hart.mode hart.entry) (ecall_agrees o r h hart c hart.mode at)
 effect_agrees o r h hart c w Effect.Ebreak at kept told = exception_agrees o r h hart c Cause.Breakpoint hart.pc at refl
-effect_agrees o r h hart c w Effect.Sret at kept told = rw (same_mode hart.mode) (sret_agrees o r h hart c w hart.mode refl told)
-effect_agrees o r h hart c w Effect.Wfi at kept told = rw (same_mode hart.mode) (supervisor_agrees o r h hart c w hart.mode at told)
-effect_agrees o r h hart c w Effect.SfenceVma at kept told = rw (same_mode hart.mode) (supervisor_agrees o r h hart c w hart.mode at told)
-effect_agrees o r h hart c w Effect.Fence at kept told = stays o r h hart (stepped hart) c at at.started
+effect_agrees o r h hart c w Effect.Sret at kept told = rw (same_mode hart.mode hart.entry) (sret_agrees o r h hart c w hart.mode refl told)
+effect_agrees o r h hart c w Effect.Wfi at kept told = rw (same_mode hart.mode hart.entry) (supervisor_agrees o r h hart c w hart.mode at told)
+effect_agrees o r h hart c w Effect.SfenceVma at kept told = rw (same_mode hart.mode hart.entry) (supervisor_agrees o r h hart c w hart.mode at told)
+effect_agrees o r h hart c w Effect.Fence at kept told = stays o r h hart (stepped hart) c at (refl, refl)
 effect_agrees o r h hart c w Effect.Hyper at kept told = virtual_agrees o r h hart c w told

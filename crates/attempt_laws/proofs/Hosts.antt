@@ -5,7 +5,7 @@ use Rattle.sv_types.specs.HypervisorRegisters.{HypervisorRegisters}
 use Rattle.sv_types.proofs.Reservations.{after_write_behind}
 use Rattle.reference.specs.States.{Hart}
 use Rattle.reference.specs.Devices.{hart_after_write}
-use Rattle.machine_model.specs.Machine.{HostHart, forgets}
+use Rattle.machine_model.specs.Machine.{HostHart, update, forgets}
 use Rattle.machine_model.specs.StandsFor.{host_hart, host_harts}
 
 -- each hart of the reference has one of the hardware, with registers of its own for exits
@@ -26,14 +26,25 @@ hosts_set t (e ∷ exits) [] h c next found = refl
 hosts_set t (e ∷ exits) (x ∷ harts) zero c next found = let same : e ≡ c = cc in rw same refl
 hosts_set t (e ∷ exits) (x ∷ harts) (suc h) c next found = ap (◌∷◌ (host_hart t e x)) (hosts_set t exits harts h c next found)
 
+-- the same by a change in place
+pub hosts_update : (t : ℕ) (exits : List HypervisorRegisters) (harts : List Hart) (h : ℕ) (c : HypervisorRegisters) (hart next : Hart) (change : HostHart → HostHart)
+    → slice_get exits h ≡ Some c → slice_get harts h ≡ Some hart → change (host_hart t c hart) ≡ host_hart t c next
+    → update (host_harts t exits harts) h change ≡ host_harts t exits (slice_set harts h next)
+unfolding host_harts update
+hosts_update t [] harts h c hart next change e f g = cc
+hosts_update t (d ∷ exits) [] h c hart next change e f g = cc
+hosts_update t (d ∷ exits) (x ∷ harts) zero c hart next change e f g = let p : d ≡ c = cc in let q : x ≡ hart = cc in rw (p, q, g) refl
+hosts_update t (d ∷ exits) (x ∷ harts) (suc h) c hart next change e f g = ap (◌∷◌ (host_hart t d x)) (hosts_update t exits harts h c hart next change e f g)
+
 -- an exit changes the hardware's side alone
-pub hosts_exit : (t : ℕ) (exits : List HypervisorRegisters) (harts : List Hart) (h : ℕ) (c : HypervisorRegisters) (hart : Hart) → slice_get harts h ≡ Some hart
-    → slice_set (host_harts t exits harts) h (host_hart t c hart) ≡ host_harts t (slice_set exits h c) harts
-unfolding host_harts
-hosts_exit t [] harts h c hart found = refl
-hosts_exit t (e ∷ exits) [] h c hart found = cc
-hosts_exit t (e ∷ exits) (x ∷ harts) zero c hart found = let same : x ≡ hart = cc in rw same refl
-hosts_exit t (e ∷ exits) (x ∷ harts) (suc h) c hart found = ap (◌∷◌ (host_hart t e x)) (hosts_exit t exits harts h c hart found)
+pub hosts_exit : (t : ℕ) (exits : List HypervisorRegisters) (harts : List Hart) (h : ℕ) (was now : HypervisorRegisters) (hart : Hart) (change : HostHart → HostHart)
+    → slice_get exits h ≡ Some was → slice_get harts h ≡ Some hart → change (host_hart t was hart) ≡ host_hart t now hart
+    → update (host_harts t exits harts) h change ≡ host_harts t (slice_set exits h now) harts
+unfolding host_harts update
+hosts_exit t [] harts h was now hart change e f g = cc
+hosts_exit t (d ∷ exits) [] h was now hart change e f g = cc
+hosts_exit t (d ∷ exits) (x ∷ harts) zero was now hart change e f g = let p : d ≡ was = cc in let q : x ≡ hart = cc in rw (p, q, g) refl
+hosts_exit t (d ∷ exits) (x ∷ harts) (suc h) was now hart change e f g = ap (◌∷◌ (host_hart t d x)) (hosts_exit t exits harts h was now hart change e f g)
 
 pub forgets_host : (t : ℕ) (c : HypervisorRegisters) (hart : Hart) (place width : ℕ)
     → forgets (t + place) width (host_hart t c hart) ≡ host_hart t c (hart_after_write place width hart)

@@ -1,6 +1,7 @@
 pub mod Everywhere
 pub mod Hosts
 pub mod Stays
+pub mod Plain
 pub mod Excepts
 pub mod Under
 pub mod LoadsAgree

@@ -21,17 +21,18 @@ use Rattle.reference.specs.States.{State, Hart}
 use Rattle.reference.specs.Devices.{device_load}
 use Rattle.reference.specs.Trapping.{exception}
 use Rattle.reference.specs.Requests.{carried_out, stepped_with, carry_out_device_load, FromRam, FromDevice, NoSource, source_at, load_source, source_of, settings_of, carry_out_load}
-use Rattle.machine_model.specs.Served.{serve_exit, serve_access, serve_load, transformed}
+use Rattle.machine_model.specs.Served.{exit_answered, plain_answer, load_answer, transformed}
+use Rattle.attempt_laws.proofs.Plain.{serve_plain}
 use Rattle.machine_model.specs.StandsFor.{Unseen}
 use Rattle.attempt_laws.specs.Agree.{IsAt, Agrees, region_at, core_at}
 use Rattle.attempt_laws.proofs.Stays.{stays}
 use Rattle.attempt_laws.proofs.Excepts.{exception_agrees, exit_agrees}
-use Rattle.attempt_laws.proofs.Under.{under, translated_under, access_in_ram}
+use Rattle.attempt_laws.proofs.Under.{under, sight_of_hart, translated_under, access_in_ram}
 
 -- the transformed instruction is this load, and no implicit read
 pub record IsLoad (htinst : ℕ) (hart : Hart) (rd width : ℕ) (signed : Bool) : Type 0 where
   pub address : ℕ
-  pub effect : transformed htinst hart ≡ Some (Effect.Load rd address width signed)
+  pub effect : transformed htinst hart.registers hart.pc ≡ Some (Effect.Load rd address width signed)
   pub explicit : (htinst == implicit_read) ≡ false
 
 -- the two low bits of a guest-physical address are those of the virtual one
@@ -41,16 +42,16 @@ gpa_back gpa va same = let low : va % 4 ≡ gpa % 4 = grind arith in rw low (gri
 -- an entry of the first stage can't be read
 pub unreadable_load : (r : State) (h : ℕ) (hart : Hart) (address htval pc : ℕ)
     → exception r h hart Cause.LoadAccess address
-    ≡ serve_exit r h hart (record { interrupt = false; cause = 21; pc = pc; stval = address; htval = htval; htinst = implicit_read })
-unfolding serve_exit serve_access serve_load transformed instruction_of rows
+    ≡ serve_plain r h hart (record { interrupt = false; cause = 21; pc = pc; stval = address; htval = htval; htinst = implicit_read })
+unfolding serve_plain plain_answer exit_answered load_answer transformed instruction_of rows
 unreadable_load r h hart address htval pc = refl
 
 -- no RAM is there
 device_served : (r : State) (h : ℕ) (hart : Hart) (rd address width : ℕ) (signed : Bool) (gpa htinst pc : ℕ)
     → IsLoad htinst hart rd width signed → gpa % 4096 ≡ address % 4096
     → carry_out_device_load r h hart rd address width signed (device_load r.devices gpa width)
-    ≡ serve_exit r h hart (record { interrupt = false; cause = 21; pc = pc; stval = address; htval = gpa / 4; htinst = htinst })
-unfolding serve_exit serve_access serve_load
+    ≡ serve_plain r h hart (record { interrupt = false; cause = 21; pc = pc; stval = address; htval = gpa / 4; htinst = htinst })
+unfolding serve_plain plain_answer exit_answered load_answer
 device_served r h hart rd address width signed gpa htinst pc load same =
     rw (load.effect, load.explicit, gpa_back gpa address same) refl
 
@@ -67,7 +68,7 @@ at_place o r h hart c rd address width signed gpa htinst true at load same =
     (with_region (region_at o r) (retire_with (core_at o c hart) rd (loaded_value signed width v) None))
     (carried_out r h (stepped_with hart rd (loaded_value signed width (word r.ram (ram_place gpa) width)))))
     (sym (word_in_ram (region_at o r) (ram_place gpa) width))
-    (stays o r h hart (stepped_with hart rd (loaded_value signed width (word r.ram (ram_place gpa) width))) c at at.started)
+    (stays o r h hart (stepped_with hart rd (loaded_value signed width (word r.ram (ram_place gpa) width))) c at (refl, refl))
 at_place o r h hart c rd address width signed gpa htinst false at load same =
     exit_agrees o r h hart c (fault_exception Access.Load address htinst (Fault.Guest gpa false))
     (carry_out_device_load r h hart rd address width signed (device_load r.devices gpa width)) refl
@@ -77,7 +78,7 @@ pub load_at : (o : Unseen) (r : State) (h : ℕ) (hart : Hart) (c : HypervisorRe
     → IsAt o r h hart c → IsLoad htinst hart rd width signed → IsWidth width → address % width ≡ 0 → Keeps address d
     → Agrees o r h hart c
     (with_region (region_at o r) (after_load (region_at o r) (core_at o c hart) rd width signed
-    (place_or_exception Access.Load address htinst (under o r hart.mode Access.Load d))))
+    (place_or_exception Access.Load address htinst (under o r (sight_of_hart r hart) Access.Load d))))
     (carry_out_load r h hart rd address width signed (source_at r.ram width d))
 unfolding source_at view_answer after_load carry_out_load
 load_at o r h hart c rd address width signed htinst (At gpa) at load whole aligned fits =
@@ -99,7 +100,7 @@ by_alignment : (o : Unseen) (r : State) (h : ℕ) (hart : Hart) (c : HypervisorR
     → Agrees o r h hart c
     (with_region (region_at o r) (after_load (region_at o r) (core_at o c hart) rd width signed
     (if aligned
-    then place_or_exception Access.Load address htinst (under o r hart.mode Access.Load (place r.ram (settings_of hart.supervisor) hart.mode address Access.Load))
+    then place_or_exception Access.Load address htinst (under o r (sight_of_hart r hart) Access.Load (place r.ram (settings_of hart.supervisor) hart.mode address Access.Load))
     else Err (plain_exception Cause.LoadMisaligned address))))
     (carry_out_load r h hart rd address width signed
     (if aligned then source_at r.ram width (place r.ram (settings_of hart.supervisor) hart.mode address Access.Load) else NoSource Cause.LoadMisaligned))

@@ -18,7 +18,7 @@ use Rattle.reference.specs.States.{State, Hart, is_protected}
 use Rattle.reference.specs.Requests.{Source, FromRam, FromDevice, NoSource, source_at, load_source, source_of, Target, ToRam, ToDevice, Guarded, NoTarget, target_at, store_target, target_of, settings_of}
 use Rattle.machine_model.specs.StandsFor.{Unseen}
 use Rattle.attempt_laws.specs.Agree.{IsAt, Agrees, region_at, core_at}
-use Rattle.attempt_laws.proofs.Under.{under, view_in, translated_under, access_in_ram, moved, stores_permitted}
+use Rattle.attempt_laws.proofs.Under.{under, sight_of_hart, translated_under, access_in_ram, moved, stores_permitted}
 use Rattle.attempt_laws.proofs.LoadsAgree.{aligned_if}
 
 -- ---- loads
@@ -43,7 +43,7 @@ source_place o r h hart c address htinst gpa false hard soft agree same = agree.
 source_by : (o : Unseen) (r : State) (h : ℕ) (hart : Hart) (c : HypervisorRegisters) (address width htinst : ℕ) (d : Destination)
     (hard : Result ℕ Exception → Attempted) (soft : Source → State) → SourcesAgree o r h hart c address htinst hard soft
     → IsAt o r h hart c → IsWidth width → address % width ≡ 0 → Keeps address d
-    → Agrees o r h hart c (hard (place_or_exception Access.Load address htinst (under o r hart.mode Access.Load d))) (soft (source_at r.ram width d))
+    → Agrees o r h hart c (hard (place_or_exception Access.Load address htinst (under o r (sight_of_hart r hart) Access.Load d))) (soft (source_at r.ram width d))
 unfolding source_at view_answer
 source_by o r h hart c address width htinst (At gpa) hard soft agree at whole aligned fits =
     rw (access_in_ram r gpa address width at.sound whole fits aligned)
@@ -56,7 +56,7 @@ source_aligned : (o : Unseen) (r : State) (h : ℕ) (hart : Hart) (c : Hyperviso
     → IsAt o r h hart c → IsWidth width → (aligned ≡ true → address % width ≡ 0)
     → Agrees o r h hart c
     (hard (if aligned
-    then place_or_exception Access.Load address htinst (under o r hart.mode Access.Load (place r.ram (settings_of hart.supervisor) hart.mode address Access.Load))
+    then place_or_exception Access.Load address htinst (under o r (sight_of_hart r hart) Access.Load (place r.ram (settings_of hart.supervisor) hart.mode address Access.Load))
     else Err (plain_exception Cause.LoadMisaligned address)))
     (soft (if aligned then source_at r.ram width (place r.ram (settings_of hart.supervisor) hart.mode address Access.Load) else NoSource Cause.LoadMisaligned))
 unfolding place
@@ -103,10 +103,10 @@ target_place o r h hart c address width htinst gpa false guarded hard soft agree
 target_by : (o : Unseen) (r : State) (h : ℕ) (hart : Hart) (c : HypervisorRegisters) (address width htinst : ℕ) (d : Destination)
     (hard : Result ℕ Exception → Attempted) (soft : Target → State) → TargetsAgree o r h hart c address width htinst hard soft
     → IsAt o r h hart c → IsWidth width → address % width ≡ 0 → Keeps address d
-    → Agrees o r h hart c (hard (place_or_exception Access.Store address htinst (under o r hart.mode Access.Store d))) (soft (target_at r.ram (is_protected r) width d))
+    → Agrees o r h hart c (hard (place_or_exception Access.Store address htinst (under o r (sight_of_hart r hart) Access.Store d))) (soft (target_at r.ram (is_protected r) width d))
 unfolding target_at view_answer
 target_by o r h hart c address width htinst (At gpa) hard soft agree at whole aligned fits =
-    rw (access_in_ram r gpa address width at.sound whole fits aligned, stores_permitted (view_in hart.mode) r (page_of gpa))
+    rw (access_in_ram r gpa address width at.sound whole fits aligned, stores_permitted (sight_of_hart r hart) r (page_of gpa))
     (target_place o r h hart c address width htinst gpa (page_in_ram r.rules.ram_pages gpa) (is_protected r (page_of gpa)) hard soft agree fits
     (access_in_ram r gpa address 1 at.sound (inl refl) fits (one_divides address)) refl refl (moved width gpa address whole fits aligned))
 target_by o r h hart c address width htinst PageFault hard soft agree at whole aligned fits = agree.page
@@ -117,7 +117,7 @@ target_aligned : (o : Unseen) (r : State) (h : ℕ) (hart : Hart) (c : Hyperviso
     → IsAt o r h hart c → IsWidth width → (aligned ≡ true → address % width ≡ 0)
     → Agrees o r h hart c
     (hard (if aligned
-    then place_or_exception Access.Store address htinst (under o r hart.mode Access.Store (place r.ram (settings_of hart.supervisor) hart.mode address Access.Store))
+    then place_or_exception Access.Store address htinst (under o r (sight_of_hart r hart) Access.Store (place r.ram (settings_of hart.supervisor) hart.mode address Access.Store))
     else Err (plain_exception Cause.StoreMisaligned address)))
     (soft (if aligned then target_at r.ram (is_protected r) width (place r.ram (settings_of hart.supervisor) hart.mode address Access.Store) else NoTarget Cause.StoreMisaligned))
 unfolding place

@@ -14,19 +14,24 @@ use Rattle.reference.specs.States.{State, Hart, with_hart}
 use Rattle.reference.specs.Counting.{count, count_retired, count_trap}
 use Rattle.reference.specs.Devices.{with_bytes, hart_after_write}
 use Rattle.reference.specs.Requests.{carried_out, carried_out_writing}
-use Rattle.machine_model.specs.Machine.{running, after_quiet_attempt, all_forget, forgets}
+use Rattle.machine_model.specs.Machine.{update, with_core, after_quiet_attempt, all_forget, forgets}
 use Rattle.machine_model.specs.StandsFor.{Unseen, IsRightFor, machine_of, host_core, host_hart, host_harts, load_kept}
 use Rattle.attempt_laws.specs.Agree.{IsAt, QuietTo, region_at, core_at, one_attempt_more}
-use Rattle.attempt_laws.proofs.Hosts.{hosts_set, hosts_forget}
+use Rattle.attempt_laws.proofs.Hosts.{hosts_update, hosts_forget}
 
-pub running_host : (t : ℕ) (c : HypervisorRegisters) (next : Hart) → next.started ≡ true → running (host_core t c next) ≡ host_hart t c next
-running_host t c next e = ap (λ (b : Bool). record { core = host_core t c next; started = b }) (sym e)
+-- the hart is started, and in the same entry as before
+abbrev pub GoesOn : Hart → Hart → Type 0
+GoesOn hart next = (next.started ≡ hart.started) × (next.entry ≡ hart.entry)
 
-set_running : (o : Unseen) (r : State) (h : ℕ) (hart next : Hart) (c : HypervisorRegisters) → IsAt o r h hart c → next.started ≡ true
-    → slice_set (host_harts (length o.tables) o.exits r.harts) h (running (core_at o c next)) ≡ host_harts (length o.tables) o.exits (slice_set r.harts h next)
-set_running o r h hart next c at e =
-    ap (slice_set (host_harts (length o.tables) o.exits r.harts) h) (running_host (length o.tables) c next e)
-    ∙ hosts_set (length o.tables) o.exits r.harts h c next at.exits
+core_set : (t : ℕ) (c : HypervisorRegisters) (hart next : Hart) → GoesOn hart next → with_core (host_core t c next) (host_hart t c hart) ≡ host_hart t c next
+core_set t c hart next e =
+    ap (λ (b : Bool). record { core = host_core t c next; started = b; entry = hart.entry }) (sym e.0)
+    ∙ ap (λ (i : Option ℕ). record { core = host_core t c next; started = next.started; entry = i }) (sym e.1)
+
+set_core : (o : Unseen) (r : State) (h : ℕ) (hart next : Hart) (c : HypervisorRegisters) → IsAt o r h hart c → GoesOn hart next
+    → update (host_harts (length o.tables) o.exits r.harts) h (with_core (core_at o c next)) ≡ host_harts (length o.tables) o.exits (slice_set r.harts h next)
+set_core o r h hart next c at e =
+    hosts_update (length o.tables) o.exits r.harts h c hart next (with_core (core_at o c next)) at.exits at.found (core_set (length o.tables) c hart next e)
 
 pub length_set : {X : Type 0} (xs : List X) (i : ℕ) (x : X) → length (slice_set xs i x) ≡ length xs
 length_set [] i x = refl
@@ -41,23 +46,23 @@ open_set : (o : Unseen) (r : State) (h : ℕ) (next : Hart) (f : Counts → Coun
 open_set o r h next f p = record { views = p.views; region = p.region; exits = p.exits ∙ sym (length_set r.harts h next); cleared = p.cleared }
 
 -- nothing was written
-stays_same : (o : Unseen) (r : State) (h : ℕ) (hart next : Hart) (c : HypervisorRegisters) → IsAt o r h hart c → next.started ≡ true
+stays_same : (o : Unseen) (r : State) (h : ℕ) (hart next : Hart) (c : HypervisorRegisters) → IsAt o r h hart c → GoesOn hart next
     → after_quiet_attempt (machine_of o r) h (record { region = region_at o r; core = core_at o c next; outcome = Outcome.Retired None })
     ≡ machine_of (one_attempt_more o) (carried_out r h next)
 unfolding machine_of all_forget
-stays_same o r h hart next c at e = rw (set_running o r h hart next c at e) refl
+stays_same o r h hart next c at e = rw (set_core o r h hart next c at e) refl
 
-pub stays : (o : Unseen) (r : State) (h : ℕ) (hart next : Hart) (c : HypervisorRegisters) → IsAt o r h hart c → next.started ≡ true
+pub stays : (o : Unseen) (r : State) (h : ℕ) (hart next : Hart) (c : HypervisorRegisters) → IsAt o r h hart c → GoesOn hart next
     → QuietTo o r h (record { region = region_at o r; core = core_at o c next; outcome = Outcome.Retired None }) (carried_out r h next)
 stays o r h hart next c at e = record { same = stays_same o r h hart next c at e; right = open_set o r h next count_retired at.right }
 
-traps_same : (o : Unseen) (r : State) (h : ℕ) (hart next : Hart) (c : HypervisorRegisters) → IsAt o r h hart c → next.started ≡ true
+traps_same : (o : Unseen) (r : State) (h : ℕ) (hart next : Hart) (c : HypervisorRegisters) → IsAt o r h hart c → GoesOn hart next
     → after_quiet_attempt (machine_of o r) h (record { region = region_at o r; core = core_at o c next; outcome = Outcome.GuestTrap })
     ≡ machine_of (one_attempt_more o) (count (with_hart r h next) (count_trap Kernel))
 unfolding machine_of all_forget
-traps_same o r h hart next c at e = rw (set_running o r h hart next c at e) refl
+traps_same o r h hart next c at e = rw (set_core o r h hart next c at e) refl
 
-pub traps : (o : Unseen) (r : State) (h : ℕ) (hart next : Hart) (c : HypervisorRegisters) → IsAt o r h hart c → next.started ≡ true
+pub traps : (o : Unseen) (r : State) (h : ℕ) (hart next : Hart) (c : HypervisorRegisters) → IsAt o r h hart c → GoesOn hart next
     → QuietTo o r h (record { region = region_at o r; core = core_at o c next; outcome = Outcome.GuestTrap }) (count (with_hart r h next) (count_trap Kernel))
 traps o r h hart next c at e = record { same = traps_same o r h hart next c at e; right = open_set o r h next (count_trap Kernel) at.right }
 
@@ -85,17 +90,17 @@ map_set f (y ∷ harts) (suc h) x e = ap (◌∷◌ (f y)) (map_set f harts h x 
 behind_twice : (place width : ℕ) (hart : Hart) → hart_after_write place width (hart_after_write place width hart) ≡ hart_after_write place width hart
 behind_twice place width hart = rw (forgets_twice place width hart.reservation) refl
 
-written_hosts : (o : Unseen) (r : State) (h : ℕ) (hart next : Hart) (c : HypervisorRegisters) (place width : ℕ) → IsAt o r h hart c → next.started ≡ true
+written_hosts : (o : Unseen) (r : State) (h : ℕ) (hart next : Hart) (c : HypervisorRegisters) (place width : ℕ) → IsAt o r h hart c → GoesOn hart next
     → map (forgets (length o.tables + place) width)
-    (slice_set (host_harts (length o.tables) o.exits r.harts) h (running (core_at o c (hart_after_write place width next))))
+    (update (host_harts (length o.tables) o.exits r.harts) h (with_core (core_at o c (hart_after_write place width next))))
     ≡ host_harts (length o.tables) o.exits (map (hart_after_write place width) (slice_set r.harts h next))
 written_hosts o r h hart next c place width at e =
-    ap (map (forgets (length o.tables + place) width)) (set_running o r h hart (hart_after_write place width next) c at e)
+    ap (map (forgets (length o.tables + place) width)) (set_core o r h hart (hart_after_write place width next) c at e)
     ∙ hosts_forget (length o.tables) o.exits (slice_set r.harts h (hart_after_write place width next)) place width
     ∙ ap (host_harts (length o.tables) o.exits) (map_set (hart_after_write place width) r.harts h next (behind_twice place width next))
 
 -- bytes were written at a place in RAM, after which the hart stands as `next` but for a reservation that they touch
-writes_same : (o : Unseen) (r : State) (h : ℕ) (hart next : Hart) (c : HypervisorRegisters) (place width value : ℕ) → IsAt o r h hart c → next.started ≡ true
+writes_same : (o : Unseen) (r : State) (h : ℕ) (hart next : Hart) (c : HypervisorRegisters) (place width value : ℕ) → IsAt o r h hart c → GoesOn hart next
     → KeepsLoad r (write_word r.ram place width value)
     → after_quiet_attempt (machine_of o r) h (record {
       region = with_ram o.tables (write_word r.ram place width value);
@@ -116,7 +121,7 @@ region_written tables ram place width value inside p =
     let same : length (write_word ram place width value) ≡ length ram = length_write_word ram place width value inside in
     record { tables = p.tables; ram = rw same p.ram; most = rw same p.most; small = rw same p.small }
 
-pub writes : (o : Unseen) (r : State) (h : ℕ) (hart next : Hart) (c : HypervisorRegisters) (place width value : ℕ) → IsAt o r h hart c → next.started ≡ true
+pub writes : (o : Unseen) (r : State) (h : ℕ) (hart next : Hart) (c : HypervisorRegisters) (place width value : ℕ) → IsAt o r h hart c → GoesOn hart next
     → CanWrite r place width value
     → QuietTo o r h (record {
       region = with_ram o.tables (write_word r.ram place width value);

@@ -20,39 +20,40 @@ use Rattle.reference.specs.States.{State, Hart, is_protected}
 use Rattle.reference.specs.Devices.{device_store, hart_after_write}
 use Rattle.reference.specs.Trapping.{exception}
 use Rattle.reference.specs.Requests.{stepped, carried_out_writing, carry_out_device_store, write_stopped, ToRam, ToDevice, Guarded, NoTarget, target_at, store_target, target_of, settings_of, carry_out_store}
-use Rattle.machine_model.specs.Served.{serve_exit, serve_access, serve_write, serve_store, transformed}
+use Rattle.machine_model.specs.Served.{exit_answered, plain_answer, write_answer, store_answer, transformed}
+use Rattle.attempt_laws.proofs.Plain.{serve_plain}
 use Rattle.machine_model.specs.StandsFor.{Unseen}
 use Rattle.attempt_laws.specs.Agree.{IsAt, Agrees, region_at, core_at}
 use Rattle.attempt_laws.proofs.Stays.{writes, CanWrite}
 use Rattle.attempt_laws.proofs.Excepts.{exception_agrees, exit_agrees}
-use Rattle.attempt_laws.proofs.Under.{under, view_in, translated_under, access_in_ram, moved, stores_permitted}
+use Rattle.attempt_laws.proofs.Under.{under, sight_of_hart, translated_under, access_in_ram, moved, stores_permitted}
 use Rattle.attempt_laws.proofs.LoadsAgree.{gpa_back, aligned_if}
 
 -- the transformed instruction is this store, and no implicit read
 pub record IsStore (htinst : ℕ) (hart : Hart) (width value : ℕ) : Type 0 where
   pub address : ℕ
-  pub effect : transformed htinst hart ≡ Some (Effect.Store address width value)
+  pub effect : transformed htinst hart.registers hart.pc ≡ Some (Effect.Store address width value)
   pub explicit : (htinst == implicit_read) ≡ false
 
 pub unreadable_store : (r : State) (h : ℕ) (hart : Hart) (address htval pc : ℕ)
     → exception r h hart Cause.StoreAccess address
-    ≡ serve_exit r h hart (record { interrupt = false; cause = 23; pc = pc; stval = address; htval = htval; htinst = implicit_read })
-unfolding serve_exit serve_access serve_write
+    ≡ serve_plain r h hart (record { interrupt = false; cause = 23; pc = pc; stval = address; htval = htval; htinst = implicit_read })
+unfolding serve_plain plain_answer exit_answered write_answer
 unreadable_store r h hart address htval pc = refl
 
 device_served : (r : State) (h : ℕ) (hart : Hart) (address width value gpa htinst pc : ℕ)
     → IsStore htinst hart width value → gpa % 4096 ≡ address % 4096 → in_ram r.ram gpa 1 ≡ false
     → carry_out_device_store r h hart address (device_store r.devices r.journal gpa width value)
-    ≡ serve_exit r h hart (record { interrupt = false; cause = 23; pc = pc; stval = address; htval = gpa / 4; htinst = htinst })
-unfolding serve_exit serve_access serve_write serve_store
+    ≡ serve_plain r h hart (record { interrupt = false; cause = 23; pc = pc; stval = address; htval = gpa / 4; htinst = htinst })
+unfolding serve_plain plain_answer exit_answered write_answer store_answer
 device_served r h hart address width value gpa htinst pc store same outside =
     rw (store.explicit, gpa_back gpa address same, outside, store.effect, store.explicit, gpa_back gpa address same) refl
 
 guarded_served : (r : State) (h : ℕ) (hart : Hart) (address width value gpa htinst pc : ℕ)
     → IsStore htinst hart width value → gpa % 4096 ≡ address % 4096 → in_ram r.ram gpa 1 ≡ true
     → write_stopped r h hart gpa
-    ≡ serve_exit r h hart (record { interrupt = false; cause = 23; pc = pc; stval = address; htval = gpa / 4; htinst = htinst })
-unfolding serve_exit serve_access serve_write
+    ≡ serve_plain r h hart (record { interrupt = false; cause = 23; pc = pc; stval = address; htval = gpa / 4; htinst = htinst })
+unfolding serve_plain plain_answer exit_answered write_answer
 guarded_served r h hart address width value gpa htinst pc store same inside =
     rw (store.explicit, gpa_back gpa address same, inside) refl
 
@@ -80,7 +81,7 @@ unfolding after_store carry_out_store
 at_place o r h hart c address width value gpa htinst true false at store same whole kept =
     subst (λ (a : Attempted). Agrees o r h hart c a (carried_out_writing r h (stepped hart) (ram_place gpa) (low_bytes width value)))
     (sym (written o r hart c (ram_place gpa) width value))
-    (writes o r h hart (stepped hart) c (ram_place gpa) width value at at.started (kept refl refl))
+    (writes o r h hart (stepped hart) c (ram_place gpa) width value at (refl, refl) (kept refl refl))
 at_place o r h hart c address width value gpa htinst true true at store same whole kept =
     exit_agrees o r h hart c (fault_exception Access.Store address htinst (Fault.Guest gpa false)) (write_stopped r h hart gpa) refl
     (guarded_served r h hart address width value gpa htinst hart.pc store same whole)
@@ -100,11 +101,11 @@ FreeKeeps r width value = (gpa : ℕ) → page_in_ram r.rules.ram_pages gpa ≡ 
 pub store_at : (o : Unseen) (r : State) (h : ℕ) (hart : Hart) (c : HypervisorRegisters) (address width value htinst : ℕ) (d : Destination)
     → IsAt o r h hart c → IsStore htinst hart width value → IsWidth width → address % width ≡ 0 → Keeps address d → FreeKeeps r width value
     → Agrees o r h hart c
-    (after_store (region_at o r) (core_at o c hart) width value (place_or_exception Access.Store address htinst (under o r hart.mode Access.Store d)))
+    (after_store (region_at o r) (core_at o c hart) width value (place_or_exception Access.Store address htinst (under o r (sight_of_hart r hart) Access.Store d)))
     (carry_out_store r h hart address width value (target_at r.ram (is_protected r) width d))
 unfolding target_at view_answer after_store carry_out_store
 store_at o r h hart c address width value htinst (At gpa) at store whole aligned fits kept =
-    rw (access_in_ram r gpa address width at.sound whole fits aligned, stores_permitted (view_in hart.mode) r (page_of gpa))
+    rw (access_in_ram r gpa address width at.sound whole fits aligned, stores_permitted (sight_of_hart r hart) r (page_of gpa))
     (at_place o r h hart c address width value gpa htinst (page_in_ram r.rules.ram_pages gpa) (is_protected r (page_of gpa)) at store fits
     (access_in_ram r gpa address 1 at.sound (inl refl) fits (one_divides address))
     (λ inside free. kept gpa inside free (moved width gpa address whole fits aligned)))
@@ -119,7 +120,7 @@ by_alignment : (o : Unseen) (r : State) (h : ℕ) (hart : Hart) (c : HypervisorR
     → Agrees o r h hart c
     (after_store (region_at o r) (core_at o c hart) width value
     (if aligned
-    then place_or_exception Access.Store address htinst (under o r hart.mode Access.Store (place r.ram (settings_of hart.supervisor) hart.mode address Access.Store))
+    then place_or_exception Access.Store address htinst (under o r (sight_of_hart r hart) Access.Store (place r.ram (settings_of hart.supervisor) hart.mode address Access.Store))
     else Err (plain_exception Cause.StoreMisaligned address)))
     (carry_out_store r h hart address width value
     (if aligned then target_at r.ram (is_protected r) width (place r.ram (settings_of hart.supervisor) hart.mode address Access.Store) else NoTarget Cause.StoreMisaligned))

@@ -1,52 +1,82 @@
 -- Where an access of the hardware goes under the view of its mode: the plain translation, and the page's protection.
-use Rattle.std.proofs.Common.{◌≡◌, ℕ, ◌+◌, ◌*◌, ◌%◌, ◌/◌, inl, inr, length, refl, ◌∙◌, ap, Bool, true, false, ◌&&◌, ◌||◌, arith}
-use Rattle.std.specs.Prelude.{Result, nat_le, nat_lt, not}
+use Rattle.std.proofs.Common.{◌≡◌, ℕ, zero, suc, ◌+◌, ◌*◌, ◌%◌, ◌/◌, inl, inr, List, [], ◌∷◌, map, length, refl, ◌∙◌, ap, Bool, true, false, ◌&&◌, ◌||◌, arith, slice_get}
+use Rattle.std.specs.Prelude.{Option, Some, None, option_map, Result, nat_le, nat_lt, not, ◌==◌}
 use Rattle.std.proofs.lemmas.Bool.Decides.{nat_tests}
-use Rattle.sv_types.specs.Bytes.{ram_base, ram_place, in_ram}
+use Rattle.sv_types.specs.Bytes.{ram_base, ram_place, page_of, in_ram}
 use Rattle.sv_types.specs.HardwareMemory.{translated, place_or_exception}
 use Rattle.sv_types.specs.HypervisorRegisters.{HypervisorRegisters}
 use Rattle.sv_types.specs.Regions.{IsWidth}
-use Rattle.sv_types.specs.SecondStage.{two_stages, under_view, page_in_ram, view_permits}
+use Rattle.sv_types.specs.SecondStage.{Sight, OfKernel, OfUser, OfEntry, sight_of, two_stages, under_view, page_in_ram, view_permits}
 use Rattle.sv_types.specs.Translation.{Destination, Settings, place}
 use Rattle.sv_types.specs.declared.translation.Place.{Place}
 use Rattle.sv_types.specs.declared.translation.Fault.{Fault}
 use Rattle.sv_types.specs.declared.wires.Access.{Access}
 use Rattle.sv_types.specs.declared.wires.Mode.{Mode}
 use Rattle.sv_types.specs.declared.wires.Mode.TheVariants.{Kernel, User}
-use Rattle.sv_types.specs.declared.wires.View.{View}
+use Rattle.sv_types.specs.declared.wires.View.TheVariants as View
+use Rattle.sv_types.specs.Policies.{Rules}
 use Rattle.sv_types.proofs.Views.{two_stages_under_view}
-use Rattle.reference.specs.States.{State, Hart, protection_in, protection_by, is_approved_in, is_protected, has_number}
+use Rattle.reference.specs.States.{State, Hart, Binding, binding_of, binding_at, protection_in, protection_by, is_approved_in, is_protected, has_number}
 use Rattle.reference.specs.Requests.{settings_of}
-use Rattle.machine_model.specs.StandsFor.{Unseen, IsRightFor, hregs_in}
-use Rattle.reference.specs.Soundness.{IsSound}
+use Rattle.machine_model.specs.StandsFor.{Unseen, IsRightFor, hregs_in, bound_pages}
+use Rattle.reference.specs.Soundness.{IsSound, IsSoundEntry}
+use Rattle.reference.specs.Turn.{bound_entry}
 use Rattle.attempt_laws.specs.Agree.{IsAt, region_at, core_at}
 
-abbrev pub view_in : Mode → View
-view_in Kernel = View.Kernel
-view_in User = View.User
+-- what a hart in a mode and an entry sees
+abbrev pub sight_by : Mode → Option Binding → Sight
+sight_by Kernel None = OfKernel
+sight_by Kernel (Some entry) = OfEntry (page_of entry.gpa)
+sight_by User entry = OfUser
 
--- where an access leads, by the plain translation and the view of the mode
-abbrev pub under : Unseen → State → Mode → Access → Destination → Result Place Fault
-under o r mode access d = under_view (length o.tables) r.rules.ram_pages (view_in mode) (protection_in r.approved r.held) access d
+-- where an access leads, by the plain translation and what the hart sees
+abbrev pub under : Unseen → State → Sight → Access → Destination → Result Place Fault
+under o r sight access d = under_view (length o.tables) r.rules.ram_pages sight (protection_in r.approved r.held) access d
 
-stages_in : (o : Unseen) (r : State) (root : Mode) (s : Settings) (mode : Mode) (va : ℕ) (access : Access) → IsRightFor o r → IsSound r
-    → two_stages (region_at o r) (hregs_in root).hgatp s mode va access ≡ under o r root access (place r.ram s mode va access)
-stages_in o r Kernel s mode va access is_open sound =
-    two_stages_under_view o.tables r.ram r.rules.ram_pages _ (protection_in r.approved r.held) View.Kernel is_open.views.kernel sound.size s mode va access
-stages_in o r User s mode va access is_open sound =
-    two_stages_under_view o.tables r.ram r.rules.ram_pages _ (protection_in r.approved r.held) View.User is_open.views.user sound.size s mode va access
+abbrev pub sight_of_hart : State → Hart → Sight
+sight_of_hart r hart = sight_by hart.mode (bound_entry r.rules hart.entry)
 
-pub same_mode : (mode : Mode) → (hregs_in mode).mode ≡ mode
-same_mode Kernel = refl
-same_mode User = refl
+get_mapped : (f : ℕ → ℕ) (list : List ℕ) (i : ℕ) → slice_get (map f list) i ≡ option_map f (slice_get list i)
+get_mapped f [] i = refl
+get_mapped f (x ∷ list) zero = refl
+get_mapped f (x ∷ list) (suc i) = get_mapped f list i
+
+binds_to : (va gpa : Option ℕ) (entry : Binding) → binding_of va gpa ≡ Some entry → gpa ≡ Some entry.gpa
+binds_to None gpa entry e = absurd (cc)
+binds_to (Some va) None entry e = absurd (cc)
+binds_to (Some va) (Some gpa) entry e = ap (option_map (λ (b : Binding). b.gpa)) e
+
+-- the page that the entry at a place is bound to
+pub bound_page : (rules : Rules) (i : ℕ) (entry : Binding) → binding_at rules i ≡ Some entry → sight_of (bound_pages rules) (View.Entry i) ≡ Some (OfEntry (page_of entry.gpa))
+unfolding binding_at
+bound_page rules i entry e =
+    ap (option_map OfEntry) (get_mapped page_of rules.bound i
+    ∙ ap (option_map page_of) (binds_to (slice_get rules.entries i) (slice_get rules.bound i) entry e))
+
+stages_in : (o : Unseen) (r : State) (root : Mode) (entry : Option ℕ) (s : Settings) (mode : Mode) (va : ℕ) (access : Access) → IsRightFor o r → IsSound r
+    → IsSoundEntry r.rules root entry
+    → two_stages (region_at o r) (hregs_in root entry).hgatp s mode va access ≡ under o r (sight_by root (bound_entry r.rules entry)) access (place r.ram s mode va access)
+unfolding bound_entry
+stages_in o r Kernel None s mode va access is_open sound known =
+    two_stages_under_view o.tables r.ram r.rules.ram_pages _ (protection_in r.approved r.held) OfKernel (is_open.views.each View.Kernel OfKernel refl) sound.size s mode va access
+stages_in o r Kernel (Some i) s mode va access is_open sound known =
+    rw known.1
+    (two_stages_under_view o.tables r.ram r.rules.ram_pages _ (protection_in r.approved r.held) (OfEntry (page_of known.0.gpa))
+    (is_open.views.each (View.Entry i) (OfEntry (page_of known.0.gpa)) (bound_page r.rules i known.0 known.1)) sound.size s mode va access)
+stages_in o r User entry s mode va access is_open sound known =
+    two_stages_under_view o.tables r.ram r.rules.ram_pages _ (protection_in r.approved r.held) OfUser (is_open.views.each View.User OfUser refl) sound.size s mode va access
+
+pub same_mode : (mode : Mode) (entry : Option ℕ) → (hregs_in mode entry).mode ≡ mode
+same_mode Kernel entry = refl
+same_mode User entry = refl
 
 pub translated_under : (o : Unseen) (r : State) (h : ℕ) (hart : Hart) (c : HypervisorRegisters) (access : Access) (va htinst : ℕ) → IsAt o r h hart c
     → translated (region_at o r) (core_at o c hart) access va htinst
-    ≡ place_or_exception access va htinst (under o r hart.mode access (place r.ram (settings_of hart.supervisor) hart.mode va access))
+    ≡ place_or_exception access va htinst (under o r (sight_of_hart r hart) access (place r.ram (settings_of hart.supervisor) hart.mode va access))
 unfolding translated
 translated_under o r h hart c access va htinst at =
-    ap (λ (m : Mode). place_or_exception access va htinst (two_stages (region_at o r) (hregs_in hart.mode).hgatp (settings_of hart.supervisor) m va access)) (same_mode hart.mode)
-    ∙ ap (place_or_exception access va htinst) (stages_in o r hart.mode (settings_of hart.supervisor) hart.mode va access at.right at.sound)
+    ap (λ (m : Mode). place_or_exception access va htinst (two_stages (region_at o r) (hregs_in hart.mode hart.entry).hgatp (settings_of hart.supervisor) m va access)) (same_mode hart.mode hart.entry)
+    ∙ ap (place_or_exception access va htinst) (stages_in o r hart.mode hart.entry (settings_of hart.supervisor) hart.mode va access at.right at.sound (at.sound.harts h hart at.found).entry)
 
 -- ---- aligned accesses stay in their page
 
@@ -71,34 +101,35 @@ access_in_ram r gpa va width sound whole same aligned =
 
 -- ---- what the views permit
 
-stores_by : (view : View) (a b : Bool) → view_permits view (protection_by a b) Access.Store ≡ not (a || b)
+stores_by : (sight : Sight) (page : ℕ) (a b : Bool) → view_permits sight page (protection_by a b) Access.Store ≡ not (a || b)
 unfolding protection_by
-stores_by View.Kernel true b = refl
-stores_by View.Kernel false true = refl
-stores_by View.Kernel false false = refl
-stores_by View.User true b = refl
-stores_by View.User false true = refl
-stores_by View.User false false = refl
+stores_by sight page true b = refl
+stores_by sight page false true = refl
+stores_by sight page false false = refl
 
-pub stores_permitted : (view : View) (r : State) (page : ℕ) → view_permits view (protection_in r.approved r.held page) Access.Store ≡ not (is_protected r page)
+pub stores_permitted : (sight : Sight) (r : State) (page : ℕ) → view_permits sight page (protection_in r.approved r.held page) Access.Store ≡ not (is_protected r page)
 unfolding protection_in is_protected
-stores_permitted view r page = stores_by view (is_approved_in r.approved page) (has_number r.held page)
+stores_permitted sight r page = stores_by sight page (is_approved_in r.approved page) (has_number r.held page)
 
--- kernel mode fetches where the page is approved, user mode elsewhere
-abbrev pub fetches : Mode → Bool → Bool
-fetches Kernel approved = approved
-fetches User approved = not approved
+-- kernel mode fetches where the page is approved, user mode elsewhere, and an entry from its own page if that is approved
+abbrev pub fetches : Sight → ℕ → Bool → Bool
+fetches OfKernel page approved = approved
+fetches OfUser page approved = not approved
+fetches (OfEntry bound) page approved = approved && page == bound
 
-fetches_by : (mode : Mode) (a b : Bool) → view_permits (view_in mode) (protection_by a b) Access.Fetch ≡ fetches mode a
+fetches_by : (sight : Sight) (page : ℕ) (a b : Bool) → view_permits sight page (protection_by a b) Access.Fetch ≡ fetches sight page a
 unfolding protection_by
-fetches_by Kernel true b = refl
-fetches_by Kernel false true = refl
-fetches_by Kernel false false = refl
-fetches_by User true b = refl
-fetches_by User false true = refl
-fetches_by User false false = refl
+fetches_by OfKernel page true b = refl
+fetches_by OfKernel page false true = refl
+fetches_by OfKernel page false false = refl
+fetches_by OfUser page true b = refl
+fetches_by OfUser page false true = refl
+fetches_by OfUser page false false = refl
+fetches_by (OfEntry bound) page true b = refl
+fetches_by (OfEntry bound) page false true = refl
+fetches_by (OfEntry bound) page false false = refl
 
-pub fetches_permitted : (mode : Mode) (r : State) (page : ℕ)
-    → view_permits (view_in mode) (protection_in r.approved r.held page) Access.Fetch ≡ fetches mode (is_approved_in r.approved page)
+pub fetches_permitted : (sight : Sight) (r : State) (page : ℕ)
+    → view_permits sight page (protection_in r.approved r.held page) Access.Fetch ≡ fetches sight page (is_approved_in r.approved page)
 unfolding protection_in
-fetches_permitted mode r page = fetches_by mode (is_approved_in r.approved page) (has_number r.held page)
+fetches_permitted sight r page = fetches_by sight page (is_approved_in r.approved page) (has_number r.held page)

@@ -178,7 +178,7 @@ none_at (suc n) (suc i) = none_at n i
 pub none_agrees : (tables : List ℕ) → CacheAgrees tables no_lines
 none_agrees tables = record { held = λ i line e. let none = none_at 256 i in absurd (cc) }
 
-pub none_under_views : UnderViews no_lines
+pub none_under_views : {bound : List ℕ} → UnderViews bound no_lines
 none_under_views = record { root = λ i line e. let none = none_at 256 i in absurd (cc) }
 
 pub none_placed : IsPlaced no_lines

@@ -17,7 +17,8 @@ use Rattle.sv_types.specs.declared.saved.SavedModule.{SavedModule}
 use Rattle.reference.specs.Calls.{mask_names}
 use Rattle.reference.specs.Devices.{lines_at}
 use Rattle.reference.specs.States.{Devices, Disk, Journal}
-use Rattle.machine_model.specs.Machine.{Machine, HostHart, HostLoad, update, forgets, after_attempt}
+use Rattle.machine_model.specs.HostHarts.{with_host, host_outside, asks_again}
+use Rattle.machine_model.specs.Machine.{Machine, HostHart, HostLoad, update, forgets, with_core, after_attempt}
 
 -- ---- counts and notes
 
@@ -144,6 +145,22 @@ attempted m h hart = attempt m.region hart.core (lines_at m.devices h)
 abbrev pub Attempts : Machine → ℕ → HostHart → Machine → Type 0
 Attempts m h hart after = AfterOutcome (attempted m h hart).outcome m h (attempted m h hart) after
 
+-- the machine that an attempt leaves to SecVisor
+abbrev pub left_by : Machine → ℕ → HostHart → Machine
+left_by m h hart = after_attempt m h (attempted m h hart)
+
+-- the same with the hart sent to attempt again: it has left its entry, and nothing else was changed
+abbrev pub sent_again : Machine → ℕ → HostHart → Machine
+sent_again m h hart = with_host (left_by m h hart) h host_outside
+
+abbrev pub hart_again : Machine → ℕ → HostHart → HostHart
+hart_again m h hart = host_outside (with_core (attempted m h hart).core hart)
+
+-- one attempt, or two. After the second none follows, since the hart is in no entry
+abbrev pub OneOrTwo : (again : Bool) → Machine → ℕ → HostHart → Machine → Type 0
+OneOrTwo false m h hart after = Attempts m h hart after
+OneOrTwo true m h hart after = Attempts (sent_again m h hart) h (hart_again m h hart) after
+
 -- the load under way is hart h's
 abbrev pub is_loading : Option HostLoad → ℕ → Bool
 is_loading None h = false
@@ -152,7 +169,7 @@ is_loading (Some load) h = load.hart == h
 -- a load of this hart goes on, by an answer alone, or else it makes an attempt
 abbrev pub StartedTurn : (loads : Bool) → Machine → ℕ → HostHart → Machine → Type 0
 StartedTurn true m h hart after = Answers m h after
-StartedTurn false m h hart after = Attempts m h hart after
+StartedTurn false m h hart after = OneOrTwo (asks_again m.region.ram m.rules hart (attempted m h hart).outcome) m h hart after
 
 abbrev pub HartTurn : (started : Bool) → Machine → ℕ → HostHart → Machine → Type 0
 HartTurn true m h hart after = StartedTurn (is_loading m.loading h) m h hart after

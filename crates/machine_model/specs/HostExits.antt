@@ -7,30 +7,34 @@ use Rattle.sv_types.specs.Policies.{Rules, ModuleRule}
 use Rattle.sv_types.specs.declared.module.Site.{Site}
 use Rattle.sv_types.specs.declared.wires.Exit.{Exit}
 use Rattle.sv_types.specs.declared.wires.Mode.{Mode}
-use Rattle.sv_types.specs.declared.wires.Protection.{Protection}
-use Rattle.sv_types.specs.declared.wires.Protection.TheVariants.{Free, Approved}
 use Rattle.sv_types.specs.declared.saved.SavedModule.{SavedModule}
-use Rattle.reference.specs.States.{with_module}
-use Rattle.reference.specs.Calls.{success}
-use Rattle.reference.specs.Counting.{counted, count_load}
-use Rattle.machine_model.specs.HostHarts.{served_fetch, served_access, served_trap}
-use Rattle.machine_model.specs.HostCalls.{served_call, host_answer_load, host_pages, with_protections}
+use Rattle.machine_model.specs.HostHarts.{with_host, host_outside, host_seen, host_trap, host_return, host_demote, host_write_stopped, host_device_load, host_device_store}
+use Rattle.machine_model.specs.Served.{exit_answer}
+use Rattle.machine_model.specs.declared.exits.ExitAnswer.{ExitAnswer}
+use Rattle.machine_model.specs.declared.exits.ExitAnswer.TheVariants.{Traps, Returns, Demotes, LeavesEntry, StopsAtWrite, LoadsDevice, StoresDevice, Calls}
+use Rattle.reference.specs.Devices.{device_load, device_store}
+use Rattle.machine_model.specs.HostCalls.{served_call, host_given}
 use Rattle.reference.specs.Loads.{module_bases}
 use Rattle.machine_model.specs.Machine.{Machine, HostHart, HostLoad}
-use Rattle.reference.specs.ModuleCalls.{refused_by_measure}
-use Rattle.reference.specs.Protections.{with_pages}
+use Rattle.reference.specs.ModuleCalls.{load_decision}
 use Rattle.reference.specs.Relocations.{masked, fields_right}
 
--- ---- exits
+-- ---- exits; `mode` is the one that the hart is in
+
+unfoldable pub host_exit_answered : Machine → ℕ → HostHart → Mode → ExitAnswer → Machine
+host_exit_answered m h host mode (Traps interrupt cause tval) = host_trap m h host mode interrupt cause tval
+host_exit_answered m h host mode Returns = host_return m h host
+host_exit_answered m h host mode (Demotes gpa) = host_demote m h host gpa
+host_exit_answered m h host mode LeavesEntry = with_host m h host_outside
+host_exit_answered m h host mode (StopsAtWrite gpa) = host_write_stopped m h host gpa
+host_exit_answered m h host mode (LoadsDevice rd address width signed gpa) =
+    host_device_load m h host mode rd address width signed (device_load m.devices gpa width)
+host_exit_answered m h host mode (StoresDevice address gpa width value) =
+    host_device_store m h host mode address (device_store m.devices m.journal gpa width value)
+host_exit_answered m h host mode Calls = served_call m h host
 
 unfoldable pub host_exit : Machine → ℕ → HostHart → Mode → Exit → Machine
-host_exit m h host mode exit =
-    if exit.interrupt then served_trap m h host mode exit
-    else if exit.cause == 10 then served_call m h host
-    else if exit.cause == 20 then served_fetch m h host mode exit
-    else if exit.cause == 21 then served_access m h host mode exit
-    else if exit.cause == 23 then served_access m h host mode exit
-    else served_trap m h host mode exit
+host_exit m h host mode exit = host_exit_answered m h host mode (exit_answer (host_seen m.region.ram m.rules host mode exit) exit)
 
 unfoldable pub served_by : Machine → ℕ → Exit → Option HostHart → Machine
 served_by m h exit None = m
@@ -46,26 +50,8 @@ unfoldable pub host_is_good : HostLoad → Option ModuleRule → Bool
 host_is_good load None = false
 host_is_good load (Some rule) = bytes_eq (joined_digests load.digests) rule.measure && load.right
 
--- the module's pages with a protection
-abbrev pub with_pages_of : Machine → SavedModule → Protection → Machine
-with_pages_of m about p = with_protections m (with_pages m.protections (page_of about.gpa) (host_pages m about) p)
-
--- the load ends, with the module's pages approved and the module loaded, or with its pages free again
-abbrev pub host_load_approved : Machine → ℕ → SavedModule → Machine
-host_load_approved m h about = host_answer_load
-    (record (with_pages_of m about Approved) {
-      loaded = with_module m.loaded about;
-      loading = None;
-      journal = counted count_load m.journal;
-    })
-    h about.id success
-
-abbrev pub host_load_released : Machine → ℕ → SavedModule → Machine
-host_load_released m h about = host_answer_load (record (with_pages_of m about Free) { loading = None }) h about.id refused_by_measure
-
 unfoldable pub host_decide : Machine → ℕ → HostLoad → Machine
-host_decide m h load =
-    if host_is_good load (slice_get m.rules.modules load.about.id) then host_load_approved m h load.about else host_load_released m h load.about
+host_decide m h load = host_given m h (load_decision (host_is_good load (slice_get m.rules.modules load.about.id)) load.about)
 
 -- ---- a page turn
 

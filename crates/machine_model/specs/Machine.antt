@@ -1,6 +1,6 @@
 -- The machine that runs the guest, as plain data: a region of host memory, harts with the hypervisor extension, and what
 -- SecVisor records. This project's own.
-use Rattle.std.specs.Prelude.{ℕ, zero, suc, ◌+◌, Bool, true, List, [], ◌∷◌, map, slice_set, Option, Some, None}
+use Rattle.std.specs.Prelude.{ℕ, zero, suc, ◌+◌, Bool, List, [], ◌∷◌, map, Option, Some, None}
 use Rattle.sv_types.specs.Hardware.{Core, Attempted}
 use Rattle.sv_types.specs.Policies.{Rules}
 use Rattle.sv_types.specs.Regions.{Region}
@@ -13,10 +13,11 @@ use Rattle.sv_types.specs.declared.saved.SavedModule.{SavedModule}
 use Rattle.reference.specs.States.{Devices, Journal}
 use Rattle.reference.specs.Counting.{counted, count_retired, count_trap}
 
--- a hart of the hardware
+-- a hart of the hardware, and what SecVisor keeps of it: whether it is started, and the entry that it is in
 pub record HostHart : Type 0 where
   pub core : Core
   pub started : Bool
+  pub entry : Option ℕ
 
 -- a load under way: the page turns that are left, the digests of the pages that were counted, and whether their fields
 -- are right
@@ -67,14 +68,14 @@ all_forget (Outcome.Retired None) harts = harts
 all_forget Outcome.GuestTrap harts = harts
 all_forget (Outcome.Exit exit) harts = harts
 
-abbrev pub running : Core → HostHart
-running core = record { core = core; started = true }
+abbrev pub with_core : Core → HostHart → HostHart
+with_core core host = record host { core = core }
 
 -- the machine after an attempt of hart h
 abbrev pub after_attempt : Machine → ℕ → Attempted → Machine
 after_attempt m h a = record m {
   region = a.region;
-  harts = all_forget a.outcome (slice_set m.harts h (running a.core));
+  harts = all_forget a.outcome (update m.harts h (with_core a.core));
   attempts = m.attempts + 1;
 }
 

@@ -1,7 +1,9 @@
--- What SecVisor makes of an exit. RISC-V Privileged manual, H extension, "Trap Cause Codes" and "Transformed Instruction or
--- Pseudoinstruction for mtinst or htinst", for what an exit tells; the answers are this project's own.
-use Rattle.std.specs.Prelude.{ℕ, ◌+◌, ◌-◌, ◌*◌, ◌%◌, Bool, true, false, ◌==◌, if◌then◌else◌, Option, Some, option_map}
+-- What an exit is answered, by what it tells and by the hart's mode, and what such an answer makes of a state. RISC-V Privileged
+-- manual, H extension, "Trap Cause Codes" and "Transformed Instruction or Pseudoinstruction for mtinst or htinst", for what an
+-- exit tells; the answers are this project's own.
+use Rattle.std.specs.Prelude.{ℕ, ◌+◌, ◌-◌, ◌*◌, ◌%◌, Bool, true, false, not, ◌&&◌, ◌||◌, List, ◌==◌, if◌then◌else◌, Option, Some, None, option_map}
 use Rattle.sv_types.specs.Bytes.{in_ram}
+use Rattle.sv_types.specs.Causes.{cause_number}
 use Rattle.sv_types.specs.Effects.{effect_of}
 use Rattle.sv_types.specs.Instructions.{instruction_of}
 use Rattle.sv_types.specs.HardwareMemory.{implicit_read}
@@ -11,12 +13,14 @@ use Rattle.sv_types.specs.declared.instruction.Instr.{Instr}
 use Rattle.sv_types.specs.declared.wires.Exit.{Exit}
 use Rattle.sv_types.specs.declared.wires.Mode.{Mode}
 use Rattle.sv_types.specs.declared.wires.Mode.TheVariants.{Kernel, User}
-use Rattle.reference.specs.States.{State, Hart}
+use Rattle.reference.specs.States.{State, Hart, Binding}
 use Rattle.reference.specs.Devices.{device_load, device_store}
-use Rattle.reference.specs.Trapping.{trap_from, exception, returned_from_trap}
+use Rattle.reference.specs.Trapping.{trap_from, returned_from_trap}
 use Rattle.reference.specs.Requests.{carry_out_device_load, carry_out_device_store, write_stopped}
-use Rattle.reference.specs.ModuleCalls.{call}
-use Rattle.reference.specs.Turn.{demote, illegal_instruction}
+use Rattle.reference.specs.Answers.{call}
+use Rattle.reference.specs.Turn.{demote, bound_entry, leave_entry, turn}
+use Rattle.machine_model.specs.declared.exits.ExitAnswer.{ExitAnswer}
+use Rattle.machine_model.specs.declared.exits.ExitAnswer.TheVariants.{Traps, Returns, Demotes, LeavesEntry, StopsAtWrite, LoadsDevice, StoresDevice, Calls}
 
 -- ---- what an exit tells
 
@@ -29,41 +33,39 @@ abbrev pub exit_gpa : Exit → ℕ
 exit_gpa exit = 4 * exit.htval + (if is_implicit exit then 0 else exit.stval % 4)
 
 -- the effect of the transformed instruction, of which the address doesn't count
-unfoldable pub transformed : ℕ → Hart → Option Effect
-transformed htinst hart = option_map (λ instr. effect_of instr hart.registers hart.pc) (instruction_of htinst)
+unfoldable pub transformed : (htinst : ℕ) → (registers : List ℕ) → (pc : ℕ) → Option Effect
+transformed htinst registers pc = option_map (λ instr. effect_of instr registers pc) (instruction_of htinst)
 
 -- ---- the fetch
 
+abbrev pub raises : Cause → (tval : ℕ) → ExitAnswer
+raises cause tval = Traps false (cause_number cause) tval
+
 -- kernel mode leaves for user mode where the page isn't approved
-unfoldable pub serve_fetch : State → ℕ → Hart → Mode → Exit → State
-serve_fetch r h hart User exit = exception r h hart Cause.InstrAccess exit.stval
-serve_fetch r h hart Kernel exit =
-    if is_implicit exit then exception r h hart Cause.InstrAccess exit.stval
-    else if in_ram r.ram (exit_gpa exit) 4 then demote r h hart (exit_gpa exit)
-    else exception r h hart Cause.InstrAccess exit.stval
+unfoldable pub fetch_answer : List ℕ → Mode → Exit → ExitAnswer
+fetch_answer ram User exit = raises Cause.InstrAccess exit.stval
+fetch_answer ram Kernel exit =
+    if is_implicit exit then raises Cause.InstrAccess exit.stval
+    else if in_ram ram (exit_gpa exit) 4 then Demotes (exit_gpa exit)
+    else raises Cause.InstrAccess exit.stval
 
 -- ---- accesses
 
 -- plain loads and stores reach device registers
-unfoldable pub serve_load : State → ℕ → Hart → Exit → Option Effect → State
-serve_load r h hart exit (Some (Effect.Load rd address width signed)) =
-    carry_out_device_load r h hart rd exit.stval width signed (device_load r.devices (exit_gpa exit) width)
-serve_load r h hart exit _ = exception r h hart Cause.LoadAccess exit.stval
+unfoldable pub load_answer : Exit → Option Effect → ExitAnswer
+load_answer exit (Some (Effect.Load rd address width signed)) = LoadsDevice rd exit.stval width signed (exit_gpa exit)
+load_answer exit _ = raises Cause.LoadAccess exit.stval
 
-unfoldable pub serve_store : State → ℕ → Hart → Exit → Option Effect → State
-serve_store r h hart exit (Some (Effect.Store address width value)) =
-    carry_out_device_store r h hart exit.stval (device_store r.devices r.journal (exit_gpa exit) width value)
-serve_store r h hart exit _ = exception r h hart Cause.StoreAccess exit.stval
+unfoldable pub store_answer : Exit → Option Effect → ExitAnswer
+store_answer exit (Some (Effect.Store address width value)) = StoresDevice exit.stval (exit_gpa exit) width value
+store_answer exit _ = raises Cause.StoreAccess exit.stval
 
 -- a page of RAM that refuses a store is protected
-unfoldable pub serve_write : State → ℕ → Hart → Exit → State
-serve_write r h hart exit =
-    if is_implicit exit then exception r h hart Cause.StoreAccess exit.stval
-    else if in_ram r.ram (exit_gpa exit) 1 then write_stopped r h hart (exit_gpa exit)
-    else serve_store r h hart exit (transformed exit.htinst hart)
-
-unfoldable pub serve_access : State → ℕ → Hart → Exit → State
-serve_access r h hart exit = if exit.cause == 21 then serve_load r h hart exit (transformed exit.htinst hart) else serve_write r h hart exit
+unfoldable pub write_answer : List ℕ → Exit → Option Effect → ExitAnswer
+write_answer ram exit effect =
+    if is_implicit exit then raises Cause.StoreAccess exit.stval
+    else if in_ram ram (exit_gpa exit) 1 then StopsAtWrite (exit_gpa exit)
+    else store_answer exit effect
 
 -- ---- traps
 
@@ -76,24 +78,88 @@ abbrev pub is_sret_word : ℕ → Bool
 is_sret_word w = is_sret (instruction_of w)
 
 -- SRET in kernel mode is an instruction that the hardware leaves to SecVisor
-unfoldable pub serve_virtual : State → ℕ → Hart → Mode → Exit → State
-serve_virtual r h hart Kernel exit = if is_sret_word exit.stval then returned_from_trap r h hart else illegal_instruction r h hart exit.stval
-serve_virtual r h hart User exit = illegal_instruction r h hart exit.stval
+unfoldable pub virtual_answer : Mode → Exit → ExitAnswer
+virtual_answer Kernel exit = if is_sret_word exit.stval then Returns else raises Cause.Illegal exit.stval
+virtual_answer User exit = raises Cause.Illegal exit.stval
 
--- an interrupt stands one place higher than the guest's
-unfoldable pub serve_trap : State → ℕ → Hart → Exit → State
-serve_trap r h hart exit =
-    if exit.interrupt then trap_from r h hart hart.mode true (exit.cause - 1) 0
-    else if exit.cause == 22 then serve_virtual r h hart hart.mode exit
-    else trap_from r h hart hart.mode false exit.cause exit.stval
+-- ---- what an answer depends on
+
+pub record Seen : Type 0 where
+  pub ram : List ℕ
+  pub mode : Mode
+  pub pc : ℕ
+  -- the entry that the hart is in
+  pub entry : Option Binding
+  -- of the exit's transformed instruction
+  pub effect : Option Effect
+
+abbrev pub seen_of : State → Hart → Exit → Seen
+seen_of r hart exit = record {
+  ram = r.ram;
+  mode = hart.mode;
+  pc = hart.pc;
+  entry = bound_entry r.rules hart.entry;
+  effect = transformed exit.htinst hart.registers hart.pc;
+}
+
+-- ---- outside of an entry; an interrupt stands one place higher than the guest's
+
+unfoldable pub plain_answer : Seen → Exit → ExitAnswer
+plain_answer seen exit =
+    if exit.interrupt then Traps true (exit.cause - 1) 0
+    else if exit.cause == 10 then Calls
+    else if exit.cause == 20 then fetch_answer seen.ram seen.mode exit
+    else if exit.cause == 21 then load_answer exit seen.effect
+    else if exit.cause == 22 then virtual_answer seen.mode exit
+    else if exit.cause == 23 then write_answer seen.ram exit seen.effect
+    else Traps false exit.cause exit.stval
+
+-- ---- the fetch in an entry
+
+-- a fetch faulted in the first stage, or in the second
+abbrev pub is_fetch_exit : Exit → Bool
+is_fetch_exit exit = not exit.interrupt && (exit.cause == 12 || exit.cause == 20)
+
+-- the address in RAM that a refused fetch led to, 0 where it led to none
+unfoldable pub exit_ram_gpa : List ℕ → Exit → ℕ
+exit_ram_gpa ram exit =
+    if exit.cause == 12 then 0
+    else if is_implicit exit then 0
+    else if in_ram ram (exit_gpa exit) 4 then exit_gpa exit
+    else 0
+
+-- at the entry's address the hart is demoted. At any other it leaves the entry, and attempts the same turn again
+unfoldable pub entry_answer : Seen → (va : ℕ) → Exit → ExitAnswer
+entry_answer seen va exit = if seen.pc == va then Demotes (exit_ram_gpa seen.ram exit) else LeavesEntry
 
 -- ---- all exits
 
+unfoldable pub answer_in : Seen → Exit → Option Binding → ExitAnswer
+answer_in seen exit None = plain_answer seen exit
+answer_in seen exit (Some entry) = if is_fetch_exit exit then entry_answer seen entry.va exit else plain_answer seen exit
+
+unfoldable pub exit_answer : Seen → Exit → ExitAnswer
+exit_answer seen exit = answer_in seen exit seen.entry
+
+-- it asks for a second attempt
+unfoldable pub is_again : ExitAnswer → Bool
+is_again LeavesEntry = true
+is_again _ = false
+
+-- ---- what an answer makes of a state
+
+-- with the entry left, the turn is that of the state where it was left before
+unfoldable pub exit_answered : State → ℕ → Hart → ExitAnswer → State
+exit_answered r h hart (Traps interrupt cause tval) = trap_from r h hart hart.mode interrupt cause tval
+exit_answered r h hart Returns = returned_from_trap r h hart
+exit_answered r h hart (Demotes gpa) = demote r h hart gpa
+exit_answered r h hart LeavesEntry = turn (leave_entry r h hart) h
+exit_answered r h hart (StopsAtWrite gpa) = write_stopped r h hart gpa
+exit_answered r h hart (LoadsDevice rd address width signed gpa) =
+    carry_out_device_load r h hart rd address width signed (device_load r.devices gpa width)
+exit_answered r h hart (StoresDevice address gpa width value) =
+    carry_out_device_store r h hart address (device_store r.devices r.journal gpa width value)
+exit_answered r h hart Calls = call r h hart
+
 unfoldable pub serve_exit : State → ℕ → Hart → Exit → State
-serve_exit r h hart exit =
-    if exit.interrupt then serve_trap r h hart exit
-    else if exit.cause == 10 then call r h hart
-    else if exit.cause == 20 then serve_fetch r h hart hart.mode exit
-    else if exit.cause == 21 then serve_access r h hart exit
-    else if exit.cause == 23 then serve_access r h hart exit
-    else serve_trap r h hart exit
+serve_exit r h hart exit = exit_answered r h hart (exit_answer (seen_of r hart exit) exit)

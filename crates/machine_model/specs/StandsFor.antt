@@ -1,7 +1,7 @@
 -- When a machine stands for a state of the reference machine: it is what the state makes of the parts that it leaves free.
 -- This project's own.
 use Rattle.std.specs.Prelude.{◌≡◌, ℕ, ◌+◌, ◌-◌, ◌*◌, ◌≤◌, Bool, true, List, [], ◌∷◌, map, filter, length, drop, nat_lt, Option, Some, None, option_map, slice_get}
-use Rattle.sv_types.specs.Bytes.{page_size}
+use Rattle.sv_types.specs.Bytes.{page_size, page_of}
 use Rattle.sv_types.specs.GuestView.{with_guest, hideleg_in}
 use Rattle.sv_types.specs.Hardware.{Core}
 use Rattle.sv_types.specs.HypervisorRegisters.{HypervisorRegisters}
@@ -14,6 +14,7 @@ use Rattle.sv_types.specs.declared.wires.HRegs.{HRegs}
 use Rattle.sv_types.specs.declared.wires.Mode.{Mode}
 use Rattle.sv_types.specs.declared.wires.Mode.TheVariants.{Kernel, User}
 use Rattle.sv_types.specs.declared.wires.Protection.{Protection}
+use Rattle.sv_types.specs.declared.wires.View.{View as Root}
 use Rattle.sv_types.specs.declared.wires.View.TheVariants as View
 use Rattle.sv_types.specs.declared.saved.SavedModule.{SavedModule}
 use Rattle.reference.specs.States.{State, Hart, Journal, Loading, protection_in}
@@ -25,11 +26,22 @@ use Rattle.reference.specs.Relocations.{masked, fields_right}
 
 -- ---- a hart, as the hardware has it
 
--- kernel mode runs under the kernel's view with what it takes itself delegated; user mode under the user's, with nothing
--- delegated; and no SRET is carried out in either
-abbrev pub hregs_in : Mode → HRegs
-hregs_in Kernel = record { mode = Kernel; hgatp = view_hgatp View.Kernel; hedeleg = 0xB1FF; hideleg = hideleg_in Kernel; vtsr = true }
-hregs_in User = record { mode = User; hgatp = view_hgatp View.User; hedeleg = 0; hideleg = hideleg_in User; vtsr = true }
+-- the kernel's view, or in an entry that entry's
+abbrev pub kernel_view : (entry : Option ℕ) → Root
+kernel_view None = View.Kernel
+kernel_view (Some i) = View.Entry i
+
+-- the exceptions that kernel mode takes itself; in an entry all of these but the page fault of a fetch
+abbrev pub kernel_hedeleg : (entry : Option ℕ) → ℕ
+kernel_hedeleg None = 0xB1FF
+kernel_hedeleg (Some i) = 0xA1FF
+
+-- kernel mode runs under the kernel's view or an entry's with what it takes itself delegated; user mode under the user's, with
+-- nothing delegated; and no SRET is carried out in either
+abbrev pub hregs_in : Mode → (entry : Option ℕ) → HRegs
+hregs_in Kernel entry =
+    record { mode = Kernel; hgatp = view_hgatp (kernel_view entry); hedeleg = kernel_hedeleg entry; hideleg = hideleg_in Kernel; vtsr = true }
+hregs_in User entry = record { mode = User; hgatp = view_hgatp View.User; hedeleg = 0; hideleg = hideleg_in User; vtsr = true }
 
 -- RAM lies behind so many bytes of tables
 abbrev pub host_reservation : ℕ → Option ℕ → Option ℕ
@@ -41,12 +53,12 @@ host_core tables exits hart = record {
   registers = hart.registers;
   pc = hart.pc;
   csrs = with_guest exits hart.supervisor;
-  hregs = hregs_in hart.mode;
+  hregs = hregs_in hart.mode hart.entry;
   reservation = host_reservation tables hart.reservation;
 }
 
 abbrev pub host_hart : ℕ → HypervisorRegisters → Hart → HostHart
-host_hart tables exits hart = record { core = host_core tables exits hart; started = hart.started }
+host_hart tables exits hart = record { core = host_core tables exits hart; started = hart.started; entry = hart.entry }
 
 unfoldable pub host_harts : ℕ → List HypervisorRegisters → List Hart → List HostHart
 host_harts tables [] harts = []
@@ -111,9 +123,13 @@ machine_of o r = record {
   attempts = o.attempts;
 }
 
+-- the pages that entries are bound to
+abbrev pub bound_pages : Rules → List ℕ
+bound_pages rules = map page_of rules.bound
+
 -- the unseen parts go with the state
 pub record IsRightFor (o : Unseen) (r : State) : Type 0 where
-  pub views : AreViews o.tables r.rules.ram_pages (protection_in r.approved r.held)
+  pub views : AreViews o.tables r.rules.ram_pages (bound_pages r.rules) (protection_in r.approved r.held)
   pub region : IsRegion (with_ram o.tables r.ram)
   pub exits : length o.exits ≡ length r.harts
   pub cleared : o.cleared ≤ length r.journal.printed

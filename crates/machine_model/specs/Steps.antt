@@ -9,15 +9,17 @@ use Rattle.sv_types.specs.declared.event.Verdict.TheVariants.{Running, Shutdown,
 use Rattle.sv_types.specs.declared.outcome.Outcome.{Outcome}
 use Rattle.reference.specs.Counting.{count_turn}
 use Rattle.reference.specs.Protections.{protection_at}
-use Rattle.machine_model.specs.Machine.{Machine, HostHart, raised, after_attempt, after_quiet_attempt}
-use Rattle.machine_model.specs.HardwareEvent.{attempted, is_loading}
+use Rattle.machine_model.specs.Machine.{Machine, HostHart, raised, after_quiet_attempt}
+use Rattle.machine_model.specs.HardwareEvent.{attempted, is_loading, left_by, hart_again, sent_again}
+use Rattle.machine_model.specs.HostHarts.{asks_again}
 use Rattle.machine_model.specs.HostExits.{served_exit, served_load_turn, with_tables}
+use Rattle.machine_model.specs.StandsFor.{bound_pages}
 use Rattle.machine_model.specs.HostEvents.{event_served}
 
 -- as many bytes of tables as before hold both views of the protections after an answer
 pub record AreTables (before after : Machine) (tables : List ℕ) : Type 0 where
   pub size : length tables ≡ length before.region.tables
-  pub views : AreViews tables before.rules.ram_pages (protection_at after.protections)
+  pub views : AreViews tables before.rules.ram_pages (bound_pages before.rules) (protection_at after.protections)
 
 -- the machine that an answer's function gives, with tables for its protections, whichever these are
 pub record WithTables (before served after : Machine) : Type 0 where
@@ -27,20 +29,25 @@ pub record WithTables (before served after : Machine) : Type 0 where
 
 -- ---- turns, the count of turns raised already
 
--- the machine that an attempt leaves to SecVisor
-abbrev pub left_by : Machine → ℕ → HostHart → Machine
-left_by m h host = after_attempt m h (attempted m h host)
-
 -- without an exit the attempt is all, and with one SecVisor answers
 abbrev pub OutcomeServed : Outcome → Machine → ℕ → HostHart → Machine → Type 0
 OutcomeServed (Outcome.Retired wrote) m h host after = after ≡ after_quiet_attempt m h (attempted m h host)
 OutcomeServed Outcome.GuestTrap m h host after = after ≡ after_quiet_attempt m h (attempted m h host)
 OutcomeServed (Outcome.Exit exit) m h host after = WithTables (left_by m h host) (served_exit (left_by m h host) h exit) after
 
+-- one attempt
+abbrev pub AttemptServed : Machine → ℕ → HostHart → Machine → Type 0
+AttemptServed m h host after = OutcomeServed (attempted m h host).outcome m h host after
+
+-- one attempt, or two, where SecVisor asks for a second one: the hart has left its entry then, so it asks no more
+abbrev pub AttemptsServed : (again : Bool) → Machine → ℕ → HostHart → Machine → Type 0
+AttemptsServed false m h host after = AttemptServed m h host after
+AttemptsServed true m h host after = AttemptServed (sent_again m h host) h (hart_again m h host) after
+
 -- a load of this hart goes on without an attempt
 abbrev pub StartedServed : (loads : Bool) → Machine → ℕ → HostHart → Machine → Type 0
 StartedServed true m h host after = WithTables m (served_load_turn m h) after
-StartedServed false m h host after = OutcomeServed (attempted m h host).outcome m h host after
+StartedServed false m h host after = AttemptsServed (asks_again m.region.ram m.rules host (attempted m h host).outcome) m h host after
 
 abbrev pub HartServed : (started : Bool) → Machine → ℕ → HostHart → Machine → Type 0
 HartServed true m h host after = StartedServed (is_loading m.loading h) m h host after

@@ -4,6 +4,10 @@
 
 ghost use Rattle.machine_model.specs.Frame.{FrameLaw};
 
+mod exits;
+
+pub use exits::ExitAnswer;
+
 /// No answer of SecVisor's changes guest RAM, the size of the tables, the policy, time, what was printed, or the counts of
 /// printed bytes that were taken away and of attempts.
 pub fn law_frame()

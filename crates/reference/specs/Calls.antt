@@ -1,19 +1,23 @@
--- Calls from kernel mode. Each call has one line.
+-- Calls from kernel mode, but for those about modules. Each call has one line, which says its answer.
 -- RISC-V SBI, "Base Extension", "Legacy Extensions", "Timer Extension", "IPI Extension", "RFENCE Extension",
 -- "Hart State Management Extension", "System Reset Extension". The extension 08534543 is this project's own.
-use Rattle.std.specs.Prelude.{ℕ, ◌+◌, ◌-◌, ◌^◌, Bool, true, false, not, ◌&&◌, ◌||◌, List, [], ◌∷◌, length, replicate, slice_index, ◌==◌, if◌then◌else◌, nat_le, nat_lt, Option, Some, None, slice_get, ℤ, pos, negsuc}
+use Rattle.std.specs.Prelude.{ℕ, ◌+◌, ◌-◌, ◌^◌, Bool, true, false, not, ◌&&◌, ◌||◌, List, [], ◌∷◌, map, length, replicate, slice_index, ◌==◌, if◌then◌else◌, nat_le, nat_lt, Option, Some, None, slice_get, is_some, ℤ, pos, negsuc}
 use Rattle.std.specs.Int.{w64, cast_unsigned}
 use Rattle.std.specs.List.{list_all}
 use Rattle.sv_types.specs.Bits.{bit}
-use Rattle.sv_types.specs.Clock.{with_timer, latest}
-use Rattle.sv_types.specs.Console.{console_line, without_first}
-use Rattle.sv_types.specs.Effects.{register, set_register, next_pc}
+use Rattle.sv_types.specs.Console.{console_line}
+use Rattle.sv_types.specs.Effects.{register, set_register}
 use Rattle.sv_types.specs.ApprovedPages.{numbers_from}
+use Rattle.sv_types.specs.Policies.{Rules}
 use Rattle.sv_types.specs.Registers.{Supervisor}
+use Rattle.sv_types.specs.declared.saved.SavedModule.{SavedModule}
 use Rattle.sv_types.specs.declared.wires.Mode.TheVariants.{Kernel}
-use Rattle.sv_types.specs.declared.event.Verdict.TheVariants.{Shutdown}
-use Rattle.reference.specs.States.{State, Hart, has_number, without_reservation, with_hart, with_journal}
-use Rattle.reference.specs.Counting.{printed_low, machine_ended}
+use Rattle.reference.specs.States.{State, Hart, has_number, is_protected}
+use Rattle.reference.specs.declared.answers.Answer.{Answer}
+use Rattle.reference.specs.declared.answers.Beside.TheVariants.{Nothing, SetsTimer, Prints, TakesInput, ShutsDown, SendsInterrupts, StartsHart}
+use Rattle.reference.specs.declared.answers.Extension.{Extension}
+use Rattle.reference.specs.declared.answers.Reply.{Reply}
+use Rattle.reference.specs.declared.answers.Reply.TheVariants.{Gives, Replies, Stays, Stops}
 
 -- ---- codes
 
@@ -38,9 +42,8 @@ already = negsuc 5
 abbrev pub code_word : ℤ → ℕ
 code_word code = cast_unsigned w64 code
 
--- ---- answers: a7 is register 17, a6 register 16, a0 to a3 are registers 10 to 13
+-- ---- what a call asks: a7 is register 17, a6 register 16, a0 to a3 are registers 10 to 13
 
--- what a call asks
 pub record Asked : Type 0 where
   pub extension : ℕ
   pub function : ℕ
@@ -59,31 +62,143 @@ asked_by registers = record {
   a3 = register registers 13;
 }
 
--- the hart goes on after its call, with a0 set, or a0 and a1
-abbrev pub with_a0 : Hart → ℕ → Hart
-with_a0 hart a0 = record hart { registers = set_register hart.registers 10 a0; pc = next_pc hart.pc; reservation = None }
+-- what an answer depends on beside
+pub record Facts : Type 0 where
+  pub rules : Rules
+  -- of each hart, whether it is started
+  pub started : List Bool
+  -- input that waits
+  pub input : List ℕ
+  pub ram : List ℕ
+  -- of a page, whether it is approved or held
+  pub protected : ℕ → Bool
+  -- a load is under way
+  pub loads : Bool
+  pub loaded : List SavedModule
+  pub retired : Bool
 
-abbrev pub with_answer : Hart → ℕ → ℕ → Hart
-with_answer hart a0 a1 = record hart {
-  registers = set_register (set_register hart.registers 10 a0) 11 a1;
-  pc = next_pc hart.pc;
-  reservation = None;
+abbrev pub facts_of : State → Facts
+facts_of r = record {
+  rules = r.rules;
+  started = map (λ (hart : Hart). hart.started) r.harts;
+  input = r.devices.console;
+  ram = r.ram;
+  protected = is_protected r;
+  loads = is_some r.loading;
+  loaded = r.loaded;
+  retired = r.retired;
 }
 
-abbrev pub answer_code : State → ℕ → Hart → ℤ → State
-answer_code r h hart code = with_hart r h (with_answer hart (code_word code) 0)
+-- ---- answers
 
-abbrev pub answer_value : State → ℕ → Hart → ℕ → State
-answer_value r h hart value = with_hart r h (with_answer hart 0 value)
+abbrev pub code : ℤ → Reply
+code number = Replies (code_word number) 0
 
--- the hart stays at its call
-abbrev pub stay : State → ℕ → Hart → State
-stay r h hart = with_hart r h (without_reservation hart)
+abbrev pub value : ℕ → Reply
+value number = Replies 0 number
 
-abbrev pub refuse : State → ℕ → Hart → State
-refuse r h hart = answer_code r h hart not_supported
+abbrev pub refused : Reply
+refused = code not_supported
 
--- ---- harts
+abbrev pub plain : Reply → Answer
+plain reply = record { reply = reply; beside = Nothing }
+
+-- ---- legacy calls, which set a0 alone
+
+abbrev pub set_timer : ℕ → Answer
+set_timer at = record { reply = Gives 0; beside = SetsTimer at }
+
+abbrev pub put_char : ℕ → Answer
+put_char byte = record { reply = Gives 0; beside = Prints byte }
+
+abbrev pub first_input : List ℕ → ℕ
+first_input queue = if console_line queue then slice_index queue 0 else code_word no_input
+
+abbrev pub get_char : Facts → Answer
+get_char f = record { reply = Gives (first_input f.input); beside = TakesInput }
+
+abbrev pub shut_down : Answer
+shut_down = record { reply = Stays; beside = ShutsDown }
+
+-- ---- base, timer, IPI, remote fences
+
+abbrev pub modules_number : ℕ
+modules_number = 0x08534543
+
+unfoldable pub extension_of : ℕ → Option Extension
+extension_of number =
+    if number == 0 then Some Extension.SetTimer
+    else if number == 1 then Some Extension.PutChar
+    else if number == 2 then Some Extension.GetChar
+    else if number == 8 then Some Extension.ShutDown
+    else if number == 0x10 then Some Extension.Base
+    else if number == 0x54494D45 then Some Extension.Timer
+    else if number == 0x735049 then Some Extension.Interrupt
+    else if number == 0x52464E43 then Some Extension.Fence
+    else if number == 0x48534D then Some Extension.HartState
+    else if number == 0x53525354 then Some Extension.Reset
+    else if number == modules_number then Some Extension.Modules
+    else None
+
+unfoldable pub base_call : Asked → Reply
+base_call ask =
+    if ask.function == 0 then value 0x01000000
+    else if ask.function == 1 then value 0x00534543
+    else if ask.function == 2 then value 1
+    else if ask.function == 3 then value (if is_some (extension_of ask.a0) then 1 else 0)
+    else if nat_le ask.function 6 then value 0
+    else refused
+
+unfoldable pub timer_call : Asked → Answer
+timer_call ask = if ask.function == 0 then record { reply = code success; beside = SetsTimer ask.a0 } else plain refused
+
+abbrev pub all_harts : ℕ
+all_harts = 2 ^ 64 - 1
+
+-- each hart that is named exists
+unfoldable pub mask_exists : (harts mask base : ℕ) → Bool
+mask_exists harts mask base = base == all_harts || list_all (λ i. not (bit mask i) || nat_lt (base + i) harts) (numbers_from 0 64)
+
+unfoldable pub ipi_call : Facts → Asked → Answer
+ipi_call f ask =
+    if not (ask.function == 0) then plain refused
+    else if mask_exists (length f.started) ask.a0 ask.a1 then record { reply = code success; beside = SendsInterrupts ask.a0 ask.a1 }
+    else plain (code invalid_parameter)
+
+unfoldable pub fence_call : Facts → Asked → Reply
+fence_call f ask =
+    if not (nat_le ask.function 2) then refused
+    else if mask_exists (length f.started) ask.a0 ask.a1 then code success
+    else code invalid_parameter
+
+-- ---- hart state and reset
+
+-- another hart begins, at a permitted entry
+unfoldable pub start_other : Facts → Asked → Option Bool → Answer
+start_other f ask None = plain (code invalid_parameter)
+start_other f ask (Some true) = plain (code already)
+start_other f ask (Some false) =
+    if has_number f.rules.entries ask.a1 then record { reply = code success; beside = StartsHart ask.a0 ask.a1 ask.a2 } else plain (code invalid_address)
+
+abbrev pub status_of_hart : Option Bool → Reply
+status_of_hart None = code invalid_parameter
+status_of_hart (Some started) = value (if started then 0 else 1)
+
+unfoldable pub hart_call : Facts → Asked → Answer
+hart_call f ask =
+    if ask.function == 0 then start_other f ask (slice_get f.started ask.a0)
+    else if ask.function == 1 then plain Stops
+    else if ask.function == 2 then plain (status_of_hart (slice_get f.started ask.a0))
+    else plain refused
+
+unfoldable pub reset_call : Asked → Answer
+reset_call ask =
+    if not (ask.function == 0) then plain refused
+    else if ask.a0 == 0 then shut_down
+    else if nat_le ask.a0 2 then plain refused
+    else plain (code invalid_parameter)
+
+-- ---- harts that begin
 
 abbrev pub supervisor_at_boot : Supervisor
 supervisor_at_boot = record { sstatus = 0; sie = 0; stvec = 0; scounteren = 0; sscratch = 0; sepc = 0; scause = 0; stval = 0; software = false; satp = 0 }
@@ -100,6 +215,7 @@ hart_at pc registers = record {
   registers = registers;
   supervisor = supervisor_at_boot;
   reservation = None;
+  entry = None;
 }
 
 unfoldable pub stopped_hart : Hart
@@ -109,18 +225,11 @@ stopped_hart = record (hart_at 0 registers_at_boot) { started = false }
 abbrev pub started_hart : (h pc opaque : ℕ) → Hart
 started_hart h pc opaque = hart_at pc (set_register (set_register registers_at_boot 10 h) 11 opaque)
 
--- ---- masks of harts
-
-abbrev pub all_harts : ℕ
-all_harts = 2 ^ 64 - 1
+-- ---- harts that are interrupted
 
 -- hart base + i for each bit i, or all of them
 unfoldable pub mask_names : (mask base h : ℕ) → Bool
 mask_names mask base h = base == all_harts || (nat_le base h && (nat_lt (h - base) 64 && bit mask (h - base)))
-
--- each hart that is named exists
-unfoldable pub mask_exists : (harts mask base : ℕ) → Bool
-mask_exists harts mask base = base == all_harts || list_all (λ i. not (bit mask i) || nat_lt (base + i) harts) (numbers_from 0 64)
 
 abbrev pub with_software : Hart → Hart
 with_software hart = record hart { supervisor = record hart.supervisor { software = true } }
@@ -129,91 +238,3 @@ with_software hart = record hart { supervisor = record hart.supervisor { softwar
 unfoldable pub interrupted : (ℕ → Bool) → ℕ → List Hart → List Hart
 interrupted named first [] = []
 interrupted named first (hart ∷ harts) = (if named first then with_software hart else hart) ∷ interrupted named (first + 1) harts
-
--- ---- legacy calls, which set a0 alone
-
-abbrev pub with_timer_of : State → ℕ → ℕ → State
-with_timer_of r h at = record r { devices = record r.devices { clock = with_timer r.devices.clock h at } }
-
-abbrev pub set_timer : State → ℕ → Hart → ℕ → State
-set_timer r h hart at = with_hart (with_timer_of r h at) h (with_a0 hart 0)
-
-abbrev pub put_char : State → ℕ → Hart → ℕ → State
-put_char r h hart value = with_hart (with_journal r (printed_low value r.journal)) h (with_a0 hart 0)
-
-abbrev pub first_input : List ℕ → ℕ
-first_input queue = if console_line queue then slice_index queue 0 else code_word no_input
-
-abbrev pub get_char : State → ℕ → Hart → State
-get_char r h hart =
-    with_hart (record r { devices = record r.devices { console = without_first r.devices.console } }) h
-    (with_a0 hart (first_input r.devices.console))
-
--- the machine ends, and the hart stays as it is but for its reservation
-abbrev pub shut_down : State → ℕ → Hart → State
-shut_down r h hart = with_journal (stay r h hart) (machine_ended Shutdown r.journal)
-
--- ---- base, timer, IPI, remote fences
-
-abbrev pub extensions : List ℕ
-extensions = 0 ∷ 1 ∷ 2 ∷ 8 ∷ 0x10 ∷ 0x54494D45 ∷ 0x735049 ∷ 0x52464E43 ∷ 0x48534D ∷ 0x53525354 ∷ 0x08534543 ∷ []
-
-unfoldable pub base_call : State → ℕ → Hart → Asked → State
-base_call r h hart ask =
-    if ask.function == 0 then answer_value r h hart 0x01000000
-    else if ask.function == 1 then answer_value r h hart 0x00534543
-    else if ask.function == 2 then answer_value r h hart 1
-    else if ask.function == 3 then answer_value r h hart (if has_number extensions ask.a0 then 1 else 0)
-    else if nat_le ask.function 6 then answer_value r h hart 0
-    else refuse r h hart
-
-unfoldable pub timer_call : State → ℕ → Hart → Asked → State
-timer_call r h hart ask = if ask.function == 0 then answer_code (with_timer_of r h ask.a0) h hart success else refuse r h hart
-
--- the software interrupt is set after the answer, since the mask may name the calling hart
-abbrev pub interrupts_sent : State → (mask base : ℕ) → State
-interrupts_sent r mask base = record r { harts = interrupted (mask_names mask base) 0 r.harts }
-
-unfoldable pub ipi_call : State → ℕ → Hart → Asked → State
-ipi_call r h hart ask =
-    if not (ask.function == 0) then refuse r h hart
-    else if mask_exists (length r.harts) ask.a0 ask.a1 then interrupts_sent (answer_code r h hart success) ask.a0 ask.a1
-    else answer_code r h hart invalid_parameter
-
-unfoldable pub fence_call : State → ℕ → Hart → Asked → State
-fence_call r h hart ask =
-    if not (nat_le ask.function 2) then refuse r h hart
-    else if mask_exists (length r.harts) ask.a0 ask.a1 then answer_code r h hart success
-    else answer_code r h hart invalid_parameter
-
--- ---- hart state and reset
-
--- another hart begins, with its timer never due
-unfoldable pub start_other : State → ℕ → Hart → Asked → Option Hart → State
-start_other r h hart ask None = answer_code r h hart invalid_parameter
-start_other r h hart ask (Some other) =
-    if other.started then answer_code r h hart already
-    else if has_number r.rules.entries ask.a1
-    then with_hart (answer_code (with_timer_of r ask.a0 latest) h hart success) ask.a0 (started_hart ask.a0 ask.a1 ask.a2)
-    else answer_code r h hart invalid_address
-
-abbrev pub status_of_hart : State → ℕ → Hart → Option Hart → State
-status_of_hart r h hart None = answer_code r h hart invalid_parameter
-status_of_hart r h hart (Some other) = answer_value r h hart (if other.started then 0 else 1)
-
-abbrev pub stop_hart : State → ℕ → Hart → State
-stop_hart r h hart = stay r h (record hart { started = false })
-
-unfoldable pub hart_call : State → ℕ → Hart → Asked → State
-hart_call r h hart ask =
-    if ask.function == 0 then start_other r h hart ask (slice_get r.harts ask.a0)
-    else if ask.function == 1 then stop_hart r h hart
-    else if ask.function == 2 then status_of_hart r h hart (slice_get r.harts ask.a0)
-    else refuse r h hart
-
-unfoldable pub reset_call : State → ℕ → Hart → Asked → State
-reset_call r h hart ask =
-    if not (ask.function == 0) then refuse r h hart
-    else if ask.a0 == 0 then shut_down r h hart
-    else if nat_le ask.a0 2 then refuse r h hart
-    else answer_code r h hart invalid_parameter

@@ -8,6 +8,7 @@ pub mod Requests
 pub mod Relocations
 pub mod Calls
 pub mod ModuleCalls
+pub mod Answers
 pub mod Loads
 pub mod Turn
 pub mod Run

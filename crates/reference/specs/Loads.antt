@@ -1,17 +1,15 @@
 -- A module load under way: its page turns and its decision. This project's own; the relocated fields are those of the
 -- RISC-V ELF psABI, the measure is FIPS 180-4's SHA-256.
-use Rattle.std.specs.Prelude.{ℕ, zero, suc, ◌*◌, Bool, false, ◌&&◌, List, [], ◌++◌, if◌then◌else◌, Option, Some, None, slice_get}
+use Rattle.std.specs.Prelude.{ℕ, zero, suc, ◌*◌, Bool, false, ◌&&◌, List, Option, Some, None, slice_get}
 use Rattle.std.specs.Str.{bytes_eq}
 use Rattle.sv_types.specs.Bytes.{part, page_size, ram_place}
 use Rattle.sv_types.specs.Measure.{measure}
 use Rattle.sv_types.specs.Policies.{Rules, ModuleRule}
-use Rattle.sv_types.specs.ApprovedPages.{approved_pages}
 use Rattle.sv_types.specs.declared.module.Bases.{Bases}
 use Rattle.sv_types.specs.declared.saved.SavedModule.{SavedModule}
-use Rattle.reference.specs.States.{State, Hart, Loading, module_pages, with_module}
-use Rattle.reference.specs.Counting.{count, count_load}
-use Rattle.reference.specs.Calls.{success}
-use Rattle.reference.specs.ModuleCalls.{answer_load, refused_by_measure}
+use Rattle.reference.specs.States.{State, Hart, Loading}
+use Rattle.reference.specs.Answers.{answered}
+use Rattle.reference.specs.ModuleCalls.{load_decision}
 use Rattle.reference.specs.Relocations.{masked, fields_right}
 
 -- the module's text, as RAM has it now
@@ -32,26 +30,9 @@ is_good rules ram m (Some rule) =
     is_as_measured rule (module_text ram m rule.pages)
     && fields_right rules.exports (module_bases m) rule.sites (module_text ram m rule.pages)
 
--- no page is held and no load is under way any more
-abbrev pub load_ended : State → State
-load_ended r = record r { held = []; loading = None }
-
--- the pages are approved with their bytes, and the module is loaded
-abbrev pub load_approved : State → ℕ → Hart → SavedModule → State
-load_approved r h hart m = answer_load
-    (record (count (load_ended r) count_load) {
-      approved = approved_pages r.ram (module_pages r.rules m) ++ r.approved;
-      loaded = with_module r.loaded m;
-    })
-    h hart m.id success
-
--- the pages are free again
-abbrev pub load_refused : State → ℕ → Hart → SavedModule → State
-load_refused r h hart m = answer_load (load_ended r) h hart m.id refused_by_measure
-
 -- the decision, on the bytes of this moment
 unfoldable pub decide : State → ℕ → Hart → SavedModule → State
-decide r h hart m = if is_good r.rules r.ram m (slice_get r.rules.modules m.id) then load_approved r h hart m else load_refused r h hart m
+decide r h hart m = answered r h hart (load_decision (is_good r.rules r.ram m (slice_get r.rules.modules m.id)) m)
 
 -- the next step: a page turn, or the decision where none is left
 unfoldable pub load_step_of : State → ℕ → Hart → Loading → ℕ → State

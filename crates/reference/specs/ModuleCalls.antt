@@ -1,18 +1,18 @@
--- The calls that load and unload modules and free the kernel's init text, and the choice among all calls.
--- This project's own; the choice is RISC-V SBI's, "Binary Encoding".
-use Rattle.std.specs.Prelude.{ℕ, ◌*◌, ◌%◌, Bool, true, not, ◌&&◌, List, filter, ◌==◌, if◌then◌else◌, Option, Some, None, slice_get, is_some, ℤ, pos, negsuc}
+-- The calls that load and unload modules and free the kernel's init text, the decision of a load, and the choice among all
+-- calls. This project's own; the choice is RISC-V SBI's, "Binary Encoding".
+use Rattle.std.specs.Prelude.{ℕ, ◌*◌, ◌%◌, Bool, not, ◌&&◌, ◌==◌, if◌then◌else◌, Option, Some, None, slice_get, is_some, ℤ, negsuc}
 use Rattle.std.specs.List.{list_any}
 use Rattle.sv_types.specs.Bytes.{page_size, page_of, in_ram}
 use Rattle.sv_types.specs.Policies.{ModuleRule}
 use Rattle.sv_types.specs.ApprovedPages.{numbers_from}
-use Rattle.sv_types.specs.declared.event.Counts.{Counts}
 use Rattle.sv_types.specs.declared.module.Span.{Span}
-use Rattle.sv_types.specs.declared.event.Note.{Note}
-use Rattle.sv_types.specs.declared.event.Note.TheVariants.{Load, Unload, Retire}
 use Rattle.sv_types.specs.declared.saved.SavedModule.{SavedModule}
-use Rattle.reference.specs.States.{State, Hart, has_number, is_protected, module_pages, find_module, without_module, without_pages}
-use Rattle.reference.specs.Counting.{note, count, count_refused, count_unload}
-use Rattle.reference.specs.Calls.{Asked, asked_by, success, invalid_parameter, invalid_address, already, answer_code, stay, refuse, set_timer, put_char, get_char, shut_down, base_call, timer_call, ipi_call, fence_call, hart_call, reset_call}
+use Rattle.reference.specs.States.{find_module}
+use Rattle.reference.specs.Calls.{Asked, Facts, success, invalid_parameter, invalid_address, already, code, plain, refused, extension_of, set_timer, put_char, get_char, shut_down, base_call, timer_call, ipi_call, fence_call, hart_call, reset_call}
+use Rattle.reference.specs.declared.answers.Answer.{Answer}
+use Rattle.reference.specs.declared.answers.Beside.TheVariants.{BeginsLoad, RefusesLoad, ApprovesModule, ReleasesModule, UnloadsModule, RefusesUnload, RetiresInit, RefusesRetire}
+use Rattle.reference.specs.declared.answers.Extension.{Extension}
+use Rattle.reference.specs.declared.answers.Reply.TheVariants.{Stays}
 
 abbrev pub refused_by_measure : ℤ
 refused_by_measure = negsuc 3
@@ -20,108 +20,74 @@ refused_by_measure = negsuc 3
 abbrev pub under_way : ℤ
 under_way = negsuc 6
 
--- ---- answers, each with its note
-
--- a code other than success counts as refused
-abbrev pub count_answer : ℤ → Counts → Counts
-count_answer (pos n) c = c
-count_answer (negsuc n) c = count_refused c
-
-abbrev pub answer_noted : State → ℕ → Hart → ℤ → Note → State
-answer_noted r h hart code line = note (count (answer_code r h hart code) (count_answer code)) line
-
-abbrev pub answer_load : State → ℕ → Hart → (id : ℕ) → ℤ → State
-answer_load r h hart id code = answer_noted r h hart code (Load h r.journal.counts.turns id code)
-
-abbrev pub answer_unload : State → ℕ → Hart → (id : ℕ) → ℤ → State
-answer_unload r h hart id code = answer_noted r h hart code (Unload h r.journal.counts.turns id code)
-
-abbrev pub answer_retire : State → ℕ → Hart → ℤ → State
-answer_retire r h hart code = answer_noted r h hart code (Retire h r.journal.counts.turns code)
-
 -- ---- load
 
--- gpa and va are multiples of a page's size, and the pages are in RAM and free
-unfoldable pub good_address : State → (gpa va pages : ℕ) → Bool
-good_address r gpa va pages =
-    gpa % page_size == 0 && va % page_size == 0 && in_ram r.ram gpa (page_size * pages)
-    && not (list_any (is_protected r) (numbers_from (page_of gpa) pages))
+abbrev pub load_refused : (id : ℕ) → ℤ → Answer
+load_refused id number = record { reply = code number; beside = RefusesLoad id number }
 
--- the module's pages are held, the load is under way, and the hart stays at its call
-abbrev pub load_begun : State → ℕ → Hart → SavedModule → ℕ → State
-load_begun r h hart m pages = record (stay r h hart) {
-  held = module_pages r.rules m;
-  loading = Some (record { hart = h; about = m; left = pages });
-}
+-- gpa and va are multiples of a page's size, and the pages are in RAM and free
+unfoldable pub good_address : Facts → (gpa va pages : ℕ) → Bool
+good_address f gpa va pages =
+    gpa % page_size == 0 && va % page_size == 0 && in_ram f.ram gpa (page_size * pages)
+    && not (list_any f.protected (numbers_from (page_of gpa) pages))
 
 abbrev pub module_asked : Asked → SavedModule
 module_asked ask = record { id = ask.a0; gpa = ask.a1; va = ask.a2; data_va = ask.a3 }
 
--- the first check that fails gives the answer
-unfoldable pub load_call : State → ℕ → Hart → Asked → Option ModuleRule → State
-load_call r h hart ask None = answer_load r h hart ask.a0 invalid_parameter
-load_call r h hart ask (Some rule) =
-    if is_some r.loading then answer_load r h hart ask.a0 under_way
-    else if is_some (find_module r.loaded ask.a0) then answer_load r h hart ask.a0 already
-    else if good_address r ask.a1 ask.a2 rule.pages then load_begun r h hart (module_asked ask) rule.pages
-    else answer_load r h hart ask.a0 invalid_address
+-- the first check that fails gives the answer; the hart of a load that begins stays at its call
+unfoldable pub load_call : Facts → Asked → Option ModuleRule → Answer
+load_call f ask None = load_refused ask.a0 invalid_parameter
+load_call f ask (Some rule) =
+    if f.loads then load_refused ask.a0 under_way
+    else if is_some (find_module f.loaded ask.a0) then load_refused ask.a0 already
+    else if good_address f ask.a1 ask.a2 rule.pages then record { reply = Stays; beside = BeginsLoad (module_asked ask) rule.pages }
+    else load_refused ask.a0 invalid_address
+
+-- the end of a load, by whether the text in RAM is good
+abbrev pub load_decision : Bool → SavedModule → Answer
+load_decision good m =
+    if good then record { reply = code success; beside = ApprovesModule m } else record { reply = code refused_by_measure; beside = ReleasesModule m }
 
 -- ---- unload
 
--- the module's pages become free
-abbrev pub unloaded : State → SavedModule → State
-unloaded r m = record (count r count_unload) {
-  approved = without_pages r.approved (module_pages r.rules m);
-  loaded = without_module r.loaded m.id;
-}
+abbrev pub unload_refused : (id : ℕ) → ℤ → Answer
+unload_refused id number = record { reply = code number; beside = RefusesUnload id number }
 
-unfoldable pub unload_call : State → ℕ → Hart → ℕ → Option SavedModule → State
-unload_call r h hart id None = answer_unload r h hart id invalid_parameter
-unload_call r h hart id (Some m) =
-    if is_some r.loading then answer_unload r h hart id under_way
-    else answer_unload (unloaded r m) h hart id success
+unfoldable pub unload_call : Facts → ℕ → Option SavedModule → Answer
+unload_call f id None = unload_refused id invalid_parameter
+unload_call f id (Some m) = if f.loads then unload_refused id under_way else record { reply = code success; beside = UnloadsModule m }
 
 -- ---- retire
 
-abbrev pub span_pages : Span → List ℕ
-span_pages span = numbers_from span.first span.count
+abbrev pub retire_refused : ℤ → Answer
+retire_refused number = record { reply = code number; beside = RefusesRetire number }
 
--- the init pages that were approved at boot
-abbrev pub init_text : State → Span → List ℕ
-init_text r span = filter (has_number r.text) (span_pages span)
+unfoldable pub retire_call : Facts → Option Span → Answer
+retire_call f None = retire_refused invalid_parameter
+retire_call f (Some span) = if f.retired then retire_refused already else record { reply = code success; beside = RetiresInit span }
 
-abbrev pub init_retired : State → Span → State
-init_retired r span = record r { approved = without_pages r.approved (init_text r span); retired = true }
-
-unfoldable pub retire_call : State → ℕ → Hart → Option Span → State
-retire_call r h hart None = answer_retire r h hart invalid_parameter
-retire_call r h hart (Some span) =
-    if r.retired then answer_retire r h hart already
-    else answer_retire (init_retired r span) h hart success
-
-unfoldable pub module_call : State → ℕ → Hart → Asked → State
-module_call r h hart ask =
-    if ask.function == 0 then load_call r h hart ask (slice_get r.rules.modules ask.a0)
-    else if ask.function == 1 then unload_call r h hart ask.a0 (find_module r.loaded ask.a0)
-    else if ask.function == 2 then retire_call r h hart r.rules.init
-    else refuse r h hart
+unfoldable pub module_call : Facts → Asked → Answer
+module_call f ask =
+    if ask.function == 0 then load_call f ask (slice_get f.rules.modules ask.a0)
+    else if ask.function == 1 then unload_call f ask.a0 (find_module f.loaded ask.a0)
+    else if ask.function == 2 then retire_call f f.rules.init
+    else plain refused
 
 -- ---- one line for each extension
 
-unfoldable pub call_of : State → ℕ → Hart → Asked → State
-call_of r h hart ask =
-    if ask.extension == 0 then set_timer r h hart ask.a0
-    else if ask.extension == 1 then put_char r h hart ask.a0
-    else if ask.extension == 2 then get_char r h hart
-    else if ask.extension == 8 then shut_down r h hart
-    else if ask.extension == 0x10 then base_call r h hart ask
-    else if ask.extension == 0x54494D45 then timer_call r h hart ask
-    else if ask.extension == 0x735049 then ipi_call r h hart ask
-    else if ask.extension == 0x52464E43 then fence_call r h hart ask
-    else if ask.extension == 0x48534D then hart_call r h hart ask
-    else if ask.extension == 0x53525354 then reset_call r h hart ask
-    else if ask.extension == 0x08534543 then module_call r h hart ask
-    else refuse r h hart
+unfoldable pub answer_by : Facts → Asked → Option Extension → Answer
+answer_by f ask None = plain refused
+answer_by f ask (Some Extension.SetTimer) = set_timer ask.a0
+answer_by f ask (Some Extension.PutChar) = put_char ask.a0
+answer_by f ask (Some Extension.GetChar) = get_char f
+answer_by f ask (Some Extension.ShutDown) = shut_down
+answer_by f ask (Some Extension.Base) = plain (base_call ask)
+answer_by f ask (Some Extension.Timer) = timer_call ask
+answer_by f ask (Some Extension.Interrupt) = ipi_call f ask
+answer_by f ask (Some Extension.Fence) = plain (fence_call f ask)
+answer_by f ask (Some Extension.HartState) = hart_call f ask
+answer_by f ask (Some Extension.Reset) = reset_call ask
+answer_by f ask (Some Extension.Modules) = module_call f ask
 
-abbrev pub call : State → ℕ → Hart → State
-call r h hart = call_of r h hart (asked_by hart.registers)
+abbrev pub answer_of : Facts → Asked → Answer
+answer_of f ask = answer_by f ask (extension_of ask.extension)

@@ -6,7 +6,7 @@ use Rattle.sv_types.specs.ApprovedPages.{ApprovedPage, approved_bytes}
 use Rattle.sv_types.specs.declared.module.Span.{Span}
 use Rattle.sv_types.specs.declared.saved.SavedModule.{SavedModule}
 use Rattle.reference.specs.Loads.{is_good}
-use Rattle.reference.specs.ModuleCalls.{span_pages}
+use Rattle.reference.specs.Answers.{span_pages}
 use Rattle.reference.specs.States.{State, has_number, is_approved_in, find_module, module_pages}
 
 -- what page belongs to whom: the part of a state that says so

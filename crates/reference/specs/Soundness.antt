@@ -5,17 +5,30 @@ use Rattle.sv_types.specs.Policies.{Rules, rules_within}
 use Rattle.sv_types.specs.ApprovedPages.{ApprovedPage, approved_bytes}
 use Rattle.sv_types.specs.Registers.{IsLegalSupervisor}
 use Rattle.sv_types.specs.declared.saved.SavedModule.{SavedModule}
-use Rattle.sv_types.specs.declared.wires.Mode.TheVariants.{Kernel}
-use Rattle.reference.specs.States.{State, Hart, Disk, Loading, module_pages, pages_in_rule, has_number, is_approved_in, find_module}
+use Rattle.sv_types.specs.declared.wires.Mode.{Mode}
+use Rattle.sv_types.specs.declared.wires.Mode.TheVariants.{Kernel, User}
+use Rattle.reference.specs.States.{State, Hart, Disk, Loading, Binding, binding_at, module_pages, pages_in_rule, has_number, is_approved_in, find_module}
 use Rattle.reference.specs.Disk.{is_busy, beat_size}
 use Rattle.reference.specs.Origins.{OwnsPages, IsMeasured, Ascends, ownership}
 use Rattle.reference.specs.Start.{AreWords}
 
-pub record IsSoundHart (hart : Hart) : Type 0 where
+-- a hart in an entry is in kernel mode, and the entry is bound
+abbrev pub IsSoundEntry : Rules → Mode → Option ℕ → Type 0
+IsSoundEntry rules mode None = Unit {0}
+IsSoundEntry rules Kernel (Some i) = (entry : Binding) × (binding_at rules i ≡ Some entry)
+IsSoundEntry rules User (Some i) = ⊥
+
+-- a stopped hart is in kernel mode, and in no entry
+pub record IsStill (hart : Hart) : Type 0 where
+  pub mode : hart.mode ≡ Kernel
+  pub entry : hart.entry ≡ None
+
+pub record IsSoundHart (rules : Rules) (hart : Hart) : Type 0 where
   pub aligned : hart.pc % 4 ≡ 0
   pub small : hart.pc < 2 ^ 64
   pub legal : IsLegalSupervisor hart.supervisor
-  pub stopped : hart.started ≡ false → hart.mode ≡ Kernel
+  pub entry : IsSoundEntry rules hart.mode hart.entry
+  pub stopped : hart.started ≡ false → IsStill hart
 
 -- in each approved page RAM has its bytes
 pub record KeepsText (approved : List ApprovedPage) (ram : List ℕ) : Type 0 where
@@ -45,7 +58,7 @@ pub record IsSound (r : State) : Type 0 where
   pub within : IsTrue (rules_within r.rules)
   pub words : AreWords r.rules.entries
   pub number : length r.harts ≡ r.rules.harts
-  pub harts : (h : ℕ) (hart : Hart) → slice_get r.harts h ≡ Some hart → IsSoundHart hart
+  pub harts : (h : ℕ) (hart : Hart) → slice_get r.harts h ≡ Some hart → IsSoundHart r.rules hart
   pub size : length r.ram ≡ page_size * r.rules.ram_pages
   pub text : KeepsText r.approved r.ram
   pub ascends : Ascends r.loaded

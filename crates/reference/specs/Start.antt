@@ -43,6 +43,7 @@ flat_rules digest = record {
   harts = 1;
   ram_pages = flat_ram_pages;
   entries = 0x80000000 ∷ 0x80000100 ∷ [];
+  bound = [];
   exports = [];
   kernel = digest;
   init = None;

@@ -1,6 +1,6 @@
 -- The state of the reference machine, as plain data: what a RISC-V hart has in S and U mode (Unprivileged manual,
 -- "Programmers' Model for Base Integer ISA"; Privileged manual, "Supervisor CSRs"), memory, modules, devices and records.
-use Rattle.std.specs.Prelude.{ℕ, Bool, true, false, ◌||◌, not, List, [], ◌∷◌, filter, ◌==◌, nat_lt, if◌then◌else◌, Option, Some, None, slice_get, slice_set, is_some}
+use Rattle.std.specs.Prelude.{ℕ, suc, Bool, true, false, ◌||◌, not, List, [], ◌∷◌, filter, ◌==◌, nat_lt, if◌then◌else◌, Option, Some, None, option_map, slice_get, slice_set, is_some}
 use Rattle.std.specs.List.{list_any}
 use Rattle.sv_types.specs.Bytes.{page_of}
 use Rattle.sv_types.specs.ApprovedPages.{ApprovedPage, numbers_from, approved_bytes}
@@ -24,6 +24,8 @@ pub record Hart : Type 0 where
   pub supervisor : Supervisor
   -- the place in RAM of the 8 aligned bytes that are reserved
   pub reservation : Option ℕ
+  -- the entry that it came in by, by its place in the policy's list, for as long as it is in it; none where none is bound
+  pub entry : Option ℕ
 
 -- a load under way, with the page turns that are left
 pub record Loading : Type 0 where
@@ -115,6 +117,27 @@ find_module (m ∷ ms) id = if m.id == id then Some m else find_module ms id
 
 abbrev pub without_module : List SavedModule → ℕ → List SavedModule
 without_module modules id = filter (λ (m : SavedModule). not (m.id == id)) modules
+
+-- ---- entries that are bound to an address in RAM
+
+pub record Binding : Type 0 where
+  pub va : ℕ
+  pub gpa : ℕ
+
+abbrev pub binding_of : Option ℕ → Option ℕ → Option Binding
+binding_of None gpa = None
+binding_of (Some va) None = None
+binding_of (Some va) (Some gpa) = Some (record { va = va; gpa = gpa })
+
+-- the entry at a place of the policy's list, where it is bound
+unfoldable pub binding_at : Rules → ℕ → Option Binding
+binding_at rules i = binding_of (slice_get rules.entries i) (slice_get rules.bound i)
+
+-- the place of the entry with an address, none where none is bound
+unfoldable pub place_of_entry : (entries bound : List ℕ) → (va : ℕ) → Option ℕ
+place_of_entry [] bound va = None
+place_of_entry (first ∷ entries) [] va = None
+place_of_entry (first ∷ entries) (gpa ∷ bound) va = if first == va then Some 0 else option_map suc (place_of_entry entries bound va)
 
 -- ---- a part of the state changed
 

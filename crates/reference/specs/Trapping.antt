@@ -1,7 +1,7 @@
 -- Traps of the reference machine, and their return. RISC-V Privileged manual, "Supervisor Trap Vector Base Address
 -- Register" and "Trap-Return Instructions"; that user mode enters the kernel at permitted addresses alone is this project's
 -- own.
-use Rattle.std.specs.Prelude.{ℕ, Bool, true, false, if◌then◌else◌, None}
+use Rattle.std.specs.Prelude.{ℕ, Bool, true, false, if◌then◌else◌, Option, None}
 use Rattle.sv_types.specs.Causes.{cause_number}
 use Rattle.sv_types.specs.Policies.{Rules}
 use Rattle.sv_types.specs.Traps.{interrupt_number, trap_target, supervisor_at_trap, supervisor_at_return, mode_at_return}
@@ -10,7 +10,7 @@ use Rattle.sv_types.specs.declared.wires.Interrupt.{Interrupt}
 use Rattle.sv_types.specs.declared.wires.Mode.{Mode}
 use Rattle.sv_types.specs.declared.wires.Mode.TheVariants.{Kernel, User}
 use Rattle.sv_types.specs.declared.event.Rule.TheVariants.{Entry}
-use Rattle.reference.specs.States.{State, Hart, has_number, with_hart}
+use Rattle.reference.specs.States.{State, Hart, has_number, place_of_entry, with_hart}
 use Rattle.reference.specs.Counting.{count, count_trap, count_return, stopped_by}
 
 -- why a hart traps: an interrupt, or an exception with the value that stval takes
@@ -31,13 +31,20 @@ abbrev pub tval_of : Reason → ℕ
 tval_of (Interrupted interrupt) = 0
 tval_of (Raised cause tval) = tval
 
+-- the entry that a hart is in after a trap: from user mode the target's, where it is bound, and from kernel mode the same as
+-- before
+abbrev pub entry_at_trap : Rules → Mode → (entry : Option ℕ) → (target : ℕ) → Option ℕ
+entry_at_trap rules Kernel entry target = entry
+entry_at_trap rules User entry target = place_of_entry rules.entries rules.bound target
+
 -- the hart in its trap handler, which it came to from a mode
-unfoldable pub hart_at_trap : Hart → Mode → (interrupt : Bool) → (cause tval : ℕ) → Hart
-hart_at_trap hart from interrupt cause tval = record hart {
+unfoldable pub hart_at_trap : Rules → Hart → Mode → (interrupt : Bool) → (cause tval : ℕ) → Hart
+hart_at_trap rules hart from interrupt cause tval = record hart {
   mode = Kernel;
   pc = trap_target hart.supervisor.stvec interrupt cause;
   supervisor = supervisor_at_trap hart.supervisor from hart.pc interrupt cause tval;
   reservation = None;
+  entry = entry_at_trap rules from hart.entry (trap_target hart.supervisor.stvec interrupt cause);
 }
 
 -- from kernel mode any target will do, from user mode a permitted one alone
@@ -47,7 +54,7 @@ may_enter rules User target = has_number rules.entries target
 
 abbrev pub trap_entered : State → ℕ → Hart → Mode → (interrupt : Bool) → (cause tval : ℕ) → State
 trap_entered r h hart from interrupt cause tval =
-    count (with_hart r h (hart_at_trap hart from interrupt cause tval)) (count_trap from)
+    count (with_hart r h (hart_at_trap r.rules hart from interrupt cause tval)) (count_trap from)
 
 -- a trap by its numbers
 unfoldable pub trap_from : State → ℕ → Hart → Mode → (interrupt : Bool) → (cause tval : ℕ) → State
@@ -64,12 +71,18 @@ exception r h hart cause tval = trap r h hart (Raised cause tval)
 
 -- ---- the return
 
+-- user mode is in no entry
+abbrev pub entry_in : Mode → (entry : Option ℕ) → Option ℕ
+entry_in Kernel entry = entry
+entry_in User entry = None
+
 unfoldable pub hart_at_return : Hart → Hart
 hart_at_return hart = record hart {
   mode = mode_at_return hart.supervisor.sstatus;
   pc = hart.supervisor.sepc;
   supervisor = supervisor_at_return hart.supervisor;
   reservation = None;
+  entry = entry_in (mode_at_return hart.supervisor.sstatus) hart.entry;
 }
 
 unfoldable pub returned_from_trap : State → ℕ → Hart → State

@@ -1,12 +1,13 @@
 -- One turn of a hart: an interrupt, a fetch, an instruction. The first case that applies is done.
 -- RISC-V Unprivileged manual, "RV32I", "A", "Zicsr"; Privileged manual, "Supervisor Instructions", "Supervisor Cause
 -- Register" (the priority of exceptions). Demotion is this project's own.
-use Rattle.std.specs.Prelude.{ℕ, List, ◌==◌, if◌then◌else◌, Option, Some, None, slice_get}
+use Rattle.std.specs.Prelude.{ℕ, Bool, false, ◌&&◌, List, ◌==◌, if◌then◌else◌, Option, Some, None, slice_get}
 use Rattle.sv_types.specs.Bytes.{word, in_ram, ram_place, page_of, place_in_page}
 use Rattle.sv_types.specs.Effects.{effect_of, set_register}
 use Rattle.sv_types.specs.Instructions.{instruction_of}
 use Rattle.sv_types.specs.ApprovedPages.{ApprovedPage, approved_bytes}
 use Rattle.sv_types.specs.Translation.{Destination, At, PageFault, Unreadable, Settings, place}
+use Rattle.sv_types.specs.Policies.{Rules}
 use Rattle.sv_types.specs.Traps.{deliverable}
 use Rattle.sv_types.specs.declared.cause.Cause.{Cause}
 use Rattle.sv_types.specs.declared.effect.Effect.{Effect}
@@ -16,12 +17,12 @@ use Rattle.sv_types.specs.declared.wires.Interrupt.{Interrupt}
 use Rattle.sv_types.specs.declared.wires.Mode.{Mode}
 use Rattle.sv_types.specs.declared.wires.Mode.TheVariants.{Kernel, User}
 use Rattle.sv_types.specs.declared.event.Note.TheVariants.{Demote}
-use Rattle.reference.specs.States.{State, Hart, Loading, with_hart}
+use Rattle.reference.specs.States.{State, Hart, Loading, Binding, binding_at, is_approved_in, with_hart}
 use Rattle.reference.specs.Counting.{count, note, count_demote}
 use Rattle.reference.specs.Devices.{lines_at}
 use Rattle.reference.specs.Trapping.{Interrupted, trap, exception, returned_from_trap}
 use Rattle.reference.specs.Requests.{stepped, carried_out, source_of, target_of, settings_of, csr_asked, carry_out_load, carry_out_store, carry_out_load_reserved, carry_out_store_conditional, carry_out_amo, carry_out_csr}
-use Rattle.reference.specs.ModuleCalls.{call}
+use Rattle.reference.specs.Answers.{call}
 use Rattle.reference.specs.Loads.{load_step}
 
 -- ---- instructions of the system
@@ -105,7 +106,7 @@ fetch_of r hart = fetch r.ram r.approved (settings_of hart.supervisor) hart.mode
 
 -- the mode becomes user, the pc stays, and nothing executes
 abbrev pub demoted : Hart → Hart
-demoted hart = record hart { mode = User; reservation = None }
+demoted hart = record hart { mode = User; reservation = None; entry = None }
 
 abbrev pub demote : State → ℕ → Hart → ℕ → State
 demote r h hart gpa = note (count (with_hart r h (demoted hart)) count_demote) (Demote h r.journal.counts.turns hart.pc gpa)
@@ -115,12 +116,53 @@ act_on_fetch r h hart (NoWord cause) = exception r h hart cause hart.pc
 act_on_fetch r h hart (Stray gpa) = demote r h hart gpa
 act_on_fetch r h hart (Word w) = carry_out_word r h hart w
 
+abbrev pub fetch_and_act : State → ℕ → Hart → State
+fetch_and_act r h hart = act_on_fetch r h hart (fetch_of r hart)
+
+-- ---- the fetch in an entry
+
+-- where the pc leads
+abbrev pub place_of_pc : State → Hart → Destination
+place_of_pc r hart = place r.ram (settings_of hart.supervisor) hart.mode hart.pc Access.Fetch
+
+-- into a page, which is approved
+unfoldable pub leads_into : State → (page : ℕ) → Destination → Bool
+leads_into r page PageFault = false
+leads_into r page (Unreadable entry) = false
+leads_into r page (At gpa) = in_ram r.ram gpa 4 && is_approved_in r.approved (page_of gpa) && page_of gpa == page
+
+-- the address in RAM that a note names, 0 where there is none
+unfoldable pub noted_gpa : List ℕ → Destination → ℕ
+noted_gpa ram PageFault = 0
+noted_gpa ram (Unreadable entry) = 0
+noted_gpa ram (At gpa) = if in_ram ram gpa 4 then gpa else 0
+
+-- the entry is left, and nothing else changes
+abbrev pub outside : Hart → Hart
+outside hart = record hart { entry = None }
+
+abbrev pub leave_entry : State → ℕ → Hart → State
+leave_entry r h hart = with_hart r h (outside hart)
+
+-- in an entry, a hart whose pc leads into the page that the entry is bound to goes on there. If it doesn't, then at the entry's
+-- own address the hart is demoted, and at any other it leaves the entry and fetches as the kernel does, in this same turn
+unfoldable pub fetch_in_entry : State → ℕ → Hart → Option Binding → State
+fetch_in_entry r h hart None = fetch_and_act r h hart
+fetch_in_entry r h hart (Some entry) =
+    if leads_into r (page_of entry.gpa) (place_of_pc r hart) then fetch_and_act r h hart
+    else if hart.pc == entry.va then demote r h hart (noted_gpa r.ram (place_of_pc r hart))
+    else fetch_and_act (leave_entry r h hart) h (outside hart)
+
+unfoldable pub bound_entry : Rules → Option ℕ → Option Binding
+bound_entry rules None = None
+bound_entry rules (Some i) = binding_at rules i
+
 -- ---- the turn
 
 -- an interrupt, or else a fetch
 unfoldable pub act_on_pending : State → ℕ → Hart → Option Interrupt → State
 act_on_pending r h hart (Some interrupt) = trap r h hart (Interrupted interrupt)
-act_on_pending r h hart None = act_on_fetch r h hart (fetch_of r hart)
+act_on_pending r h hart None = fetch_in_entry r h hart (bound_entry r.rules hart.entry)
 
 unfoldable pub act : State → ℕ → Hart → State
 act r h hart = act_on_pending r h hart (deliverable hart.mode hart.supervisor (lines_at r.devices h))

@@ -7,6 +7,10 @@ ghost use Rattle.reference.specs.Protections.{is_free};
 ghost use Rattle.reference.specs.Run.{HasEnded, run};
 ghost use Rattle.reference.specs.States.{State, is_protected, protection};
 
+mod answers;
+
+pub use answers::{Answer, Beside, Extension, Reply};
+
 /// A page is protected exactly where its protection isn't free.
 pub fn law_protected()
     ensures { (r : State) (page : ℕ) → is_protected r page ≡ not (is_free (protection r page)) }

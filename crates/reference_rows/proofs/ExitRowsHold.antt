@@ -1,11 +1,11 @@
 -- Exits, computed.
 use Rattle.std.proofs.Common.{refl}
-use Rattle.machine_model.specs.Served.{serve_exit, serve_fetch, serve_access, serve_load, serve_write, serve_store, serve_virtual, serve_trap, transformed, is_sret}
+use Rattle.machine_model.specs.Served.{serve_exit, exit_answered, exit_answer, answer_in, plain_answer, entry_answer, exit_ram_gpa, fetch_answer, load_answer, write_answer, store_answer, virtual_answer, transformed, is_sret}
 use Rattle.reference_rows.specs.ExitRows.{ExitRows}
 use Rattle.reference_rows.proofs.Computing.{computing}
 
 pub exit_rows : ExitRows
-unfolding computing serve_exit serve_fetch serve_access serve_load serve_write serve_store serve_virtual serve_trap transformed is_sret
+unfolding computing serve_exit exit_answered exit_answer answer_in plain_answer entry_answer exit_ram_gpa fetch_answer load_answer write_answer store_answer virtual_answer transformed is_sret
 exit_rows = record {
   kernel_call = refl;
   kernel_fetch = refl;
@@ -39,4 +39,12 @@ exit_rows = record {
   device_stores = refl;
   device_stores_of_another_width = refl;
   stores_to_no_device = refl;
+  fetch_at_the_entry = refl;
+  fetch_at_the_entry_outside_ram = refl;
+  fault_at_the_entry = refl;
+  implicit_at_the_entry = refl;
+  fetch_elsewhere = refl;
+  fault_elsewhere = refl;
+  call_inside = refl;
+  interrupt_inside = refl;
 }

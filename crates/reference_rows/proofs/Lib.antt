@@ -6,3 +6,4 @@ pub mod DeviceRowsHold
 pub mod ExitRowsHold
 pub mod ModuleRowsHold
 pub mod GuestRowsHold
+pub mod EntryRowsHold

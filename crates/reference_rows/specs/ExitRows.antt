@@ -1,16 +1,17 @@
 -- What SecVisor makes of an exit, a row for each line: kernel mode, user mode, and both. This project's own.
-use Rattle.std.specs.Prelude.{◌≡◌, ℕ, ◌/◌, true, false}
+use Rattle.std.specs.Prelude.{◌≡◌, ℕ, ◌/◌, true, false, Some, None}
 use Rattle.sv_types.specs.declared.cause.Cause.{Cause}
 use Rattle.sv_types.specs.declared.wires.Exit.{Exit}
 use Rattle.sv_types.specs.declared.wires.Interrupt.{Interrupt}
 use Rattle.sv_types.specs.declared.wires.Mode.TheVariants.{Kernel, User}
 use Rattle.reference.specs.Devices.{device_load, device_store}
-use Rattle.reference.specs.ModuleCalls.{call}
+use Rattle.reference.specs.Answers.{call}
 use Rattle.reference.specs.Requests.{carry_out_device_load, carry_out_device_store, write_stopped}
-use Rattle.reference.specs.States.{State, Hart}
+use Rattle.reference.specs.States.{State, Hart, Binding}
 use Rattle.reference.specs.Trapping.{Interrupted, trap, exception, returned_from_trap}
 use Rattle.reference.specs.Turn.{demote}
-use Rattle.machine_model.specs.Served.{serve_exit}
+use Rattle.machine_model.specs.Served.{Seen, exit_answer, serve_exit}
+use Rattle.machine_model.specs.declared.exits.ExitAnswer.TheVariants.{Calls, Demotes, LeavesEntry, Traps}
 use Rattle.reference_rows.specs.Guests.{small, hart_in, with_two}
 
 abbrev pub before : State
@@ -34,6 +35,10 @@ kernel_makes exit = serve_exit before 0 of_kernel exit
 
 abbrev pub user_makes : Exit → State
 user_makes exit = serve_exit before 0 of_user exit
+
+-- a hart in the entry at 0x80000100
+abbrev pub inside : ℕ → Seen
+inside pc = record { ram = before.ram; mode = Kernel; pc = pc; entry = Some (record { va = 0x80000100; gpa = 0x80000100 }); effect = None }
 
 -- LB, LW, SB and SW of x6, as htinst has them, and an implicit read of an entry
 abbrev pub load_byte : ℕ
@@ -89,3 +94,12 @@ pub record ExitRows : Type 0 where
       ≡ carry_out_device_store before 0 of_kernel 0x10000000 (device_store before.devices before.journal 0x10000000 1 65)
   pub device_stores_of_another_width : kernel_makes (by_cause 23 0x10000000 0x10000000 store_word) ≡ exception before 0 of_kernel Cause.StoreAccess 0x10000000
   pub stores_to_no_device : user_makes (by_cause 23 0x90000000 0x90000000 store_word) ≡ exception before 0 of_user Cause.StoreAccess 0x90000000
+  -- ---- in an entry
+  pub fetch_at_the_entry : exit_answer (inside 0x80000100) (by_cause 20 0x80000100 0x80002100 0) ≡ Demotes 0x80002100
+  pub fetch_at_the_entry_outside_ram : exit_answer (inside 0x80000100) (by_cause 20 0x80000100 0x90000100 0) ≡ Demotes 0
+  pub fault_at_the_entry : exit_answer (inside 0x80000100) (by_cause 12 0x80000100 0 0) ≡ Demotes 0
+  pub implicit_at_the_entry : exit_answer (inside 0x80000100) (by_cause 20 0x80000100 0x80002100 implicit) ≡ Demotes 0
+  pub fetch_elsewhere : exit_answer (inside 0x80000104) (by_cause 20 0x80000104 0x80002104 0) ≡ LeavesEntry
+  pub fault_elsewhere : exit_answer (inside 0x80000104) (by_cause 12 0x80000104 0 0) ≡ LeavesEntry
+  pub call_inside : exit_answer (inside 0x80000100) (by_cause 10 0 0 0) ≡ Calls
+  pub interrupt_inside : exit_answer (inside 0x80000100) (by_interrupt 12) ≡ Traps true 11 0

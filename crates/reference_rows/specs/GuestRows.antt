@@ -31,6 +31,7 @@ guest_rules = record {
   harts = 1;
   ram_pages = 4;
   entries = 0x80001000 ∷ 0x80001100 ∷ [];
+  bound = [];
   exports = [];
   kernel = [];
   init = None;

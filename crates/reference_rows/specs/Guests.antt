@@ -44,6 +44,7 @@ small_rules = record {
   harts = 2;
   ram_pages = 4;
   entries = 0x80000100 ∷ [];
+  bound = [];
   exports = [];
   kernel = [];
   init = None;
@@ -61,7 +62,7 @@ abbrev pub with_vector : Supervisor
 with_vector = record supervisor_at_boot { stvec = 0x80000100 }
 
 abbrev pub hart_in : Mode → ℕ → List ℕ → Hart
-hart_in mode pc registers = record { started = true; mode = mode; pc = pc; registers = registers; supervisor = with_vector; reservation = None }
+hart_in mode pc registers = record { started = true; mode = mode; pc = pc; registers = registers; supervisor = with_vector; reservation = None; entry = None }
 
 -- x5 and x6 have these values
 abbrev pub with_two : (x5 x6 : ℕ) → List ℕ

@@ -6,3 +6,4 @@ pub mod DeviceRows
 pub mod ExitRows
 pub mod ModuleRows
 pub mod GuestRows
+pub mod EntryRows

@@ -53,6 +53,7 @@ rules_with init = record {
   harts = 2;
   ram_pages = 8;
   entries = 0x80000100 ∷ [];
+  bound = [];
   exports = [];
   kernel = [];
   init = init;

@@ -4,6 +4,7 @@
 
 ghost use Rattle.reference_rows.specs.FlatRows.{FlatRows};
 ghost use Rattle.reference_rows.specs.TurnRows.{TurnRows};
+ghost use Rattle.reference_rows.specs.EntryRows.{EntryRows};
 ghost use Rattle.reference_rows.specs.CallRows.{CallRows};
 ghost use Rattle.reference_rows.specs.DeviceRows.{DeviceRows};
 ghost use Rattle.reference_rows.specs.ExitRows.{ExitRows};
@@ -43,4 +44,9 @@ pub fn rows_of_modules()
 /// Two guests of some length.
 pub fn rows_of_guests()
     ensures { GuestRows }
+{}
+
+/// Turns in an entry that is bound to an address, for each case.
+pub fn rows_of_entries()
+    ensures { EntryRows }
 {}

@@ -9,7 +9,7 @@ use Rattle.sv_types.specs.declared.wires.Mode.{Mode}
 use Rattle.sv_types.specs.declared.wires.Mode.TheVariants.{Kernel, User}
 use Rattle.reference.specs.States.{State, Journal}
 use Rattle.reference.specs.Counting.{CountsAtMost, counted, noted, printed_low, machine_ended, count_trap, count_return, count_retired, count_denied, count_demote, count_dropped, count_load, count_unload, count_turn, count_beat, count_key, count_tick}
-use Rattle.reference.specs.ModuleCalls.{count_answer}
+use Rattle.reference.specs.Answers.{count_answer}
 use Rattle.run_laws.specs.GrowthLaws.{Grows}
 
 -- the counts but for those of the events

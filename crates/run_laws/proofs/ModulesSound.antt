@@ -14,7 +14,9 @@ use Rattle.sv_types.specs.declared.module.Span.{Span}
 use Rattle.sv_types.specs.declared.saved.SavedModule.{SavedModule}
 use Rattle.reference.specs.States.{State, Loading, is_approved_in, is_protected, has_number, find_module, with_module, without_module, without_pages, module_pages, pages_in_rule}
 use Rattle.reference.specs.Loads.{is_good}
-use Rattle.reference.specs.ModuleCalls.{good_address, init_text, span_pages}
+use Rattle.reference.specs.Answers.{init_text, span_pages}
+use Rattle.reference.specs.Calls.{facts_of}
+use Rattle.reference.specs.ModuleCalls.{good_address}
 use Rattle.reference.specs.Origins.{OwnsPages, IsOwned, IsPageOf, IsMeasured, ownership, is_kernel_text, is_init}
 use Rattle.reference.specs.Soundness.{IsSound, IsSoundLoad, HoldsModule, KeepsText}
 use Rattle.run_laws.proofs.Lookups.{unprotected, not_true, both, and_both, and_first, and_second, not_false, is_there, same_number, numbers_bounds, number_filtered, approved_front, approved_without, found_with, found_without, ascends_with, ascends_without}
@@ -60,7 +62,7 @@ pub record IsGoodAddress (r : State) (gpa pages : ℕ) : Type 0 where
   pub inside : ram_place gpa + page_size * pages ≤ page_size * r.rules.ram_pages
   pub free : (page : ℕ) → has_number (numbers_from (page_of gpa) pages) page ≡ true → is_approved_in r.approved page ≡ false
 
-pub address_good : (r : State) (gpa va pages : ℕ) → length r.ram ≡ page_size * r.rules.ram_pages → good_address r gpa va pages ≡ true → IsGoodAddress r gpa pages
+pub address_good : (r : State) (gpa va pages : ℕ) → length r.ram ≡ page_size * r.rules.ram_pages → good_address (facts_of r) gpa va pages ≡ true → IsGoodAddress r gpa pages
 unfolding good_address
 address_good r gpa va pages size e =
     let a = and_first (gpa % page_size == 0 && va % page_size == 0 && in_ram r.ram gpa (page_size * pages)) (not (list_any (is_protected r) (numbers_from (page_of gpa) pages))) e in

@@ -36,26 +36,26 @@ use Rattle.run_laws.proofs.Sounds.{Goes, InFreePage, goes_set, goes_beside, goes
 
 -- ---- traps
 
-pub trap_goes : (r : State) (h : ℕ) (hart : Hart) (from : Mode) (interrupt : Bool) (cause tval : ℕ) → IsSound r → IsSoundHart hart
-    → Goes r (trap_from r h hart from interrupt cause tval)
+pub trap_goes : (r : State) (h : ℕ) (hart : Hart) (interrupt : Bool) (cause tval : ℕ) → IsSound r → IsSoundHart r.rules hart
+    → Goes r (trap_from r h hart hart.mode interrupt cause tval)
 unfolding trap_from
-trap_goes r h hart from interrupt cause tval s k =
-    choose_goes r (may_enter r.rules from (trap_target hart.supervisor.stvec interrupt cause)) _ _
-    (goes_set r h (hart_at_trap hart from interrupt cause tval) r.devices (counted (count_trap from) r.journal) s (trap_sound hart from interrupt cause tval k) s.disk)
+trap_goes r h hart interrupt cause tval s k =
+    choose_goes r (may_enter r.rules hart.mode (trap_target hart.supervisor.stvec interrupt cause)) _ _
+    (goes_set r h (hart_at_trap r.rules hart hart.mode interrupt cause tval) r.devices (counted (count_trap hart.mode) r.journal) s (trap_sound r.rules hart interrupt cause tval k) s.disk)
     (goes_beside r r.devices (machine_ended (Stopped (Entry (trap_target hart.supervisor.stvec interrupt cause)) h r.journal.counts.turns) r.journal) s s.disk)
 
-pub exception_goes : (r : State) (h : ℕ) (hart : Hart) (cause : Cause) (tval : ℕ) → IsSound r → IsSoundHart hart → Goes r (exception r h hart cause tval)
-exception_goes r h hart cause tval s k = trap_goes r h hart hart.mode false (cause_number cause) tval s k
+pub exception_goes : (r : State) (h : ℕ) (hart : Hart) (cause : Cause) (tval : ℕ) → IsSound r → IsSoundHart r.rules hart → Goes r (exception r h hart cause tval)
+exception_goes r h hart cause tval s k = trap_goes r h hart false (cause_number cause) tval s k
 
-pub return_goes : (r : State) (h : ℕ) (hart : Hart) → IsSound r → IsSoundHart hart → hart.started ≡ true → Goes r (returned_from_trap r h hart)
+pub return_goes : (r : State) (h : ℕ) (hart : Hart) → IsSound r → IsSoundHart r.rules hart → hart.started ≡ true → Goes r (returned_from_trap r h hart)
 unfolding returned_from_trap
 return_goes r h hart s k on =
-    goes_set r h (hart_at_return hart) r.devices (counted (count_return (mode_at_return hart.supervisor.sstatus)) r.journal) s (return_sound hart on k) s.disk
+    goes_set r h (hart_at_return hart) r.devices (counted (count_return (mode_at_return hart.supervisor.sstatus)) r.journal) s (return_sound r.rules hart on k) s.disk
 
 -- ---- a retired instruction
 
 -- the hart goes on after its instruction
-pub retire_goes : (r : State) (h : ℕ) (hart : Hart) (registers : List ℕ) (reservation : Option ℕ) → IsSound r → IsSoundHart hart
+pub retire_goes : (r : State) (h : ℕ) (hart : Hart) (registers : List ℕ) (reservation : Option ℕ) → IsSound r → IsSoundHart r.rules hart
     → Goes r (carried_out r h (record hart { registers = registers; pc = (hart.pc + 4) % 2 ^ 64; reservation = reservation }))
 retire_goes r h hart registers reservation s k =
     goes_set r h (record hart { registers = registers; pc = (hart.pc + 4) % 2 ^ 64; reservation = reservation }) r.devices (counted count_retired r.journal) s
@@ -147,7 +147,7 @@ device_loaded d next gpa width e = port_loaded d next (port_at gpa) width e
 
 -- ---- loads
 
-device_load_goes : (r : State) (h : ℕ) (hart : Hart) (rd address width : ℕ) (signed : Bool) (x : Option DeviceLoad) → IsSound r → IsSoundHart hart
+device_load_goes : (r : State) (h : ℕ) (hart : Hart) (rd address width : ℕ) (signed : Bool) (x : Option DeviceLoad) → IsSound r → IsSoundHart r.rules hart
     → ((l : DeviceLoad) → x ≡ Some l → IsSoundDisk l.devices.disk) → Goes r (carry_out_device_load r h hart rd address width signed x)
 unfolding carry_out_device_load
 device_load_goes r h hart rd address width signed None s k disk = exception_goes r h hart Cause.LoadAccess address s k
@@ -155,7 +155,7 @@ device_load_goes r h hart rd address width signed (Some l) s k disk =
     goes_set r h (record hart { registers = set_register hart.registers rd (loaded_value signed width l.value); pc = (hart.pc + 4) % 2 ^ 64; reservation = None })
     l.devices (counted count_retired r.journal) s (goes_behind hart _ None k) (disk l refl)
 
-pub load_goes : (r : State) (h : ℕ) (hart : Hart) (rd address width : ℕ) (signed : Bool) (x : Source) → IsSound r → IsSoundHart hart
+pub load_goes : (r : State) (h : ℕ) (hart : Hart) (rd address width : ℕ) (signed : Bool) (x : Source) → IsSound r → IsSoundHart r.rules hart
     → Goes r (carry_out_load r h hart rd address width signed x)
 unfolding carry_out_load
 load_goes r h hart rd address width signed (NoSource cause) s k = exception_goes r h hart cause address s k
@@ -165,7 +165,7 @@ load_goes r h hart rd address width signed (FromDevice gpa) s k =
     device_load_goes r h hart rd address width signed (device_load r.devices gpa width) s k
     (λ l e. subst IsSoundDisk (sym (device_loaded r.devices l gpa width e)) s.disk)
 
-pub load_reserved_goes : (r : State) (h : ℕ) (hart : Hart) (rd address width : ℕ) (x : Source) → IsSound r → IsSoundHart hart
+pub load_reserved_goes : (r : State) (h : ℕ) (hart : Hart) (rd address width : ℕ) (x : Source) → IsSound r → IsSoundHart r.rules hart
     → Goes r (carry_out_load_reserved r h hart rd address width x)
 unfolding carry_out_load_reserved
 load_reserved_goes r h hart rd address width (NoSource cause) s k = exception_goes r h hart cause address s k
@@ -240,7 +240,7 @@ free_page r h next gpa width value whole free =
     whole_page p = omega arith
 
 -- the hart goes on, and bytes are written
-written_goes : (r : State) (h : ℕ) (hart : Hart) (registers : List ℕ) (reservation : Option ℕ) (gpa width value : ℕ) → IsSound r → IsSoundHart hart → IsWidth width → IsFreePlace r gpa width
+written_goes : (r : State) (h : ℕ) (hart : Hart) (registers : List ℕ) (reservation : Option ℕ) (gpa width value : ℕ) → IsSound r → IsSoundHart r.rules hart → IsWidth width → IsFreePlace r gpa width
     → Goes r (carried_out_writing r h (record hart { registers = registers; pc = (hart.pc + 4) % 2 ^ 64; reservation = reservation }) (ram_place gpa) (low_bytes width value))
 written_goes r h hart registers reservation gpa width value s k whole free =
     let next : Hart = record hart { registers = registers; pc = (hart.pc + 4) % 2 ^ 64; reservation = reservation } in
@@ -251,7 +251,7 @@ written_goes r h hart registers reservation gpa width value s k whole free =
 guarded_goes : (r : State) (h : ℕ) (hart : Hart) (gpa : ℕ) → IsSound r → Goes r (write_stopped r h hart gpa)
 guarded_goes r h hart gpa s = goes_beside r r.devices (machine_ended (Stopped (Write hart.pc gpa) h r.journal.counts.turns) r.journal) s s.disk
 
-device_store_goes : (r : State) (h : ℕ) (hart : Hart) (address : ℕ) (x : Option DeviceStore) → IsSound r → IsSoundHart hart
+device_store_goes : (r : State) (h : ℕ) (hart : Hart) (address : ℕ) (x : Option DeviceStore) → IsSound r → IsSoundHart r.rules hart
     → ((d : DeviceStore) → x ≡ Some d → IsSoundDisk d.devices.disk) → Goes r (carry_out_device_store r h hart address x)
 unfolding carry_out_device_store
 device_store_goes r h hart address None s k disk = exception_goes r h hart Cause.StoreAccess address s k
@@ -259,7 +259,7 @@ device_store_goes r h hart address (Some d) s k disk =
     goes_set r h (record hart { pc = (hart.pc + 4) % 2 ^ 64; reservation = None }) d.devices (counted count_retired d.journal) s
     (goes_behind hart hart.registers None k) (disk d refl)
 
-pub store_goes : (r : State) (h : ℕ) (hart : Hart) (address width value : ℕ) (x : Target) → IsSound r → IsSoundHart hart → IsWidth width → FreeTarget r width x
+pub store_goes : (r : State) (h : ℕ) (hart : Hart) (address width value : ℕ) (x : Target) → IsSound r → IsSoundHart r.rules hart → IsWidth width → FreeTarget r width x
     → Goes r (carry_out_store r h hart address width value x)
 unfolding carry_out_store
 store_goes r h hart address width value (NoTarget cause) s k whole free = exception_goes r h hart cause address s k
@@ -269,7 +269,7 @@ store_goes r h hart address width value (ToDevice gpa) s k whole free =
     device_store_goes r h hart address (device_store r.devices r.journal gpa width value) s k
     (λ d e. device_stored r.devices r.journal d gpa width value s.disk e)
 
-pub store_conditional_goes : (r : State) (h : ℕ) (hart : Hart) (rd address width value : ℕ) (x : Target) → IsSound r → IsSoundHart hart → IsWidth width → FreeTarget r width x
+pub store_conditional_goes : (r : State) (h : ℕ) (hart : Hart) (rd address width value : ℕ) (x : Target) → IsSound r → IsSoundHart r.rules hart → IsWidth width → FreeTarget r width x
     → Goes r (carry_out_store_conditional r h hart rd address width value x)
 unfolding carry_out_store_conditional
 store_conditional_goes r h hart rd address width value (NoTarget cause) s k whole free = exception_goes r h hart cause address s k
@@ -280,7 +280,7 @@ store_conditional_goes r h hart rd address width value (ToRam gpa) s k whole fre
     (retire_goes r h hart (set_register hart.registers rd 1) None s k)
 store_conditional_goes r h hart rd address width value (ToDevice gpa) s k whole free = exception_goes r h hart Cause.StoreAccess address s k
 
-pub amo_goes : (r : State) (h : ℕ) (hart : Hart) (rd address width : ℕ) (op : AmoOp) (value : ℕ) (x : Target) → IsSound r → IsSoundHart hart → IsWidth width → FreeTarget r width x
+pub amo_goes : (r : State) (h : ℕ) (hart : Hart) (rd address width : ℕ) (op : AmoOp) (value : ℕ) (x : Target) → IsSound r → IsSoundHart r.rules hart → IsWidth width → FreeTarget r width x
     → Goes r (carry_out_amo r h hart rd address width op value x)
 unfolding carry_out_amo
 amo_goes r h hart rd address width op value (NoTarget cause) s k whole free = exception_goes r h hart cause address s k
@@ -292,7 +292,7 @@ amo_goes r h hart rd address width op value (ToDevice gpa) s k whole free = exce
 
 -- ---- registers
 
-pub csr_goes : (r : State) (h : ℕ) (hart : Hart) (w rd : ℕ) (op : CsrOp) (operand : ℕ) (writes : Bool) (x : Option Csr) → IsSound r → IsSoundHart hart
+pub csr_goes : (r : State) (h : ℕ) (hart : Hart) (w rd : ℕ) (op : CsrOp) (operand : ℕ) (writes : Bool) (x : Option Csr) → IsSound r → IsSoundHart r.rules hart
     → Goes r (carry_out_csr r h hart w rd op operand writes x)
 unfolding carry_out_csr
 csr_goes r h hart w rd op operand writes None s k = exception_goes r h hart Cause.Illegal w s k

@@ -47,10 +47,10 @@ decide_goes r false x y s t = t refl
 
 -- ---- harts, devices and the journal
 
-abbrev pub AreSound : List Hart → Type 0
-AreSound harts = (k : ℕ) (hart : Hart) → slice_get harts k ≡ Some hart → IsSoundHart hart
+abbrev pub AreSound : Rules → List Hart → Type 0
+AreSound rules harts = (k : ℕ) (hart : Hart) → slice_get harts k ≡ Some hart → IsSoundHart rules hart
 
-pub sound_harts : (r : State) (harts : List Hart) (d : Devices) (j : Journal) → IsSound r → AreSound harts → length harts ≡ length r.harts → IsSoundDisk d.disk
+pub sound_harts : (r : State) (harts : List Hart) (d : Devices) (j : Journal) → IsSound r → AreSound r.rules harts → length harts ≡ length r.harts → IsSoundDisk d.disk
     → IsSound (record r { harts = harts; devices = d; journal = j })
 sound_harts r harts d j s sound same disk = record {
   within = s.within;
@@ -66,7 +66,7 @@ sound_harts r harts d j s sound same disk = record {
   disk = disk;
 }
 
-pub goes_harts : (r : State) (harts : List Hart) (d : Devices) (j : Journal) → IsSound r → AreSound harts → length harts ≡ length r.harts → IsSoundDisk d.disk
+pub goes_harts : (r : State) (harts : List Hart) (d : Devices) (j : Journal) → IsSound r → AreSound r.rules harts → length harts ≡ length r.harts → IsSoundDisk d.disk
     → Goes r (record r { harts = harts; devices = d; journal = j })
 goes_harts r harts d j s sound same disk = record { sound = sound_harts r harts d j s sound same disk; text = text_stays (ownership r) }
 
@@ -77,17 +77,17 @@ get_set (x ∷ harts) zero (suc k) y z e = inr e
 get_set (x ∷ harts) (suc h) zero y z e = inr e
 get_set (x ∷ harts) (suc h) (suc k) y z e = get_set harts h k y z e
 
-pub are_set : (harts : List Hart) (h : ℕ) (next : Hart) → AreSound harts → IsSoundHart next → AreSound (slice_set harts h next)
-are_set harts h next all sound k hart e = elim (get_set harts h k next hart e) [
-  | inl same ↦ subst IsSoundHart same sound
+pub are_set : (rules : Rules) (harts : List Hart) (h : ℕ) (next : Hart) → AreSound rules harts → IsSoundHart rules next → AreSound rules (slice_set harts h next)
+are_set rules harts h next all sound k hart e = elim (get_set harts h k next hart e) [
+  | inl same ↦ subst (IsSoundHart rules) same sound
   | inr there ↦ all k hart there
 ]
 
 -- a hart is set
-pub goes_set : (r : State) (h : ℕ) (next : Hart) (d : Devices) (j : Journal) → IsSound r → IsSoundHart next → IsSoundDisk d.disk
+pub goes_set : (r : State) (h : ℕ) (next : Hart) (d : Devices) (j : Journal) → IsSound r → IsSoundHart r.rules next → IsSoundDisk d.disk
     → Goes r (record r { harts = slice_set r.harts h next; devices = d; journal = j })
 goes_set r h next d j s sound disk =
-    goes_harts r (slice_set r.harts h next) d j s (are_set r.harts h next s.harts sound) (length_set r.harts h next) disk
+    goes_harts r (slice_set r.harts h next) d j s (are_set r.rules r.harts h next s.harts sound) (length_set r.harts h next) disk
 
 -- no hart is
 pub goes_beside : (r : State) (d : Devices) (j : Journal) → IsSound r → IsSoundDisk d.disk → Goes r (record r { devices = d; journal = j })
@@ -100,8 +100,8 @@ get_map f [] k z e = cc
 get_map f (x ∷ harts) zero z e = (x, (refl, cc))
 get_map f (x ∷ harts) (suc k) z e = get_map f harts k z e
 
-forgot_sound : (place width : ℕ) (hart : Hart) → IsSoundHart hart → IsSoundHart (hart_after_write place width hart)
-forgot_sound place width hart s = record { aligned = s.aligned; small = s.small; legal = s.legal; stopped = s.stopped }
+forgot_sound : {rules : Rules} (place width : ℕ) (hart : Hart) → IsSoundHart rules hart → IsSoundHart rules (hart_after_write place width hart)
+forgot_sound place width hart s = record { aligned = s.aligned; small = s.small; legal = s.legal; entry = s.entry; stopped = λ off. record { mode = (s.stopped off).mode; entry = (s.stopped off).entry } }
 
 apart : (p q : ℕ) → (p ≡ q → ⊥) → (p < q) ⊎ (q < p)
 apart p q other = elim (lt_or_le p q) [
@@ -157,7 +157,7 @@ sound_bytes r place bytes s free = record {
   words = s.words;
   number = length_map (hart_after_write place (length bytes)) r.harts ∙ s.number;
   harts = λ k hart e. let m = get_map (hart_after_write place (length bytes)) r.harts k hart e in
-      subst IsSoundHart m.1.1 (forgot_sound place (length bytes) m.0 (s.harts k m.0 m.1.0));
+      subst (IsSoundHart r.rules) m.1.1 (forgot_sound place (length bytes) m.0 (s.harts k m.0 m.1.0));
   size = length_overwrite r.ram bytes place free.inside ∙ s.size;
   text = record {
     same = λ q old found. page_elsewhere r.ram bytes place q free.page free.inside free.first free.last

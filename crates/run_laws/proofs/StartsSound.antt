@@ -39,10 +39,10 @@ get_same x y zero k e = cc
 get_same x y (suc n) zero e = cc
 get_same x y (suc n) (suc k) e = get_same x y n k e
 
-boot_harts : (harts entry : ℕ) → entry % 4 ≡ 0 → entry < 2 ^ 64 → AreSound (harts_at_boot harts entry)
+boot_harts : {rules : Rules} (harts entry : ℕ) → entry % 4 ≡ 0 → entry < 2 ^ 64 → AreSound rules (harts_at_boot harts entry)
 boot_harts harts entry aligned small zero hart e =
-    let same : hart_at entry registers_at_boot ≡ hart = cc in subst IsSoundHart same (begin_sound entry registers_at_boot aligned small)
-boot_harts harts entry aligned small (suc k) hart e = subst IsSoundHart (get_same stopped_hart hart (harts - 1) k e) stopped_sound
+    let same : hart_at entry registers_at_boot ≡ hart = cc in subst (IsSoundHart _) same (begin_sound entry registers_at_boot aligned small)
+boot_harts harts entry aligned small (suc k) hart e = subst (IsSoundHart _) (get_same stopped_hart hart (harts - 1) k e) stopped_sound
 
 one_hart : (a b c d e f g : Bool) → ((a && b && c) && d && e && f && g) ≡ true → b ≡ true
 one_hart true true c d e f g k = refl

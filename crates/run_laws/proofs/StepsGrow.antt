@@ -16,14 +16,14 @@ use Rattle.sv_types.specs.declared.instruction.Instr.{Instr}
 use Rattle.sv_types.specs.declared.wires.Interrupt.{Interrupt}
 use Rattle.sv_types.specs.declared.wires.Mode.{Mode}
 use Rattle.sv_types.specs.declared.wires.Mode.TheVariants.{Kernel, User}
-use Rattle.reference.specs.States.{State, Hart, Journal, Loading, is_protected}
+use Rattle.sv_types.specs.Bytes.{page_of}
+use Rattle.reference.specs.States.{State, Hart, Journal, Loading, is_protected, Binding}
 use Rattle.reference.specs.Counting.{CountsAtMost, counted, count, count_dropped, count_turn, count_beat, count_key, count_tick}
-use Rattle.reference.specs.Calls.{asked_by}
 use Rattle.reference.specs.Disk.{Beaten, Move, Idle, FromRam, IntoRam, DeniedAt, OutsideRam, disk_beat}
 use Rattle.reference.specs.Devices.{lines_at, with_disk, with_bytes, after_move, beat, key, tick}
 use Rattle.reference.specs.Requests.{source_of, target_of, csr_asked}
 use Rattle.reference.specs.Run.{happen, happen_under, step}
-use Rattle.reference.specs.Turn.{carry_out_kernel_only, carry_out_ecall, carry_out_sret, carry_out_effect, carry_out_instruction, carry_out_word, Fetched, NoWord, Stray, Word, fetch_of, act_on_fetch, act_on_pending, act, turn_of_started, turn_of, turn}
+use Rattle.reference.specs.Turn.{place_of_pc, leads_into, noted_gpa, outside, leave_entry, fetch_in_entry, bound_entry, carry_out_kernel_only, carry_out_ecall, carry_out_sret, carry_out_effect, carry_out_instruction, carry_out_word, Fetched, NoWord, Stray, Word, fetch_of, act_on_fetch, act_on_pending, act, turn_of_started, turn_of, turn}
 use Rattle.run_laws.specs.GrowthLaws.{Grows, GrowsLaw}
 use Rattle.run_laws.proofs.CallsGrow.{call_gains, load_step_gains}
 use Rattle.run_laws.proofs.Growth.{Moves, Gains, choose_gains, still, retires, demotes, denies, drops, turn_grows, beat_grows, key_grows, tick_grows, rests_grows}
@@ -38,7 +38,7 @@ illegal_gains r h hart w User = exception_gains r h hart Cause.Illegal w
 
 ecall_gains : (r : State) (h : ℕ) (hart : Hart) (mode : Mode) → Gains r (carry_out_ecall r h hart mode)
 unfolding carry_out_ecall
-ecall_gains r h hart Kernel = call_gains r h hart (asked_by hart.registers)
+ecall_gains r h hart Kernel = call_gains r h hart
 ecall_gains r h hart User = exception_gains r h hart Cause.UserCall 0
 
 sret_gains : (r : State) (h : ℕ) (hart : Hart) (w : ℕ) (mode : Mode) → Gains r (carry_out_sret r h hart w mode)
@@ -78,10 +78,18 @@ fetch_gains r h hart (NoWord cause) = exception_gains r h hart cause hart.pc
 fetch_gains r h hart (Stray gpa) = demotes r.journal (Demote h r.journal.counts.turns hart.pc gpa)
 fetch_gains r h hart (Word w) = instruction_gains r h hart w (instruction_of w)
 
+entry_gains : (r : State) (h : ℕ) (hart : Hart) (x : Option Binding) → Gains r (fetch_in_entry r h hart x)
+unfolding fetch_in_entry
+entry_gains r h hart None = fetch_gains r h hart (fetch_of r hart)
+entry_gains r h hart (Some entry) =
+    choose_gains r (leads_into r (page_of entry.gpa) (place_of_pc r hart)) _ _ (fetch_gains r h hart (fetch_of r hart))
+    (choose_gains r (hart.pc == entry.va) _ _ (demotes r.journal (Demote h r.journal.counts.turns hart.pc (noted_gpa r.ram (place_of_pc r hart))))
+    (fetch_gains (leave_entry r h hart) h (outside hart) (fetch_of (leave_entry r h hart) (outside hart))))
+
 pending_gains : (r : State) (h : ℕ) (hart : Hart) (x : Option Interrupt) → Gains r (act_on_pending r h hart x)
 unfolding act_on_pending
 pending_gains r h hart (Some interrupt) = trap_gains r h hart hart.mode true (interrupt_number interrupt) 0
-pending_gains r h hart None = fetch_gains r h hart (fetch_of r hart)
+pending_gains r h hart None = entry_gains r h hart (bound_entry r.rules hart.entry)
 
 attempt_gains : (r : State) (h : ℕ) (hart : Hart) → Gains r (act r h hart)
 unfolding act

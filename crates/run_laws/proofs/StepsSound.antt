@@ -3,6 +3,7 @@ use Rattle.std.proofs.Common.{◌≡◌, ℕ, ◌+◌, ◌*◌, ◌/◌, ◌%◌
 use Rattle.std.specs.Prelude.{Option, Some, None, if◌then◌else◌, ◌==◌}
 use Rattle.std.proofs.lemmas.Bool.Decides.{nat_tests}
 use Rattle.sv_types.specs.Bytes.{part, in_ram, page_of, ram_place}
+use Rattle.sv_types.specs.Policies.{Rules}
 use Rattle.sv_types.specs.Clock.{after_tick}
 use Rattle.sv_types.specs.Console.{after_key, has_room}
 use Rattle.sv_types.specs.Effects.{effect_of, set_register}
@@ -20,15 +21,14 @@ use Rattle.sv_types.specs.declared.wires.Mode.TheVariants.{Kernel, User}
 use Rattle.sv_types.specs.declared.event.Note.TheVariants.{Demote, Denied}
 use Rattle.sv_types.specs.declared.event.Verdict.{Verdict}
 use Rattle.sv_types.specs.declared.event.Verdict.TheVariants.{Running, Shutdown, Stopped}
-use Rattle.reference.specs.States.{State, Hart, Disk, Loading, is_protected}
+use Rattle.reference.specs.States.{State, Hart, Binding, Disk, Loading, is_protected}
 use Rattle.reference.specs.Counting.{count, counted, noted, count_turn, count_beat, count_key, count_tick, count_retired, count_demote, count_denied, count_dropped}
 use Rattle.reference.specs.Disk.{Beaten, Move, Idle, FromRam, IntoRam, DeniedAt, OutsideRam, disk_beat, to_memory, to_disk, transfer_ended, block_ended, block_after_beat, beat_gpa, beat_place, beat_size, is_busy, sector_size}
 use Rattle.reference.specs.Devices.{lines_at, with_disk, with_bytes, after_move, beat, key, tick}
 use Rattle.reference.specs.Trapping.{exception}
 use Rattle.reference.specs.Origins.{ownership}
 use Rattle.reference.specs.Requests.{stepped, carried_out, source_of, target_of, csr_asked}
-use Rattle.reference.specs.Turn.{carry_out_kernel_only, carry_out_ecall, carry_out_sret, with_set, carry_out_effect, carry_out_instruction, carry_out_word, Fetched, NoWord, Stray, Word, fetch_of, demote, act_on_fetch, act_on_pending, act, turn_of_started, turn_of, turn}
-use Rattle.reference.specs.Calls.{asked_by}
+use Rattle.reference.specs.Turn.{fetch_and_act, place_of_pc, leads_into, noted_gpa, outside, leave_entry, fetch_in_entry, bound_entry, carry_out_kernel_only, carry_out_ecall, carry_out_sret, with_set, carry_out_effect, carry_out_instruction, carry_out_word, Fetched, NoWord, Stray, Word, fetch_of, demote, act_on_fetch, act_on_pending, act, turn_of_started, turn_of, turn}
 use Rattle.reference.specs.Run.{happen, happen_under, step, run}
 use Rattle.reference.specs.Soundness.{IsSound, IsSoundHart, IsSoundDisk}
 use Rattle.attempt_laws.proofs.AllTold.{all_told}
@@ -41,33 +41,33 @@ use Rattle.run_laws.proofs.Sounds.{Goes, InFreePage, goes_set, goes_beside, goes
 
 -- ---- instructions
 
-illegal_goes : (r : State) (h : ℕ) (hart : Hart) (w : ℕ) → IsSound r → IsSoundHart hart → Goes r (exception r h hart Cause.Illegal w)
+illegal_goes : (r : State) (h : ℕ) (hart : Hart) (w : ℕ) → IsSound r → IsSoundHart r.rules hart → Goes r (exception r h hart Cause.Illegal w)
 illegal_goes r h hart w s k = exception_goes r h hart Cause.Illegal w s k
 
-behind_goes : (r : State) (h : ℕ) (hart : Hart) → IsSound r → IsSoundHart hart → Goes r (carried_out r h (stepped hart))
+behind_goes : (r : State) (h : ℕ) (hart : Hart) → IsSound r → IsSoundHart r.rules hart → Goes r (carried_out r h (stepped hart))
 behind_goes r h hart s k = retire_goes r h hart hart.registers hart.reservation s k
 
-kernel_only_goes : (r : State) (h : ℕ) (hart : Hart) (w : ℕ) (mode : Mode) → IsSound r → IsSoundHart hart → Goes r (carry_out_kernel_only r h hart w mode)
+kernel_only_goes : (r : State) (h : ℕ) (hart : Hart) (w : ℕ) (mode : Mode) → IsSound r → IsSoundHart r.rules hart → Goes r (carry_out_kernel_only r h hart w mode)
 unfolding carry_out_kernel_only
 kernel_only_goes r h hart w Kernel s k = behind_goes r h hart s k
 kernel_only_goes r h hart w User s k = illegal_goes r h hart w s k
 
-ecall_goes : (r : State) (h : ℕ) (hart : Hart) (mode : Mode) → IsSound r → IsSoundHart hart → hart.mode ≡ mode → Goes r (carry_out_ecall r h hart mode)
+ecall_goes : (r : State) (h : ℕ) (hart : Hart) (mode : Mode) → IsSound r → IsSoundHart r.rules hart → hart.mode ≡ mode → Goes r (carry_out_ecall r h hart mode)
 unfolding carry_out_ecall
-ecall_goes r h hart Kernel s k at = call_goes r h hart (asked_by hart.registers) s k at
+ecall_goes r h hart Kernel s k at = call_goes r h hart s k at
 ecall_goes r h hart User s k at = exception_goes r h hart Cause.UserCall 0 s k
 
-sret_goes : (r : State) (h : ℕ) (hart : Hart) (w : ℕ) (mode : Mode) → IsSound r → IsSoundHart hart → hart.started ≡ true → Goes r (carry_out_sret r h hart w mode)
+sret_goes : (r : State) (h : ℕ) (hart : Hart) (w : ℕ) (mode : Mode) → IsSound r → IsSoundHart r.rules hart → hart.started ≡ true → Goes r (carry_out_sret r h hart w mode)
 unfolding carry_out_sret
 sret_goes r h hart w Kernel s k on = return_goes r h hart s k on
 sret_goes r h hart w User s k on = illegal_goes r h hart w s k
 
-set_goes : (r : State) (h : ℕ) (hart : Hart) (rd value next : ℕ) → IsSound r → IsSoundHart hart → (next % 4 ≡ 0) × (next < 2 ^ 64) → Goes r (carried_out r h (with_set hart rd value next))
+set_goes : (r : State) (h : ℕ) (hart : Hart) (rd value next : ℕ) → IsSound r → IsSoundHart r.rules hart → (next % 4 ≡ 0) × (next < 2 ^ 64) → Goes r (carried_out r h (with_set hart rd value next))
 set_goes r h hart rd value next s k right =
     goes_set r h (with_set hart rd value next) r.devices (counted count_retired r.journal) s
     (at_pc hart (set_register hart.registers rd value) next hart.reservation k right.0 right.1) s.disk
 
-effect_goes : (r : State) (h : ℕ) (hart : Hart) (w : ℕ) (e : Effect) → IsSound r → IsSoundHart hart → hart.started ≡ true → IsTold w hart e → GoesRight e
+effect_goes : (r : State) (h : ℕ) (hart : Hart) (w : ℕ) (e : Effect) → IsSound r → IsSoundHart r.rules hart → hart.started ≡ true → IsTold w hart e → GoesRight e
     → Goes r (carry_out_effect r h hart w e)
 unfolding carry_out_effect
 effect_goes r h hart w (Effect.Set rd value next) s k on told right = set_goes r h hart rd value next s k right
@@ -89,7 +89,7 @@ effect_goes r h hart w Effect.SfenceVma s k on told right = kernel_only_goes r h
 effect_goes r h hart w Effect.Fence s k on told right = behind_goes r h hart s k
 effect_goes r h hart w Effect.Hyper s k on told right = illegal_goes r h hart w s k
 
-instruction_goes : (r : State) (h : ℕ) (hart : Hart) (w : ℕ) (x : Option Instr) → IsSound r → IsSoundHart hart → hart.started ≡ true → instruction_of w ≡ x
+instruction_goes : (r : State) (h : ℕ) (hart : Hart) (w : ℕ) (x : Option Instr) → IsSound r → IsSoundHart r.rules hart → hart.started ≡ true → instruction_of w ≡ x
     → Goes r (carry_out_instruction r h hart w x)
 unfolding carry_out_instruction
 instruction_goes r h hart w None s k on e = illegal_goes r h hart w s k
@@ -98,29 +98,50 @@ instruction_goes r h hart w (Some i) s k on e =
 
 -- ---- the fetch
 
-demote_goes : (r : State) (h : ℕ) (hart : Hart) (gpa : ℕ) → IsSound r → IsSoundHart hart → hart.started ≡ true → Goes r (demote r h hart gpa)
+demote_goes : (r : State) (h : ℕ) (hart : Hart) (gpa : ℕ) → IsSound r → IsSoundHart r.rules hart → hart.started ≡ true → Goes r (demote r h hart gpa)
 demote_goes r h hart gpa s k on =
-    goes_set r h (record hart { mode = User; reservation = None }) r.devices (noted (Demote h r.journal.counts.turns hart.pc gpa) (counted count_demote r.journal)) s
+    goes_set r h (record hart { mode = User; reservation = None; entry = None }) r.devices (noted (Demote h r.journal.counts.turns hart.pc gpa) (counted count_demote r.journal)) s
     (demoted_sound hart on k) s.disk
 
-fetch_goes : (r : State) (h : ℕ) (hart : Hart) (x : Fetched) → IsSound r → IsSoundHart hart → hart.started ≡ true → Goes r (act_on_fetch r h hart x)
+fetch_goes : (r : State) (h : ℕ) (hart : Hart) (x : Fetched) → IsSound r → IsSoundHart r.rules hart → hart.started ≡ true → Goes r (act_on_fetch r h hart x)
 unfolding act_on_fetch carry_out_word
 fetch_goes r h hart (NoWord cause) s k on = exception_goes r h hart cause hart.pc s k
 fetch_goes r h hart (Stray gpa) s k on = demote_goes r h hart gpa s k on
 fetch_goes r h hart (Word w) s k on = instruction_goes r h hart w (instruction_of w) s k on refl
 
+-- the entry is left
+pub outside_sound : {rules : Rules} (hart : Hart) → IsSoundHart rules hart → IsSoundHart rules (outside hart)
+outside_sound hart k =
+    record { aligned = k.aligned; small = k.small; legal = k.legal; entry = tt; stopped = λ off. record { mode = (k.stopped off).mode; entry = refl } }
+
+pub leave_goes : (r : State) (h : ℕ) (hart : Hart) → IsSound r → IsSoundHart r.rules hart → Goes r (leave_entry r h hart)
+leave_goes r h hart s k = goes_set r h (outside hart) r.devices r.journal s (outside_sound hart k) s.disk
+
+again_goes : (r : State) (h : ℕ) (hart : Hart) → IsSound r → IsSoundHart r.rules hart → hart.started ≡ true → Goes r (fetch_and_act (leave_entry r h hart) h (outside hart))
+again_goes r h hart s k on =
+    let left = leave_goes r h hart s k in
+    goes_on r (leave_entry r h hart) (fetch_and_act (leave_entry r h hart) h (outside hart)) left
+    (fetch_goes (leave_entry r h hart) h (outside hart) (fetch_of (leave_entry r h hart) (outside hart)) left.sound (outside_sound hart k) on)
+
+entry_goes : (r : State) (h : ℕ) (hart : Hart) (x : Option Binding) → IsSound r → IsSoundHart r.rules hart → hart.started ≡ true → Goes r (fetch_in_entry r h hart x)
+unfolding fetch_in_entry
+entry_goes r h hart None s k on = fetch_goes r h hart (fetch_of r hart) s k on
+entry_goes r h hart (Some entry) s k on =
+    choose_goes r (leads_into r (page_of entry.gpa) (place_of_pc r hart)) _ _ (fetch_goes r h hart (fetch_of r hart) s k on)
+    (choose_goes r (hart.pc == entry.va) _ _ (demote_goes r h hart (noted_gpa r.ram (place_of_pc r hart)) s k on) (again_goes r h hart s k on))
+
 -- ---- the turn
 
-pending_goes : (r : State) (h : ℕ) (hart : Hart) (x : Option Interrupt) → IsSound r → IsSoundHart hart → hart.started ≡ true → Goes r (act_on_pending r h hart x)
+pending_goes : (r : State) (h : ℕ) (hart : Hart) (x : Option Interrupt) → IsSound r → IsSoundHart r.rules hart → hart.started ≡ true → Goes r (act_on_pending r h hart x)
 unfolding act_on_pending
-pending_goes r h hart (Some interrupt) s k on = trap_goes r h hart hart.mode true (interrupt_number interrupt) 0 s k
-pending_goes r h hart None s k on = fetch_goes r h hart (fetch_of r hart) s k on
+pending_goes r h hart (Some interrupt) s k on = trap_goes r h hart true (interrupt_number interrupt) 0 s k
+pending_goes r h hart None s k on = entry_goes r h hart (bound_entry r.rules hart.entry) s k on
 
-attempt_goes : (r : State) (h : ℕ) (hart : Hart) → IsSound r → IsSoundHart hart → hart.started ≡ true → Goes r (act r h hart)
+attempt_goes : (r : State) (h : ℕ) (hart : Hart) → IsSound r → IsSoundHart r.rules hart → hart.started ≡ true → Goes r (act r h hart)
 unfolding act
 attempt_goes r h hart s k on = pending_goes r h hart (deliverable hart.mode hart.supervisor (lines_at r.devices h)) s k on
 
-started_goes : (r : State) (h : ℕ) (hart : Hart) (x : Option Loading) → IsSound r → IsSoundHart hart → hart.started ≡ true → r.loading ≡ x → Goes r (turn_of_started r h hart x)
+started_goes : (r : State) (h : ℕ) (hart : Hart) (x : Option Loading) → IsSound r → IsSoundHart r.rules hart → hart.started ≡ true → r.loading ≡ x → Goes r (turn_of_started r h hart x)
 unfolding turn_of_started
 started_goes r h hart None s k on under = attempt_goes r h hart s k on
 started_goes r h hart (Some load) s k on under =

@@ -1,2 +1,3 @@
 pub mod StateLaws
 pub mod GrowthLaws
+pub mod EntryLaws

@@ -1,6 +1,7 @@
 //! The laws of whole runs of the reference machine: which bytes are approved, and where they come from.
 #![tactic(auto)]
 
+ghost use Rattle.run_laws.specs.EntryLaws.{AtEntryLaw, EntryLaw};
 ghost use Rattle.run_laws.specs.GrowthLaws.{GrowsLaw};
 ghost use Rattle.run_laws.specs.StateLaws.{BytesLaw, ModulesLaw};
 
@@ -18,4 +19,16 @@ pub fn law_modules()
 /// One event raises each count by one at most, and prints one byte at most, behind those that were printed.
 pub fn law_grows()
     ensures { GrowsLaw }
+{}
+
+/// In each such state, a hart at its entry's address that takes no interrupt is demoted, or carries out the word at the
+/// address that the entry is bound to. No other word is ever carried out there.
+pub fn law_at_entry()
+    ensures { AtEntryLaw }
+{}
+
+/// After an entry from user mode, whatever other harts and devices do, the hart stands at its entry's address with its
+/// interrupts off until its next turn, which is one of those two.
+pub fn law_entry()
+    ensures { EntryLaw }
 {}

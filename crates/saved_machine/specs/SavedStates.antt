@@ -34,6 +34,7 @@ saved_hart clock h hart = record {
   sip = 2 ^ 1 * flag hart.supervisor.software;
   satp = hart.supervisor.satp;
   reservation = option_map gpa_at hart.reservation;
+  entry = hart.entry;
   timer = timer_of clock h;
 }
 

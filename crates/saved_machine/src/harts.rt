@@ -24,6 +24,8 @@ pub struct SavedHart {
     pub satp: u64,
     /// The guest-physical address of the 8 aligned bytes that are reserved.
     pub reservation: Option<u64>,
+    /// The place of the entry that it is in, in the policy's list.
+    pub entry: Option<u8>,
     /// The time of its timer's interrupt, in ticks; 2^64 - 1 means never.
     pub timer: u64,
 }

@@ -17,7 +17,7 @@ use Rattle.reference.specs.Start.{start, flat_start, boot_start, flat_rules, har
 use Rattle.reference.specs.States.{State, protection_in, protection_by, has_number}
 use Rattle.machine_model.specs.Machine.{Machine}
 use Rattle.machine_model.specs.Reaches.{IsNew}
-use Rattle.machine_model.specs.StandsFor.{Unseen, IsRightFor, machine_of, protections_of, host_harts}
+use Rattle.machine_model.specs.StandsFor.{bound_pages, Unseen, IsRightFor, machine_of, protections_of, host_harts}
 use Rattle.run_laws.proofs.Lookups.{approved_alone}
 use Rattle.run_laws.proofs.StartsSound.{CanStart, start_sound, flat_can, image_can}
 use Rattle.answer_laws.proofs.ProtectionsChange.{each_changed, span_changed, views_from}
@@ -57,8 +57,8 @@ numbers_count first (suc n) = ap suc (numbers_count (first + 1) n)
 all_pages : (r : State) → length (protections_of r) ≡ r.rules.ram_pages
 all_pages r = length-map (numbers_from 0 r.rules.ram_pages) (protection_in r.approved r.held) ∙ numbers_count 0 r.rules.ram_pages
 
-boot_views : (tables : List ℕ) (r : State) → AreViews tables (length (protections_of r)) (protection_at (protections_of r)) → AreViews tables r.rules.ram_pages (protection_in r.approved r.held)
-boot_views tables r views = views_from tables r (subst (λ (n : ℕ). AreViews tables n (protection_at (protections_of r))) (all_pages r) views)
+boot_views : (tables : List ℕ) (r : State) → AreViews tables (length (protections_of r)) (bound_pages r.rules) (protection_at (protections_of r)) → AreViews tables r.rules.ram_pages (bound_pages r.rules) (protection_in r.approved r.held)
+boot_views tables r views = views_from tables r (subst (λ (n : ℕ). AreViews tables n (bound_pages r.rules) (protection_at (protections_of r))) (all_pages r) views)
 
 boot_right : (tables : List ℕ) (rules : Rules) (ram text : List ℕ) (entry : ℕ) (disk : List ℕ)
     → IsGuarded (machine_at_boot rules (with_ram tables ram) entry (protections_of (start rules ram text entry disk)) disk)

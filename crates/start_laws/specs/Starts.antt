@@ -17,7 +17,7 @@ use Rattle.reference.specs.Start.{AreWords, block_at_boot, flat_rules, flat_star
 use Rattle.reference.specs.States.{Journal, has_number}
 use Rattle.machine_model.specs.Machine.{Machine, HostHart}
 use Rattle.machine_model.specs.Reaches.{IsNew}
-use Rattle.machine_model.specs.StandsFor.{hregs_in}
+use Rattle.machine_model.specs.StandsFor.{bound_pages, hregs_in}
 
 -- ---- harts
 
@@ -28,10 +28,11 @@ host_at_boot pc started = record {
     registers = replicate 32 0;
     pc = pc;
     csrs = registers_at_boot;
-    hregs = hregs_in Kernel;
+    hregs = hregs_in Kernel None;
     reservation = None;
   };
   started = started;
+  entry = None;
 }
 
 -- hart 0 at its entry, and the others stopped
@@ -92,10 +93,10 @@ image_machine tables rules entry segments disk =
 
 -- ---- the laws
 
--- the region is one, and its tables hold both views for the protections
+-- the region is one, and its tables hold all views for the protections
 pub record IsGuarded (m : Machine) : Type 0 where
   pub region : IsRegion m.region
-  pub views : AreViews m.region.tables (length m.protections) (protection_at m.protections)
+  pub views : AreViews m.region.tables (length m.protections) (bound_pages m.rules) (protection_at m.protections)
 
 -- a machine of plain pages stands for their start
 abbrev pub FlatStartLaw : Type 0

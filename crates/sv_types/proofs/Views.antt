@@ -6,11 +6,10 @@ use Rattle.std.proofs.lemmas.Bool.Decides.{nat_tests}
 use Rattle.sv_types.specs.Bytes.{word, in_ram, ram_base, ram_place, page_of, page_size}
 use Rattle.sv_types.specs.Regions.{Region, host_word}
 use Rattle.sv_types.specs.Translation.{Destination, At, PageFault, Unreadable, entry_in_ram, first_stage, place, Settings}
-use Rattle.sv_types.specs.SecondStage.{IsView, WalksInside, WalksApart, with_ram, page_in_ram, view_permits, view_answer, walk_guest, entry_there, entry_through, place_through, after_first_stage, two_stages, under_view}
+use Rattle.sv_types.specs.SecondStage.{IsView, Sight, WalksInside, WalksApart, with_ram, page_in_ram, view_permits, view_answer, walk_guest, entry_there, entry_through, place_through, after_first_stage, two_stages, under_view}
 use Rattle.sv_types.specs.declared.wires.Access.{Access}
 use Rattle.sv_types.specs.declared.wires.Access.TheVariants.{Load}
 use Rattle.sv_types.specs.declared.wires.Mode.{Mode}
-use Rattle.sv_types.specs.declared.wires.View.{View}
 use Rattle.sv_types.specs.declared.wires.Protection.{Protection}
 use Rattle.sv_types.proofs.ByteLemmas.{lt_or_le}
 use Rattle.sv_types.proofs.RegionLemmas.{word_in_ram}
@@ -36,11 +35,11 @@ read_choice : (r : Region) (b : Bool) (at : ℕ) → entry_there r (if b then So
 read_choice r true at = refl
 read_choice r false at = refl
 
-pub entries_agree : (tables ram : List ℕ) (ram_pages hgatp : ℕ) (protections : ℕ → Protection) (view : View)
-    → IsView tables ram_pages protections view hgatp → length ram ≡ page_size * ram_pages
+pub entries_agree : (tables ram : List ℕ) (ram_pages hgatp : ℕ) (protections : ℕ → Protection) (sight : Sight)
+    → IsView tables ram_pages protections sight hgatp → length ram ≡ page_size * ram_pages
     → Agree (entry_in_ram ram) (entry_through (with_ram tables ram) hgatp)
 unfolding entry_in_ram entry_through view_answer
-entries_agree tables ram ram_pages hgatp protections view is_view size a aligned small =
+entries_agree tables ram ram_pages hgatp protections sight is_view size a aligned small =
     let p : ℕ = ram_place a in
     let r : Region = with_ram tables ram in
     let tests : in_ram ram a 8 ≡ page_in_ram ram_pages a =
@@ -56,14 +55,14 @@ entries_agree tables ram ram_pages hgatp protections view is_view size a aligned
     left ∙ sym right
 
 -- so under a view the hardware's first stage is the plain translation over RAM
-pub first_stage_is_plain : (tables ram : List ℕ) (ram_pages hgatp : ℕ) (protections : ℕ → Protection) (view : View)
-    → IsView tables ram_pages protections view hgatp → length ram ≡ page_size * ram_pages
+pub first_stage_is_plain : (tables ram : List ℕ) (ram_pages hgatp : ℕ) (protections : ℕ → Protection) (sight : Sight)
+    → IsView tables ram_pages protections sight hgatp → length ram ≡ page_size * ram_pages
     → (s : Settings) (mode : Mode) (va : ℕ) (access : Access)
     → place ram s mode va access ≡ first_stage (entry_through (with_ram tables ram) hgatp) s mode va access
 unfolding place
-first_stage_is_plain tables ram ram_pages hgatp protections view is_view size s mode va access =
+first_stage_is_plain tables ram ram_pages hgatp protections sight is_view size s mode va access =
     first_stage_agrees (entry_in_ram ram) (entry_through (with_ram tables ram) hgatp) s mode va access
-    (entries_agree tables ram ram_pages hgatp protections view is_view size)
+    (entries_agree tables ram ram_pages hgatp protections sight is_view size)
 
 none_chosen : (b : Bool) (at : ℕ) → None ≡ (if b && true then Some at else None) → b ≡ false
 none_chosen true at e = absurd (cc)
@@ -82,12 +81,12 @@ unfolding walk_guest
 walk_at_limit r hgatp access = refl
 
 -- every gpa at all is answered as the view says: since 2 ^ 41 faults, RAM ends below it
-pub view_answers : (tables ram : List ℕ) (ram_pages hgatp : ℕ) (protections : ℕ → Protection) (view : View)
-    → IsView tables ram_pages protections view hgatp → length ram ≡ page_size * ram_pages
+pub view_answers : (tables ram : List ℕ) (ram_pages hgatp : ℕ) (protections : ℕ → Protection) (sight : Sight)
+    → IsView tables ram_pages protections sight hgatp → length ram ≡ page_size * ram_pages
     → (gpa : ℕ) (access : Access)
-    → walk_guest (with_ram tables ram) hgatp gpa access ≡ view_answer (length tables) ram_pages view protections gpa access
+    → walk_guest (with_ram tables ram) hgatp gpa access ≡ view_answer (length tables) ram_pages sight protections gpa access
 unfolding view_answer
-view_answers tables ram ram_pages hgatp protections view is_view size gpa access = elim (lt_or_le gpa (2 ^ 64)) [
+view_answers tables ram ram_pages hgatp protections sight is_view size gpa access = elim (lt_or_le gpa (2 ^ 64)) [
   | inl near ↦ is_view.answers ram gpa access size near
   | inr far ↦
       let limit : None ≡ (if page_in_ram ram_pages (2 ^ 41) && true then Some (length tables + ram_place (2 ^ 41)) else None) =
@@ -97,26 +96,26 @@ view_answers tables ram ram_pages hgatp protections view is_view size gpa access
       rw none (far_walk (with_ram tables ram) hgatp gpa access far)
 ]
 
-then_view : (tables ram : List ℕ) (ram_pages hgatp : ℕ) (protections : ℕ → Protection) (view : View)
-    → IsView tables ram_pages protections view hgatp → length ram ≡ page_size * ram_pages
+then_view : (tables ram : List ℕ) (ram_pages hgatp : ℕ) (protections : ℕ → Protection) (sight : Sight)
+    → IsView tables ram_pages protections sight hgatp → length ram ≡ page_size * ram_pages
     → (access : Access) (d : Destination)
-    → after_first_stage (with_ram tables ram) hgatp access d ≡ under_view (length tables) ram_pages view protections access d
+    → after_first_stage (with_ram tables ram) hgatp access d ≡ under_view (length tables) ram_pages sight protections access d
 unfolding after_first_stage
-then_view tables ram ram_pages hgatp protections view is_view size access (At gpa) =
-    ap (place_through gpa) (view_answers tables ram ram_pages hgatp protections view is_view size gpa access)
-then_view tables ram ram_pages hgatp protections view is_view size access PageFault = refl
-then_view tables ram ram_pages hgatp protections view is_view size access (Unreadable entry) = refl
+then_view tables ram ram_pages hgatp protections sight is_view size access (At gpa) =
+    ap (place_through gpa) (view_answers tables ram ram_pages hgatp protections sight is_view size gpa access)
+then_view tables ram ram_pages hgatp protections sight is_view size access PageFault = refl
+then_view tables ram ram_pages hgatp protections sight is_view size access (Unreadable entry) = refl
 
 -- and translation through both stages the plain one, followed by the view's answer, for every virtual address at all
-pub two_stages_under_view : (tables ram : List ℕ) (ram_pages hgatp : ℕ) (protections : ℕ → Protection) (view : View)
-    → IsView tables ram_pages protections view hgatp → length ram ≡ page_size * ram_pages
+pub two_stages_under_view : (tables ram : List ℕ) (ram_pages hgatp : ℕ) (protections : ℕ → Protection) (sight : Sight)
+    → IsView tables ram_pages protections sight hgatp → length ram ≡ page_size * ram_pages
     → (s : Settings) (mode : Mode) (va : ℕ) (access : Access)
-    → two_stages (with_ram tables ram) hgatp s mode va access ≡ under_view (length tables) ram_pages view protections access (place ram s mode va access)
+    → two_stages (with_ram tables ram) hgatp s mode va access ≡ under_view (length tables) ram_pages sight protections access (place ram s mode va access)
 unfolding two_stages
-two_stages_under_view tables ram ram_pages hgatp protections view is_view size s mode va access =
-    then_view tables ram ram_pages hgatp protections view is_view size access (first_stage (entry_through (with_ram tables ram) hgatp) s mode va access)
-    ∙ ap (under_view (length tables) ram_pages view protections access)
-    (sym (first_stage_is_plain tables ram ram_pages hgatp protections view is_view size s mode va access))
+two_stages_under_view tables ram ram_pages hgatp protections sight is_view size s mode va access =
+    then_view tables ram ram_pages hgatp protections sight is_view size access (first_stage (entry_through (with_ram tables ram) hgatp) s mode va access)
+    ∙ ap (under_view (length tables) ram_pages sight protections access)
+    (sym (first_stage_is_plain tables ram ram_pages hgatp protections sight is_view size s mode va access))
 
 -- ---- walks stay inside
 
@@ -129,16 +128,16 @@ page_inside t n gpa true h = let k : page_in_ram n gpa ≡ true = sym (and_true 
 page_inside t n gpa false h = let k = sym (and_false (page_in_ram n gpa)) ∙ h in absurd (cc)
 
 -- under a view every walk leads into the region
-pub view_walks_inside : (tables ram : List ℕ) (ram_pages hgatp : ℕ) (protections : ℕ → Protection) (view : View)
-    → IsView tables ram_pages protections view hgatp → length ram ≡ page_size * ram_pages → WalksInside (with_ram tables ram) hgatp
+pub view_walks_inside : (tables ram : List ℕ) (ram_pages hgatp : ℕ) (protections : ℕ → Protection) (sight : Sight)
+    → IsView tables ram_pages protections sight hgatp → length ram ≡ page_size * ram_pages → WalksInside (with_ram tables ram) hgatp
 unfolding view_answer
-view_walks_inside tables ram ram_pages hgatp protections view is_view size = record {
+view_walks_inside tables ram ram_pages hgatp protections sight is_view size = record {
   inside = λ gpa hpa access e.
-      let answer : (if page_in_ram ram_pages gpa && view_permits view (protections (page_of gpa)) access then Some (length tables + ram_place gpa) else None) ≡ Some hpa =
-      sym (view_answers tables ram ram_pages hgatp protections view is_view size gpa access) ∙ e in
+      let answer : (if page_in_ram ram_pages gpa && view_permits sight (page_of gpa) (protections (page_of gpa)) access then Some (length tables + ram_place gpa) else None) ≡ Some hpa =
+      sym (view_answers tables ram ram_pages hgatp protections sight is_view size gpa access) ∙ e in
       let below : hpa < length tables + 4096 * ram_pages =
-      chosen_inside (page_in_ram ram_pages gpa && view_permits view (protections (page_of gpa)) access) (length tables + ram_place gpa) (length tables + 4096 * ram_pages) hpa
-      (page_inside (length tables) ram_pages gpa (view_permits view (protections (page_of gpa)) access)) answer in omega arith;
+      chosen_inside (page_in_ram ram_pages gpa && view_permits sight (page_of gpa) (protections (page_of gpa)) access) (length tables + ram_place gpa) (length tables + 4096 * ram_pages) hpa
+      (page_inside (length tables) ram_pages gpa (view_permits sight (page_of gpa) (protections (page_of gpa)) access)) answer in omega arith;
 }
 
 -- behind the tables
@@ -147,14 +146,14 @@ chosen_behind true t n x e = let same : t + n ≡ x = cc in omega arith
 chosen_behind false t n x e = absurd (cc)
 
 -- and reads the tables alone
-pub view_walks_apart : (tables ram : List ℕ) (ram_pages hgatp : ℕ) (protections : ℕ → Protection) (view : View)
-    → IsView tables ram_pages protections view hgatp → length ram ≡ page_size * ram_pages → WalksApart (with_ram tables ram) hgatp
+pub view_walks_apart : (tables ram : List ℕ) (ram_pages hgatp : ℕ) (protections : ℕ → Protection) (sight : Sight)
+    → IsView tables ram_pages protections sight hgatp → length ram ≡ page_size * ram_pages → WalksApart (with_ram tables ram) hgatp
 unfolding view_answer
-view_walks_apart tables ram ram_pages hgatp protections view is_view size = record {
+view_walks_apart tables ram ram_pages hgatp protections sight is_view size = record {
   reads = λ gpa access small. is_view.reads ram gpa access size small;
   leads = λ gpa hpa access e. (
-    chosen_behind (page_in_ram ram_pages gpa && view_permits view (protections (page_of gpa)) access) (length tables) (ram_place gpa) hpa
-        (sym (view_answers tables ram ram_pages hgatp protections view is_view size gpa access) ∙ e),
-    (view_walks_inside tables ram ram_pages hgatp protections view is_view size).inside gpa hpa access e,
+    chosen_behind (page_in_ram ram_pages gpa && view_permits sight (page_of gpa) (protections (page_of gpa)) access) (length tables) (ram_place gpa) hpa
+        (sym (view_answers tables ram ram_pages hgatp protections sight is_view size gpa access) ∙ e),
+    (view_walks_inside tables ram ram_pages hgatp protections sight is_view size).inside gpa hpa access e,
   );
 }

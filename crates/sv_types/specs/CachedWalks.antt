@@ -4,11 +4,11 @@
 use Rattle.std.specs.Prelude.{◌≡◌, ℕ, ◌+◌, ◌*◌, ◌^◌, ◌<◌, ◌⊎◌, Bool, if◌then◌else◌, List, replicate, Option, Some, None, slice_index_or}
 use Rattle.sv_types.specs.Bytes.{page_size}
 use Rattle.sv_types.specs.Translation.{Destination, At, PageFault}
-use Rattle.sv_types.specs.SecondStage.{entry_in_tables, guest_destination, view_hgatp}
+use Rattle.sv_types.specs.SecondStage.{Sight, entry_in_tables, guest_destination, view_hgatp, sight_of}
 use Rattle.sv_types.specs.declared.cached.CacheLine.{CacheLine}
 use Rattle.sv_types.specs.declared.wires.Access.{Access}
 use Rattle.sv_types.specs.declared.wires.Access.TheVariants.{Fetch, Load, Store}
-use Rattle.sv_types.specs.declared.wires.View.TheVariants.{Kernel, User}
+use Rattle.sv_types.specs.declared.wires.View.{View}
 
 -- ---- one line
 
@@ -52,6 +52,13 @@ IsFilled tables hgatp held = (line : CacheLine) × ((held ≡ Some line) × ((li
 pub record FilledUnder (tables : List ℕ) (hgatp : ℕ) (before after : List (Option CacheLine)) : Type 0 where
   pub lines : (i : ℕ) → (line_at after i ≡ line_at before i) ⊎ IsFilled tables hgatp (line_at after i)
 
--- every line that is held was walked under the root of a view
-pub record UnderViews (lines : List (Option CacheLine)) : Type 0 where
-  pub root : (i : ℕ) (line : CacheLine) → line_at lines i ≡ Some line → (line.hgatp ≡ view_hgatp Kernel) ⊎ (line.hgatp ≡ view_hgatp User)
+-- an hgatp value is a root's
+pub record IsRoot (bound : List ℕ) (hgatp : ℕ) : Type 0 where
+  pub view : View
+  pub sight : Sight
+  pub there : sight_of bound view ≡ Some sight
+  pub same : hgatp ≡ view_hgatp view
+
+-- every line that is held was walked under one of the roots
+pub record UnderViews (bound : List ℕ) (lines : List (Option CacheLine)) : Type 0 where
+  pub root : (i : ℕ) (line : CacheLine) → line_at lines i ≡ Some line → IsRoot bound line.hgatp

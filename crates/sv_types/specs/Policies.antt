@@ -1,8 +1,9 @@
 -- What a policy permits, as plain data, and the limits of its values. The limits are this project's own; a relocation's
 -- kinds are those of the RISC-V ELF psABI, "Relocations".
-use Rattle.std.specs.Prelude.{ℕ, ◌+◌, ◌-◌, slice_get, ◌*◌, ◌%◌, Bool, true, ◌&&◌, ◌||◌, not, ◌==◌, nat_le, nat_lt, List, [], ◌∷◌, ◌++◌, length, map, sum, if◌then◌else◌, Option, Some, None}
+use Rattle.std.specs.Prelude.{ℕ, ◌+◌, ◌-◌, slice_get, ◌*◌, ◌%◌, Bool, true, false, ◌&&◌, ◌||◌, not, ◌==◌, nat_le, nat_lt, List, [], ◌∷◌, ◌++◌, length, map, sum, if◌then◌else◌, Option, Some, None}
 use Rattle.std.specs.List.{list_any}
 use Rattle.std.specs.Str.{bytes_eq}
+use Rattle.sv_types.specs.Bytes.{page_size, ram_base}
 use Rattle.sv_types.specs.declared.module.Span.{Span}
 use Rattle.sv_types.specs.declared.module.Site.{Site}
 use Rattle.sv_types.specs.declared.policy.Export.{Export}
@@ -21,7 +22,10 @@ pub record Rules : Type 0 where
   pub format : ℕ
   pub harts : ℕ
   pub ram_pages : ℕ
+  -- the virtual addresses at which user mode may enter the kernel
   pub entries : List ℕ
+  -- in format 2 the guest-physical address that each of them is bound to
+  pub bound : List ℕ
   pub exports : List Export
   pub kernel : List ℕ
   pub init : Option Span
@@ -36,6 +40,7 @@ rules_of policy = record {
   harts = policy.harts;
   ram_pages = policy.ram_pages;
   entries = policy.entries.items;
+  bound = policy.bound.items;
   exports = policy.exports.items;
   kernel = policy.kernel;
   init = policy.init;
@@ -101,6 +106,25 @@ span_within ram_pages span = nat_le 1 span.count && nat_le (span.first + span.co
 abbrev pub init_within : ℕ → Option Span → Bool
 init_within ram_pages None = true
 init_within ram_pages (Some span) = span_within ram_pages span
+
+-- ---- bound entries
+
+-- in RAM, at the place in its page that the entry has in its own
+abbrev pub bound_fits : (ram_pages entry gpa : ℕ) → Bool
+bound_fits ram_pages entry gpa =
+    nat_le ram_base gpa && nat_lt gpa (ram_base + page_size * ram_pages) && gpa % page_size == entry % page_size
+
+-- each entry has its address, and none stands twice
+abbrev pub all_bound : (ram_pages : ℕ) → (before entries bound : List ℕ) → Bool
+all_bound ram_pages before [] [] = true
+all_bound ram_pages before [] (gpa ∷ bound) = false
+all_bound ram_pages before (entry ∷ entries) [] = false
+all_bound ram_pages before (entry ∷ entries) (gpa ∷ bound) =
+    bound_fits ram_pages entry gpa && not (list_any (λ e. e == entry) before) && all_bound ram_pages (before ++ entry ∷ []) entries bound
+
+-- format 1 binds no entry, and format 2 each
+abbrev pub bound_within : Rules → Bool
+bound_within r = if r.format == 1 then length r.bound == 0 else all_bound r.ram_pages [] r.entries r.bound
 
 -- ---- sites
 
@@ -178,7 +202,7 @@ modules_within exports = each_within (module_within exports) []
 -- ---- the whole
 
 abbrev pub format_within : ℕ → Bool
-format_within format = format == 1
+format_within format = is_between 1 2 format
 
 abbrev pub numbers_within : Rules → Bool
 numbers_within r = format_within r.format && harts_within r.harts && ram_pages_within r.ram_pages
@@ -186,7 +210,7 @@ numbers_within r = format_within r.format && harts_within r.harts && ram_pages_w
 abbrev pub lists_within : Rules → Bool
 lists_within r =
     entries_count_within (length r.entries) && entries_within r.entries && exports_count_within (length r.exports) &&
-    exports_within r.exports
+    exports_within r.exports && bound_within r
 
 abbrev pub rules_within : Rules → Bool
 rules_within r =

@@ -26,6 +26,8 @@ pub struct Policy {
     pub harts: u8,
     pub ram_pages: u32,
     pub entries: Vec<u64>,
+    /// The guest-physical address that each entry is bound to in format 2; empty in format 1.
+    pub bound: Vec<u64>,
     pub exports: Vec<Export>,
     pub kernel: [u8; 32],
     pub init: Option<Span>,

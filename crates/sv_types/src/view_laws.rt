@@ -3,24 +3,23 @@
 ghost use Rattle.std.specs.Prelude.{◌≡◌, ℕ, ◌*◌, List, length};
 ghost use Rattle.sv_types.specs.Bytes.{page_size};
 ghost use Rattle.sv_types.specs.Translation.{Settings, place};
-ghost use Rattle.sv_types.specs.SecondStage.{IsView, WalksInside, WalksApart, with_ram, two_stages, under_view};
+ghost use Rattle.sv_types.specs.SecondStage.{IsView, Sight, WalksInside, WalksApart, with_ram, two_stages, under_view};
 ghost use Rattle.sv_types.specs.declared.wires.Access.{Access as Kind};
 ghost use Rattle.sv_types.specs.declared.wires.Mode.{Mode as Privilege};
 ghost use Rattle.sv_types.specs.declared.wires.Protection.{Protection as Guard};
-ghost use Rattle.sv_types.specs.declared.wires.View.{View as Tree};
 
 /// Under a view, translation through both stages is the plain translation over RAM, followed by the view's answer,
 /// for every virtual address, of 64 bits or not.
 pub fn law_two_stages()
-    ensures { (tables ram : List ℕ) (ram_pages hgatp : ℕ) (guards : ℕ → Guard) (view : Tree) → IsView tables ram_pages guards view hgatp → length ram ≡ page_size * ram_pages → (s : Settings) (mode : Privilege) (va : ℕ) (access : Kind) → two_stages (with_ram tables ram) hgatp s mode va access ≡ under_view (length tables) ram_pages view guards access (place ram s mode va access) }
+    ensures { (tables ram : List ℕ) (ram_pages hgatp : ℕ) (guards : ℕ → Guard) (sight : Sight) → IsView tables ram_pages guards sight hgatp → length ram ≡ page_size * ram_pages → (s : Settings) (mode : Privilege) (va : ℕ) (access : Kind) → two_stages (with_ram tables ram) hgatp s mode va access ≡ under_view (length tables) ram_pages sight guards access (place ram s mode va access) }
 {}
 
 /// Under a view, every second-stage walk leads into the region.
 pub fn law_walks_inside()
-    ensures { (tables ram : List ℕ) (ram_pages hgatp : ℕ) (guards : ℕ → Guard) (view : Tree) → IsView tables ram_pages guards view hgatp → length ram ≡ page_size * ram_pages → WalksInside (with_ram tables ram) hgatp }
+    ensures { (tables ram : List ℕ) (ram_pages hgatp : ℕ) (guards : ℕ → Guard) (sight : Sight) → IsView tables ram_pages guards sight hgatp → length ram ≡ page_size * ram_pages → WalksInside (with_ram tables ram) hgatp }
 {}
 
 /// Under a view, every second-stage walk reads the tables alone and leads to RAM.
 pub fn law_walks_apart()
-    ensures { (tables ram : List ℕ) (ram_pages hgatp : ℕ) (guards : ℕ → Guard) (view : Tree) → IsView tables ram_pages guards view hgatp → length ram ≡ page_size * ram_pages → WalksApart (with_ram tables ram) hgatp }
+    ensures { (tables ram : List ℕ) (ram_pages hgatp : ℕ) (guards : ℕ → Guard) (sight : Sight) → IsView tables ram_pages guards sight hgatp → length ram ≡ page_size * ram_pages → WalksApart (with_ram tables ram) hgatp }
 {}

@@ -15,6 +15,8 @@ pub enum Mode {
 pub enum View {
     Kernel,
     User,
+    /// That of the entry at a place in the policy's list.
+    Entry(u8),
 }
 
 /// A kind of access to memory.

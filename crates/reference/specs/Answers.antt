@@ -1,0 +1,112 @@
+-- What an answer to a call does: to the hart that called, to devices and journal, to pages and modules, to other harts.
+-- This project's own.
+use Rattle.std.specs.Prelude.{ℕ, List, [], ◌++◌, filter, slice_set, Some, None, true, false, ℤ, pos, negsuc}
+use Rattle.sv_types.specs.ApprovedPages.{numbers_from, approved_pages}
+use Rattle.sv_types.specs.Clock.{with_timer, latest}
+use Rattle.sv_types.specs.Console.{without_first}
+use Rattle.sv_types.specs.Effects.{set_register, next_pc}
+use Rattle.sv_types.specs.declared.event.Counts.{Counts}
+use Rattle.sv_types.specs.declared.event.Note.TheVariants.{Load, Unload, Retire}
+use Rattle.sv_types.specs.declared.event.Verdict.TheVariants.{Shutdown}
+use Rattle.sv_types.specs.declared.module.Span.{Span}
+use Rattle.reference.specs.States.{State, Hart, Devices, Journal, has_number, module_pages, with_module, without_module, without_pages, without_reservation}
+use Rattle.reference.specs.Counting.{counted, noted, printed_low, machine_ended, count_load, count_unload, count_refused}
+use Rattle.reference.specs.Calls.{facts_of, asked_by, success, started_hart, interrupted, mask_names}
+use Rattle.reference.specs.ModuleCalls.{answer_of, refused_by_measure}
+use Rattle.reference.specs.declared.answers.Answer.{Answer}
+use Rattle.reference.specs.declared.answers.Beside.{Beside}
+use Rattle.reference.specs.declared.answers.Beside.TheVariants.{SetsTimer, Prints, TakesInput, ShutsDown, SendsInterrupts, StartsHart, BeginsLoad, RefusesLoad, ApprovesModule, ReleasesModule, UnloadsModule, RefusesUnload, RetiresInit, RefusesRetire}
+use Rattle.reference.specs.declared.answers.Reply.{Reply}
+use Rattle.reference.specs.declared.answers.Reply.TheVariants.{Gives, Replies, Stays, Stops}
+
+-- ---- to the hart
+
+abbrev pub with_a0 : Hart → ℕ → Hart
+with_a0 hart a0 = record hart { registers = set_register hart.registers 10 a0; pc = next_pc hart.pc; reservation = None }
+
+abbrev pub with_answer : Hart → ℕ → ℕ → Hart
+with_answer hart a0 a1 = record hart {
+  registers = set_register (set_register hart.registers 10 a0) 11 a1;
+  pc = next_pc hart.pc;
+  reservation = None;
+}
+
+unfoldable pub replied : Reply → Hart → Hart
+replied (Gives a0) hart = with_a0 hart a0
+replied (Replies a0 a1) hart = with_answer hart a0 a1
+replied Stays hart = without_reservation hart
+replied Stops hart = record hart { started = false; reservation = None; entry = None }
+
+-- ---- to devices and journal
+
+unfoldable pub devices_beside : Beside → ℕ → Devices → Devices
+devices_beside (SetsTimer at) h d = record d { clock = with_timer d.clock h at }
+devices_beside (StartsHart other pc opaque) h d = record d { clock = with_timer d.clock other latest }
+devices_beside TakesInput h d = record d { console = without_first d.console }
+devices_beside _ h d = d
+
+-- a code other than success counts as refused
+abbrev pub count_answer : ℤ → Counts → Counts
+count_answer (pos n) c = c
+count_answer (negsuc n) c = count_refused c
+
+-- what the end of a load, an unload or a retirement is noted with, by its hart and the count of turns
+unfoldable pub journal_beside : Beside → ℕ → Journal → Journal
+journal_beside (Prints byte) h j = printed_low byte j
+journal_beside ShutsDown h j = machine_ended Shutdown j
+journal_beside (RefusesLoad id number) h j = noted (Load h j.counts.turns id number) (counted (count_answer number) j)
+journal_beside (ApprovesModule m) h j = noted (Load h j.counts.turns m.id success) (counted count_load j)
+journal_beside (ReleasesModule m) h j = noted (Load h j.counts.turns m.id refused_by_measure) (counted count_refused j)
+journal_beside (UnloadsModule m) h j = noted (Unload h j.counts.turns m.id success) (counted count_unload j)
+journal_beside (RefusesUnload id number) h j = noted (Unload h j.counts.turns id number) (counted (count_answer number) j)
+journal_beside (RetiresInit span) h j = noted (Retire h j.counts.turns success) j
+journal_beside (RefusesRetire number) h j = noted (Retire h j.counts.turns number) (counted (count_answer number) j)
+journal_beside _ h j = j
+
+-- ---- to pages and modules
+
+abbrev pub span_pages : Span → List ℕ
+span_pages span = numbers_from span.first span.count
+
+-- the init pages that were approved at boot
+abbrev pub init_text : State → Span → List ℕ
+init_text r span = filter (has_number r.text) (span_pages span)
+
+unfoldable pub pages_beside : Beside → ℕ → State → State
+pages_beside (BeginsLoad m pages) h r = record r {
+  held = module_pages r.rules m;
+  loading = Some (record { hart = h; about = m; left = pages });
+}
+pages_beside (ApprovesModule m) h r = record r {
+  held = [];
+  loading = None;
+  approved = approved_pages r.ram (module_pages r.rules m) ++ r.approved;
+  loaded = with_module r.loaded m;
+}
+pages_beside (ReleasesModule m) h r = record r { held = []; loading = None }
+pages_beside (UnloadsModule m) h r = record r {
+  approved = without_pages r.approved (module_pages r.rules m);
+  loaded = without_module r.loaded m.id;
+}
+pages_beside (RetiresInit span) h r = record r { approved = without_pages r.approved (init_text r span); retired = true }
+pages_beside _ h r = r
+
+-- ---- to other harts
+
+-- interrupts are sent after the reply, since the mask may name the calling hart
+unfoldable pub harts_beside : Beside → List Hart → List Hart
+harts_beside (SendsInterrupts mask base) harts = interrupted (mask_names mask base) 0 harts
+harts_beside (StartsHart other pc opaque) harts = slice_set harts other (started_hart other pc opaque)
+harts_beside _ harts = harts
+
+-- ---- the whole
+
+unfoldable pub answered : State → ℕ → Hart → Answer → State
+answered r h hart a = record (pages_beside a.beside h r) {
+  harts = harts_beside a.beside (slice_set r.harts h (replied a.reply hart));
+  devices = devices_beside a.beside h r.devices;
+  journal = journal_beside a.beside h r.journal;
+}
+
+abbrev pub call : State → ℕ → Hart → State
+call r h hart = answered r h hart (answer_of (facts_of r) (asked_by hart.registers))

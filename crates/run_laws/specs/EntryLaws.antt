@@ -1,0 +1,91 @@
+-- What follows an entry from user mode where the policy binds entries, in each state that a run reaches. This project's own.
+use Rattle.std.specs.Prelude.{◌≡◌, ℕ, ◌⊎◌, Bool, true, false, List, [], ◌∷◌, ◌==◌, Option, Some, None, slice_get}
+use Rattle.sv_types.specs.ApprovedPages.{approved_bytes}
+use Rattle.sv_types.specs.Bits.{bit}
+use Rattle.sv_types.specs.Bytes.{word, page_of, place_in_page}
+use Rattle.sv_types.specs.Translation.{At}
+use Rattle.sv_types.specs.Traps.{trap_target, deliverable}
+use Rattle.sv_types.specs.declared.event.Event.{Event}
+use Rattle.sv_types.specs.declared.event.Event.TheVariants.{Turn, Beat, Key, Tick}
+use Rattle.sv_types.specs.declared.event.Verdict.TheVariants.{Running}
+use Rattle.sv_types.specs.declared.wires.Mode.TheVariants.{Kernel, User}
+use Rattle.reference.specs.Counting.{count, count_turn}
+use Rattle.reference.specs.Devices.{lines_at}
+use Rattle.reference.specs.Run.{run, step}
+use Rattle.reference.specs.Start.{IsStart}
+use Rattle.reference.specs.States.{State, Hart, Binding, binding_at, has_number}
+use Rattle.reference.specs.Trapping.{trap_from}
+use Rattle.reference.specs.Turn.{demote, carry_out_word, place_of_pc}
+use Rattle.attempt_laws.specs.Agree.{IsNotLoading}
+
+-- ---- the turn of a hart at its entry's address
+
+-- the hart is in an entry, in kernel mode, and at the entry's address
+pub record IsAtEntry (r : State) (h : ℕ) (hart : Hart) (entry : Binding) : Type 0 where
+  pub found : slice_get r.harts h ≡ Some hart
+  pub started : hart.started ≡ true
+  pub mode : hart.mode ≡ Kernel
+  pub place : ℕ
+  pub in_entry : hart.entry ≡ Some place
+  pub bound : binding_at r.rules place ≡ Some entry
+  pub there : hart.pc ≡ entry.va
+  pub free : IsNotLoading h r.loading
+
+-- nothing is executed, and the hart leaves for user mode
+pub record Demotes (r : State) (h : ℕ) (hart : Hart) (next : State) : Type 0 where
+  pub gpa : ℕ
+  pub same : next ≡ demote r h hart gpa
+
+-- the word is the one at the address that the entry is bound to, in an approved page
+pub record ReadsBound (r : State) (h : ℕ) (hart : Hart) (entry : Binding) (next : State) : Type 0 where
+  pub bytes : List ℕ
+  pub place : place_of_pc r hart ≡ At entry.gpa
+  pub approved : approved_bytes r.approved (page_of entry.gpa) ≡ Some bytes
+  pub same : next ≡ carry_out_word r h hart (word bytes (place_in_page entry.gpa) 4)
+
+abbrev pub DemotesOrReads : State → ℕ → Hart → Binding → Type 0
+DemotesOrReads r h hart entry =
+    Demotes (count r count_turn) h hart (step r (Turn h)) ⊎ ReadsBound (count r count_turn) h hart entry (step r (Turn h))
+
+-- without an interrupt its turn is one of the two, so no other word is ever carried out there
+abbrev pub AtEntryLaw : Type 0
+AtEntryLaw = (s : State) (events : List Event) (h : ℕ) (hart : Hart) (entry : Binding) → IsStart s → IsAtEntry (run s events) h hart entry
+    → (run s events).journal.verdict ≡ Running → deliverable hart.mode hart.supervisor (lines_at (run s events).devices h) ≡ None
+    → DemotesOrReads (run s events) h hart entry
+
+-- ---- from an entry to the hart's next turn
+
+-- the hart's turn is a trap from user mode, at a permitted address
+pub record Enters (r : State) (h : ℕ) : Type 0 where
+  pub hart : Hart
+  pub found : slice_get r.harts h ≡ Some hart
+  pub started : hart.started ≡ true
+  pub free : IsNotLoading h r.loading
+  pub interrupt : Bool
+  pub cause : ℕ
+  pub tval : ℕ
+  pub same : step r (Turn h) ≡ trap_from (count r count_turn) h hart User interrupt cause tval
+  pub permitted : has_number r.rules.entries (trap_target hart.supervisor.stvec interrupt cause) ≡ true
+
+abbrev pub IsNoTurnOf : ℕ → Event → Type 0
+IsNoTurnOf h (Turn other) = (other == h) ≡ false
+IsNoTurnOf h Beat = Unit {0}
+IsNoTurnOf h (Key byte) = Unit {0}
+IsNoTurnOf h (Tick n) = Unit {0}
+
+abbrev pub AreNoTurnsOf : ℕ → List Event → Type 0
+AreNoTurnsOf h [] = Unit {0}
+AreNoTurnsOf h (event ∷ events) = IsNoTurnOf h event × AreNoTurnsOf h events
+
+-- whatever happens in between, the hart stands at its entry's address with its interrupts off, and its next turn demotes it
+-- or reads the word that the entry is bound to
+pub record StandsAtEntry (r : State) (h : ℕ) : Type 0 where
+  pub hart : Hart
+  pub entry : Binding
+  pub at : IsAtEntry r h hart entry
+  pub masked : bit hart.supervisor.sstatus 1 ≡ false
+  pub next : r.journal.verdict ≡ Running → DemotesOrReads r h hart entry
+
+abbrev pub EntryLaw : Type 0
+EntryLaw = (s : State) (before between : List Event) (h : ℕ) → IsStart s → s.rules.format ≡ 2 → Enters (run s before) h → AreNoTurnsOf h between
+    → StandsAtEntry (run (step (run s before) (Turn h)) between) h
