@@ -8,7 +8,7 @@ use Rattle.sv_types.specs.declared.event.Verdict.{Verdict}
 use Rattle.sv_types.specs.declared.wires.Mode.{Mode}
 use Rattle.sv_types.specs.declared.wires.Mode.TheVariants.{Kernel, User}
 use Rattle.reference.specs.States.{State, Journal}
-use Rattle.reference.specs.Counting.{CountsAtMost, counted, noted, printed_low, machine_ended, count_trap, count_return, count_retired, count_denied, count_demote, count_dropped, count_load, count_unload, count_turn, count_beat, count_key, count_tick}
+use Rattle.reference.specs.Counting.{counted, noted, printed_low, machine_ended, count_trap, count_return, count_retired, count_denied, count_demote, count_dropped, count_load, count_unload, count_turn, count_beat, count_key, count_tick}
 use Rattle.reference.specs.Answers.{count_answer}
 use Rattle.run_laws.specs.GrowthLaws.{Grows}
 
@@ -105,17 +105,17 @@ choose_gains r false x y s t = t
 
 -- ---- the event's own count, which is raised first
 
-pub turn_grows : (n : ℕ) (old new : Journal) → CountsAtMost n old.counts → Moves (counted count_turn old) new → Grows n old new
-turn_grows n old new c m = record { counts = record { turns = omega (arith, m.rises.turns, c.turns); beats = omega (arith, m.rises.beats, c.beats); keys = omega (arith, m.rises.keys, c.keys); ticks = omega (arith, m.rises.ticks, c.ticks); retired = omega (arith, m.rises.retired, c.retired); traps = omega (arith, m.rises.traps, c.traps); enters = omega (arith, m.rises.enters, c.enters); leaves = omega (arith, m.rises.leaves, c.leaves); demotes = omega (arith, m.rises.demotes, c.demotes); denied = omega (arith, m.rises.denied, c.denied); dropped = omega (arith, m.rises.dropped, c.dropped); loads = omega (arith, m.rises.loads, c.loads); unloads = omega (arith, m.rises.unloads, c.unloads); refused = omega (arith, m.rises.refused, c.refused); notes = omega (arith, m.rises.notes, c.notes) }; console = m.prints.console; behind = m.prints.behind }
+pub turn_grows : (old new : Journal) → Moves (counted count_turn old) new → Grows old new
+turn_grows old new m = record { counts = record { turns = omega (arith, m.rises.turns); beats = omega (arith, m.rises.beats); keys = omega (arith, m.rises.keys); ticks = omega (arith, m.rises.ticks); retired = omega (arith, m.rises.retired); traps = omega (arith, m.rises.traps); enters = omega (arith, m.rises.enters); leaves = omega (arith, m.rises.leaves); demotes = omega (arith, m.rises.demotes); denied = omega (arith, m.rises.denied); dropped = omega (arith, m.rises.dropped); loads = omega (arith, m.rises.loads); unloads = omega (arith, m.rises.unloads); refused = omega (arith, m.rises.refused); notes = omega (arith, m.rises.notes) }; console = m.prints.console; behind = m.prints.behind }
 
-pub beat_grows : (n : ℕ) (old new : Journal) → CountsAtMost n old.counts → Moves (counted count_beat old) new → Grows n old new
-beat_grows n old new c m = record { counts = record { turns = omega (arith, m.rises.turns, c.turns); beats = omega (arith, m.rises.beats, c.beats); keys = omega (arith, m.rises.keys, c.keys); ticks = omega (arith, m.rises.ticks, c.ticks); retired = omega (arith, m.rises.retired, c.retired); traps = omega (arith, m.rises.traps, c.traps); enters = omega (arith, m.rises.enters, c.enters); leaves = omega (arith, m.rises.leaves, c.leaves); demotes = omega (arith, m.rises.demotes, c.demotes); denied = omega (arith, m.rises.denied, c.denied); dropped = omega (arith, m.rises.dropped, c.dropped); loads = omega (arith, m.rises.loads, c.loads); unloads = omega (arith, m.rises.unloads, c.unloads); refused = omega (arith, m.rises.refused, c.refused); notes = omega (arith, m.rises.notes, c.notes) }; console = m.prints.console; behind = m.prints.behind }
+pub beat_grows : (old new : Journal) → Moves (counted count_beat old) new → Grows old new
+beat_grows old new m = record { counts = record { turns = omega (arith, m.rises.turns); beats = omega (arith, m.rises.beats); keys = omega (arith, m.rises.keys); ticks = omega (arith, m.rises.ticks); retired = omega (arith, m.rises.retired); traps = omega (arith, m.rises.traps); enters = omega (arith, m.rises.enters); leaves = omega (arith, m.rises.leaves); demotes = omega (arith, m.rises.demotes); denied = omega (arith, m.rises.denied); dropped = omega (arith, m.rises.dropped); loads = omega (arith, m.rises.loads); unloads = omega (arith, m.rises.unloads); refused = omega (arith, m.rises.refused); notes = omega (arith, m.rises.notes) }; console = m.prints.console; behind = m.prints.behind }
 
-pub key_grows : (n : ℕ) (old new : Journal) → CountsAtMost n old.counts → Moves (counted count_key old) new → Grows n old new
-key_grows n old new c m = record { counts = record { turns = omega (arith, m.rises.turns, c.turns); beats = omega (arith, m.rises.beats, c.beats); keys = omega (arith, m.rises.keys, c.keys); ticks = omega (arith, m.rises.ticks, c.ticks); retired = omega (arith, m.rises.retired, c.retired); traps = omega (arith, m.rises.traps, c.traps); enters = omega (arith, m.rises.enters, c.enters); leaves = omega (arith, m.rises.leaves, c.leaves); demotes = omega (arith, m.rises.demotes, c.demotes); denied = omega (arith, m.rises.denied, c.denied); dropped = omega (arith, m.rises.dropped, c.dropped); loads = omega (arith, m.rises.loads, c.loads); unloads = omega (arith, m.rises.unloads, c.unloads); refused = omega (arith, m.rises.refused, c.refused); notes = omega (arith, m.rises.notes, c.notes) }; console = m.prints.console; behind = m.prints.behind }
+pub key_grows : (old new : Journal) → Moves (counted count_key old) new → Grows old new
+key_grows old new m = record { counts = record { turns = omega (arith, m.rises.turns); beats = omega (arith, m.rises.beats); keys = omega (arith, m.rises.keys); ticks = omega (arith, m.rises.ticks); retired = omega (arith, m.rises.retired); traps = omega (arith, m.rises.traps); enters = omega (arith, m.rises.enters); leaves = omega (arith, m.rises.leaves); demotes = omega (arith, m.rises.demotes); denied = omega (arith, m.rises.denied); dropped = omega (arith, m.rises.dropped); loads = omega (arith, m.rises.loads); unloads = omega (arith, m.rises.unloads); refused = omega (arith, m.rises.refused); notes = omega (arith, m.rises.notes) }; console = m.prints.console; behind = m.prints.behind }
 
-pub tick_grows : (n : ℕ) (old new : Journal) → CountsAtMost n old.counts → Moves (counted count_tick old) new → Grows n old new
-tick_grows n old new c m = record { counts = record { turns = omega (arith, m.rises.turns, c.turns); beats = omega (arith, m.rises.beats, c.beats); keys = omega (arith, m.rises.keys, c.keys); ticks = omega (arith, m.rises.ticks, c.ticks); retired = omega (arith, m.rises.retired, c.retired); traps = omega (arith, m.rises.traps, c.traps); enters = omega (arith, m.rises.enters, c.enters); leaves = omega (arith, m.rises.leaves, c.leaves); demotes = omega (arith, m.rises.demotes, c.demotes); denied = omega (arith, m.rises.denied, c.denied); dropped = omega (arith, m.rises.dropped, c.dropped); loads = omega (arith, m.rises.loads, c.loads); unloads = omega (arith, m.rises.unloads, c.unloads); refused = omega (arith, m.rises.refused, c.refused); notes = omega (arith, m.rises.notes, c.notes) }; console = m.prints.console; behind = m.prints.behind }
+pub tick_grows : (old new : Journal) → Moves (counted count_tick old) new → Grows old new
+tick_grows old new m = record { counts = record { turns = omega (arith, m.rises.turns); beats = omega (arith, m.rises.beats); keys = omega (arith, m.rises.keys); ticks = omega (arith, m.rises.ticks); retired = omega (arith, m.rises.retired); traps = omega (arith, m.rises.traps); enters = omega (arith, m.rises.enters); leaves = omega (arith, m.rises.leaves); demotes = omega (arith, m.rises.demotes); denied = omega (arith, m.rises.denied); dropped = omega (arith, m.rises.dropped); loads = omega (arith, m.rises.loads); unloads = omega (arith, m.rises.unloads); refused = omega (arith, m.rises.refused); notes = omega (arith, m.rises.notes) }; console = m.prints.console; behind = m.prints.behind }
 
-pub rests_grows : (n : ℕ) (j : Journal) → CountsAtMost n j.counts → Grows n j j
-rests_grows n j c = record { counts = record { turns = omega (arith, c.turns); beats = omega (arith, c.beats); keys = omega (arith, c.keys); ticks = omega (arith, c.ticks); retired = omega (arith, c.retired); traps = omega (arith, c.traps); enters = omega (arith, c.enters); leaves = omega (arith, c.leaves); demotes = omega (arith, c.demotes); denied = omega (arith, c.denied); dropped = omega (arith, c.dropped); loads = omega (arith, c.loads); unloads = omega (arith, c.unloads); refused = omega (arith, c.refused); notes = omega (arith, c.notes) }; console = omega arith; behind = ([], sym (append-nil j.printed)) }
+pub rests_grows : (j : Journal) → Grows j j
+rests_grows j = record { counts = record { turns = omega arith; beats = omega arith; keys = omega arith; ticks = omega arith; retired = omega arith; traps = omega arith; enters = omega arith; leaves = omega arith; demotes = omega arith; denied = omega arith; dropped = omega arith; loads = omega arith; unloads = omega arith; refused = omega arith; notes = omega arith }; console = omega arith; behind = ([], sym (append-nil j.printed)) }

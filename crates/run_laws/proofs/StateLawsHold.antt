@@ -13,7 +13,7 @@ use Rattle.reference.specs.States.{State, Loading, has_number, is_approved_in, f
 use Rattle.reference.specs.Run.{run}
 use Rattle.reference.specs.Start.{IsStart, StartsFlat, StartsImage, start, flat_rules, flat_start, boot_start}
 use Rattle.reference.specs.Soundness.{IsSound, IsSoundLoad, HoldsModule}
-use Rattle.run_laws.specs.StateLaws.{BytesLaw, IsText, IsModulePage, HoldsLoad, HasOrigins, ModulesLaw}
+use Rattle.run_laws.specs.StateLaws.{BytesLaw, SoundLaw, IsText, IsModulePage, HoldsLoad, HasOrigins, ModulesLaw}
 use Rattle.run_laws.proofs.Lookups.{not_true, both, all_found}
 use Rattle.run_laws.proofs.ModulesSound.{same_module}
 use Rattle.run_laws.proofs.Sounds.{Goes}
@@ -56,6 +56,9 @@ reached_sound s events is_start = (run_goes s events (begins s is_start).sound).
 pub bytes_law : BytesLaw
 bytes_law s events is_start = (reached_sound s events is_start).text
 
+pub sound_law : SoundLaw
+sound_law s events is_start = reached_sound s events is_start
+
 -- ---- modules
 
 text_of_start : (s r : State) (page : ℕ) → Begins s → TextStays (ownership s) (ownership r) → is_kernel_text (ownership r) page ≡ true → IsText s r page
@@ -65,7 +68,7 @@ module_page : (r : State) (m : SavedModule) (page : ℕ) → IsSound r → IsPag
 module_page r m page sound p = record {
   page_of = p;
   approved = λ q there. sound.pages.modules m q (record { loaded_is = p.loaded_is; inside = there });
-  good = (sound.modules m p.loaded_is).good;
+  measured = sound.modules m p.loaded_is;
 }
 
 origin_of : (s r : State) (page : ℕ) → Begins s → Goes s r → IsOwned (ownership r) page → IsText s r page ⊎ ((m : SavedModule) × IsModulePage r m page)

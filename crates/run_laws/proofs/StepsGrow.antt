@@ -18,7 +18,7 @@ use Rattle.sv_types.specs.declared.wires.Mode.{Mode}
 use Rattle.sv_types.specs.declared.wires.Mode.TheVariants.{Kernel, User}
 use Rattle.sv_types.specs.Bytes.{page_of}
 use Rattle.reference.specs.States.{State, Hart, Journal, Loading, is_protected, Binding}
-use Rattle.reference.specs.Counting.{CountsAtMost, counted, count, count_dropped, count_turn, count_beat, count_key, count_tick}
+use Rattle.reference.specs.Counting.{counted, count, count_dropped, count_turn, count_beat, count_key, count_tick}
 use Rattle.reference.specs.Disk.{Beaten, Move, Idle, FromRam, IntoRam, DeniedAt, OutsideRam, disk_beat}
 use Rattle.reference.specs.Devices.{lines_at, with_disk, with_bytes, after_move, beat, key, tick}
 use Rattle.reference.specs.Requests.{source_of, target_of, csr_asked}
@@ -139,19 +139,19 @@ tick_gains r n = still r.journal
 
 -- ---- each event
 
-happen_grows : (n : ℕ) (r : State) (e : Event) → CountsAtMost n r.journal.counts → Grows n r.journal (happen r e).journal
+happen_grows : (r : State) (e : Event) → Grows r.journal (happen r e).journal
 unfolding happen
-happen_grows n r (Turn h) c = turn_grows n r.journal _ c (turn_gains (count r count_turn) h)
-happen_grows n r Beat c = beat_grows n r.journal _ c (beat_gains (count r count_beat))
-happen_grows n r (Key byte) c = key_grows n r.journal _ c (key_gains (count r count_key) byte)
-happen_grows n r (Tick by) c = tick_grows n r.journal _ c (tick_gains (count r count_tick) by)
+happen_grows r (Turn h) = turn_grows r.journal _ (turn_gains (count r count_turn) h)
+happen_grows r Beat = beat_grows r.journal _ (beat_gains (count r count_beat))
+happen_grows r (Key byte) = key_grows r.journal _ (key_gains (count r count_key) byte)
+happen_grows r (Tick by) = tick_grows r.journal _ (tick_gains (count r count_tick) by)
 
-under_grows : (n : ℕ) (verdict : Verdict) (r : State) (e : Event) → CountsAtMost n r.journal.counts → Grows n r.journal (happen_under verdict r e).journal
+under_grows : (verdict : Verdict) (r : State) (e : Event) → Grows r.journal (happen_under verdict r e).journal
 unfolding happen_under
-under_grows n Running r e c = happen_grows n r e c
-under_grows n Shutdown r e c = rests_grows n r.journal c
-under_grows n (Stopped rule h at) r e c = rests_grows n r.journal c
+under_grows Running r e = happen_grows r e
+under_grows Shutdown r e = rests_grows r.journal
+under_grows (Stopped rule h at) r e = rests_grows r.journal
 
 pub grows_law : GrowsLaw
 unfolding step
-grows_law r e n c = under_grows n r.journal.verdict r e c
+grows_law r e = under_grows r.journal.verdict r e

@@ -4,18 +4,21 @@ use Rattle.sv_types.specs.Bytes.{page_bytes}
 use Rattle.sv_types.specs.ApprovedPages.{approved_bytes}
 use Rattle.sv_types.specs.declared.event.Event.{Event}
 use Rattle.sv_types.specs.declared.saved.SavedModule.{SavedModule}
-use Rattle.reference.specs.Loads.{is_good}
-use Rattle.reference.specs.Origins.{IsPageOf, Ascends, is_kernel_text, ownership}
+use Rattle.reference.specs.Origins.{IsPageOf, IsMeasured, Ascends, is_kernel_text, ownership}
 use Rattle.reference.specs.States.{State, Loading, has_number, is_approved_in, find_module, module_pages}
 use Rattle.reference.specs.Run.{run}
 use Rattle.reference.specs.Start.{IsStart}
-use Rattle.reference.specs.Soundness.{KeepsText}
+use Rattle.reference.specs.Soundness.{IsSound, KeepsText}
 
 -- ---- bytes
 
 -- RAM has in each approved page its bytes
 abbrev pub BytesLaw : Type 0
 BytesLaw = (s : State) (events : List Event) → IsStart s → KeepsText (run s events).approved (run s events).ram
+
+-- every state that a run reaches from a start is sound
+abbrev pub SoundLaw : Type 0
+SoundLaw = (s : State) (events : List Event) → IsStart s → IsSound (run s events)
 
 -- ---- modules
 
@@ -29,7 +32,7 @@ pub record IsText (s r : State) (page : ℕ) : Type 0 where
 pub record IsModulePage (r : State) (m : SavedModule) (page : ℕ) : Type 0 where
   pub page_of : IsPageOf r.rules r.loaded m page
   pub approved : (q : ℕ) → has_number (module_pages r.rules m) q ≡ true → is_approved_in r.approved q ≡ true
-  pub good : is_good r.rules r.ram m (slice_get r.rules.modules m.id) ≡ true
+  pub measured : IsMeasured r.rules r.ram m
 
 -- the pages that are held are those of the load under way
 abbrev pub HoldsLoad : State → Option Loading → Type 0

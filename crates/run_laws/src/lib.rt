@@ -3,7 +3,7 @@
 
 ghost use Rattle.run_laws.specs.EntryLaws.{AtEntryLaw, EntryLaw};
 ghost use Rattle.run_laws.specs.GrowthLaws.{GrowsLaw};
-ghost use Rattle.run_laws.specs.StateLaws.{BytesLaw, ModulesLaw};
+ghost use Rattle.run_laws.specs.StateLaws.{BytesLaw, ModulesLaw, SoundLaw};
 
 /// In each state that a run reaches from a start, RAM has in each approved page the bytes that were approved.
 pub fn law_bytes()
@@ -31,4 +31,9 @@ pub fn law_at_entry()
 /// interrupts off until its next turn, which is one of those two.
 pub fn law_entry()
     ensures { EntryLaw }
+{}
+
+/// Every state that a run reaches from a start is sound.
+pub fn law_sound()
+    ensures { SoundLaw }
 {}
