@@ -201,7 +201,6 @@ loads_same : (o : Unseen) (r : State) → is_some (machine_of o r).loading ≡ i
 unfolding machine_of
 loads_same o r = is_some_map (load_kept r.rules r.ram) r.loading
 
-
 started_same : (t : ℕ) (exits : List HypervisorRegisters) (harts : List Hart) → length exits ≡ length harts
     → map (λ (host : HostHart). host.started) (host_harts t exits harts) ≡ map (λ (hart : Hart). hart.started) harts
 unfolding host_harts

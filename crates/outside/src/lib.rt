@@ -16,6 +16,7 @@ pub use memory_files::MemFiles;
 pub use memory_sink::MemSink;
 pub use real::{RealFiles, StdSink};
 use std::alloc::Global;
+pub use sv_types::Failed;
 pub use writing::write_all;
 
 /// Why a file isn't read.
@@ -34,10 +35,6 @@ pub enum FileRefusal {
 /// A save failed; the name may hold anything.
 #[derive(Clone, Copy, Debug, PartialEq, Eq, Drop)]
 pub struct SaveFailed;
-
-/// A write failed, and took nothing.
-#[derive(Clone, Copy, Debug, PartialEq, Eq, Drop)]
-pub struct Failed;
 
 /// Files by name.
 pub trait Files {

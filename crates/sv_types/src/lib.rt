@@ -7,6 +7,7 @@ mod cause;
 mod csr;
 mod effect;
 mod event;
+mod failed;
 mod instruction;
 mod kernel;
 mod laws;
@@ -30,6 +31,7 @@ pub use cause::Cause;
 pub use csr::{Csr, CsrFault};
 pub use effect::Effect;
 pub use event::{Counts, Event, Note, Rule, Verdict};
+pub use failed::Failed;
 pub use instruction::{
     AmoOp, BranchOp, CsrOp, HyperOp, Instr, LoadOp, Op32Op, OpImm32Op, OpImmOp, OpOp, StoreOp,
 };
