@@ -4,6 +4,7 @@ pub mod Stays
 pub mod Plain
 pub mod Excepts
 pub mod Under
+pub mod BeyondDevices
 pub mod LoadsAgree
 pub mod StoresAgree
 pub mod PlacesAgree

@@ -16,6 +16,7 @@ use Rattle.sv_types.specs.declared.effect.Effect.{Effect}
 use Rattle.sv_types.specs.declared.translation.Fault.{Fault}
 use Rattle.sv_types.specs.declared.wires.Access.TheVariants as Access
 use Rattle.sv_types.proofs.RegionLemmas.{word_in_ram}
+use Rattle.attempt_laws.proofs.BeyondDevices.{load_beyond}
 use Rattle.attempt_laws.proofs.Everywhere.{Keeps, first_stage_keeps}
 use Rattle.reference.specs.States.{State, Hart}
 use Rattle.reference.specs.Devices.{device_load}
@@ -53,7 +54,7 @@ device_served : (r : State) (h : ℕ) (hart : Hart) (rd address width : ℕ) (si
     ≡ serve_plain r h hart (record { interrupt = false; cause = 21; pc = pc; stval = address; htval = gpa / 4; htinst = htinst })
 unfolding serve_plain plain_answer exit_answered load_answer
 device_served r h hart rd address width signed gpa htinst pc load same =
-    rw (load.effect, load.explicit, gpa_back gpa address same) refl
+    rw (load.effect, load.explicit, gpa_back gpa address same, load_beyond r.devices gpa width) refl
 
 -- over whether the page lies in RAM
 at_place : (o : Unseen) (r : State) (h : ℕ) (hart : Hart) (c : HypervisorRegisters) (rd address width : ℕ) (signed : Bool) (gpa htinst : ℕ) (inside : Bool)

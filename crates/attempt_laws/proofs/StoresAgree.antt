@@ -27,6 +27,7 @@ use Rattle.attempt_laws.specs.Agree.{IsAt, Agrees, region_at, core_at}
 use Rattle.attempt_laws.proofs.Stays.{writes, CanWrite}
 use Rattle.attempt_laws.proofs.Excepts.{exception_agrees, exit_agrees}
 use Rattle.attempt_laws.proofs.Under.{under, sight_of_hart, translated_under, access_in_ram, moved, stores_permitted}
+use Rattle.attempt_laws.proofs.BeyondDevices.{store_beyond}
 use Rattle.attempt_laws.proofs.LoadsAgree.{gpa_back, aligned_if}
 
 -- the transformed instruction is this store, and no implicit read
@@ -47,7 +48,7 @@ device_served : (r : State) (h : ℕ) (hart : Hart) (address width value gpa hti
     ≡ serve_plain r h hart (record { interrupt = false; cause = 23; pc = pc; stval = address; htval = gpa / 4; htinst = htinst })
 unfolding serve_plain plain_answer exit_answered write_answer store_answer
 device_served r h hart address width value gpa htinst pc store same outside =
-    rw (store.explicit, gpa_back gpa address same, outside, store.effect, store.explicit, gpa_back gpa address same) refl
+    rw (store.explicit, gpa_back gpa address same, outside, store.effect, store.explicit, gpa_back gpa address same, store_beyond r.devices r.journal gpa width value) refl
 
 guarded_served : (r : State) (h : ℕ) (hart : Hart) (address width value gpa htinst pc : ℕ)
     → IsStore htinst hart width value → gpa % 4096 ≡ address % 4096 → in_ram r.ram gpa 1 ≡ true

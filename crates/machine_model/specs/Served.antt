@@ -1,7 +1,7 @@
 -- What an exit is answered, by what it tells and by the hart's mode, and what such an answer makes of a state. RISC-V Privileged
 -- manual, H extension, "Trap Cause Codes" and "Transformed Instruction or Pseudoinstruction for mtinst or htinst", for what an
 -- exit tells; the answers are this project's own.
-use Rattle.std.specs.Prelude.{ℕ, ◌+◌, ◌-◌, ◌*◌, ◌%◌, Bool, true, false, not, ◌&&◌, ◌||◌, List, ◌==◌, if◌then◌else◌, Option, Some, None, option_map}
+use Rattle.std.specs.Prelude.{ℕ, ◌+◌, ◌-◌, ◌*◌, ◌%◌, ◌^◌, min, Bool, true, false, not, ◌&&◌, ◌||◌, List, ◌==◌, if◌then◌else◌, Option, Some, None, option_map}
 use Rattle.sv_types.specs.Bytes.{in_ram}
 use Rattle.sv_types.specs.Causes.{cause_number}
 use Rattle.sv_types.specs.Effects.{effect_of}
@@ -32,6 +32,10 @@ is_implicit exit = exit.htinst == implicit_read
 abbrev pub exit_gpa : Exit → ℕ
 exit_gpa exit = 4 * exit.htval + (if is_implicit exit then 0 else exit.stval % 4)
 
+-- a device is asked by an address of 64 bits: the last one stands for all beyond, and no register lies at any of them
+abbrev pub device_gpa : Exit → ℕ
+device_gpa exit = min (exit_gpa exit) (2 ^ 64 - 1)
+
 -- the effect of the transformed instruction, of which the address doesn't count
 unfoldable pub transformed : (htinst : ℕ) → (registers : List ℕ) → (pc : ℕ) → Option Effect
 transformed htinst registers pc = option_map (λ instr. effect_of instr registers pc) (instruction_of htinst)
@@ -53,11 +57,11 @@ fetch_answer ram Kernel exit =
 
 -- plain loads and stores reach device registers
 unfoldable pub load_answer : Exit → Option Effect → ExitAnswer
-load_answer exit (Some (Effect.Load rd address width signed)) = LoadsDevice rd exit.stval width signed (exit_gpa exit)
+load_answer exit (Some (Effect.Load rd address width signed)) = LoadsDevice rd exit.stval width signed (device_gpa exit)
 load_answer exit _ = raises Cause.LoadAccess exit.stval
 
 unfoldable pub store_answer : Exit → Option Effect → ExitAnswer
-store_answer exit (Some (Effect.Store address width value)) = StoresDevice exit.stval (exit_gpa exit) width value
+store_answer exit (Some (Effect.Store address width value)) = StoresDevice exit.stval (device_gpa exit) width value
 store_answer exit _ = raises Cause.StoreAccess exit.stval
 
 -- a page of RAM that refuses a store is protected
