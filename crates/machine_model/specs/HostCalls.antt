@@ -1,5 +1,5 @@
 -- What the answers to calls from kernel mode make of the machine. This project's own.
-use Rattle.std.specs.Prelude.{ℕ, Bool, true, false, not, ◌&&◌, List, [], map, filter, Option, Some, None, slice_get, is_some}
+use Rattle.std.specs.Prelude.{ℕ, Bool, true, false, not, ◌&&◌, List, [], map, filter, Some, None, slice_get, is_some}
 use Rattle.std.specs.List.{list_any}
 use Rattle.sv_types.specs.Bytes.{page_of}
 use Rattle.sv_types.specs.declared.module.Span.{Span}

@@ -7,7 +7,6 @@ use Rattle.sv_types.specs.Policies.{Rules, ModuleRule}
 use Rattle.sv_types.specs.declared.module.Site.{Site}
 use Rattle.sv_types.specs.declared.wires.Exit.{Exit}
 use Rattle.sv_types.specs.declared.wires.Mode.{Mode}
-use Rattle.sv_types.specs.declared.saved.SavedModule.{SavedModule}
 use Rattle.machine_model.specs.HostHarts.{with_host, host_outside, host_seen, host_trap, host_return, host_demote, host_write_stopped, host_device_load, host_device_store}
 use Rattle.machine_model.specs.Served.{exit_answer}
 use Rattle.machine_model.specs.declared.exits.ExitAnswer.{ExitAnswer}
