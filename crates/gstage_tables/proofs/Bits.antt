@@ -3,13 +3,13 @@ use Rattle.std.proofs.Common.{◌≡◌, ℕ, ◌+◌, ◌*◌, ◌/◌, ◌%◌
 use Rattle.std.specs.Prelude.{◌&&◌, ◌||◌, not, Some, if◌then◌else◌}
 use Rattle.sv_types.specs.Bits.{bit}
 use Rattle.sv_types.specs.Translation.{well_formed, is_pointer, is_leaf, at_entry, Destination, At, PageFault}
-use Rattle.sv_types.specs.SecondStage.{permits_guest, view_permits}
+use Rattle.sv_types.specs.SecondStage.{permits_guest, view_permits, Sight, OfKernel, OfUser}
 use Rattle.sv_types.specs.declared.wires.Access.{Access}
 use Rattle.sv_types.specs.declared.wires.Access.TheVariants.{Fetch, Load, Store}
 use Rattle.sv_types.specs.declared.wires.Protection.{Protection}
 use Rattle.sv_types.specs.declared.wires.Protection.TheVariants.{Free, Held, Approved}
-use Rattle.sv_types.specs.declared.wires.View.{View}
-use Rattle.sv_types.specs.declared.wires.View.TheVariants.{Kernel, User}
+use Rattle.sv_types.specs.declared.wires.Mode.{Mode}
+use Rattle.sv_types.specs.declared.wires.Mode.TheVariants.{Kernel, User}
 use Rattle.gstage_tables.specs.Layout.{pointer, flags, leaf}
 
 -- the low bits are those of the flags
@@ -62,7 +62,7 @@ zero_no_leaf below = refl
 pub zero_gives : (grants : ℕ → Bool) (below at a : ℕ) (deeper : ℕ → Destination) → at_entry grants below at deeper a (Some 0) ≡ PageFault
 zero_gives grants below at a deeper = rw (zero_is, zero_no_leaf below) refl
 
--- ---- a leaf answers as the view says
+-- ---- a leaf answers as its mode's view does
 
 whole : (n : ℕ) → n % 1 ≡ 0
 whole n = omega arith
@@ -89,7 +89,7 @@ leaf_permits p f Fetch h = rw (bit_3 p f h, bit_4 p f h, bit_6 p f h) refl
 leaf_permits p f Load h = rw (bit_1 p f h, bit_4 p f h, bit_6 p f h) refl
 leaf_permits p f Store h = rw (bit_2 p f h, bit_4 p f h, bit_6 p f h, bit_7 p f h) refl
 
-few_flags : (view : View) (protection : Protection) → flags view protection < 1024
+few_flags : (mode : Mode) (protection : Protection) → flags mode protection < 1024
 few_flags Kernel Free = lit< tt
 few_flags Kernel Held = lit< tt
 few_flags Kernel Approved = lit< tt
@@ -100,7 +100,7 @@ few_flags User Approved = lit< tt
 abbrev no_pointer : ℕ → Bool
 no_pointer f = good f && not (bit f 1) && not (bit f 3) && not (bit f 4) && not (bit f 6) && not (bit f 7)
 
-never_points : (view : View) (protection : Protection) → no_pointer (flags view protection) ≡ false
+never_points : (mode : Mode) (protection : Protection) → no_pointer (flags mode protection) ≡ false
 never_points Kernel Free = refl
 never_points Kernel Held = refl
 never_points Kernel Approved = refl
@@ -111,30 +111,35 @@ never_points User Approved = refl
 abbrev flags_say : ℕ → Access → Bool
 flags_say f access = good f && (bit f 1 || bit f 3) && true && (bit f 4 && bit f 6 && may f access)
 
-says : (view : View) (protection : Protection) (access : Access) → flags_say (flags view protection) access ≡ view_permits view protection access
-says Kernel Free Load = refl
-says Kernel Free Store = refl
-says Kernel Free Fetch = refl
-says Kernel Held Load = refl
-says Kernel Held Store = refl
-says Kernel Held Fetch = refl
-says Kernel Approved Load = refl
-says Kernel Approved Store = refl
-says Kernel Approved Fetch = refl
-says User Free Load = refl
-says User Free Store = refl
-says User Free Fetch = refl
-says User Held Load = refl
-says User Held Store = refl
-says User Held Fetch = refl
-says User Approved Load = refl
-says User Approved Store = refl
-says User Approved Fetch = refl
+-- what a mode sees
+abbrev pub sight_in : Mode → Sight
+sight_in Kernel = OfKernel
+sight_in User = OfUser
 
-pub leaf_gives : (view : View) (protection : Protection) (p at a : ℕ) (access : Access) (deeper : ℕ → Destination) → p < 2 ^ 44
-    → at_entry (permits_guest access) 0 at deeper a (Some (leaf view protection p)) ≡ (if view_permits view protection access then At (4096 * p + a % 4096) else PageFault)
-leaf_gives view protection p at a access deeper l =
-    let f : ℕ = flags view protection in
-    let few : f < 1024 = few_flags view protection in
+says : (mode : Mode) (page : ℕ) (protection : Protection) (access : Access) → flags_say (flags mode protection) access ≡ view_permits (sight_in mode) page protection access
+says Kernel page Free Load = refl
+says Kernel page Free Store = refl
+says Kernel page Free Fetch = refl
+says Kernel page Held Load = refl
+says Kernel page Held Store = refl
+says Kernel page Held Fetch = refl
+says Kernel page Approved Load = refl
+says Kernel page Approved Store = refl
+says Kernel page Approved Fetch = refl
+says User page Free Load = refl
+says User page Free Store = refl
+says User page Free Fetch = refl
+says User page Held Load = refl
+says User page Held Store = refl
+says User page Held Fetch = refl
+says User page Approved Load = refl
+says User page Approved Store = refl
+says User page Approved Fetch = refl
+
+pub leaf_gives : (mode : Mode) (page : ℕ) (protection : Protection) (p at a : ℕ) (access : Access) (deeper : ℕ → Destination) → p < 2 ^ 44
+    → at_entry (permits_guest access) 0 at deeper a (Some (leaf mode protection p)) ≡ (if view_permits (sight_in mode) page protection access then At (4096 * p + a % 4096) else PageFault)
+leaf_gives mode page protection p at a access deeper l =
+    let f : ℕ = flags mode protection in
+    let few : f < 1024 = few_flags mode protection in
     let address : 4096 * ((1024 * p + f) / 2 ^ 10 % 2 ^ 44) + a % 4096 ≡ 4096 * p + a % 4096 = ap (λ (n : ℕ). 4096 * n + a % 4096) (named p f few l) in
-    rw (leaf_pointer p f few l, never_points view protection, leaf_is p f few l, leaf_permits p f access few, says view protection access, address) refl
+    rw (leaf_pointer p f few l, never_points mode protection, leaf_is p f few l, leaf_permits p f access few, says mode page protection access, address) refl

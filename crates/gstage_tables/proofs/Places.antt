@@ -4,17 +4,17 @@ use Rattle.std.specs.Prelude.{◌==◌, nat_lt, if◌then◌else◌}
 use borrow.Author.Tests.{lt-ltb, le-ltb}
 use Rattle.gstage_tables.specs.Layout.{pointer, leaf, leaf_word, table_word, host_page}
 use Rattle.sv_types.specs.declared.wires.Protection.{Protection}
-use Rattle.sv_types.specs.declared.wires.View.{View}
-use Rattle.sv_types.specs.declared.wires.View.TheVariants.{Kernel, User}
+use Rattle.sv_types.specs.declared.wires.Mode.{Mode}
+use Rattle.sv_types.specs.declared.wires.Mode.TheVariants.{Kernel, User}
 
--- the number of a view's tree
-abbrev pub tree : View → ℕ
+-- the number of a mode's tree
+abbrev pub tree : Mode → ℕ
 tree Kernel = 0
 tree User = 1
 
 -- in the roots
-pub root_word : (pages t : ℕ) (ps : ℕ → Protection) (view : View) (i : ℕ) → i < 2048
-    → table_word pages t ps (2048 * tree view + i) ≡ (if i == 2 then pointer (8 + tree view) else 0)
+pub root_word : (pages t : ℕ) (ps : ℕ → Protection) (mode : Mode) (i : ℕ) → i < 2048
+    → table_word pages t ps (2048 * tree mode + i) ≡ (if i == 2 then pointer (8 + tree mode) else 0)
 unfolding table_word
 root_word pages t ps Kernel i h =
     let k : 2048 * 0 + i ≡ i = omega arith in
@@ -29,8 +29,8 @@ root_word pages t ps User i h =
     rw (a, b, d) refl
 
 -- in the level-1 tables
-pub middle_word : (pages t : ℕ) (ps : ℕ → Protection) (view : View) (i : ℕ) → i < 512
-    → table_word pages t ps (4096 + 512 * tree view + i) ≡ (if nat_lt i t then pointer (10 + tree view * t + i) else 0)
+pub middle_word : (pages t : ℕ) (ps : ℕ → Protection) (mode : Mode) (i : ℕ) → i < 512
+    → table_word pages t ps (4096 + 512 * tree mode + i) ≡ (if nat_lt i t then pointer (10 + tree mode * t + i) else 0)
 unfolding table_word
 middle_word pages t ps Kernel i h =
     let a : nat_lt (4096 + i) 4096 ≡ false = le-ltb (4096 + i) 4096 (omega arith) in
@@ -46,8 +46,8 @@ middle_word pages t ps User i h =
     rw (a, b, d, e) refl
 
 -- in the level-0 tables
-pub leaf_at : (pages t : ℕ) (ps : ℕ → Protection) (view : View) (p : ℕ) → p < 512 * t
-    → table_word pages t ps (5120 + 512 * (tree view * t) + p) ≡ leaf_word pages ps view p
+pub leaf_at : (pages t : ℕ) (ps : ℕ → Protection) (mode : Mode) (p : ℕ) → p < 512 * t
+    → table_word pages t ps (5120 + 512 * (tree mode * t) + p) ≡ leaf_word pages ps mode p
 unfolding table_word
 leaf_at pages t ps Kernel p h =
     let k : 5120 + 512 * (0 * t) + p ≡ 5120 + p = omega arith in
@@ -65,10 +65,10 @@ leaf_at pages t ps User p h =
     let g : 512 * t + p - 512 * t ≡ p = omega arith in
     rw (a, b, d, e, g) refl
 
-pub leaf_there : (pages : ℕ) (ps : ℕ → Protection) (view : View) (p : ℕ) → p < pages → leaf_word pages ps view p ≡ leaf view (ps p) (host_page pages p)
+pub leaf_there : (pages : ℕ) (ps : ℕ → Protection) (mode : Mode) (p : ℕ) → p < pages → leaf_word pages ps mode p ≡ leaf mode (ps p) (host_page pages p)
 unfolding leaf_word
-leaf_there pages ps view p l = let e : nat_lt p pages ≡ true = lt-ltb p pages l in rw e refl
+leaf_there pages ps mode p l = let e : nat_lt p pages ≡ true = lt-ltb p pages l in rw e refl
 
-pub leaf_past : (pages : ℕ) (ps : ℕ → Protection) (view : View) (p : ℕ) → pages ≤ p → leaf_word pages ps view p ≡ 0
+pub leaf_past : (pages : ℕ) (ps : ℕ → Protection) (mode : Mode) (p : ℕ) → pages ≤ p → leaf_word pages ps mode p ≡ 0
 unfolding leaf_word
-leaf_past pages ps view p l = let e : nat_lt p pages ≡ false = le-ltb p pages l in rw e refl
+leaf_past pages ps mode p l = let e : nat_lt p pages ≡ false = le-ltb p pages l in rw e refl

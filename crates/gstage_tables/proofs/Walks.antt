@@ -1,6 +1,6 @@
 -- Where walks of the trees lead: both roots are views.
-use Rattle.std.proofs.Common.{◌≡◌, ◌≢◌, ℕ, ◌+◌, ◌-◌, ◌*◌, ◌/◌, ◌%◌, ◌^◌, ◌<◌, ◌≤◌, inl, inr, Bool, true, false, List, [], ◌∷◌, length, refl, sym, ap, ◌∙◌, arith, lit≤}
-use Rattle.std.specs.Prelude.{Option, Some, None, ◌==◌, ◌&&◌, nat_lt, nat_le, if◌then◌else◌}
+use Rattle.std.proofs.Common.{◌≡◌, ◌≢◌, ℕ, ◌+◌, ◌-◌, ◌*◌, ◌/◌, ◌%◌, ◌^◌, ◌<◌, ◌≤◌, inl, inr, Bool, true, false, List, [], ◌∷◌, length, refl, sym, ap, subst, ◌∙◌, arith, lit≤}
+use Rattle.std.specs.Prelude.{Option, Some, None, IsSomeAnd, ◌==◌, ◌&&◌, nat_lt, nat_le, if◌then◌else◌}
 use borrow.Author.Tests.{le-leb, lt-ltb, le-ltb, ne_eqb, eq-eqb}
 use Rattle.std.proofs.lemmas.Bool.{lt-leb}
 use Rattle.std.proofs.lemmas.Bool.Decides.{nat_tests}
@@ -8,14 +8,15 @@ use Rattle.sv_types.specs.Bytes.{page_of, ram_place}
 use Rattle.sv_types.specs.Regions.{host_word}
 use Rattle.sv_types.specs.Instructions.{bits}
 use Rattle.sv_types.specs.Translation.{walk, root_of, Destination, At, PageFault}
-use Rattle.sv_types.specs.SecondStage.{IsView, AreViews, view_hgatp, view_answer, view_permits, page_in_ram, walk_guest, address_at, guest_destination, entry_in_tables, entry_in_region, host_entry, permits_guest, with_ram}
+use Rattle.sv_types.specs.SecondStage.{IsView, AreViews, Sight, sight_of, view_hgatp, view_answer, view_permits, page_in_ram, walk_guest, address_at, guest_destination, entry_in_tables, entry_in_region, host_entry, permits_guest, with_ram}
 use Rattle.sv_types.specs.declared.wires.Access.{Access}
 use Rattle.sv_types.specs.declared.wires.Protection.{Protection}
+use Rattle.sv_types.specs.declared.wires.Mode.{Mode}
+use Rattle.sv_types.specs.declared.wires.Mode.TheVariants.{Kernel, User}
 use Rattle.sv_types.specs.declared.wires.View.{View}
-use Rattle.sv_types.specs.declared.wires.View.TheVariants.{Kernel, User}
 use Rattle.sv_types.proofs.ByteLemmas.{lt_or_le}
 use Rattle.gstage_tables.specs.Layout.{leaf_tables, table_size, pointer, leaf, leaf_word, table_word, host_page, HoldsTrees}
-use Rattle.gstage_tables.proofs.Bits.{pointer_gives, zero_gives, leaf_gives}
+use Rattle.gstage_tables.proofs.Bits.{pointer_gives, zero_gives, leaf_gives, sight_in}
 use Rattle.gstage_tables.proofs.Places.{tree, root_word, middle_word, leaf_at, leaf_there, leaf_past}
 
 -- ---- one step
@@ -30,11 +31,11 @@ step_on : (read : ℕ → Option ℕ) (grants : ℕ → Bool) (i : ℕ) (is : Li
 unfolding walk
 step_on read grants i is table a p e l = rw e (pointer_gives grants (length is) (table + 8 * i) a p (λ next. walk read grants is next a) l)
 
-step_leaf : (read : ℕ → Option ℕ) (access : Access) (i table a p : ℕ) (view : View) (protection : Protection) → read (table + 8 * i) ≡ Some (leaf view protection p) → p < 2 ^ 44
-    → walk read (permits_guest access) (i ∷ []) table a ≡ (if view_permits view protection access then At (4096 * p + a % 4096) else PageFault)
+step_leaf : (read : ℕ → Option ℕ) (access : Access) (i table a p : ℕ) (mode : Mode) (page : ℕ) (protection : Protection) → read (table + 8 * i) ≡ Some (leaf mode protection p) → p < 2 ^ 44
+    → walk read (permits_guest access) (i ∷ []) table a ≡ (if view_permits (sight_in mode) page protection access then At (4096 * p + a % 4096) else PageFault)
 unfolding walk
-step_leaf read access i table a p view protection e l =
-    rw e (leaf_gives view protection p (table + 8 * i) a access (λ next. walk read (permits_guest access) [] next a) l)
+step_leaf read access i table a p mode page protection e l =
+    rw e (leaf_gives mode page protection p (table + 8 * i) a access (λ next. walk read (permits_guest access) [] next a) l)
 
 -- ---- a reader that gives the words of the trees
 
@@ -49,15 +50,15 @@ module _ (read : ℕ → Option ℕ) (pages : ℕ) (ps : ℕ → Protection) (h 
   at_word : (at k : ℕ) → at ≡ 8 * k → 8 * k + 8 ≤ table_size pages → read at ≡ Some (table_word pages t ps k)
   at_word at k e le = ap read e ∙ h.words k le
 
-  pub in_root : (view : View) (i at : ℕ) → i < 2048 → at ≡ 16384 * tree view + 8 * i → read at ≡ Some (if i == 2 then pointer (8 + tree view) else 0)
+  pub in_root : (mode : Mode) (i at : ℕ) → i < 2048 → at ≡ 16384 * tree mode + 8 * i → read at ≡ Some (if i == 2 then pointer (8 + tree mode) else 0)
   in_root Kernel i at l e = at_word at (2048 * 0 + i) (omega arith) (omega arith) ∙ ap Some (root_word pages t ps Kernel i l)
   in_root User i at l e = at_word at (2048 * 1 + i) (omega arith) (omega arith) ∙ ap Some (root_word pages t ps User i l)
 
-  pub in_middle : (view : View) (i at : ℕ) → i < 512 → at ≡ 4096 * (8 + tree view) + 8 * i → read at ≡ Some (if nat_lt i t then pointer (10 + tree view * t + i) else 0)
+  pub in_middle : (mode : Mode) (i at : ℕ) → i < 512 → at ≡ 4096 * (8 + tree mode) + 8 * i → read at ≡ Some (if nat_lt i t then pointer (10 + tree mode * t + i) else 0)
   in_middle Kernel i at l e = at_word at (4096 + 512 * 0 + i) (omega arith) (omega arith) ∙ ap Some (middle_word pages t ps Kernel i l)
   in_middle User i at l e = at_word at (4096 + 512 * 1 + i) (omega arith) (omega arith) ∙ ap Some (middle_word pages t ps User i l)
 
-  pub in_leaves : (view : View) (p at : ℕ) → p < 512 * t → at ≡ 4096 * (10 + tree view * t) + 8 * p → read at ≡ Some (leaf_word pages ps view p)
+  pub in_leaves : (mode : Mode) (p at : ℕ) → p < 512 * t → at ≡ 4096 * (10 + tree mode * t) + 8 * p → read at ≡ Some (leaf_word pages ps mode p)
   in_leaves Kernel p at l e = at_word at (5120 + 512 * (0 * t) + p) (omega arith) (omega arith) ∙ ap Some (leaf_at pages t ps Kernel p l)
   in_leaves User p at l e = at_word at (5120 + 512 * (1 * t) + p) (omega arith) (omega arith) ∙ ap Some (leaf_at pages t ps User p l)
 
@@ -78,36 +79,41 @@ within pages gpa above l =
 
 -- ---- where a walk leads
 
-abbrev pub leads : ℕ → ℕ → View → (ℕ → Protection) → ℕ → Access → Destination
-leads table_bytes pages view ps gpa access =
-    if page_in_ram pages gpa && view_permits view (ps (page_of gpa)) access then At (table_bytes + ram_place gpa) else PageFault
+abbrev pub leads : ℕ → ℕ → Mode → (ℕ → Protection) → ℕ → Access → Destination
+leads table_bytes pages mode ps gpa access =
+    if page_in_ram pages gpa && view_permits (sight_in mode) (page_of gpa) (ps (page_of gpa)) access then At (table_bytes + ram_place gpa) else PageFault
 
-outside : (table_bytes pages : ℕ) (view : View) (ps : ℕ → Protection) (gpa : ℕ) (access : Access) → page_in_ram pages gpa ≡ false
-    → PageFault ≡ leads table_bytes pages view ps gpa access
-outside table_bytes pages view ps gpa access misses = rw misses refl
+outside : (table_bytes pages : ℕ) (mode : Mode) (ps : ℕ → Protection) (gpa : ℕ) (access : Access) → page_in_ram pages gpa ≡ false
+    → PageFault ≡ leads table_bytes pages mode ps gpa access
+outside table_bytes pages mode ps gpa access misses = rw misses refl
 
-inside : (pages : ℕ) (view : View) (ps : ℕ → Protection) (gpa p : ℕ) (access : Access) → page_in_ram pages gpa ≡ true → 0x80000000 ≤ gpa → p ≡ (gpa - 0x80000000) / 4096
-    → (if view_permits view (ps p) access then At (4096 * host_page pages p + gpa % 4096) else PageFault) ≡ leads (table_size pages) pages view ps gpa access
-inside pages view ps gpa p access hits above is =
+inside : (pages : ℕ) (mode : Mode) (ps : ℕ → Protection) (gpa p : ℕ) (access : Access) → page_in_ram pages gpa ≡ true → 0x80000000 ≤ gpa → p ≡ (gpa - 0x80000000) / 4096
+    → (if view_permits (sight_in mode) p (ps p) access then At (4096 * host_page pages p + gpa % 4096) else PageFault) ≡ leads (table_size pages) pages mode ps gpa access
+inside pages mode ps gpa p access hits above is =
     let place : 4096 * (10 + 2 * leaf_tables pages + p) + gpa % 4096 ≡ 4096 * (10 + 2 * leaf_tables pages) + (gpa - 0x80000000) = omega arith in
     rw (hits, ← is, place) refl
 
-root_at : (view : View) → root_of (view_hgatp view) ≡ 16384 * tree view
+-- the view of a mode outside of entries
+abbrev view_in : Mode → View
+view_in Kernel = View.Kernel
+view_in User = View.User
+
+root_at : (mode : Mode) → root_of (view_hgatp (view_in mode)) ≡ 16384 * tree mode
 root_at Kernel = refl
 root_at User = refl
 
-small_tree : (view : View) → tree view ≤ 1
+small_tree : (mode : Mode) → tree mode ≤ 1
 small_tree Kernel = lit≤ tt
 small_tree User = lit≤ tt
 
-low : (view : View) (t i : ℕ) → t ≤ 128 → i < 512 → 10 + tree view * t + i < 2 ^ 44
+low : (mode : Mode) (t i : ℕ) → t ≤ 128 → i < 512 → 10 + tree mode * t + i < 2 ^ 44
 low Kernel t i h l = omega arith
 low User t i h l = omega arith
 
-leaf_place : (view : View) (t i j : ℕ) → 4096 * (10 + tree view * t + i) + 8 * j ≡ 4096 * (10 + tree view * t) + 8 * (512 * i + j)
-leaf_place view t i j = omega arith
+leaf_place : (mode : Mode) (t i j : ℕ) → 4096 * (10 + tree mode * t + i) + 8 * j ≡ 4096 * (10 + tree mode * t) + 8 * (512 * i + j)
+leaf_place mode t i j = omega arith
 
-module _ (read : ℕ → Option ℕ) (pages : ℕ) (ps : ℕ → Protection) (h : Reads read pages ps) (view : View) (gpa : ℕ) (access : Access) where
+module _ (read : ℕ → Option ℕ) (pages : ℕ) (ps : ℕ → Protection) (h : Reads read pages ps) (mode : Mode) (gpa : ℕ) (access : Access) where
   abbrev i2 : ℕ
   i2 = bits gpa 30 41
 
@@ -121,59 +127,59 @@ module _ (read : ℕ → Option ℕ) (pages : ℕ) (ps : ℕ → Protection) (h 
   grants = permits_guest access
 
   abbrev root : ℕ
-  root = root_of (view_hgatp view)
+  root = root_of (view_hgatp (view_in mode))
 
-  first : gpa < 2 ^ 41 → read (root + 8 * i2) ≡ Some (if i2 == 2 then pointer (8 + tree view) else 0)
-  first l = in_root read pages ps h view i2 (root + 8 * i2) (omega arith) (ap (λ (k : ℕ). k + 8 * i2) (root_at view))
+  first : gpa < 2 ^ 41 → read (root + 8 * i2) ≡ Some (if i2 == 2 then pointer (8 + tree mode) else 0)
+  first l = in_root read pages ps h mode i2 (root + 8 * i2) (omega arith) (ap (λ (k : ℕ). k + 8 * i2) (root_at mode))
 
-  missed : gpa < 2 ^ 41 → i2 ≢ 2 → guest_destination read (view_hgatp view) gpa access ≡ PageFault
+  missed : gpa < 2 ^ 41 → i2 ≢ 2 → guest_destination read (view_hgatp (view_in mode)) gpa access ≡ PageFault
   missed l ne = let e : (i2 == 2) ≡ false = ne_eqb i2 2 ne in
       step_zero read grants i2 (i1 ∷ i0 ∷ []) root gpa (first l ∙ rw e refl)
 
-  met : gpa < 2 ^ 41 → i2 ≡ 2 → guest_destination read (view_hgatp view) gpa access ≡ walk read grants (i1 ∷ i0 ∷ []) (4096 * (8 + tree view)) gpa
+  met : gpa < 2 ^ 41 → i2 ≡ 2 → guest_destination read (view_hgatp (view_in mode)) gpa access ≡ walk read grants (i1 ∷ i0 ∷ []) (4096 * (8 + tree mode)) gpa
   met l same = let e : (i2 == 2) ≡ true = eq-eqb i2 2 same in
-      step_on read grants i2 (i1 ∷ i0 ∷ []) root gpa (8 + tree view) (first l ∙ rw e refl) (omega (arith, small_tree view))
+      step_on read grants i2 (i1 ∷ i0 ∷ []) root gpa (8 + tree mode) (first l ∙ rw e refl) (omega (arith, small_tree mode))
 
-  second : read (4096 * (8 + tree view) + 8 * i1) ≡ Some (if nat_lt i1 (leaf_tables pages) then pointer (10 + tree view * leaf_tables pages + i1) else 0)
-  second = in_middle read pages ps h view i1 (4096 * (8 + tree view) + 8 * i1) (omega arith) refl
+  second : read (4096 * (8 + tree mode) + 8 * i1) ≡ Some (if nat_lt i1 (leaf_tables pages) then pointer (10 + tree mode * leaf_tables pages + i1) else 0)
+  second = in_middle read pages ps h mode i1 (4096 * (8 + tree mode) + 8 * i1) (omega arith) refl
 
-  no_table : leaf_tables pages ≤ i1 → walk read grants (i1 ∷ i0 ∷ []) (4096 * (8 + tree view)) gpa ≡ PageFault
+  no_table : leaf_tables pages ≤ i1 → walk read grants (i1 ∷ i0 ∷ []) (4096 * (8 + tree mode)) gpa ≡ PageFault
   no_table none = let e : nat_lt i1 (leaf_tables pages) ≡ false = le-ltb i1 (leaf_tables pages) none in
-      step_zero read grants i1 (i0 ∷ []) (4096 * (8 + tree view)) gpa (second ∙ rw e refl)
+      step_zero read grants i1 (i0 ∷ []) (4096 * (8 + tree mode)) gpa (second ∙ rw e refl)
 
-  one_table : i1 < leaf_tables pages → walk read grants (i1 ∷ i0 ∷ []) (4096 * (8 + tree view)) gpa ≡ walk read grants (i0 ∷ []) (4096 * (10 + tree view * leaf_tables pages + i1)) gpa
+  one_table : i1 < leaf_tables pages → walk read grants (i1 ∷ i0 ∷ []) (4096 * (8 + tree mode)) gpa ≡ walk read grants (i0 ∷ []) (4096 * (10 + tree mode * leaf_tables pages + i1)) gpa
   one_table some = let e : nat_lt i1 (leaf_tables pages) ≡ true = lt-ltb i1 (leaf_tables pages) some in
       let most = h.most in
-      step_on read grants i1 (i0 ∷ []) (4096 * (8 + tree view)) gpa (10 + tree view * leaf_tables pages + i1) (second ∙ rw e refl) (low view (leaf_tables pages) i1 (omega arith) (omega arith))
+      step_on read grants i1 (i0 ∷ []) (4096 * (8 + tree mode)) gpa (10 + tree mode * leaf_tables pages + i1) (second ∙ rw e refl) (low mode (leaf_tables pages) i1 (omega arith) (omega arith))
 
-  third : i1 < leaf_tables pages → read (4096 * (10 + tree view * leaf_tables pages + i1) + 8 * i0) ≡ Some (leaf_word pages ps view (512 * i1 + i0))
-  third some = in_leaves read pages ps h view (512 * i1 + i0) (4096 * (10 + tree view * leaf_tables pages + i1) + 8 * i0) (omega arith) (leaf_place view (leaf_tables pages) i1 i0)
+  third : i1 < leaf_tables pages → read (4096 * (10 + tree mode * leaf_tables pages + i1) + 8 * i0) ≡ Some (leaf_word pages ps mode (512 * i1 + i0))
+  third some = in_leaves read pages ps h mode (512 * i1 + i0) (4096 * (10 + tree mode * leaf_tables pages + i1) + 8 * i0) (omega arith) (leaf_place mode (leaf_tables pages) i1 i0)
 
-  past : i1 < leaf_tables pages → pages ≤ 512 * i1 + i0 → walk read grants (i0 ∷ []) (4096 * (10 + tree view * leaf_tables pages + i1)) gpa ≡ PageFault
-  past some beyond = step_zero read grants i0 [] (4096 * (10 + tree view * leaf_tables pages + i1)) gpa (third some ∙ ap Some (leaf_past pages ps view (512 * i1 + i0) beyond))
+  past : i1 < leaf_tables pages → pages ≤ 512 * i1 + i0 → walk read grants (i0 ∷ []) (4096 * (10 + tree mode * leaf_tables pages + i1)) gpa ≡ PageFault
+  past some beyond = step_zero read grants i0 [] (4096 * (10 + tree mode * leaf_tables pages + i1)) gpa (third some ∙ ap Some (leaf_past pages ps mode (512 * i1 + i0) beyond))
 
-  there : i1 < leaf_tables pages → 512 * i1 + i0 < pages → walk read grants (i0 ∷ []) (4096 * (10 + tree view * leaf_tables pages + i1)) gpa
-      ≡ (if view_permits view (ps (512 * i1 + i0)) access then At (4096 * host_page pages (512 * i1 + i0) + gpa % 4096) else PageFault)
+  there : i1 < leaf_tables pages → 512 * i1 + i0 < pages → walk read grants (i0 ∷ []) (4096 * (10 + tree mode * leaf_tables pages + i1)) gpa
+      ≡ (if view_permits (sight_in mode) (512 * i1 + i0) (ps (512 * i1 + i0)) access then At (4096 * host_page pages (512 * i1 + i0) + gpa % 4096) else PageFault)
   there some below = let most = h.most in
-      step_leaf read access i0 (4096 * (10 + tree view * leaf_tables pages + i1)) gpa (host_page pages (512 * i1 + i0)) view (ps (512 * i1 + i0))
-      (third some ∙ ap Some (leaf_there pages ps view (512 * i1 + i0) below)) (omega arith)
+      step_leaf read access i0 (4096 * (10 + tree mode * leaf_tables pages + i1)) gpa (host_page pages (512 * i1 + i0)) mode (512 * i1 + i0) (ps (512 * i1 + i0))
+      (third some ∙ ap Some (leaf_there pages ps mode (512 * i1 + i0) below)) (omega arith)
 
-  pub walk_leads : gpa < 2 ^ 41 → guest_destination read (view_hgatp view) gpa access ≡ leads (table_size pages) pages view ps gpa access
+  pub walk_leads : gpa < 2 ^ 41 → guest_destination read (view_hgatp (view_in mode)) gpa access ≡ leads (table_size pages) pages mode ps gpa access
   walk_leads l =
       let most = h.most in
       let covers : pages ≤ 512 * leaf_tables pages = omega arith in
       elim (lt_or_le gpa 0x80000000) [
-        | inl below ↦ missed l (omega arith) ∙ outside (table_size pages) pages view ps gpa access (not_below pages gpa below)
+        | inl below ↦ missed l (omega arith) ∙ outside (table_size pages) pages mode ps gpa access (not_below pages gpa below)
         | inr above ↦ elim (lt_or_le gpa 0xC0000000) [
-          | inr high ↦ missed l (omega arith) ∙ outside (table_size pages) pages view ps gpa access (not_past pages gpa above (omega arith))
+          | inr high ↦ missed l (omega arith) ∙ outside (table_size pages) pages mode ps gpa access (not_past pages gpa above (omega arith))
           | inl middle ↦
               met l (omega arith) ∙ elim (lt_or_le i1 (leaf_tables pages)) [
-                | inr none ↦ no_table none ∙ outside (table_size pages) pages view ps gpa access (not_past pages gpa above (omega arith))
+                | inr none ↦ no_table none ∙ outside (table_size pages) pages mode ps gpa access (not_past pages gpa above (omega arith))
                 | inl some ↦
                     let is : 512 * i1 + i0 ≡ (gpa - 0x80000000) / 4096 = omega arith in
                     one_table some ∙ elim (lt_or_le (512 * i1 + i0) pages) [
-                      | inl below ↦ there some below ∙ inside pages view ps gpa (512 * i1 + i0) access (within pages gpa above (omega arith)) above is
-                      | inr beyond ↦ past some beyond ∙ outside (table_size pages) pages view ps gpa access (not_past pages gpa above (omega arith))
+                      | inl below ↦ there some below ∙ inside pages mode ps gpa (512 * i1 + i0) access (within pages gpa above (omega arith)) above is
+                      | inr beyond ↦ past some beyond ∙ outside (table_size pages) pages mode ps gpa access (not_past pages gpa above (omega arith))
                     ]
               ]
         ]
@@ -210,28 +216,34 @@ place_chosen : (b : Bool) (x : ℕ) → address_at (if b then At x else PageFaul
 place_chosen true x = refl
 place_chosen false x = refl
 
-module _ (tables : List ℕ) (pages : ℕ) (ps : ℕ → Protection) (h : HoldsTrees tables pages ps) (view : View) where
-  near : (ram : List ℕ) (gpa : ℕ) (access : Access) → gpa < 2 ^ 41 → walk_guest (with_ram tables ram) (view_hgatp view) gpa access ≡ view_answer (length tables) pages view ps gpa access
+module _ (tables : List ℕ) (pages : ℕ) (ps : ℕ → Protection) (h : HoldsTrees tables pages ps) (mode : Mode) where
+  near : (ram : List ℕ) (gpa : ℕ) (access : Access) → gpa < 2 ^ 41 → walk_guest (with_ram tables ram) (view_hgatp (view_in mode)) gpa access ≡ view_answer (length tables) pages (sight_in mode) ps gpa access
   unfolding walk_guest view_answer
   near ram gpa access l =
       let test : gpa / 2 ^ 41 ≡ 0 = omega arith in
-      rw (test, h.size) (ap address_at (walk_leads (entry_in_region (with_ram tables ram)) pages ps (holds_region tables ram pages ps h) view gpa access l)
-      ∙ place_chosen (page_in_ram pages gpa && view_permits view (ps (page_of gpa)) access) (table_size pages + ram_place gpa))
+      rw (test, h.size) (ap address_at (walk_leads (entry_in_region (with_ram tables ram)) pages ps (holds_region tables ram pages ps h) mode gpa access l)
+      ∙ place_chosen (page_in_ram pages gpa && view_permits (sight_in mode) (page_of gpa) (ps (page_of gpa)) access) (table_size pages + ram_place gpa))
 
-  far : (ram : List ℕ) (gpa : ℕ) (access : Access) → 2 ^ 41 ≤ gpa → walk_guest (with_ram tables ram) (view_hgatp view) gpa access ≡ view_answer (length tables) pages view ps gpa access
+  far : (ram : List ℕ) (gpa : ℕ) (access : Access) → 2 ^ 41 ≤ gpa → walk_guest (with_ram tables ram) (view_hgatp (view_in mode)) gpa access ≡ view_answer (length tables) pages (sight_in mode) ps gpa access
   unfolding walk_guest view_answer
   far ram gpa access over =
       let most = h.most in
       let test : (gpa / 2 ^ 41 == 0) ≡ false = grind (arith, nat_tests) in
       rw (test, not_past pages gpa (omega arith) (omega arith)) refl
 
-  is_view : IsView tables pages ps view (view_hgatp view)
+  is_view : IsView tables pages ps (sight_in mode) (view_hgatp (view_in mode))
   is_view = record {
     answers = λ ram gpa access size small. elim (lt_or_le gpa (2 ^ 41)) [ inl l ↦ near ram gpa access l | inr over ↦ far ram gpa access over ];
     reads = λ ram gpa access size l.
-        walk_leads (entry_in_tables tables) pages ps (holds_pages tables pages ps h) view gpa access l
-        ∙ sym (walk_leads (entry_in_region (with_ram tables ram)) pages ps (holds_region tables ram pages ps h) view gpa access l);
+        walk_leads (entry_in_tables tables) pages ps (holds_pages tables pages ps h) mode gpa access l
+        ∙ sym (walk_leads (entry_in_region (with_ram tables ram)) pages ps (holds_region tables ram pages ps h) mode gpa access l);
   }
 
-pub are_views : (tables : List ℕ) (pages : ℕ) (ps : ℕ → Protection) → HoldsTrees tables pages ps → AreViews tables pages ps
-are_views tables pages ps h = record { kernel = is_view tables pages ps h Kernel; user = is_view tables pages ps h User }
+views_each : (tables : List ℕ) (pages : ℕ) (ps : ℕ → Protection) → HoldsTrees tables pages ps → (view : View) (sight : Sight)
+    → sight_of [] view ≡ Some sight → IsView tables pages ps sight (view_hgatp view)
+views_each tables pages ps h View.Kernel sight is = subst (λ (s : Option Sight). IsSomeAnd s (λ seen. IsView tables pages ps seen (view_hgatp View.Kernel))) is (is_view tables pages ps h Kernel)
+views_each tables pages ps h View.User sight is = subst (λ (s : Option Sight). IsSomeAnd s (λ seen. IsView tables pages ps seen (view_hgatp View.User))) is (is_view tables pages ps h User)
+views_each tables pages ps h (View.Entry i) sight is = absurd (cc)
+
+pub are_views : (tables : List ℕ) (pages : ℕ) (ps : ℕ → Protection) → HoldsTrees tables pages ps → AreViews tables pages [] ps
+are_views tables pages ps h = record { each = views_each tables pages ps h }

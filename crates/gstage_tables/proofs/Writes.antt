@@ -5,8 +5,8 @@ use borrow.Author.Tests.{lt-ltb, le-ltb, ne_eqb, eq-eqb}
 use Rattle.sv_types.specs.Bytes.{word, write_word}
 use Rattle.sv_types.specs.SecondStage.{protect, all_free}
 use Rattle.sv_types.specs.declared.wires.Protection.{Protection}
-use Rattle.sv_types.specs.declared.wires.View.{View}
-use Rattle.sv_types.specs.declared.wires.View.TheVariants.{Kernel, User}
+use Rattle.sv_types.specs.declared.wires.Mode.{Mode}
+use Rattle.sv_types.specs.declared.wires.Mode.TheVariants.{Kernel, User}
 use Rattle.sv_types.proofs.ByteLemmas.{lt_or_le, word_written, word_elsewhere, length_write_word}
 use Rattle.gstage_tables.specs.Layout.{leaf_tables, table_size, leaf, leaf_word, table_word, host_page, HoldsTrees}
 use Rattle.gstage_tables.proofs.Places.{tree, leaf_at, leaf_there}
@@ -57,15 +57,15 @@ module _ (pages t : ℕ) (ps : ℕ → Protection) (page : ℕ) (protection : Pr
   abbrev now : ℕ → Protection
   now = protect ps page protection
 
-  leaf_kept : (view : View) (p : ℕ) → p ≢ page → leaf_word pages now view p ≡ leaf_word pages ps view p
+  leaf_kept : (mode : Mode) (p : ℕ) → p ≢ page → leaf_word pages now mode p ≡ leaf_word pages ps mode p
   unfolding leaf_word
-  leaf_kept view p ne = let e : (p == page) ≡ false = ne_eqb p page ne in rw e refl
+  leaf_kept mode p ne = let e : (p == page) ≡ false = ne_eqb p page ne in rw e refl
 
-  leaf_set : (view : View) → page < pages → leaf_word pages now view page ≡ leaf view protection (host_page pages page)
-  leaf_set view l = let e : (page == page) ≡ true = eq-eqb page page refl in leaf_there pages now view page l ∙ rw e refl
+  leaf_set : (mode : Mode) → page < pages → leaf_word pages now mode page ≡ leaf mode protection (host_page pages page)
+  leaf_set mode l = let e : (page == page) ≡ true = eq-eqb page page refl in leaf_there pages now mode page l ∙ rw e refl
 
-  set_there : (view : View) → page < pages → page < 512 * t → table_word pages t now (5120 + 512 * (tree view * t) + page) ≡ leaf view protection (host_page pages page)
-  set_there view l i = leaf_at pages t now view page i ∙ leaf_set view l
+  set_there : (mode : Mode) → page < pages → page < 512 * t → table_word pages t now (5120 + 512 * (tree mode * t) + page) ≡ leaf mode protection (host_page pages page)
+  set_there mode l i = leaf_at pages t now mode page i ∙ leaf_set mode l
 
   set_kept : (k : ℕ) → k ≢ 5120 + page → k ≢ 5120 + 512 * t + page → table_word pages t now k ≡ table_word pages t ps k
   unfolding table_word

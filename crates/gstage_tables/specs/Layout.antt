@@ -1,4 +1,4 @@
--- How two trees of second-stage tables lie in the table part: the kernel view's root and the user view's, of four pages
+-- How two trees of second-stage tables lie in the table part: kernel mode's root and user mode's, of four pages
 -- each, a level-1 table of each, then the level-0 tables of the one and of the other.
 -- RISC-V Privileged manual, H extension, "Guest Physical Address Translation"; the places are this project's own.
 use Rattle.std.specs.Prelude.{◌≡◌, ℕ, ◌+◌, ◌-◌, ◌*◌, ◌/◌, ◌%◌, ◌≤◌, ◌==◌, if◌then◌else◌, nat_lt, List, length}
@@ -6,8 +6,8 @@ use Rattle.sv_types.specs.Bytes.{word, page_size}
 use Rattle.sv_types.specs.Regions.{most_ram_pages}
 use Rattle.sv_types.specs.declared.wires.Protection.{Protection}
 use Rattle.sv_types.specs.declared.wires.Protection.TheVariants.{Free, Held, Approved}
-use Rattle.sv_types.specs.declared.wires.View.{View}
-use Rattle.sv_types.specs.declared.wires.View.TheVariants.{Kernel, User}
+use Rattle.sv_types.specs.declared.wires.Mode.{Mode}
+use Rattle.sv_types.specs.declared.wires.Mode.TheVariants.{Kernel, User}
 
 -- level-0 tables of one tree
 abbrev pub leaf_tables : ℕ → ℕ
@@ -21,7 +21,7 @@ abbrev pub pointer : ℕ → ℕ
 pointer page = 1024 * page + 1
 
 -- V, R, U and A; W and D where the page is free; X for the kernel where it is approved, and for the user where it isn't
-abbrev pub flags : View → Protection → ℕ
+abbrev pub flags : Mode → Protection → ℕ
 flags Kernel Free = 0xD7
 flags Kernel Held = 0x53
 flags Kernel Approved = 0x5B
@@ -29,16 +29,16 @@ flags User Free = 0xDF
 flags User Held = 0x5B
 flags User Approved = 0x53
 
-abbrev pub leaf : View → Protection → ℕ → ℕ
-leaf view protection page = 1024 * page + flags view protection
+abbrev pub leaf : Mode → Protection → ℕ → ℕ
+leaf mode protection page = 1024 * page + flags mode protection
 
 -- the host page of page p of RAM, behind the tables
 abbrev pub host_page : ℕ → ℕ → ℕ
 host_page ram_pages p = 10 + 2 * leaf_tables ram_pages + p
 
 -- the entry for page p of RAM, and 0 past its end
-unfoldable pub leaf_word : ℕ → (ℕ → Protection) → View → ℕ → ℕ
-leaf_word ram_pages protections view p = if nat_lt p ram_pages then leaf view (protections p) (host_page ram_pages p) else 0
+unfoldable pub leaf_word : ℕ → (ℕ → Protection) → Mode → ℕ → ℕ
+leaf_word ram_pages protections mode p = if nat_lt p ram_pages then leaf mode (protections p) (host_page ram_pages p) else 0
 
 -- word k of the table part, where t is the number of level-0 tables of a tree
 unfoldable pub table_word : ℕ → ℕ → (ℕ → Protection) → ℕ → ℕ

@@ -1,10 +1,10 @@
 //! Two trees of second-stage tables: what the guest may reach in kernel and in user mode.
 #![tactic(auto)]
 
-ghost use Rattle.std.specs.Prelude.{◌≡◌, ℕ, ◌+◌, ◌*◌, ◌/◌, ◌<◌, ◌≤◌, ◌%◌, ◌^◌, length};
+ghost use Rattle.std.specs.Prelude.{◌≡◌, ℕ, ◌+◌, ◌*◌, ◌/◌, ◌<◌, ◌≤◌, ◌%◌, ◌^◌, [], length, IsSome};
 ghost use Rattle.sv_types.specs.Bytes.{page_size, write_word};
 ghost use Rattle.sv_types.specs.Regions.{most_ram_pages, IsRegion};
-ghost use Rattle.sv_types.specs.SecondStage.{AreViews, view_hgatp, protect, all_free};
+ghost use Rattle.sv_types.specs.SecondStage.{AreViews, sight_of, view_hgatp, protect, all_free};
 ghost use Rattle.sv_types.specs.declared.wires.Protection.{Protection as Kind};
 ghost use Rattle.gstage_tables.specs.Layout.{leaf_tables, table_size, leaf, host_page, HoldsTrees};
 
@@ -13,7 +13,7 @@ mod words;
 use crate::words::{first_word, leaf, leaf_tables};
 use host_mem::HostMem;
 use std::marker::Model;
-use sv_types::{Protection, View};
+use sv_types::{Mode, Protection, View};
 
 /// The two trees in the table part of a region. Contracts see how many pages of RAM they map.
 #[derive(Drop)]
@@ -47,7 +47,7 @@ impl Trees {
         ensures pages { page_size * result ≡ length mem.new.ram }
         ensures ram { mem.new.ram ≡ mem.old.ram }
         ensures holds { HoldsTrees mem.new.tables result all_free }
-        ensures views { AreViews mem.new.tables result all_free }
+        ensures views { AreViews mem.new.tables result [] all_free }
     {
         let ram_pages = mem.ram_pages() as u64;
         let count = mem.table_bytes() as u64 / 8;
@@ -62,26 +62,29 @@ impl Trees {
         ensures same { self.new ≡ self.old }
         ensures ram { mem.new.ram ≡ mem.old.ram }
         ensures holds { (old : ℕ → Kind) → HoldsTrees mem.old.tables self.old old → HoldsTrees mem.new.tables self.old (protect old page protection) }
-        ensures views { (old : ℕ → Kind) → HoldsTrees mem.old.tables self.old old → AreViews mem.new.tables self.old (protect old page protection) }
+        ensures views { (old : ℕ → Kind) → HoldsTrees mem.old.tables self.old old → AreViews mem.new.tables self.old [] (protect old page protection) }
     {
         let page = page as u64;
         let tables = leaf_tables(self.ram_pages);
         let host = 10 + 2 * tables + page;
-        put(mem, 5120 + page, leaf(View::Kernel, protection, host));
+        put(mem, 5120 + page, leaf(Mode::Kernel, protection, host));
         put(
             mem,
             5120 + 512 * tables + page,
-            leaf(View::User, protection, host),
+            leaf(Mode::User, protection, host),
         );
     }
 
-    /// The `hgatp` value of a view's root. Its VMID is 1 for the kernel view and 2 for the user view.
+    /// The `hgatp` value of a view's root. Its VMID is 1 for the kernel view and 2 for the user view. No tree is that of an
+    /// entry.
     pub fn root(&self, view: View) -> u64
+        requires { IsSome (sight_of [] view) }
         ensures { result ≡ view_hgatp view }
     {
         match view {
             View::Kernel => 0x8000_1000_0000_0000,
             View::User => 0x8000_2000_0000_0004,
+            View::Entry(_) => unreachable!(),
         }
     }
 }

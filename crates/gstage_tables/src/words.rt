@@ -6,7 +6,7 @@ ghost use Rattle.sv_types.specs.SecondStage.{all_free};
 ghost use Rattle.gstage_tables.specs.Layout.{leaf_tables, pointer, flags, leaf, leaf_word, table_word};
 
 use bitflags::Flags;
-use sv_types::{Protection, PteBits, View};
+use sv_types::{Mode, Protection, PteBits};
 
 /// The level-0 tables of one tree.
 pub(crate) fn leaf_tables(ram_pages: u64) -> u64
@@ -34,16 +34,16 @@ fn writable() -> PteBits
     readable().union(PteBits::WRITE).union(PteBits::DIRTY)
 }
 
-// The flags of a page: readable always, writable where it is free, executable by the view.
-fn flags(view: View, protection: Protection) -> PteBits
-    ensures value { result.0 ≡ flags view protection }
+// The flags of a page: readable always, writable where it is free, executable by the mode.
+fn flags(mode: Mode, protection: Protection) -> PteBits
+    ensures value { result.0 ≡ flags mode protection }
     ensures small { result.0 < 1024 }
 {
-    match (view, protection) {
-        (View::Kernel, Protection::Free) => writable(),
-        (View::User, Protection::Free) => writable().union(PteBits::EXECUTE),
-        (View::Kernel, Protection::Held) | (View::User, Protection::Approved) => readable(),
-        (View::Kernel, Protection::Approved) | (View::User, Protection::Held) => readable().union(
+    match (mode, protection) {
+        (Mode::Kernel, Protection::Free) => writable(),
+        (Mode::User, Protection::Free) => writable().union(PteBits::EXECUTE),
+        (Mode::Kernel, Protection::Held) | (Mode::User, Protection::Approved) => readable(),
+        (Mode::Kernel, Protection::Approved) | (Mode::User, Protection::Held) => readable().union(
             PteBits::EXECUTE,
         ),
     }
@@ -58,22 +58,22 @@ fn pointer(page: u64) -> u64
 }
 
 /// The entry that maps a host page.
-pub(crate) fn leaf(view: View, protection: Protection, page: u64) -> u64
+pub(crate) fn leaf(mode: Mode, protection: Protection, page: u64) -> u64
     requires { page < 2 ^ 44 }
-    ensures { result ≡ leaf view protection page }
+    ensures { result ≡ leaf mode protection page }
 {
-    1024 * page + flags(view, protection).bits()
+    1024 * page + flags(mode, protection).bits()
 }
 
 // The entry for page `p` of RAM where all pages are free.
 #[tactic(auto, unfolding(crate::specs::Layout::leaf_word))]
-fn free_word(ram_pages: u64, view: View, p: u64) -> u64
+fn free_word(ram_pages: u64, mode: Mode, p: u64) -> u64
     requires most { ram_pages ≤ most_ram_pages }
     requires small { p < 2 ^ 30 }
-    ensures { result ≡ leaf_word ram_pages all_free view p }
+    ensures { result ≡ leaf_word ram_pages all_free mode p }
 {
     if p < ram_pages {
-        leaf(view, Protection::Free, 10 + 2 * leaf_tables(ram_pages) + p)
+        leaf(mode, Protection::Free, 10 + 2 * leaf_tables(ram_pages) + p)
     } else {
         0
     }
@@ -101,8 +101,8 @@ pub(crate) fn first_word(ram_pages: u64, k: u64) -> u64
             0
         }
     } else if k - 5120 < 512 * tables {
-        free_word(ram_pages, View::Kernel, k - 5120)
+        free_word(ram_pages, Mode::Kernel, k - 5120)
     } else {
-        free_word(ram_pages, View::User, k - 5120 - 512 * tables)
+        free_word(ram_pages, Mode::User, k - 5120 - 512 * tables)
     }
 }
