@@ -176,7 +176,7 @@ none_bound rules None none = refl
 none_bound rules (Some i) none = absurd (cc)
 
 -- outside of an entry nothing is attempted again
-once_outside : (ram : List ℕ) (rules : Rules) (host : HostHart) (x : Outcome) → host.entry ≡ None → asks_again ram rules host x ≡ false
+pub once_outside : (ram : List ℕ) (rules : Rules) (host : HostHart) (x : Outcome) → host.entry ≡ None → asks_again ram rules host x ≡ false
 unfolding asks_again exit_answer
 once_outside ram rules host (Outcome.Retired wrote) none = refl
 once_outside ram rules host Outcome.GuestTrap none = refl
