@@ -1,2 +1,3 @@
 pub mod Standings
 pub mod Loads
+pub mod Determines

@@ -26,7 +26,7 @@ in_span first n i below = elim (is_there (has_number (numbers_from first n) (fir
   | inr gone ↦ elim (elsewhere first n (first + i) gone) [ inl before ↦ absurd (omega arith) | inr behind ↦ absurd (omega arith) ]
 ]
 
-approved_is : (r : State) (page : ℕ) → is_approved_in r.approved page ≡ true → protection_in r.approved r.held page ≡ Approved
+pub approved_is : (r : State) (page : ℕ) → is_approved_in r.approved page ≡ true → protection_in r.approved r.held page ≡ Approved
 unfolding protection_in protection_by
 approved_is r page e = ap (λ (b : Bool). protection_by b (has_number r.held page)) e
 

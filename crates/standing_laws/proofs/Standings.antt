@@ -1,25 +1,28 @@
 -- Harts, pages and views of a machine that stands for a state.
-use Rattle.std.proofs.Common.{◌≡◌, ℕ, zero, suc, ◌+◌, ◌/◌, ◌^◌, ◌<◌, ◌≤◌, List, [], ◌∷◌, map, length, refl, sym, ◌∙◌, ap, subst, Bool, true, false, ◌&&◌, arith, slice_get}
-use Rattle.std.specs.Prelude.{Some, nat_le, slice_index_or}
+use Rattle.std.proofs.Common.{◌≡◌, ℕ, zero, suc, ◌+◌, ◌*◌, ◌/◌, ◌^◌, ◌<◌, ◌≤◌, List, [], ◌∷◌, map, length, refl, sym, ◌∙◌, ap, subst, Bool, true, false, ◌&&◌, arith, slice_get}
+use Rattle.std.specs.Prelude.{Option, Some, None, option_map, nat_le, slice_index_or}
 use Rattle.std.proofs.lemmas.Bool.{leb-true}
+use Rattle.std.proofs.lemmas.Option.{slice_get_within}
 use Rattle.sv_types.specs.ApprovedPages.{numbers_from}
+use Rattle.sv_types.specs.Bytes.{page_of}
 use Rattle.sv_types.specs.HypervisorRegisters.{HypervisorRegisters}
-use Rattle.sv_types.specs.Policies.{Rules, rules_within, numbers_within, harts_within, format_within, ram_pages_within, lists_within, init_within, modules_count_within, modules_within}
-use Rattle.sv_types.specs.SecondStage.{WalksApart, with_ram, view_hgatp}
+use Rattle.sv_types.specs.Policies.{Rules, rules_within, numbers_within, harts_within, format_within, ram_pages_within, lists_within, init_within, modules_count_within, modules_within, entries_count_within, entries_within, exports_count_within, exports_within, bound_within}
+use Rattle.sv_types.specs.SecondStage.{WalksApart, OfKernel, OfUser, OfEntry, with_ram, view_hgatp}
 use Rattle.sv_types.specs.declared.wires.Mode.{Mode}
 use Rattle.sv_types.specs.declared.wires.Mode.TheVariants.{Kernel, User}
 use Rattle.sv_types.specs.declared.wires.Protection.{Protection}
 use Rattle.sv_types.specs.declared.wires.View.TheVariants as View
 use Rattle.sv_types.proofs.Views.{view_walks_apart}
 use Rattle.reference.specs.Protections.{or_free, protection_at}
-use Rattle.reference.specs.States.{State, Hart, protection_in}
-use Rattle.reference.specs.Soundness.{IsSound}
+use Rattle.reference.specs.States.{State, Hart, Binding, binding_of, binding_at, protection_in}
+use Rattle.reference.specs.Soundness.{IsSound, IsSoundEntry}
 use Rattle.machine_model.specs.Machine.{Machine, HostHart}
-use Rattle.machine_model.specs.StandsFor.{Unseen, IsRightFor, machine_of, host_hart, host_harts, hregs_in, protections_of}
+use Rattle.machine_model.specs.StandsFor.{Unseen, IsRightFor, machine_of, host_hart, host_harts, hregs_in, bound_pages, protections_of}
+use Rattle.attempt_laws.proofs.Under.{bound_page}
 use Rattle.answer_laws.proofs.ViewsMeet.{get_numbers, views_meet}
 use Rattle.run_laws.proofs.Lookups.{and_second}
 use Rattle.hart.specs.Conditions.{KeepsMode}
-use Rattle.standing_laws.specs.Laws.{MayAttempt, HartsLaw, HartInLaw, IsInOrder, OrderLaw}
+use Rattle.standing_laws.specs.Laws.{MayAttempt, HartsLaw, HartInLaw, NoEntryLaw, IsInOrder, OrderLaw}
 
 -- ---- harts
 
@@ -39,30 +42,86 @@ behind_host t (x ∷ exits) (y ∷ harts) zero host e = record { exits = x; hart
 behind_host t (x ∷ exits) (y ∷ harts) (suc h) host e =
     let b = behind_host t exits harts h host e in record { exits = b.exits; hart = b.hart; there = b.there; same = b.same }
 
-same_registers : (mode : Mode) → hregs_in mode ≡ hregs_in (hregs_in mode).mode
-same_registers Kernel = refl
-same_registers User = refl
+same_registers : (mode : Mode) (entry : Option ℕ) → hregs_in mode entry ≡ hregs_in (hregs_in mode entry).mode entry
+same_registers Kernel entry = refl
+same_registers User entry = refl
 
-keeps_mode : (mode : Mode) → KeepsMode (hregs_in mode)
-keeps_mode Kernel = record { exceptions = λ user. cc; interrupts = λ user. cc; returns = refl }
-keeps_mode User = record { exceptions = λ user. refl; interrupts = λ user. refl; returns = refl }
+keeps_mode : (mode : Mode) (entry : Option ℕ) → KeepsMode (hregs_in mode entry)
+keeps_mode Kernel entry = record { exceptions = λ user. cc; interrupts = λ user. cc; returns = refl }
+keeps_mode User entry = record { exceptions = λ user. refl; interrupts = λ user. refl; returns = refl }
 
-in_stage : (mode : Mode) → (hregs_in mode).hgatp / 2 ^ 60 ≡ 8
-in_stage Kernel = refl
-in_stage User = refl
+-- ---- entries that are bound
 
-walks_apart : (o : Unseen) (r : State) (mode : Mode) → IsRightFor o r → IsSound r → WalksApart (with_ram o.tables r.ram) (hregs_in mode).hgatp
-walks_apart o r Kernel p s = view_walks_apart o.tables r.ram r.rules.ram_pages (view_hgatp View.Kernel) (protection_in r.approved r.held) View.Kernel p.views.kernel s.size
-walks_apart o r User p s = view_walks_apart o.tables r.ram r.rules.ram_pages (view_hgatp View.User) (protection_in r.approved r.held) View.User p.views.user s.size
+most_entries : (n : ℕ) → (nat_le 1 n && nat_le n 64) ≡ true → n ≤ 64
+most_entries n e = leb-true n 64 (and_second (nat_le 1 n) (nat_le n 64) e)
+
+few_entries : (r : Rules) → rules_within r ≡ true → length r.entries ≤ 64
+few_entries r e = most_entries (length r.entries)
+    (first_of (entries_count_within (length r.entries)) (entries_within r.entries) (exports_count_within (length r.exports)) (exports_within r.exports)
+    (bound_within r)
+    (second_of (numbers_within r) (lists_within r) (init_within r.ram_pages r.init) (modules_count_within (length r.modules))
+    (modules_within (length r.exports) r.modules) e))
+  where
+    first_of : (a b c d e : Bool) → (a && b && c && d && e) ≡ true → a ≡ true
+    first_of true b c d e k = refl
+    first_of false b c d e k = cc
+
+    second_of : (a b c d e : Bool) → (a && b && c && d && e) ≡ true → b ≡ true
+    second_of true true c d e k = refl
+    second_of true false c d e k = cc
+    second_of false b c d e k = cc
+
+binds : (va gpa : Option ℕ) (entry : Binding) → binding_of va gpa ≡ Some entry → (x : ℕ) × ((va ≡ Some x) × (gpa ≡ Some entry.gpa))
+binds None gpa entry e = absurd (cc)
+binds (Some va) None entry e = absurd (cc)
+binds (Some va) (Some gpa) entry e = (va, (refl, ap (option_map (λ (b : Binding). b.gpa)) e))
+
+bound_place : (rules : Rules) (i : ℕ) (entry : Binding) → rules_within rules ≡ true → binding_at rules i ≡ Some entry → i < 64
+unfolding binding_at
+bound_place rules i entry within e =
+    let two = binds (slice_get rules.entries i) (slice_get rules.bound i) entry e in
+    let below : i < length rules.entries = slice_get_within rules.entries i two.0 two.1.0 in
+    let few : length rules.entries ≤ 64 = few_entries rules within in omega arith
+
+none_bound : (list : List ℕ) (i gpa : ℕ) → list ≡ [] → slice_get list i ≡ Some gpa → ⊥
+none_bound list i gpa none e = let k : slice_get [] i ≡ Some gpa = subst (λ (l : List ℕ). slice_get l i ≡ Some gpa) none e in cc
+
+in_none : (rules : Rules) (mode : Mode) (entry : Option ℕ) → IsSoundEntry rules mode entry → rules.bound ≡ [] → entry ≡ None
+unfolding binding_at
+in_none rules Kernel None known none = refl
+in_none rules User None known none = refl
+in_none rules Kernel (Some i) known none =
+    let two = binds (slice_get rules.entries i) (slice_get rules.bound i) known.0 known.1 in absurd (none_bound rules.bound i known.0.gpa none two.1.1)
+in_none rules User (Some i) known none = absurd known
+
+-- ---- walks
+
+entry_stage : (i : ℕ) → i < 64 → (0x8000300000000008 + 0x100000000004 * i) / 2 ^ 60 ≡ 8
+entry_stage i below = omega arith
+
+in_stage : (rules : Rules) (mode : Mode) (entry : Option ℕ) → rules_within rules ≡ true → IsSoundEntry rules mode entry → (hregs_in mode entry).hgatp / 2 ^ 60 ≡ 8
+in_stage rules Kernel None within known = refl
+in_stage rules Kernel (Some i) within known = entry_stage i (bound_place rules i known.0 within known.1)
+in_stage rules User entry within known = refl
+
+walks_apart : (o : Unseen) (r : State) (mode : Mode) (entry : Option ℕ) → IsRightFor o r → IsSound r → IsSoundEntry r.rules mode entry
+    → WalksApart (with_ram o.tables r.ram) (hregs_in mode entry).hgatp
+walks_apart o r Kernel None p s known =
+    view_walks_apart o.tables r.ram r.rules.ram_pages (view_hgatp View.Kernel) (protection_in r.approved r.held) OfKernel (p.views.each View.Kernel OfKernel refl) s.size
+walks_apart o r Kernel (Some i) p s known =
+    view_walks_apart o.tables r.ram r.rules.ram_pages (view_hgatp (View.Entry i)) (protection_in r.approved r.held) (OfEntry (page_of known.0.gpa))
+    (p.views.each (View.Entry i) (OfEntry (page_of known.0.gpa)) (bound_page r.rules i known.0 known.1)) s.size
+walks_apart o r User entry p s known =
+    view_walks_apart o.tables r.ram r.rules.ram_pages (view_hgatp View.User) (protection_in r.approved r.held) OfUser (p.views.each View.User OfUser refl) s.size
 
 may_attempt : (o : Unseen) (r : State) (h : ℕ) (host : HostHart) → IsRightFor o r → IsSound r → Behind (length o.tables) r.harts h host
     → MayAttempt (with_ram o.tables r.ram) host
 may_attempt o r h host p s b = subst (MayAttempt (with_ram o.tables r.ram)) b.same (record {
   aligned = (s.harts h b.hart b.there).aligned;
-  registers = same_registers b.hart.mode;
-  keeps = keeps_mode b.hart.mode;
-  stage = in_stage b.hart.mode;
-  apart = walks_apart o r b.hart.mode p s;
+  registers = same_registers b.hart.mode b.hart.entry;
+  keeps = keeps_mode b.hart.mode b.hart.entry;
+  stage = in_stage r.rules b.hart.mode b.hart.entry s.within (s.harts h b.hart b.there).entry;
+  apart = walks_apart o r b.hart.mode b.hart.entry p s (s.harts h b.hart b.there).entry;
 })
 
 at_place : (o : Unseen) (r : State) (h : ℕ) (host : HostHart) → IsRightFor o r → IsSound r → slice_get (machine_of o r).harts h ≡ Some host
@@ -83,6 +142,18 @@ index_there (x ∷ harts) (suc h) past below = index_there harts h past (omega a
 pub hart_in_may_attempt : HartInLaw
 hart_in_may_attempt m r h past stands below =
     hart_may_attempt m r h (slice_index_or m.harts h past) stands (index_there m.harts h past below)
+
+no_entry_at : (o : Unseen) (r : State) (h : ℕ) (host : HostHart) → IsSound r → (machine_of o r).rules.bound ≡ [] → slice_get (machine_of o r).harts h ≡ Some host
+    → host.entry ≡ None
+unfolding machine_of
+no_entry_at o r h host s none e =
+    let b : Behind (length o.tables) r.harts h host = behind_host (length o.tables) o.exits r.harts h host e in
+    subst (λ (x : HostHart). x.entry ≡ None) b.same (in_none r.rules b.hart.mode b.hart.entry (s.harts h b.hart b.there).entry none)
+
+pub no_entry : NoEntryLaw
+no_entry m r h host stands =
+    subst (λ (x : Machine). x.rules.bound ≡ [] → slice_get x.harts h ≡ Some host → host.entry ≡ None) (sym stands.same)
+    (no_entry_at stands.unseen r h host stands.sound)
 
 -- ---- sizes, pages and views
 
@@ -135,7 +206,7 @@ order_of o r p s = record {
   dma = refl;
   size = s.size;
   region = p.region;
-  views = views_meet o.tables r.rules.ram_pages (protection_in r.approved r.held) (protection_at (protections_of r)) (same_protection r) p.views;
+  views = views_meet o.tables r.rules.ram_pages (bound_pages r.rules) (protection_in r.approved r.held) (protection_at (protections_of r)) (same_protection r) p.views;
 }
 
 pub in_order : OrderLaw

@@ -1,5 +1,6 @@
 -- What code may rely on in a machine that stands for a state of the reference machine. This project's own.
-use Rattle.std.specs.Prelude.{◌≡◌, ℕ, ◌*◌, ◌/◌, ◌%◌, ◌^◌, ◌<◌, ◌≤◌, List, map, length, None, Some, IfSome, IsTrue, slice_get, slice_index_or}
+use Rattle.std.specs.Prelude.{◌≡◌, ℕ, ◌*◌, ◌/◌, ◌%◌, ◌^◌, ◌<◌, ◌≤◌, List, [], map, drop, length, None, Some, IfSome, IsTrue, slice_get, slice_index_or}
+use Rattle.sv_types.specs.ApprovedPages.{approved_bytes}
 use Rattle.sv_types.specs.Bytes.{page_size}
 use Rattle.sv_types.specs.Policies.{Rules, rules_within}
 use Rattle.sv_types.specs.Regions.{Region, IsRegion}
@@ -7,11 +8,12 @@ use Rattle.sv_types.specs.SecondStage.{AreViews, WalksApart}
 use Rattle.sv_types.specs.declared.saved.SavedModule.{SavedModule}
 use Rattle.sv_types.specs.declared.wires.Protection.{Protection}
 use Rattle.sv_types.specs.declared.wires.Protection.TheVariants.{Held}
+use Rattle.reference.specs.Origins.{is_kernel_text, ownership}
 use Rattle.reference.specs.Protections.{is_free, protection_at}
 use Rattle.reference.specs.Start.{AreWords}
 use Rattle.reference.specs.States.{State, find_module, pages_in_rule}
 use Rattle.machine_model.specs.Machine.{Machine, HostHart, HostLoad}
-use Rattle.machine_model.specs.StandsFor.{StandsFor, hregs_in}
+use Rattle.machine_model.specs.StandsFor.{StandsFor, hregs_in, bound_pages}
 use Rattle.page_guard.specs.Guarded.{IsInRam, AllAre}
 use Rattle.module_gate.specs.Gates.{module_span, AreApproved}
 use Rattle.hart.specs.Conditions.{KeepsMode}
@@ -21,7 +23,7 @@ use Rattle.hart.specs.Conditions.{KeepsMode}
 -- a hart may make an attempt
 pub record MayAttempt (region : Region) (host : HostHart) : Type 0 where
   pub aligned : host.core.pc % 4 ≡ 0
-  pub registers : host.core.hregs ≡ hregs_in host.core.hregs.mode
+  pub registers : host.core.hregs ≡ hregs_in host.core.hregs.mode host.entry
   pub keeps : KeepsMode host.core.hregs
   pub stage : host.core.hregs.hgatp / 2 ^ 60 ≡ 8
   pub apart : WalksApart region host.core.hregs.hgatp
@@ -32,6 +34,10 @@ HartsLaw = (m : Machine) (r : State) (h : ℕ) (host : HostHart) → StandsFor m
 -- the same for the hart at a place of the list
 abbrev pub HartInLaw : Type 0
 HartInLaw = (m : Machine) (r : State) (h : ℕ) (past : HostHart) → StandsFor m r → h < length m.harts → MayAttempt m.region (slice_index_or m.harts h past)
+
+-- where the policy binds no entry, no hart is in one
+abbrev pub NoEntryLaw : Type 0
+NoEntryLaw = (m : Machine) (r : State) (h : ℕ) (host : HostHart) → StandsFor m r → m.rules.bound ≡ [] → slice_get m.harts h ≡ Some host → host.entry ≡ None
 
 -- ---- sizes, pages and views
 
@@ -44,7 +50,7 @@ pub record IsInOrder (m : Machine) : Type 0 where
   pub dma : m.dma ≡ map is_free m.protections
   pub size : length m.region.ram ≡ page_size * m.rules.ram_pages
   pub region : IsRegion m.region
-  pub views : AreViews m.region.tables m.rules.ram_pages (protection_at m.protections)
+  pub views : AreViews m.region.tables m.rules.ram_pages (bound_pages m.rules) (protection_at m.protections)
 
 abbrev pub OrderLaw : Type 0
 OrderLaw = (m : Machine) (r : State) → StandsFor m r → IsInOrder m
@@ -65,3 +71,26 @@ pub record HoldsItsPages (rules : Rules) (guard : List Protection) (loaded : Lis
 
 abbrev pub LoadingLaw : Type 0
 LoadingLaw = (m : Machine) (r : State) → StandsFor m r → IfSome m.loading (HoldsItsPages m.rules m.protections m.loaded)
+
+-- ---- a machine determines the state
+
+-- two states that no machine tells apart: they are the same but for the order in which approved pages are listed, the list of
+-- text pages that were retired, and printed bytes that were taken away
+pub record AreSame (cleared : ℕ) (r s : State) : Type 0 where
+  pub rules : r.rules ≡ s.rules
+  pub harts : r.harts ≡ s.harts
+  pub ram : r.ram ≡ s.ram
+  pub approved : (page : ℕ) → approved_bytes r.approved page ≡ approved_bytes s.approved page
+  pub held : r.held ≡ s.held
+  pub loaded : r.loaded ≡ s.loaded
+  pub loading : r.loading ≡ s.loading
+  pub retired : r.retired ≡ s.retired
+  pub text : (page : ℕ) → is_kernel_text (ownership r) page ≡ is_kernel_text (ownership s) page
+  pub devices : r.devices ≡ s.devices
+  pub notes : r.journal.notes ≡ s.journal.notes
+  pub counts : r.journal.counts ≡ s.journal.counts
+  pub verdict : r.journal.verdict ≡ s.journal.verdict
+  pub printed : drop cleared r.journal.printed ≡ drop cleared s.journal.printed
+
+abbrev pub DeterminesLaw : Type 0
+DeterminesLaw = (m : Machine) (r s : State) → StandsFor m r → StandsFor m s → AreSame m.cleared r s

@@ -1,7 +1,7 @@
 //! The laws of a machine that stands for a state of the reference machine: what code may rely on in it.
 #![tactic(auto)]
 
-ghost use Rattle.standing_laws.specs.Laws.{HartInLaw, HartsLaw, LoadedLaw, LoadingLaw, OrderLaw};
+ghost use Rattle.standing_laws.specs.Laws.{DeterminesLaw, HartInLaw, HartsLaw, LoadedLaw, LoadingLaw, NoEntryLaw, OrderLaw};
 
 /// Each hart may make an attempt: its pc is aligned, its registers are those of its mode, and its walks read the tables alone.
 pub fn law_harts()
@@ -11,6 +11,11 @@ pub fn law_harts()
 /// So may the hart at each place of the list.
 pub fn law_hart_in()
     ensures { HartInLaw }
+{}
+
+/// Where the policy binds no entry, no hart is in one.
+pub fn law_no_entry()
+    ensures { NoEntryLaw }
 {}
 
 /// Harts, pages and RAM are as many as the rules say, and the tables hold both views of the protections.
@@ -26,4 +31,10 @@ pub fn law_loaded()
 /// The module of a load under way isn't loaded, and its pages lie in RAM and are held.
 pub fn law_loading()
     ensures { LoadingLaw }
+{}
+
+/// A machine determines the state that it stands for, but for the order of approved pages, text that was retired, and printed
+/// bytes that were taken away.
+pub fn law_determines()
+    ensures { DeterminesLaw }
 {}
