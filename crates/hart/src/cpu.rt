@@ -69,7 +69,6 @@ impl Cpu {
         requires agrees { CacheAgrees mem.old.tables cache.old }
         ensures counted { self.new ≡ self.old + 1 }
         ensures attempted { attempted_of mem.new hart.new regs.now result ≡ attempt mem.old (core_of hart.old regs.now) (W.seen wires.now) }
-        ensures id { hart.new.id ≡ hart.old.id }
         ensures started { hart.new.started ≡ hart.old.started }
         ensures pc { hart.new.pc % 4 ≡ 0 }
         ensures tables { mem.new.tables ≡ mem.old.tables }

@@ -44,7 +44,6 @@ pub(crate) fn attempt<W: Wires>(
     requires apart { WalksApart mem.old regs.now.hgatp }
     requires agrees { CacheAgrees mem.old.tables cache.old }
     ensures attempted { attempted_of mem.new hart.new regs.now result ≡ attempt mem.old (core_of hart.old regs.now) (W.seen wires.now) }
-    ensures id { hart.new.id ≡ hart.old.id }
     ensures started { hart.new.started ≡ hart.old.started }
     ensures pc { hart.new.pc % 4 ≡ 0 }
     ensures tables { mem.new.tables ≡ mem.old.tables }
@@ -90,7 +89,6 @@ fn fetch<W: Wires>(
     requires agrees { CacheAgrees mem.old.tables cache.old }
     requires place { IfOk place (λ hpa. IsHostPlace mem.old hpa 4) }
     ensures attempted { attempted_of mem.new hart.new regs.now result ≡ after_fetch mem.old (core_of hart.old regs.now) (W.seen wires.now) place }
-    ensures id { hart.new.id ≡ hart.old.id }
     ensures started { hart.new.started ≡ hart.old.started }
     ensures pc { hart.new.pc % 4 ≡ 0 }
     ensures tables { mem.new.tables ≡ mem.old.tables }
@@ -121,7 +119,6 @@ fn carry_out<W: Wires>(
     requires apart { WalksApart mem.old regs.now.hgatp }
     requires agrees { CacheAgrees mem.old.tables cache.old }
     ensures attempted { attempted_of mem.new hart.new regs.now result ≡ after_word mem.old (core_of hart.old regs.now) (W.seen wires.now) word }
-    ensures id { hart.new.id ≡ hart.old.id }
     ensures started { hart.new.started ≡ hart.old.started }
     ensures pc { hart.new.pc % 4 ≡ 0 }
     ensures tables { mem.new.tables ≡ mem.old.tables }
@@ -150,7 +147,6 @@ fn execute<W: Wires>(
     requires agrees { CacheAgrees mem.old.tables cache.old }
     requires fits { IsTrue (fits instr.now) }
     ensures attempted { attempted_of mem.new hart.new regs.now result ≡ after_instruction mem.old (core_of hart.old regs.now) (W.seen wires.now) word (Some instr.now) }
-    ensures id { hart.new.id ≡ hart.old.id }
     ensures started { hart.new.started ≡ hart.old.started }
     ensures pc { hart.new.pc % 4 ≡ 0 }
     ensures tables { mem.new.tables ≡ mem.old.tables }
@@ -205,7 +201,6 @@ fn apply<W: Wires>(
     requires agrees { CacheAgrees mem.old.tables cache.old }
     requires request { IsRequest effect }
     ensures attempted { attempted_of mem.new hart.new regs.now result ≡ after_effect mem.old (core_of hart.old regs.now) (W.seen wires.now) word effect }
-    ensures id { hart.new.id ≡ hart.old.id }
     ensures started { hart.new.started ≡ hart.old.started }
     ensures pc { hart.new.pc % 4 ≡ 0 }
     ensures tables { mem.new.tables ≡ mem.old.tables }

@@ -10,7 +10,6 @@ use rv64_exec::Regs;
 /// A hart. Its reservation is the host place of the 8 aligned bytes; its mode is that of its hypervisor registers.
 #[derive(Drop)]
 pub struct Hart {
-    pub id: u8,
     pub regs: Regs,
     pub pc: u64,
     pub csrs: Csrs,
@@ -20,11 +19,10 @@ pub struct Hart {
 
 impl Hart {
     /// A stopped hart whose registers and pc are 0, without a reservation.
-    pub fn at_boot(id: u8) -> Hart
-        ensures { result ≡ record { id = id; regs = replicate 32 0; pc = 0; csrs = registers_at_boot; reservation = None; started = false } }
+    pub fn at_boot() -> Hart
+        ensures { result ≡ record { regs = replicate 32 0; pc = 0; csrs = registers_at_boot; reservation = None; started = false } }
     {
         Hart {
-            id,
             regs: Regs::new(),
             pc: 0,
             csrs: Csrs::at_boot(),

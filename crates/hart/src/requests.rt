@@ -69,7 +69,6 @@ pub(crate) fn load(
     requires width { IsWidth width }
     requires place { IfOk place (λ hpa. IsHostPlace mem.now hpa width) }
     ensures step { step_of hart.new regs.now result ≡ after_load mem.now (core_of hart.old regs.now) rd width signed place }
-    ensures id { hart.new.id ≡ hart.old.id }
     ensures started { hart.new.started ≡ hart.old.started }
     ensures pc { hart.new.pc % 4 ≡ 0 }
 {
@@ -98,7 +97,6 @@ pub(crate) fn load_reserved(
     requires width { IsWidth width }
     requires place { IfOk place (λ hpa. IsHostPlace mem.now hpa width) }
     ensures step { step_of hart.new regs.now result ≡ after_load_reserved mem.now (core_of hart.old regs.now) rd width place }
-    ensures id { hart.new.id ≡ hart.old.id }
     ensures started { hart.new.started ≡ hart.old.started }
     ensures pc { hart.new.pc % 4 ≡ 0 }
 {
@@ -128,7 +126,6 @@ pub(crate) fn store(
     requires ram { IfOk place (λ hpa. length mem.old.tables ≤ hpa) }
     ensures attempted { attempted_of mem.new hart.new regs.now result ≡ after_store mem.old (core_of hart.old regs.now) width value place }
     ensures tables { mem.new.tables ≡ mem.old.tables }
-    ensures id { hart.new.id ≡ hart.old.id }
     ensures started { hart.new.started ≡ hart.old.started }
     ensures pc { hart.new.pc % 4 ≡ 0 }
 {
@@ -170,7 +167,6 @@ pub(crate) fn store_conditional(
     requires ram { IfOk place (λ hpa. length mem.old.tables ≤ hpa) }
     ensures attempted { attempted_of mem.new hart.new regs.now result ≡ after_store_conditional mem.old (core_of hart.old regs.now) rd width value place }
     ensures tables { mem.new.tables ≡ mem.old.tables }
-    ensures id { hart.new.id ≡ hart.old.id }
     ensures started { hart.new.started ≡ hart.old.started }
     ensures pc { hart.new.pc % 4 ≡ 0 }
 {
@@ -215,7 +211,6 @@ pub(crate) fn atomic(
     requires ram { IfOk place (λ hpa. length mem.old.tables ≤ hpa) }
     ensures attempted { attempted_of mem.new hart.new regs.now result ≡ after_amo mem.old (core_of hart.old regs.now) rd width operation.op operation.value place }
     ensures tables { mem.new.tables ≡ mem.old.tables }
-    ensures id { hart.new.id ≡ hart.old.id }
     ensures started { hart.new.started ≡ hart.old.started }
     ensures pc { hart.new.pc % 4 ≡ 0 }
 {

@@ -76,7 +76,6 @@ pub(crate) struct CsrAccess {
 fn exchange(hart: &mut Hart, regs: &HRegs, lines: &Lines, access: CsrAccess, csr: Csr) -> u64
     ensures value { result ≡ csr_read (core_of hart.old regs.now) lines.now csr }
     ensures hart { core_of hart.new regs.now ≡ (if access.writes then with_csr (core_of hart.old regs.now) csr (csr_value access.op (csr_read (core_of hart.old regs.now) lines.now csr) access.value) else core_of hart.old regs.now) }
-    ensures id { hart.new.id ≡ hart.old.id }
     ensures started { hart.new.started ≡ hart.old.started }
 {
     let old = hart.csrs.value(regs.hideleg, lines, csr);
@@ -101,7 +100,6 @@ pub(crate) fn csr(
     requires mode { KeepsMode regs.now }
     requires register { rd < 32 }
     ensures step { step_of hart.new regs.now result ≡ after_csr (core_of hart.old regs.now) lines.now rd access.op access.value access.writes reached }
-    ensures id { hart.new.id ≡ hart.old.id }
     ensures started { hart.new.started ≡ hart.old.started }
     ensures pc { hart.new.pc % 4 ≡ 0 }
 {
@@ -120,7 +118,6 @@ pub(crate) fn supervisor_only(hart: &mut Hart, regs: &HRegs, word: u32) -> Outco
     requires aligned { hart.old.pc % 4 ≡ 0 }
     requires mode { KeepsMode regs.now }
     ensures step { step_of hart.new regs.now result ≡ after_supervisor_only (core_of hart.old regs.now) word regs.now.mode }
-    ensures id { hart.new.id ≡ hart.old.id }
     ensures started { hart.new.started ≡ hart.old.started }
     ensures pc { hart.new.pc % 4 ≡ 0 }
 {
@@ -136,7 +133,6 @@ pub(crate) fn sret(hart: &mut Hart, regs: &HRegs, word: u32) -> Outcome
     requires aligned { hart.old.pc % 4 ≡ 0 }
     requires mode { KeepsMode regs.now }
     ensures step { step_of hart.new regs.now result ≡ after_sret (core_of hart.old regs.now) word regs.now.mode }
-    ensures id { hart.new.id ≡ hart.old.id }
     ensures started { hart.new.started ≡ hart.old.started }
     ensures pc { hart.new.pc % 4 ≡ 0 }
 {
@@ -148,7 +144,6 @@ pub(crate) fn call(hart: &mut Hart, regs: &HRegs) -> Outcome
     requires aligned { hart.old.pc % 4 ≡ 0 }
     requires mode { KeepsMode regs.now }
     ensures step { step_of hart.new regs.now result ≡ raise (core_of hart.old regs.now) (plain_exception (call_cause regs.now.mode) 0) }
-    ensures id { hart.new.id ≡ hart.old.id }
     ensures started { hart.new.started ≡ hart.old.started }
     ensures pc { hart.new.pc % 4 ≡ 0 }
 {

@@ -28,7 +28,6 @@ pub(crate) fn raise(hart: &mut Hart, regs: &HRegs, exception: Exception) -> Outc
     requires aligned { hart.old.pc % 4 ≡ 0 }
     requires mode { KeepsMode regs.now }
     ensures step { step_of hart.new regs.now result ≡ raise (core_of hart.old regs.now) exception }
-    ensures id { hart.new.id ≡ hart.old.id }
     ensures started { hart.new.started ≡ hart.old.started }
     ensures pc { hart.new.pc % 4 ≡ 0 }
 {
@@ -54,7 +53,6 @@ pub(crate) fn interrupt(hart: &mut Hart, regs: &HRegs, interrupt: Interrupt) -> 
     requires aligned { hart.old.pc % 4 ≡ 0 }
     requires mode { KeepsMode regs.now }
     ensures step { step_of hart.new regs.now result ≡ after_interrupt (core_of hart.old regs.now) interrupt }
-    ensures id { hart.new.id ≡ hart.old.id }
     ensures started { hart.new.started ≡ hart.old.started }
     ensures pc { hart.new.pc % 4 ≡ 0 }
 {
@@ -80,7 +78,6 @@ fn guest_trap(hart: &mut Hart, regs: &HRegs, interrupt: bool, cause: u64, tval: 
     requires aligned { hart.old.pc % 4 ≡ 0 }
     requires kernel { regs.now.mode ≡ Mode.Kernel }
     ensures step { step_of hart.new regs.now result ≡ guest_trap (core_of hart.old regs.now) interrupt cause tval }
-    ensures id { hart.new.id ≡ hart.old.id }
     ensures started { hart.new.started ≡ hart.old.started }
     ensures pc { hart.new.pc % 4 ≡ 0 }
 {
@@ -94,7 +91,6 @@ fn leave(hart: &mut Hart, regs: &HRegs, exit: Exit) -> Outcome
     requires aligned { hart.old.pc % 4 ≡ 0 }
     requires exit { exit.pc % 4 ≡ 0 }
     ensures step { step_of hart.new regs.now result ≡ leave (core_of hart.old regs.now) exit }
-    ensures id { hart.new.id ≡ hart.old.id }
     ensures started { hart.new.started ≡ hart.old.started }
     ensures pc { hart.new.pc % 4 ≡ 0 }
 {
