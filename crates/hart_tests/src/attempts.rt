@@ -106,7 +106,7 @@ fn attempt_once(
 
 // A hart whose x1 is an address and whose x2 is 7, with a reservation at place 0x2000 of RAM and every interrupt enabled.
 fn hart_with(address: u64) -> Hart {
-    let mut hart = Hart::at_boot(0);
+    let mut hart = Hart::at_boot();
     let regs = hypervisor_registers(Mode::Kernel);
     hart.regs.set(1, address);
     hart.regs.set(2, 7);
