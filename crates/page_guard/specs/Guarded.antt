@@ -1,6 +1,6 @@
 -- The protections of all pages of RAM as a list, spans of pages, and the region whose tables follow the list.
 -- This project's own.
-use Rattle.std.specs.Prelude.{◌≡◌, ℕ, ◌+◌, ◌*◌, ◌≤◌, ◌<◌, not, List, length, find, Option, Some, slice_get}
+use Rattle.std.specs.Prelude.{◌≡◌, ℕ, ◌+◌, ◌*◌, ◌≤◌, ◌<◌, not, List, [], length, find, Option, Some, slice_get}
 use Rattle.sv_types.specs.Bytes.{page_size}
 use Rattle.sv_types.specs.ApprovedPages.{numbers_from}
 use Rattle.sv_types.specs.Regions.{Region}
@@ -25,8 +25,9 @@ pub record AllAre (guard : List Protection) (span : Span) (protection : Protecti
 unfoldable pub first_taken : List Protection → Span → Option ℕ
 first_taken guard span = find (λ page. not (is_free (protection_at guard page))) (numbers_from span.first span.count)
 
--- the region's RAM has the pages of the list, and its tables are both views for their protections, whatever RAM holds
+-- the region's RAM has the pages of the list, and its tables are the views for their protections, whatever RAM holds. No
+-- entry is bound
 pub record IsTheirs (r : Region) (guard : List Protection) : Type 0 where
   pub ram : length r.ram ≡ page_size * length guard
-  pub views : AreViews r.tables (length guard) (protection_at guard)
+  pub views : AreViews r.tables (length guard) [] (protection_at guard)
   pub trees : HoldsTrees r.tables (length guard) (protection_at guard)

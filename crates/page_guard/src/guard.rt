@@ -1,8 +1,8 @@
 // The guard of pages.
 
-ghost use Rattle.std.specs.Prelude.{◌≡◌, ◌+◌, ◌*◌, ◌/◌, ◌<◌, ◌≤◌, length, map, replicate, slice_set, slice_get, Some, None, IfOk, OnOk, IfErr, OnErr};
+ghost use Rattle.std.specs.Prelude.{◌≡◌, ◌+◌, ◌*◌, ◌/◌, ◌<◌, ◌≤◌, length, map, replicate, slice_set, slice_get, Some, None, IfOk, OnOk, IfErr, OnErr, IsSome, []};
 ghost use Rattle.sv_types.specs.Bytes.{page_size};
-ghost use Rattle.sv_types.specs.SecondStage.{view_hgatp};
+ghost use Rattle.sv_types.specs.SecondStage.{view_hgatp, sight_of};
 ghost use Rattle.sv_types.specs.declared.wires.Protection.TheVariants.{Free, Held, Approved};
 ghost use Rattle.gstage_tables.specs.Layout.{table_size};
 ghost use Rattle.reference.specs.Protections.{with_pages};
@@ -100,8 +100,9 @@ impl Guard {
         &self.dma
     }
 
-    /// The `hgatp` value of a view's root.
+    /// The `hgatp` value of a view's root, of one that there is.
     pub fn root(&self, view: View) -> u64
+        requires { IsSome (sight_of [] view) }
         ensures { result ≡ view_hgatp view }
     {
         self.trees.root(view)

@@ -1,14 +1,14 @@
-//! How pages of RAM are guarded: their protections, the two views and the bits for devices that follow them, and the two
-//! sides of a hart.
+//! How pages of RAM are guarded: their protections, the two views and the bits for devices that follow them, and the
+//! side that a hart is on.
 #![tactic(auto)]
 
 mod entries;
 mod guard;
-mod sides;
+mod side;
 
 pub use entries::Entries;
 pub use guard::{Guard, Hold, Taken};
-pub use sides::{InKernel, InUser, Refused};
+pub use side::{Forbidden, Side};
 
 #[cfg(test)]
 mod tests;

@@ -1,4 +1,4 @@
-use Rattle.std.proofs.Common.{rules, ◌≡◌, ◌≤◌, ◌∙◌, sym, ap, arith, ℕ, List, length, map, replicate, subst}
+use Rattle.std.proofs.Common.{rules, ◌≡◌, ◌≤◌, ◌∙◌, sym, ap, arith, ℕ, List, [], length, map, replicate, subst}
 use Rattle.sv_types.specs.Regions.{most_ram_pages}
 use Rattle.sv_types.specs.SecondStage.{AreViews, all_free}
 use Rattle.sv_types.specs.declared.wires.Protection.TheVariants.{Free}
@@ -26,5 +26,5 @@ returns-clause-theirs c =
     subst (IsTheirs c.new-trees.new.mem) (sym items)
     (new_theirs c.new-trees.new.mem c.ram_pages-pages.result
     (omega (arith, c.new-trees.ensures.pages, pages))
-    (subst (λ (n : ℕ). AreViews c.new-trees.new.mem.tables n all_free) pages c.new-trees.ensures.views)
+    (subst (λ (n : ℕ). AreViews c.new-trees.new.mem.tables n [] all_free) pages c.new-trees.ensures.views)
     (subst (λ (n : ℕ). HoldsTrees c.new-trees.new.mem.tables n all_free) pages c.new-trees.ensures.holds))

@@ -1,4 +1,4 @@
-use Rattle.std.proofs.Common.{rules, ◌≡◌, length, ap, ◌∙◌, sym, subst, ℕ, List, ◌<◌}
+use Rattle.std.proofs.Common.{rules, ◌≡◌, length, ap, ◌∙◌, sym, subst, ℕ, List, [], ◌<◌}
 use Rattle.std.proofs.lemmas.List.{map-set}
 use Rattle.reference.specs.Protections.{is_free}
 use Rattle.gstage_tables.specs.Layout.{HoldsTrees}
@@ -21,8 +21,8 @@ returns-clause-theirs c =
     let after : HoldsTrees c.set.new.mem.tables (length guard) (protect (protection_at guard) c.args.page c.args.protection) =
     subst (λ (n : ℕ). HoldsTrees c.set.new.mem.tables n (protect (protection_at guard) c.args.page c.args.protection)) c.self.invariant.0
     (c.set.ensures.holds (protection_at guard) before) in
-    let views : AreViews c.set.new.mem.tables (length guard) (protect (protection_at guard) c.args.page c.args.protection) =
-    subst (λ (n : ℕ). AreViews c.set.new.mem.tables n (protect (protection_at guard) c.args.page c.args.protection)) c.self.invariant.0
+    let views : AreViews c.set.new.mem.tables (length guard) [] (protect (protection_at guard) c.args.page c.args.protection) =
+    subst (λ (n : ℕ). AreViews c.set.new.mem.tables n [] (protect (protection_at guard) c.args.page c.args.protection)) c.self.invariant.0
     (c.set.ensures.views (protection_at guard) before) in
     set_theirs c.set.new.mem guard c.args.page c.args.protection inside after views
     (ap (λ (xs : List ℕ). length xs) c.set.ensures.ram ∙ theirs.ram)
