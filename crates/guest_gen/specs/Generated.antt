@@ -20,6 +20,7 @@ policy_of_text text = record {
   harts = 1;
   ram_pages = 64;
   entries = text_address ∷ (text_address + trap_place) ∷ [];
+  bound = [];
   exports = [];
   kernel = measure text;
   init = None;

@@ -51,6 +51,7 @@ fn policy(alloc: Global, text: &[u8]) -> Result<Policy, AllocError>
         harts: 1,
         ram_pages: 64,
         entries,
+        bound: Vec::new(alloc),
         exports: Vec::new(alloc),
         kernel: measure(text),
         init: None,

@@ -3,7 +3,7 @@ use Rattle.std.proofs.Common.{◌≡◌, ℕ, nat_le, ◌==◌, ℤ, pos, negsuc
 use Rattle.std.proofs.lemmas.Bool.{and_parts}
 use Rattle.toml.specs.Data.{Data, Items, no_items, item, Members, get_member}
 use Rattle.sv_types.specs.Bytes.{ram_base}
-use Rattle.sv_types.specs.Policies.{Rules, ModuleRule, format_within, harts_within, ram_pages_within, entry_within, entries_count_within, entries_within, exports_count_within, export_within, exports_within, is_exported, span_within, init_within, place_within, kind_within, is_aligned, base_within, anchor_within, is_behind, next_site_within, sites_within, sites_count_within, sites_of, module_within, modules_within, modules_count_within, is_module, module_pages_within, rules_within}
+use Rattle.sv_types.specs.Policies.{Rules, ModuleRule, format_within, harts_within, ram_pages_within, entry_within, entries_count_within, entries_within, exports_count_within, export_within, exports_within, bound_within, is_exported, span_within, init_within, place_within, kind_within, is_aligned, base_within, anchor_within, is_behind, next_site_within, sites_within, sites_count_within, sites_of, module_within, modules_within, modules_count_within, is_module, module_pages_within, rules_within}
 use Rattle.sv_types.specs.declared.module.Span.{Span}
 use Rattle.sv_types.specs.declared.module.Site.{Site}
 use Rattle.sv_types.specs.declared.policy.Export.{Export}
@@ -178,11 +178,11 @@ format_read ms n read =
 
 rules_true : (r : Rules) → format_within r.format ≡ true → harts_within r.harts ≡ true → ram_pages_within r.ram_pages ≡ true →
     (entries_count_within (length r.entries) ≡ true) × (entries_within r.entries ≡ true) →
-    (exports_count_within (length r.exports) ≡ true) × (exports_within r.exports ≡ true) → init_within r.ram_pages r.init ≡ true →
+    (exports_count_within (length r.exports) ≡ true) × (exports_within r.exports ≡ true) → bound_within r ≡ true → init_within r.ram_pages r.init ≡ true →
     (modules_count_within (length r.modules) ≡ true) × (modules_within (length r.exports) r.modules ≡ true) → rules_within r ≡ true
-rules_true r format harts ram_pages entries exports init modules =
+rules_true r format harts ram_pages entries exports bound init modules =
     both_true (both_true (both_true (both_true (both_true (both_true format harts) ram_pages)
-    (both_true (both_true (both_true entries.0 entries.1) exports.0) exports.1)) init) modules.0) modules.1
+    (both_true (both_true (both_true (both_true entries.0 entries.1) exports.0) exports.1) bound)) init) modules.0) modules.1
 
 pub rules_read : (ms : Members) (r : Rules) → rules_of_members ms ≡ Ok r → rules_within r ≡ true
 unfolding rules_of_members
@@ -203,6 +203,7 @@ rules_read ms r read =
       harts = harts;
       ram_pages = ram_pages;
       entries = entries;
+      bound = [];
       exports = exports;
       kernel = kernel.0;
       init = kernel.1;
@@ -214,5 +215,6 @@ rules_read ms r read =
     (number_within ram_pages_within pages_data.0 ram_pages pages_data.2)
     (entries_read entries_data.0 entries entries_data.2)
     (exports_read (get_member (codes "exports") known) exports exports_is)
+    (rw (format_read ms format format_is) refl)
     (kernel_read ram_pages known kernel kernel_is)
     (modules_read (length exports) (get_member (codes "module") known) modules modules_is))

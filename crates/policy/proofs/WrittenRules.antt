@@ -1,11 +1,11 @@
 -- A policy within its limits reads back from its printed table.
-use Rattle.std.proofs.Common.{◌≡◌, ℕ, ◌+◌, ◌*◌, ◌/◌, ◌%◌, ◌<◌, ◌≤◌, ◌-◌, nat_le, codes, pos, Bool, true, false, not, List, [], ◌∷◌, length, Option, Some, None, Ok, refl, sym, ap, arith}
+use Rattle.std.proofs.Common.{◌≡◌, ℕ, ◌+◌, ◌*◌, ◌/◌, ◌%◌, ◌<◌, ◌≤◌, ◌-◌, nat_le, codes, pos, Bool, true, false, not, List, [], ◌∷◌, length, Option, Some, None, Ok, refl, sym, ap, subst, arith, if◌then◌else◌, ◌==◌}
 use Rattle.std.proofs.lemmas.Bool.{and_parts, leb-true, le-leb, eqb-true}
 use Rattle.std.proofs.lemmas.Bool.Decides.{nat_tests}
 use Rattle.std.specs.List.{All}
 use Rattle.toml.specs.Data.{Members, get_member}
 use Rattle.sv_types.specs.Bytes.{ram_base}
-use Rattle.sv_types.specs.Policies.{Rules, ModuleRule, each_within, entry_within, entries_count_within, exports_count_within, export_within, is_exported, span_within, init_within, next_site_within, site_within, place_within, kind_within, is_aligned, base_within, anchor_within, is_behind, sites_within, sites_count_within, sites_of, module_within, modules_within, modules_count_within, is_module, module_pages_within, format_within, harts_within, ram_pages_within, entries_within, exports_within, numbers_within, lists_within, rules_within}
+use Rattle.sv_types.specs.Policies.{Rules, ModuleRule, each_within, entry_within, entries_count_within, exports_count_within, export_within, is_exported, span_within, init_within, next_site_within, site_within, place_within, kind_within, is_aligned, base_within, anchor_within, is_behind, sites_within, sites_count_within, sites_of, module_within, modules_within, modules_count_within, is_module, module_pages_within, format_within, harts_within, ram_pages_within, entries_within, exports_within, bound_within, numbers_within, lists_within, rules_within}
 use Rattle.sv_types.specs.declared.module.Span.{Span}
 use Rattle.sv_types.specs.declared.module.Site.{Site}
 use Rattle.sv_types.specs.declared.policy.Export.{Export}
@@ -115,12 +115,18 @@ modules_back exports modules ranges count within =
 format_back : (n : ℕ) → format_within n ≡ true → format_number (pos n) ≡ Ok n
 format_back n within = rw within (ap Ok (sym (eqb-true n 1 within)))
 
+-- in format 1 no entry is bound
+none_bound : (bound : List ℕ) (first other : Bool) → first ≡ true → (if first then length bound == 0 else other) ≡ true → bound ≡ []
+none_bound [] first other is within = refl
+none_bound (gpa ∷ bound) first other is within = rw is at within (cc within)
+
 -- what reading the parts of a printed policy gives
 record Back (r : Rules) : Type 0 where
   format : format_number (pos r.format) ≡ Ok r.format
   harts : harts_within r.harts ≡ true
   ram_pages : ram_pages_within r.ram_pages ≡ true
   entries : entries_of (entries_data r.entries) ≡ Ok r.entries
+  bound : r.bound ≡ []
   exports : some_exports_of (exports_data r.exports) ≡ Ok r.exports
   kernel : (ms : Members) → get_member (codes "kernel") ms ≡ Some (kernel_data r.kernel r.init) → kernel_rule r.ram_pages ms ≡ Ok (r.kernel, r.init)
   modules : some_modules_of (length r.exports) (modules_data r.modules) ≡ Ok r.modules
@@ -133,7 +139,8 @@ parts_back r is within =
     let lists = and_parts (numbers_within r) (lists_within r) init.0 in
     let numbers = and_parts _ (ram_pages_within r.ram_pages) lists.0 in
     let harts = and_parts (format_within r.format) (harts_within r.harts) numbers.0 in
-    let exports = and_parts _ (exports_within r.exports) lists.1 in
+    let bound = and_parts _ (bound_within r) lists.1 in
+    let exports = and_parts _ (exports_within r.exports) bound.0 in
     let exports_count = and_parts _ (exports_count_within (length r.exports)) exports.0 in
     let entries = and_parts (entries_count_within (length r.entries)) (entries_within r.entries) exports_count.0 in
     let few : r.ram_pages ≤ 65536 = leb-true r.ram_pages 65536 (and_parts (nat_le 16 r.ram_pages) (nat_le r.ram_pages 65536) numbers.1).1 in
@@ -142,6 +149,7 @@ parts_back r is within =
       harts = harts.1;
       ram_pages = numbers.1;
       entries = entries_back r.entries is.entries entries.0 entries.1;
+      bound = none_bound r.bound (format_within r.format) _ harts.0 bound.1;
       exports = exports_back r.exports is.exports exports_count.1 exports.1;
       kernel = λ ms at. init_back r.ram_pages r.kernel r.init ms at is.kernel init.1 few;
       modules = modules_back (length r.exports) r.modules is.modules modules_count.1 modules.1;
@@ -153,6 +161,7 @@ rules_from format harts ram_pages entries exports kernel init modules = record {
   harts = harts;
   ram_pages = ram_pages;
   entries = entries;
+  bound = [];
   exports = exports;
   kernel = kernel;
   init = init;
@@ -171,7 +180,12 @@ lists_back format harts ram_pages entries (e ∷ es) kernel init (m ∷ ms) b =
     rw (b.format, b.harts, b.ram_pages, b.entries, b.exports, b.kernel _ refl, b.modules) refl
 
 pub rules_back : (r : Rules) → IsPolicy r → rules_within r ≡ true → rules_of_members (rules_members r) ≡ Ok r
-rules_back r is within = lists_back r.format r.harts r.ram_pages r.entries r.exports r.kernel r.init r.modules (parts_back r is within)
+rules_back r is within =
+    let back = parts_back r is within in
+    let same : r ≡ rules_from r.format r.harts r.ram_pages r.entries r.exports r.kernel r.init r.modules =
+        ap (λ (bound : List ℕ). record r { bound = bound }) back.bound in
+    subst (λ (x : Rules). rules_of_members (rules_members x) ≡ Ok x) (sym same)
+    (lists_back r.format r.harts r.ram_pages r.entries r.exports r.kernel r.init r.modules (subst Back same back))
 
 pub text_back : (r : Rules) → IsPolicy r → rules_within r ≡ true → (bytes : List ℕ) → table_of_text bytes ≡ Ok (rules_members r) → rules_of_text bytes ≡ Ok r
 text_back r is within bytes at = then_ok (table_of_text bytes) rules_of_members (rules_members r) _ at (rules_back r is within)

@@ -229,7 +229,7 @@ rules_of_members members = do
   exports ← exports_of (get_member (codes "exports") known)
   kernel ← kernel_rule ram_pages known
   modules ← modules_of (length exports) (get_member (codes "module") known)
-  Ok (record { format = format; harts = harts; ram_pages = ram_pages; entries = entries; exports = exports; kernel = kernel.0; init = kernel.1; modules = modules })
+  Ok (record { format = format; harts = harts; ram_pages = ram_pages; entries = entries; bound = []; exports = exports; kernel = kernel.0; init = kernel.1; modules = modules })
 
 -- the table of a text
 abbrev pub table_of_text : List ℕ → Judged Members

@@ -102,6 +102,7 @@ fn read_table(alloc: Global, table: &Table) -> Result<Policy, PolicyRefusal>
         harts,
         ram_pages,
         entries,
+        bound: Vec::new(alloc),
         exports,
         kernel,
         init,

@@ -143,7 +143,8 @@ fn modules_within(exports: usize, modules: &[ModulePolicy]) -> bool
 }
 
 fn numbers_within(policy: &Policy) -> bool
-    ensures { result ≡ limits.numbers_within (limits.rules_of policy.now) }
+    ensures value { result ≡ limits.numbers_within (limits.rules_of policy.now) }
+    ensures format { IsTrue result → policy.now.format ≡ 1 }
 {
     policy.format == 1
         && 1 <= policy.harts
@@ -152,7 +153,16 @@ fn numbers_within(policy: &Policy) -> bool
         && policy.ram_pages <= MOST_RAM_PAGES
 }
 
+// No entry is bound in format 1.
+fn bound_within(policy: &Policy) -> bool
+    requires { policy.now.format ≡ 1 }
+    ensures { result ≡ limits.bound_within (limits.rules_of policy.now) }
+{
+    policy.bound.is_empty()
+}
+
 fn lists_within(policy: &Policy) -> bool
+    requires { policy.now.format ≡ 1 }
     ensures value { result ≡ limits.lists_within (limits.rules_of policy.now) }
     ensures few_exports { IsTrue result → length policy.now.exports.items ≤ 4096 }
 {
@@ -161,6 +171,7 @@ fn lists_within(policy: &Policy) -> bool
         && entries_within(policy.entries.as_slice())
         && policy.exports.len() <= MOST_EXPORTS
         && exports_within(policy.exports.as_slice())
+        && bound_within(policy)
 }
 
 /// Each value of the policy is within its limit. True exactly where the text of these values is accepted.

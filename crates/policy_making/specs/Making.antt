@@ -112,6 +112,7 @@ rules_with s digest exports modules = record {
   harts = s.harts;
   ram_pages = s.ram_pages;
   entries = s.entries;
+  bound = [];
   exports = exports;
   kernel = digest;
   init = s.init;

@@ -1,6 +1,6 @@
 // The names that modules want of the kernel.
 
-ghost use Rattle.std.specs.Prelude.{◌≡◌, Ok, IfOk, IfErr, OnOk};
+ghost use Rattle.std.specs.Prelude.{◌≡◌, Ok, IfOk, IfErr, OnOk, OnErr};
 ghost use Rattle.std.specs.BTreeSet.{replace_key};
 ghost use Rattle.std.specs.Cmp.Lexicographic.{slice_cmp};
 ghost use Rattle.std.specs.Ordering.{nat_cmp};
@@ -15,11 +15,12 @@ use std::collections::BTreeMap;
 use sv_types::Name;
 
 /// Puts the names that an object wants behind those of the objects before it. Refuses an object by 1 to 10, by 19, and for
-/// want of memory.
+/// want of memory; then the names stay as they were.
 #[tactic(auto, unfolding(crate::specs::Making::names_with), using(crate::proofs::Refused::object_refused))]
 pub fn want_names(alloc: Global, names: &mut Vec<Name>, object: &[u8]) -> Result<(), MakingRefusal>
     ensures names { OnOk result (spec.names_with names.old.items object.now ≡ Ok names.new.items) }
     ensures refused { IfErr result (Refuses (spec.names_with names.old.items object.now)) }
+    ensures kept { OnErr result (names.new.items ≡ names.old.items) }
 {
     match undefined_names(alloc, object) {
         Ok(wanted) => Ok(names.extend_from_slice(&wanted)?),

@@ -63,6 +63,7 @@ pub fn policy_behind<R: Threads + Sync>(
         harts,
         ram_pages,
         entries,
+        bound: Vec::new(alloc),
         exports,
         kernel: digest,
         init,
