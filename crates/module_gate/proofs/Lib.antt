@@ -1,4 +1,4 @@
-pub mod BeginCodes
+pub mod GoodPlaces
 pub mod Lists
 pub mod LoadDecisions
 pub mod ModuleRules

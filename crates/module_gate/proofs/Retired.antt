@@ -6,7 +6,7 @@ use Rattle.std.proofs.lemmas.Bool.Decides.{nat_tests}
 use Rattle.sv_types.specs.ApprovedPages.{numbers_from}
 use Rattle.sv_types.specs.declared.wires.Protection.{Protection}
 use Rattle.sv_types.specs.declared.wires.Protection.TheVariants.{Free, Held, Approved}
-use Rattle.reference.specs.Protections.{or_free, protection_at, freed_one, freed_by, with_pages}
+use Rattle.reference.specs.Protections.{or_free, protection_at, freed_one, freed_by, with_each, with_pages}
 use Rattle.sv_types.specs.declared.module.Span.{Span}
 use Rattle.reference.specs.States.{has_number}
 use Rattle.machine_model.specs.HostCalls.{is_approved_one}
@@ -26,7 +26,7 @@ freed_kept picks guard first (suc count) k behind =
     by true before = get_other (freed_by picks guard first count) (first + count) (first + k) Free (λ same. absurd (omega (arith, behind, same))) ∙ before
     by false before = before
 
-pub next_as_it_was : (picks : ℕ → Protection → Bool) (guard : List Protection) (first count : ℕ)
+next_as_it_was : (picks : ℕ → Protection → Bool) (guard : List Protection) (first count : ℕ)
     → protection_at (freed_by picks guard first count) (first + count) ≡ protection_at guard (first + count)
 next_as_it_was picks guard first count = ap or_free (freed_kept picks guard first count count (omega arith))
 
@@ -36,25 +36,45 @@ pub freed_more : (picks : ℕ → Protection → Bool) (guard : List Protection)
 unfolding freed_by
 freed_more picks guard first count = let one : count + 1 ≡ suc count = omega arith in rw one refl
 
-filter_length : (test : ℕ → Bool) (xs : List ℕ) (x : ℕ) → length (filter test (xs ++ x ∷ [])) ≡ length (filter test xs) + (if test x then 1 else 0)
-filter_length test [] x = by (test x)
-  where
-    by : (b : Bool) → length (if b then x ∷ [] else []) ≡ 0 + (if b then 1 else 0)
-    by true = refl
-    by false = refl
-filter_length test (y ∷ xs) x = by (test y) (filter_length test xs x)
-  where
-    by : (b : Bool) → length (filter test (xs ++ x ∷ [])) ≡ length (filter test xs) + (if test x then 1 else 0)
-        → length (if b then y ∷ filter test (xs ++ x ∷ []) else filter test (xs ++ x ∷ [])) ≡ length (if b then y ∷ filter test xs else filter test xs) + (if test x then 1 else 0)
-    by true e = omega (arith, e)
-    by false e = e
+-- ---- pages that are freed one after another, each judged when its turn comes, are those that were picked before
 
-pub picked_more : (test : ℕ → Bool) (first count : ℕ) → length (filter test (numbers_from first (count + 1))) ≡ length (filter test (numbers_from first count)) + (if test (first + count) then 1 else 0)
-picked_more test first count =
-    let one : count + 1 ≡ suc count = omega arith in
-    ap (λ (n : ℕ). length (filter test (numbers_from first n))) one
-    ∙ ap (λ (ns : List ℕ). length (filter test ns)) (numbers_more first count)
-    ∙ filter_length test (numbers_from first count) (first + count)
+filter_more : (test : ℕ → Bool) (xs : List ℕ) (x : ℕ) → filter test (xs ++ x ∷ []) ≡ (if test x then filter test xs ++ x ∷ [] else filter test xs)
+filter_more test [] x = refl
+filter_more test (y ∷ xs) x = by (test y) (test x) (filter_more test xs x)
+  where
+    by : (a b : Bool) → filter test (xs ++ x ∷ []) ≡ (if b then filter test xs ++ x ∷ [] else filter test xs)
+        → (if a then y ∷ filter test (xs ++ x ∷ []) else filter test (xs ++ x ∷ [])) ≡ (if b then (if a then y ∷ filter test xs else filter test xs) ++ x ∷ [] else (if a then y ∷ filter test xs else filter test xs))
+    by true true e = ap (◌∷◌ y) e
+    by true false e = ap (◌∷◌ y) e
+    by false true e = e
+    by false false e = e
+
+each_more : (guard : List Protection) (pages : List ℕ) (page : ℕ) (p : Protection) → with_each guard (pages ++ page ∷ []) p ≡ slice_set (with_each guard pages p) page p
+unfolding with_each
+each_more guard [] page p = refl
+each_more guard (q ∷ pages) page p = each_more (slice_set guard q p) pages page p
+
+last_page : (b : Bool) (guard : List Protection) (pages : List ℕ) (page : ℕ)
+    → (if b then slice_set (with_each guard pages Free) page Free else with_each guard pages Free) ≡ with_each guard (if b then pages ++ page ∷ [] else pages) Free
+last_page true guard pages page = sym (each_more guard pages page Free)
+last_page false guard pages page = refl
+
+abbrev pub picked : (ℕ → Protection → Bool) → List Protection → ℕ → Bool
+picked picks guard page = picks page (protection_at guard page)
+
+pub freed_each : (picks : ℕ → Protection → Bool) (guard : List Protection) (first count : ℕ)
+    → freed_by picks guard first count ≡ with_each guard (filter (picked picks guard) (numbers_from first count)) Free
+unfolding freed_by with_each
+freed_each picks guard first zero = refl
+freed_each picks guard first (suc count) =
+    let page : ℕ = first + count in
+    let before : List Protection = freed_by picks guard first count in
+    let pages : List ℕ = filter (picked picks guard) (numbers_from first count) in
+    ap (λ (x : Protection). if picks page x then slice_set before page Free else before) (next_as_it_was picks guard first count)
+    ∙ ap (λ (g : List Protection). if picked picks guard page then slice_set g page Free else g) (freed_each picks guard first count)
+    ∙ last_page (picked picks guard page) guard pages page
+    ∙ ap (λ (list : List ℕ). with_each guard list Free) (sym (filter_more (picked picks guard) (numbers_from first count) page))
+    ∙ ap (λ (list : List ℕ). with_each guard (filter (picked picks guard) list) Free) (sym (numbers_more first count))
 
 -- a number of a span is between its ends
 pub in_numbers : (first count page : ℕ) → has_number (numbers_from first count) page ≡ (nat_le first page && nat_lt (page - first) count)

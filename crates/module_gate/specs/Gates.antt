@@ -1,6 +1,6 @@
 -- What the gate records, a load under way, and the pages that a module takes. This project's own.
-use Rattle.std.specs.Prelude.{◌≡◌, ℕ, ◌*◌, ◌%◌, ◌&&◌, Bool, true, false, List, [], ◌==◌, ◌-◌, if◌then◌else◌, Option, Some, None, slice_get}
-use Rattle.std.specs.List.{list_all}
+use Rattle.std.specs.Prelude.{◌≡◌, ℕ, ◌*◌, ◌%◌, ◌&&◌, Bool, true, false, List, [], ◌==◌, ◌-◌, not, Option, Some, None, slice_get}
+use Rattle.std.specs.List.{list_any}
 use Rattle.sv_types.specs.Bytes.{page_size, page_of, in_ram}
 use Rattle.sv_types.specs.Policies.{Rules, ModuleRule}
 use Rattle.sv_types.specs.ApprovedPages.{numbers_from}
@@ -9,7 +9,7 @@ use Rattle.sv_types.specs.declared.saved.SavedModule.{SavedModule}
 use Rattle.sv_types.specs.declared.wires.Protection.{Protection}
 use Rattle.sv_types.specs.declared.wires.Protection.TheVariants.{Approved}
 use Rattle.reference.specs.Protections.{is_free, protection_at}
-use Rattle.reference.specs.States.{pages_in_rule, find_module, with_module}
+use Rattle.reference.specs.States.{pages_in_rule, find_module}
 use Rattle.machine_model.specs.HostExits.{page_counted}
 use Rattle.machine_model.specs.Machine.{HostLoad}
 use Rattle.page_guard.specs.Guarded.{IsInRam, AllAre}
@@ -47,10 +47,6 @@ load_span load = pages_at load.about.gpa load.pages
 abbrev pub module_span : Rules → SavedModule → Span
 module_span rules about = pages_at about.gpa (pages_in_rule (slice_get rules.modules about.id))
 
--- a module, by the arguments of its load
-abbrev pub asked : (id gpa va data_va : ℕ) → SavedModule
-asked id gpa va data_va = record { id = id; gpa = gpa; va = va; data_va = data_va }
-
 -- no module is loaded, and none was
 abbrev pub no_modules : Records
 no_modules = record { loaded = []; loading = false; retired = false }
@@ -59,9 +55,13 @@ no_modules = record { loaded = []; loading = false; retired = false }
 abbrev pub is_place : List ℕ → (gpa va pages : ℕ) → Bool
 is_place ram gpa va pages = gpa % page_size == 0 && va % page_size == 0 && in_ram ram gpa (page_size * pages)
 
+-- a page is approved or held
+abbrev pub is_taken : List Protection → ℕ → Bool
+is_taken guard page = not (is_free (protection_at guard page))
+
 -- and all of them are free
 unfoldable pub is_good_place : List ℕ → List Protection → SavedModule → ℕ → Bool
-is_good_place ram guard about pages = is_place ram about.gpa about.va pages && list_all (λ page. is_free (protection_at guard page)) (numbers_from (page_of about.gpa) pages)
+is_good_place ram guard about pages = is_place ram about.gpa about.va pages && not (list_any (is_taken guard) (numbers_from (page_of about.gpa) pages))
 
 -- nothing was counted yet
 abbrev pub begun : SavedModule → ℕ → PageTurns
@@ -76,7 +76,3 @@ pub record AreApproved (rules : Rules) (guard : List Protection) (loaded : List 
 unfoldable pub next_counted : Rules → List ℕ → HostLoad → Option ModuleRule → HostLoad
 next_counted rules bytes load None = load
 next_counted rules bytes load (Some rule) = page_counted rules rule load (rule.pages - load.left) bytes (load.left - 1)
-
--- after the decision of a load, by its answer
-abbrev pub decided : Records → SavedModule → Bool → Records
-decided gate about good = record gate { loaded = if good then with_module gate.loaded about else gate.loaded; loading = false }

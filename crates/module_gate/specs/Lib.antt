@@ -1,5 +1,4 @@
 pub mod Ascending
-pub mod Codes
 pub mod Gates
 pub mod InsideGate
 pub mod InsideLoad

@@ -1,12 +1,12 @@
 -- Which init pages are freed: those that are approved and no loaded module's. This project's own.
-use Rattle.std.specs.Prelude.{ℕ, ◌&&◌, Bool, not, List, [], filter, Option, Some, None}
+use Rattle.std.specs.Prelude.{ℕ, ◌&&◌, Bool, not, List, filter}
 use Rattle.std.specs.List.{list_any}
 use Rattle.sv_types.specs.Policies.{Rules}
 use Rattle.sv_types.specs.declared.module.Span.{Span}
 use Rattle.sv_types.specs.declared.saved.SavedModule.{SavedModule}
 use Rattle.sv_types.specs.declared.wires.Protection.{Protection}
-use Rattle.reference.specs.ModuleCalls.{span_pages}
-use Rattle.reference.specs.Protections.{protection_at, freed_by}
+use Rattle.reference.specs.Answers.{span_pages}
+use Rattle.reference.specs.Protections.{protection_at}
 use Rattle.reference.specs.States.{has_number, module_pages}
 use Rattle.machine_model.specs.HostCalls.{is_approved_one}
 
@@ -18,12 +18,3 @@ is_kernels rules loaded page protection = is_approved_one protection && not (is_
 
 abbrev pub kernel_pages : Rules → List SavedModule → List Protection → Span → List ℕ
 kernel_pages rules loaded guard span = filter (λ page. is_kernels rules loaded page (protection_at guard page)) (span_pages span)
-
--- of the policy's init span, if it has one: the pages that are freed, and the protections behind it
-abbrev pub init_pages : Rules → List SavedModule → List Protection → Option Span → List ℕ
-init_pages rules loaded guard None = []
-init_pages rules loaded guard (Some span) = kernel_pages rules loaded guard span
-
-abbrev pub init_freed : Rules → List SavedModule → List Protection → Option Span → List Protection
-init_freed rules loaded guard None = guard
-init_freed rules loaded guard (Some span) = freed_by (is_kernels rules loaded) guard span.first span.count

@@ -1,20 +1,19 @@
 // The gate of modules.
 
-ghost use Rattle.std.specs.Prelude.{◌≡◌, ◌<◌, ◌≤◌, length, slice_get, option_map, Some, None, IfOk, OnOk, IfErr, OnErr, IsTrue, true, false, vec_capacity};
+ghost use Rattle.std.specs.Prelude.{◌≡◌, ◌<◌, ◌≤◌, length, slice_get, Some, None, IfOk, IsTrue, IsSome, true, false, vec_capacity};
 ghost use Rattle.sv_types.specs.Policies.{rules_of, rules_within};
 ghost use Rattle.sv_types.specs.declared.wires.Protection.TheVariants.{Free, Held};
-ghost use Rattle.reference.specs.States.{find_module, with_module, without_module};
-ghost use Rattle.page_guard.specs.Guarded.{with_span, IsInRam, AllAre, IsTheirs};
+ghost use Rattle.reference.specs.Protections.{with_each};
+ghost use Rattle.reference.specs.States.{find_module, with_module, without_module, pages_in_rule};
+ghost use Rattle.page_guard.specs.Guarded.{with_span, IsTheirs};
 ghost use Rattle.module_gate.specs.Ascending.{AscendsFrom, most_modules};
-ghost use Rattle.module_gate.specs.Codes.{begin_code, retire_code, unload_code};
-ghost use Rattle.module_gate.specs.Retiring.{init_freed, init_pages};
-ghost use Rattle.module_gate.specs.Gates.{most_module_pages, no_modules, asked, begun, load_span, module_span, AreApproved};
+ghost use Rattle.module_gate.specs.Retiring.{kernel_pages};
+ghost use Rattle.module_gate.specs.Gates.{most_module_pages, no_modules, begun, is_good_place, load_span, module_span, AreApproved};
 
-use crate::codes::GateCode;
 use crate::init::free_pages;
 use crate::load::Load;
 use crate::modules::{find_module, place_of, remove_module};
-use crate::rules::{is_place, module_pages, pages_at, rule_of};
+use crate::rules::{module_pages, pages_at, rule_of};
 use host_mem::HostMem;
 use page_guard::Guard;
 use std::alloc::{AllocError, Global};
@@ -78,134 +77,98 @@ impl Gate {
         self.retired
     }
 
-    // Whether a load is under way.
-    fn is_loading(&self) -> bool
+    /// Whether a load is under way.
+    pub fn is_loading(&self) -> bool
         ensures { result ≡ self.now.loading }
     {
         self.room.is_none()
     }
 
-    /// Begins the load of a module, whose pages are then held: the policy's module `id`, its text at `gpa` in RAM and at the
-    /// virtual address `va`, its data at `data_va`. The policy's values are within their limits.
-    #[tactic(auto, unfolding(crate::specs::Codes::begin_code, crate::specs::Gates::is_good_place))]
+    /// The loaded module of an id.
+    pub fn find(&self, id: u64) -> Option<SavedModule>
+        ensures { result ≡ find_module self.now.loaded id }
+    {
+        find_module(&self.loaded, id)
+    }
+
+    /// Begins the load of a module of the policy at a good place. Its pages are then held. The policy's values are within
+    /// their limits.
     pub fn begin(
         &mut self,
         guard: &mut Guard,
         mem: &mut HostMem,
         policy: &Policy,
-        id: u64,
-        gpa: u64,
-        va: u64,
-        data_va: u64,
-    ) -> Result<Load, GateCode>
+        about: SavedModule,
+    ) -> Load
         requires within { IsTrue (rules_within (rules_of policy.now)) }
+        requires known { IsSome (slice_get (rules_of policy.now).modules about.id) }
+        requires idle { self.old.loading ≡ false }
+        requires place { is_good_place mem.old.ram guard.old about (pages_in_rule (slice_get (rules_of policy.now).modules about.id)) ≡ true }
         requires theirs { IsTheirs mem.old guard.old }
-        ensures begins { OnOk result (begin_code self.old mem.old.ram guard.old (asked id gpa va data_va) (slice_get (rules_of policy.now).modules id) ≡ None) }
-        ensures code { IfErr result (λ code. begin_code self.old mem.old.ram guard.old (asked id gpa va data_va) (slice_get (rules_of policy.now).modules id) ≡ Some code) }
-        ensures load { IfOk result (λ load. Some load ≡ option_map (λ rule. begun (asked id gpa va data_va) rule.pages) (slice_get (rules_of policy.now).modules id)) }
-        ensures gate { OnOk result (self.new ≡ record self.old { loading = true }) }
-        ensures guard { IfOk result (λ load. guard.new ≡ with_span guard.old (load_span load) Held) }
-        ensures held { IfOk result (λ load. AllAre guard.new (load_span load) Held) }
-        ensures inside { IfOk result (λ load. IsInRam guard.new (load_span load)) }
-        ensures kept { OnErr result ((self.new ≡ self.old) × ((guard.new ≡ guard.old) × (mem.new ≡ mem.old))) }
+        ensures load { result ≡ begun about (pages_in_rule (slice_get (rules_of policy.now).modules about.id)) }
+        ensures gate { self.new ≡ record self.old { loading = true } }
+        ensures guard { guard.new ≡ with_span guard.old (load_span result) Held }
         ensures size { length guard.new ≡ length guard.old }
         ensures theirs { IsTheirs mem.new guard.new }
         ensures ram { mem.new.ram ≡ mem.old.ram }
     {
-        let Some(rule) = rule_of(policy, id) else {
-            return Err(GateCode::Invalid);
+        let Some(rule) = rule_of(policy, about.id) else {
+            unreachable!();
         };
-        if self.is_loading() {
-            return Err(GateCode::UnderWay);
-        }
-        if find_module(&self.loaded, id).is_some() {
-            return Err(GateCode::Already);
-        }
-        if !is_place(mem, gpa, va, rule.pages) {
-            return Err(GateCode::BadAddress);
-        }
-        let Ok(hold) = guard.hold(mem, pages_at(gpa, rule.pages)) else {
-            return Err(GateCode::BadAddress);
+        // tells that RAM has so few pages that their numbers fit
+        let _pages = mem.ram_pages();
+        let Ok(hold) = guard.hold(mem, pages_at(about.gpa, rule.pages)) else {
+            unreachable!();
         };
         let Some(digests) = self.room.take() else {
             unreachable!();
         };
-        Ok(Load {
+        Load {
             hold,
-            about: SavedModule {
-                id,
-                gpa,
-                va,
-                data_va,
-            },
+            about,
             pages: rule.pages,
             left: rule.pages,
             digests,
             right: true,
-        })
+        }
     }
 
-    /// Unloads a module: its pages become free. Gives the pages.
-    #[tactic(auto, unfolding(crate::specs::Codes::unload_code))]
+    /// Unloads a module, whose pages become free.
     pub fn unload(
         &mut self,
         guard: &mut Guard,
         mem: &mut HostMem,
         policy: &Policy,
-        id: u64,
-    ) -> Result<Span, GateCode>
+        about: &SavedModule,
+    )
+        requires loaded { find_module self.old.loaded about.now.id ≡ Some about.now }
         requires approved { AreApproved (rules_of policy.now) guard.old self.old.loaded }
         requires theirs { IsTheirs mem.old guard.old }
-        ensures unloads { OnOk result (unload_code self.old (find_module self.old.loaded id) ≡ None) }
-        ensures code { IfErr result (λ code. unload_code self.old (find_module self.old.loaded id) ≡ Some code) }
-        ensures span { IfOk result (λ span. Some span ≡ option_map (module_span (rules_of policy.now)) (find_module self.old.loaded id)) }
-        ensures gate { OnOk result (self.new ≡ record self.old { loaded = without_module self.old.loaded id }) }
-        ensures guard { IfOk result (λ span. guard.new ≡ with_span guard.old span Free) }
-        ensures kept { OnErr result ((self.new ≡ self.old) × ((guard.new ≡ guard.old) × (mem.new ≡ mem.old))) }
+        ensures gate { self.new ≡ record self.old { loaded = without_module self.old.loaded about.now.id } }
+        ensures guard { guard.new ≡ with_span guard.old (module_span (rules_of policy.now) about.now) Free }
         ensures size { length guard.new ≡ length guard.old }
         ensures theirs { IsTheirs mem.new guard.new }
         ensures ram { mem.new.ram ≡ mem.old.ram }
     {
-        let about = match find_module(&self.loaded, id) {
-            None => return Err(GateCode::Invalid),
-            Some(_) if self.is_loading() => return Err(GateCode::UnderWay),
-            Some(about) => about,
-        };
-        let span = module_pages(policy, &about);
-        guard.unapprove(mem, span);
-        remove_module(&mut self.loaded, id);
-        Ok(span)
+        guard.unapprove(mem, module_pages(policy, about));
+        remove_module(&mut self.loaded, about.id);
     }
 
-    /// Retires the init pages: those that are approved and no loaded module's become free. Gives their number. The policy's
-    /// values are within their limits, and RAM has as many pages as it says.
-    #[tactic(auto, unfolding(crate::specs::Codes::retire_code))]
-    pub fn retire(
-        &mut self,
-        guard: &mut Guard,
-        mem: &mut HostMem,
-        policy: &Policy,
-    ) -> Result<u32, GateCode>
+    /// Retires the policy's init pages: those that are approved and no loaded module's become free. The policy's values are
+    /// within their limits, and RAM has as many pages as it says.
+    pub fn retire(&mut self, guard: &mut Guard, mem: &mut HostMem, policy: &Policy, init: Span)
         requires within { IsTrue (rules_within (rules_of policy.now)) }
+        requires init { (rules_of policy.now).init ≡ Some init }
         requires pages { length guard.old ≡ policy.now.ram_pages }
         requires theirs { IsTheirs mem.old guard.old }
-        ensures retires { OnOk result (retire_code self.old policy.now.init ≡ None) }
-        ensures code { IfErr result (λ code. retire_code self.old policy.now.init ≡ Some code) }
-        ensures freed { IfOk result (λ freed. freed ≡ length (init_pages (rules_of policy.now) self.old.loaded guard.old policy.now.init)) }
-        ensures gate { OnOk result (self.new ≡ record self.old { retired = true }) }
-        ensures guard { OnOk result (guard.new ≡ init_freed (rules_of policy.now) self.old.loaded guard.old policy.now.init) }
-        ensures kept { OnErr result ((self.new ≡ self.old) × ((guard.new ≡ guard.old) × (mem.new ≡ mem.old))) }
+        ensures gate { self.new ≡ record self.old { retired = true } }
+        ensures guard { guard.new ≡ with_each guard.old (kernel_pages (rules_of policy.now) self.old.loaded guard.old init) Free }
         ensures size { length guard.new ≡ length guard.old }
         ensures theirs { IsTheirs mem.new guard.new }
         ensures ram { mem.new.ram ≡ mem.old.ram }
     {
-        let span = match policy.init {
-            None => return Err(GateCode::Invalid),
-            Some(_) if self.retired => return Err(GateCode::Already),
-            Some(span) => span,
-        };
         self.retired = true;
-        Ok(free_pages(guard, mem, policy, &self.loaded, span))
+        free_pages(guard, mem, policy, &self.loaded, init);
     }
 
     /// The load under way is over, and gives its room back.

@@ -1,8 +1,9 @@
 // The kernel's pages among those of the init span.
 
-ghost use Rattle.std.specs.Prelude.{◌≡◌, ◌<◌, ◌≤◌, ◌-◌, ◌&&◌, length, nat_le, nat_lt, if◌then◌else◌};
+ghost use Rattle.std.specs.Prelude.{◌≡◌, ◌<◌, ◌-◌, ◌&&◌, length, nat_le, nat_lt};
 ghost use Rattle.sv_types.specs.Policies.{rules_of};
-ghost use Rattle.reference.specs.Protections.{protection_at, freed_one, freed_by};
+ghost use Rattle.sv_types.specs.declared.wires.Protection.TheVariants.{Free};
+ghost use Rattle.reference.specs.Protections.{protection_at, freed_one, with_each};
 ghost use Rattle.reference.specs.States.{has_number, module_pages};
 ghost use Rattle.machine_model.specs.HostCalls.{is_approved_one};
 ghost use Rattle.page_guard.specs.Guarded.{IsTheirs, IsInRam};
@@ -48,18 +49,16 @@ fn is_approved(protection: Protection) -> bool
     matches!(protection, Protection::Approved)
 }
 
-// Frees a page if it is approved and no module's. Gives the number of pages that were: one, or none.
+// Frees a page if it is approved and no module's.
 fn free_page(
     guard: &mut Guard,
     mem: &mut HostMem,
     policy: &Policy,
     loaded: &[SavedModule],
     page: u32,
-) -> u32
+)
     requires inside { page < length guard.old }
     requires theirs { IsTheirs mem.old guard.old }
-    ensures freed { result ≡ (if is_kernels (rules_of policy.now) loaded.now page (protection_at guard.old page) then 1 else 0) }
-    ensures one { result ≤ 1 }
     ensures guard { guard.new ≡ freed_one (is_kernels (rules_of policy.now) loaded.now) guard.old page }
     ensures size { length guard.new ≡ length guard.old }
     ensures theirs { IsTheirs mem.new guard.new }
@@ -73,31 +72,25 @@ fn free_page(
                 count: 1,
             },
         );
-        1
-    } else {
-        0
     }
 }
 
-/// Frees the pages of a span that are approved and no module's. Gives their number.
+/// Frees the pages of a span that are approved and no module's.
 pub fn free_pages(
     guard: &mut Guard,
     mem: &mut HostMem,
     policy: &Policy,
     loaded: &[SavedModule],
     span: Span,
-) -> u32
+)
     requires inside { IsInRam guard.old span }
     requires theirs { IsTheirs mem.old guard.old }
-    ensures freed { result ≡ length (kernel_pages (rules_of policy.now) loaded.now guard.old span) }
-    ensures guard { guard.new ≡ freed_by (is_kernels (rules_of policy.now) loaded.now) guard.old span.first span.count }
+    ensures guard { guard.new ≡ with_each guard.old (kernel_pages (rules_of policy.now) loaded.now guard.old span) Free }
     ensures size { length guard.new ≡ length guard.old }
     ensures theirs { IsTheirs mem.new guard.new }
     ensures ram { mem.new.ram ≡ mem.old.ram }
 {
-    let mut freed = 0;
     'pages: for i in 0..span.count {
-        freed += free_page(guard, mem, policy, loaded, span.first + i);
+        free_page(guard, mem, policy, loaded, span.first + i);
     }
-    freed
 }

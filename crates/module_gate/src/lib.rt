@@ -1,16 +1,18 @@
-//! The gate of modules: what is loaded, the load that is under way, and the calls that load and unload modules.
+//! The gate of modules: what is loaded, the load that is under way, and what loads and unloads modules. Which call is carried
+//! out is decided above.
 #![tactic(auto)]
 
-mod codes;
 mod gate;
 mod init;
 mod load;
 mod modules;
+mod places;
 mod rules;
 
-pub use codes::GateCode;
 pub use gate::Gate;
 pub use load::Load;
+pub use places::is_good_place;
+pub use rules::{page_number, pages_of, rule_of};
 
 #[cfg(test)]
 mod tests;

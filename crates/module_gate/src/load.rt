@@ -1,16 +1,16 @@
 // A load under way.
 
-ghost use Rattle.std.specs.Prelude.{◌≡◌, ℕ, ◌%◌, ◌<◌, length, slice_get, All, IsTrue, true, false, if◌then◌else◌};
+ghost use Rattle.std.specs.Prelude.{◌≡◌, ℕ, ◌%◌, ◌<◌, None, length, slice_get, All, IsTrue, false};
 ghost use Rattle.sv_types.specs.Bytes.{page_size};
 ghost use Rattle.sv_types.specs.Measure.{page_digest};
 ghost use Rattle.sv_types.specs.Policies.{rules_of, rules_within};
 ghost use Rattle.sv_types.specs.declared.wires.Protection.TheVariants.{Free, Held, Approved};
 ghost use Rattle.reference.specs.Relocations.{masked};
-ghost use Rattle.reference.specs.States.{find_module, pages_in_rule};
+ghost use Rattle.reference.specs.States.{find_module, with_module, pages_in_rule};
 ghost use Rattle.machine_model.specs.HostExits.{host_is_good};
 ghost use Rattle.relocated_fields.specs.Pieces.{piece_sites, IsAligned};
 ghost use Rattle.page_guard.specs.Guarded.{with_span, IsInRam, AllAre, IsTheirs};
-ghost use Rattle.module_gate.specs.Gates.{host_load, load_span, next_counted, decided};
+ghost use Rattle.module_gate.specs.Gates.{host_load, load_span, next_counted};
 
 use crate::gate::Gate;
 use crate::rules::rule_of;
@@ -86,8 +86,8 @@ impl Load {
         self.left -= 1;
     }
 
-    // Whether the counted pages are those that the policy measured, with all fields right.
-    fn is_good(&self, policy: &Policy) -> bool
+    /// Whether the counted pages are those that the policy measured, with all fields right.
+    pub fn is_good(&self, policy: &Policy) -> bool
         ensures { (hart : ℕ) → result ≡ host_is_good (host_load hart self.now) (slice_get (rules_of policy.now).modules self.now.about.id) }
     {
         match rule_of(policy, self.about.id) {
@@ -96,29 +96,19 @@ impl Load {
         }
     }
 
-    /// Ends the load of this gate once all pages are counted. Where the policy measured these pages and all fields are
-    /// right, the pages are approved and the module is loaded; else the pages are free again. Says which.
-    pub fn decide(
-        self,
-        gate: &mut Gate,
-        guard: &mut Guard,
-        mem: &mut HostMem,
-        policy: &Policy,
-    ) -> bool
-        requires under_way { gate.old.loading ≡ true }
+    /// Ends the load of this gate, of which all pages are counted: they are approved, and the module is loaded.
+    pub fn approve(self, gate: &mut Gate, guard: &mut Guard, mem: &mut HostMem)
         requires other { find_module gate.old.loaded self.about.id ≡ None }
         requires counted { self.left ≡ 0 }
         requires inside { IsInRam guard.old (load_span self) }
         requires held { AllAre guard.old (load_span self) Held }
         requires theirs { IsTheirs mem.old guard.old }
-        ensures answer { (hart : ℕ) → result ≡ host_is_good (host_load hart self) (slice_get (rules_of policy.now).modules self.about.id) }
-        ensures gate { gate.new ≡ decided gate.old self.about result }
-        ensures guard { guard.new ≡ with_span guard.old (load_span self) (if result then Approved else Free) }
+        ensures gate { gate.new ≡ record gate.old { loaded = with_module gate.old.loaded self.about; loading = false } }
+        ensures guard { guard.new ≡ with_span guard.old (load_span self) Approved }
         ensures size { length guard.new ≡ length guard.old }
         ensures theirs { IsTheirs mem.new guard.new }
         ensures ram { mem.new.ram ≡ mem.old.ram }
     {
-        let good = self.is_good(policy);
         let Load {
             hold,
             about,
@@ -127,20 +117,13 @@ impl Load {
             digests,
             right: _,
         } = self;
+        guard.approve(mem, hold);
         gate.end_load(digests);
-        if good {
-            guard.approve(mem, hold);
-            gate.add(about);
-            true
-        } else {
-            guard.release(mem, hold);
-            false
-        }
+        gate.add(about);
     }
 
-    /// Ends the load of this gate at any moment. Its pages are free again.
-    pub fn cancel(self, gate: &mut Gate, guard: &mut Guard, mem: &mut HostMem)
-        requires under_way { gate.old.loading ≡ true }
+    /// Ends the load of this gate at any moment: its pages are free again.
+    pub fn release(self, gate: &mut Gate, guard: &mut Guard, mem: &mut HostMem)
         requires inside { IsInRam guard.old (load_span self) }
         requires held { AllAre guard.old (load_span self) Held }
         requires theirs { IsTheirs mem.old guard.old }
@@ -158,8 +141,8 @@ impl Load {
             digests,
             right: _,
         } = self;
-        gate.end_load(digests);
         guard.release(mem, hold);
+        gate.end_load(digests);
     }
 }
 

@@ -4,9 +4,8 @@ ghost use Rattle.std.specs.Prelude.{◌≡◌, ◌<◌, ◌^◌, option_map, sli
 ghost use Rattle.sv_types.specs.Bytes.{page_of};
 ghost use Rattle.sv_types.specs.Policies.{rules_of, module_rule};
 ghost use Rattle.reference.specs.States.{pages_in_rule};
-ghost use Rattle.module_gate.specs.Gates.{pages_at, is_place, module_span};
+ghost use Rattle.module_gate.specs.Gates.{pages_at, module_span};
 
-use host_mem::HostMem;
 use sv_types::{ModulePolicy, PAGE_BYTES, Policy, RAM_BASE, SavedModule, Span};
 
 /// The policy's rule of a module.
@@ -42,18 +41,6 @@ pub fn pages_at(gpa: u64, count: u32) -> Span
         first: page_number(gpa) as u32,
         count,
     }
-}
-
-/// Whether both addresses are multiples of a page's bytes, and so many pages from the first on are in RAM.
-pub fn is_place(mem: &HostMem, gpa: u64, va: u64, count: u32) -> bool
-    ensures { result ≡ is_place mem.now.ram gpa va count }
-{
-    let ram_bytes = PAGE_BYTES * mem.ram_pages() as u64;
-    gpa % PAGE_BYTES == 0
-        && va % PAGE_BYTES == 0
-        && gpa >= RAM_BASE
-        && PAGE_BYTES * count as u64 <= ram_bytes
-        && gpa - RAM_BASE <= ram_bytes - PAGE_BYTES * count as u64
 }
 
 /// The pages of a loaded module, as many as the policy says.
