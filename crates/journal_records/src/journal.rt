@@ -4,14 +4,22 @@ ghost use Rattle.std.specs.Prelude.{◌≡◌, ◌<◌, ◌-◌, ◌^◌, [], le
 ghost use Rattle.sv_types.specs.Boot.{no_counts};
 ghost use Rattle.sv_types.specs.declared.event.Note.TheVariants.{Demote, Denied, Load, Unload, Retire};
 ghost use Rattle.sv_types.specs.declared.event.Verdict.TheVariants.{Running, Shutdown, Stopped};
-ghost use Rattle.reference.specs.Counting.{counted, count_turn, count_beat, count_key, count_tick, count_retired, count_trap, count_return, count_demote, count_denied, count_dropped, count_load, count_unload, noted, printed_low, machine_ended};
-ghost use Rattle.reference.specs.ModuleCalls.{count_answer};
+ghost use Rattle.reference.specs.Counting.{counted, count_turn, count_beat, count_key, count_tick, count_retired, count_trap, count_return, count_demote, count_denied, count_dropped, count_load, count_unload, MayCount, noted, printed_low, machine_ended};
+ghost use Rattle.reference.specs.Calls.{success};
+ghost use Rattle.reference.specs.Answers.{count_answer, journal_beside};
 
+use reference::Beside;
 use std::alloc::{AllocError, Global};
 use std::marker::Model;
 use sv_types::{Counts, Mode, Note, Rule, Verdict};
 
 const MOST_NOTES: usize = 4096;
+
+/// The code of a call that went well.
+const SUCCESS: i64 = 0;
+
+/// The code of a load whose text isn't the permitted one.
+const REFUSED_BY_MEASURE: i64 = -4;
 
 /// The printed bytes for which there is room.
 pub const PRINTED_ROOM: usize = 4096;
@@ -181,22 +189,6 @@ impl Journal {
         self.counts.dropped += 1;
     }
 
-    /// A module that was loaded.
-    pub fn count_load(&mut self)
-        requires { self.old.counts.loads < 2 ^ 64 - 1 }
-        ensures { self.new ≡ counted count_load self.old }
-    {
-        self.counts.loads += 1;
-    }
-
-    /// A module that was unloaded.
-    pub fn count_unload(&mut self)
-        requires { self.old.counts.unloads < 2 ^ 64 - 1 }
-        ensures { self.new ≡ counted count_unload self.old }
-    {
-        self.counts.unloads += 1;
-    }
-
     /// A hart left kernel mode, since the instruction at its pc isn't approved.
     pub fn demote(&mut self, hart: u8, pc: u64, gpa: u64)
         requires demotes { self.old.counts.demotes < 2 ^ 64 - 1 }
@@ -223,8 +215,40 @@ impl Journal {
         self.note(Note::Denied { gpa });
     }
 
-    /// The answer to a call that loads a module; a negative code is a refusal.
-    pub fn answer_load(&mut self, hart: u8, id: u64, code: i64)
+    /// What is recorded of what happens beside the answer to a call of a hart's.
+    #[tactic(auto, unfolding(reference::specs::Answers::journal_beside))]
+    pub fn record(&mut self, hart: u8, beside: Beside)
+        requires room { length self.old.printed < 4096 }
+        requires counts { MayCount self.old.counts }
+        ensures { self.new ≡ journal_beside beside hart self.old }
+    {
+        match beside {
+            Beside::Prints { value } => self.print(value),
+            Beside::ShutsDown => self.shut_down(),
+            Beside::RefusesLoad { id, code } => self.answer_load(hart, id, code),
+            Beside::ApprovesModule { about } => self.loaded(hart, about.id),
+            Beside::ReleasesModule { about } => {
+                self.answer_load(hart, about.id, REFUSED_BY_MEASURE);
+            }
+            Beside::UnloadsModule { about } => self.unloaded(hart, about.id),
+            Beside::RefusesUnload { id, code } => self.answer_unload(hart, id, code),
+            Beside::RetiresInit { span: _ } => self.answer_retire(hart, SUCCESS),
+            Beside::RefusesRetire { code } => self.answer_retire(hart, code),
+            Beside::Nothing
+            | Beside::SetsTimer { at: _ }
+            | Beside::TakesInput
+            | Beside::SendsInterrupts { mask: _, base: _ }
+            | Beside::StartsHart {
+                other: _,
+                pc: _,
+                opaque: _,
+            }
+            | Beside::BeginsLoad { about: _, pages: _ } => {}
+        }
+    }
+
+    // The answer to a call that loads a module; a negative code is a refusal.
+    fn answer_load(&mut self, hart: u8, id: u64, code: i64)
         requires refused { self.old.counts.refused < 2 ^ 64 - 1 }
         requires notes { self.old.counts.notes < 2 ^ 64 - 1 }
         ensures { self.new ≡ noted (Load hart self.old.counts.turns id code) (counted (count_answer code) self.old) }
@@ -239,8 +263,8 @@ impl Journal {
         });
     }
 
-    /// The answer to a call that unloads a module.
-    pub fn answer_unload(&mut self, hart: u8, id: u64, code: i64)
+    // The answer to a call that unloads a module.
+    fn answer_unload(&mut self, hart: u8, id: u64, code: i64)
         requires refused { self.old.counts.refused < 2 ^ 64 - 1 }
         requires notes { self.old.counts.notes < 2 ^ 64 - 1 }
         ensures { self.new ≡ noted (Unload hart self.old.counts.turns id code) (counted (count_answer code) self.old) }
@@ -255,8 +279,8 @@ impl Journal {
         });
     }
 
-    /// The answer to a call that frees the kernel's init text.
-    pub fn answer_retire(&mut self, hart: u8, code: i64)
+    // The answer to a call that frees the kernel's init text.
+    fn answer_retire(&mut self, hart: u8, code: i64)
         requires refused { self.old.counts.refused < 2 ^ 64 - 1 }
         requires notes { self.old.counts.notes < 2 ^ 64 - 1 }
         ensures { self.new ≡ noted (Retire hart self.old.counts.turns code) (counted (count_answer code) self.old) }
@@ -264,6 +288,24 @@ impl Journal {
         let turn = self.counts.turns;
         self.count_answer(code);
         self.note(Note::Retire { hart, turn, code });
+    }
+
+    // A module that was loaded.
+    fn loaded(&mut self, hart: u8, id: u64)
+        requires counts { MayCount self.old.counts }
+        ensures { self.new ≡ noted (Load hart self.old.counts.turns id success) (counted count_load self.old) }
+    {
+        self.counts.loads += 1;
+        self.answer_load(hart, id, SUCCESS);
+    }
+
+    // A module that was unloaded.
+    fn unloaded(&mut self, hart: u8, id: u64)
+        requires counts { MayCount self.old.counts }
+        ensures { self.new ≡ noted (Unload hart self.old.counts.turns id success) (counted count_unload self.old) }
+    {
+        self.counts.unloads += 1;
+        self.answer_unload(hart, id, SUCCESS);
     }
 
     // A negative code is a refusal.
