@@ -1,14 +1,14 @@
 -- Under the roots of both views every walk reads the tables alone and leads to RAM.
-use Rattle.std.proofs.Common.{◌≡◌, ℕ, ◌*◌, ◌⊎◌, inl, inr, length}
+use Rattle.std.proofs.Common.{◌≡◌, ℕ, ◌*◌, ◌⊎◌, inl, inr, [], length, refl}
 use Rattle.sv_types.specs.Regions.{Region}
-use Rattle.sv_types.specs.SecondStage.{AreViews, WalksApart, view_hgatp}
+use Rattle.sv_types.specs.SecondStage.{AreViews, WalksApart, OfKernel, OfUser, view_hgatp}
 use Rattle.sv_types.specs.declared.wires.Protection.{Protection}
 use Rattle.sv_types.specs.declared.wires.View.TheVariants.{Kernel, User}
 use Rattle.sv_types.proofs.Views.{view_walks_apart}
 
-pub roots_walk_apart : (r : Region) (ram_pages hgatp : ℕ) (protections : ℕ → Protection) → AreViews r.tables ram_pages protections
+pub roots_walk_apart : (r : Region) (ram_pages hgatp : ℕ) (protections : ℕ → Protection) → AreViews r.tables ram_pages [] protections
     → length r.ram ≡ 4096 * ram_pages → (hgatp ≡ view_hgatp Kernel) ⊎ (hgatp ≡ view_hgatp User) → WalksApart r hgatp
 roots_walk_apart r ram_pages hgatp protections views size (inl kernel) =
-    rw kernel (view_walks_apart r.tables r.ram ram_pages (view_hgatp Kernel) protections Kernel views.kernel size)
+    rw kernel (view_walks_apart r.tables r.ram ram_pages (view_hgatp Kernel) protections OfKernel (views.each Kernel OfKernel refl) size)
 roots_walk_apart r ram_pages hgatp protections views size (inr user) =
-    rw user (view_walks_apart r.tables r.ram ram_pages (view_hgatp User) protections User views.user size)
+    rw user (view_walks_apart r.tables r.ram ram_pages (view_hgatp User) protections OfUser (views.each User OfUser refl) size)

@@ -1,6 +1,6 @@
 // Attempts on 16 pages of RAM behind two trees of tables, with page 0 approved.
 
-ghost use Rattle.std.specs.Prelude.{◌≡◌, ◌⊎◌, ◌%◌, ◌*◌, ◌/◌, ◌^◌, length, IfOk};
+ghost use Rattle.std.specs.Prelude.{◌≡◌, ◌⊎◌, ◌%◌, ◌*◌, ◌/◌, ◌^◌, [], length, IfOk};
 ghost use Rattle.sv_types.specs.SecondStage.{AreViews, protect, all_free, view_hgatp};
 ghost use Rattle.sv_types.specs.declared.wires.Protection.TheVariants.{Approved};
 ghost use Rattle.sv_types.specs.declared.wires.View.TheVariants.{Kernel, User};
@@ -38,7 +38,7 @@ const TIMER: Lines = Lines {
 fn draw_views(mem: &mut HostMem)
     requires tables { length mem.old.tables ≡ table_size 16 }
     requires ram { length mem.old.ram ≡ 4096 * 16 }
-    ensures views { AreViews mem.new.tables 16 (protect all_free 0 Approved) }
+    ensures views { AreViews mem.new.tables 16 [] (protect all_free 0 Approved) }
     ensures ram { length mem.new.ram ≡ 4096 * 16 }
 {
     let mut trees = Trees::new(mem);
@@ -47,7 +47,7 @@ fn draw_views(mem: &mut HostMem)
 
 // RAM with these words at their places, under both views.
 fn region(rt: &impl Abort, alloc: Global, words: &[(usize, u64)]) -> Result<HostMem, AllocError>
-    ensures views { IfOk result (λ m. AreViews m.tables 16 (protect all_free 0 Approved)) }
+    ensures views { IfOk result (λ m. AreViews m.tables 16 [] (protect all_free 0 Approved)) }
     ensures ram { IfOk result (λ m. length m.ram ≡ 4096 * 16) }
 {
     let mut mem = HostMem::new(alloc, Trees::table_bytes(PAGES), PAGES)?;

@@ -1,0 +1,12 @@
+use Rattle.std.proofs.Common.{◌≡◌, ℕ, ◌*◌, List, [], length, ◌∙◌, ap, subst, arith}
+use Rattle.sv_types.specs.SecondStage.{AreViews, protect, all_free}
+use Rattle.sv_types.specs.declared.wires.Protection.TheVariants.{Approved}
+use Rattle.hart_tests.proofs.attempts.draw_views.Goals as goal
+
+pub returns-clause-views : goal.returns-clause-views
+returns-clause-views c =
+    let size = c.new-trees.ensures.pages in
+    let ram : length c.new-trees.new.mem.ram ≡ 4096 * 16 = ap (λ (bytes : List ℕ). length bytes) c.new-trees.ensures.ram ∙ c.requires.ram in
+    let sixteen : c.new-trees.result ≡ 16 = omega (arith, size, ram) in
+    subst (λ (n : ℕ). AreViews c.set.new.mem.tables n [] (protect all_free 0 Approved)) sixteen
+    (c.set.ensures.views all_free c.new-trees.ensures.holds)
