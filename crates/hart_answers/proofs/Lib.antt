@@ -1,2 +1,4 @@
 pub mod Hosts
 mod Changes
+mod Modules
+mod Traps

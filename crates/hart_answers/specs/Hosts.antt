@@ -1,5 +1,6 @@
--- A hart with the registers of its mode, as the machine has it, and all harts with their sides. This project's own.
-use Rattle.std.specs.Prelude.{List, map}
+-- A hart with the registers of its mode, as the machine has it, and all harts with their sides. No hart is in an entry.
+-- This project's own.
+use Rattle.std.specs.Prelude.{List, map, None}
 use Rattle.sv_types.specs.declared.wires.Mode.{Mode}
 use Rattle.hart.specs.Cores.{core_of}
 use Rattle.hart.specs.declared.hart.Hart.{Hart}
@@ -8,7 +9,7 @@ use Rattle.machine_model.specs.StandsFor.{hregs_in}
 use Rattle.hart_answers.specs.declared.seats.Seat.{Seat}
 
 abbrev pub host_of : Hart → Mode → HostHart
-host_of hart mode = record { core = core_of hart (hregs_in mode); started = hart.started }
+host_of hart mode = record { core = core_of hart (hregs_in mode None); started = hart.started; entry = None }
 
 abbrev pub host_at : Seat → HostHart
 host_at seat = host_of seat.hart seat.side

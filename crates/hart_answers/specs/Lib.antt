@@ -1,3 +1,3 @@
+pub mod Asking
 pub mod Hosts
-pub mod Modes
 pub mod Seats

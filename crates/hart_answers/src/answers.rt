@@ -1,18 +1,17 @@
 // What SecVisor's answers make of one hart.
 
-ghost use Rattle.std.specs.Prelude.{◌≡◌, ◌<◌, ◌%◌, true, false, OnOk, OnErr, IfErr};
+ghost use Rattle.std.specs.Prelude.{◌≡◌, ◌<◌, ◌%◌, [], true, false, None, OnOk, OnErr, IfErr};
 ghost use Rattle.sv_types.specs.Policies.{Rules};
 ghost use Rattle.sv_types.specs.Traps.{trap_target, mode_at_return};
 ghost use Rattle.sv_types.specs.declared.wires.Mode.{Mode as Privilege};
 ghost use Rattle.sv_types.specs.declared.wires.Mode.TheVariants.{Kernel};
 ghost use Rattle.reference.specs.Trapping.{may_enter};
-ghost use Rattle.machine_model.specs.HostHarts.{host_at_trap, host_at_return, host_demoted, host_passed, host_with, host_answered, host_stayed, host_stopped, host_started};
+ghost use Rattle.machine_model.specs.HostHarts.{host_entered, host_at_trap, host_at_return, host_demoted, host_passed, host_with, host_answered, host_stayed, host_stopped, host_started};
 ghost use Rattle.hart_answers.specs.Hosts.{host_of};
 
-use crate::side::{Forbidden, Side};
 use csr_file::Csrs;
 use hart::Hart;
-use page_guard::{Entries, Guard};
+use page_guard::{Entries, Forbidden, Guard, Side};
 use rv64_exec::Regs;
 use sv_types::Mode;
 use trap_entry::{into_guest, return_to_guest, target};
@@ -28,6 +27,7 @@ pub struct Trap {
 
 /// The hart comes to its guest's trap handler, on the kernel's side. From user mode only a permitted target is entered, and
 /// else the target is the answer, and hart and side stay as they were.
+#[tactic(auto, using(crate::proofs::Traps::at_trap))]
 pub fn take_trap(
     hart: &mut Hart,
     side: &mut Side,
@@ -38,10 +38,9 @@ pub fn take_trap(
     requires { hart.old.pc % 4 ≡ 0 }
     ensures permitted { (rules : Rules) → rules.entries ≡ entries.now → OnOk result (may_enter rules side.old (trap_target hart.old.csrs.vstvec trap.interrupt trap.cause) ≡ true) }
     ensures forbidden { (rules : Rules) → rules.entries ≡ entries.now → OnErr result (may_enter rules side.old (trap_target hart.old.csrs.vstvec trap.interrupt trap.cause) ≡ false) }
-    ensures hart { OnOk result (host_of hart.new side.new ≡ host_at_trap trap.interrupt trap.cause trap.tval (host_of hart.old side.old)) }
+    ensures hart { (rules : Rules) → rules.entries ≡ entries.now → rules.bound ≡ [] → OnOk result (host_of hart.new side.new ≡ host_at_trap rules trap.interrupt trap.cause trap.tval (host_of hart.old side.old)) }
     ensures kept { OnErr result (host_of hart.new side.new ≡ host_of hart.old side.old) }
     ensures target { IfErr result (λ forbidden. forbidden.target ≡ trap_target hart.old.csrs.vstvec trap.interrupt trap.cause) }
-    ensures id { hart.new.id ≡ hart.old.id }
 {
     let from = side.mode();
     let target = target(&hart.csrs, trap.interrupt, trap.cause);
@@ -51,11 +50,9 @@ pub fn take_trap(
 }
 
 // The hart in its trap handler, which it came to from a mode.
-#[tactic(auto, unfolding(machine_model::specs::HostHarts::host_at_trap))]
 fn enter_handler(hart: &mut Hart, from: Mode, trap: Trap)
     requires { hart.old.pc % 4 ≡ 0 }
-    ensures hart { host_of hart.new Kernel ≡ host_at_trap trap.interrupt trap.cause trap.tval (host_of hart.old from) }
-    ensures id { hart.new.id ≡ hart.old.id }
+    ensures { host_of hart.new Kernel ≡ host_entered (host_of hart.old from) None trap.interrupt trap.cause trap.tval }
 {
     hart.pc = into_guest(
         &mut hart.csrs,
@@ -74,7 +71,6 @@ pub fn return_from_trap(hart: &mut Hart, side: &mut Side, guard: &Guard)
     requires { side.old ≡ Kernel }
     ensures hart { host_of hart.new side.new ≡ host_at_return (host_of hart.old side.old) }
     ensures side { side.new ≡ mode_at_return hart.old.csrs.vsstatus }
-    ensures id { hart.new.id ≡ hart.old.id }
 {
     let (pc, to) = return_to_guest(&mut hart.csrs);
     hart.pc = pc;
@@ -88,7 +84,6 @@ pub fn return_from_trap(hart: &mut Hart, side: &mut Side, guard: &Guard)
 #[tactic(auto, unfolding(machine_model::specs::HostHarts::host_demoted))]
 pub fn demote(hart: &mut Hart, side: &mut Side, guard: &Guard)
     ensures hart { host_of hart.new side.new ≡ host_demoted (host_of hart.old side.old) }
-    ensures id { hart.new.id ≡ hart.old.id }
 {
     side.demote(guard);
     hart.reservation = None;
@@ -98,7 +93,6 @@ pub fn demote(hart: &mut Hart, side: &mut Side, guard: &Guard)
 #[tactic(auto, unfolding(machine_model::specs::HostHarts::host_passed))]
 pub fn pass(hart: &mut Hart)
     ensures hart { (mode : Privilege) → host_of hart.new mode ≡ host_passed (host_of hart.old mode) }
-    ensures id { hart.new.id ≡ hart.old.id }
 {
     hart.pc = hart.pc.wrapping_add(4);
     hart.reservation = None;
@@ -109,7 +103,6 @@ pub fn pass(hart: &mut Hart)
 pub fn set(hart: &mut Hart, rd: u8, value: u64)
     requires { rd < 32 }
     ensures hart { (mode : Privilege) → host_of hart.new mode ≡ host_with rd value (host_of hart.old mode) }
-    ensures id { hart.new.id ≡ hart.old.id }
 {
     hart.regs.set(rd, value);
     pass(hart);
@@ -119,7 +112,6 @@ pub fn set(hart: &mut Hart, rd: u8, value: u64)
 #[tactic(auto, unfolding(machine_model::specs::HostHarts::host_answered, machine_model::specs::HostHarts::host_passed))]
 pub fn answer(hart: &mut Hart, a0: u64, a1: u64)
     ensures hart { (mode : Privilege) → host_of hart.new mode ≡ host_answered a0 a1 (host_of hart.old mode) }
-    ensures id { hart.new.id ≡ hart.old.id }
 {
     hart.regs.set(10, a0);
     hart.regs.set(11, a1);
@@ -130,16 +122,14 @@ pub fn answer(hart: &mut Hart, a0: u64, a1: u64)
 #[tactic(auto, unfolding(machine_model::specs::HostHarts::host_stayed))]
 pub fn stay(hart: &mut Hart)
     ensures hart { (mode : Privilege) → host_of hart.new mode ≡ host_stayed (host_of hart.old mode) }
-    ensures id { hart.new.id ≡ hart.old.id }
 {
     hart.reservation = None;
 }
 
 /// The hart stops at its instruction.
-#[tactic(auto, unfolding(machine_model::specs::HostHarts::host_stopped))]
+#[tactic(auto, using(crate::proofs::Traps::mode_same), unfolding(machine_model::specs::HostHarts::host_stopped))]
 pub fn stop(hart: &mut Hart)
     ensures hart { (mode : Privilege) → host_of hart.new mode ≡ host_stopped (host_of hart.old mode) }
-    ensures id { hart.new.id ≡ hart.old.id }
 {
     hart.reservation = None;
     hart.started = false;
@@ -150,7 +140,6 @@ pub fn stop(hart: &mut Hart)
 #[tactic(auto, unfolding(machine_model::specs::HostHarts::host_started, reference::specs::Calls::hart_at))]
 pub fn start(hart: &mut Hart, side: &mut Side, guard: &Guard, which: u8, pc: u64, opaque: u64)
     ensures hart { host_of hart.new side.new ≡ host_started which pc opaque (host_of hart.old side.old) }
-    ensures id { hart.new.id ≡ hart.old.id }
 {
     *side = Side::at_boot(guard);
     hart.regs = Regs::new();

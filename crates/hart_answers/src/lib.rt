@@ -1,14 +1,16 @@
-//! What SecVisor's answers make of one hart and of the side that it is on, and what reaches all harts.
+//! What SecVisor's answers make of one hart and of the side that it is on, what reaches all harts, and what a hart's call asks.
 #![tactic(auto)]
 
 mod answers;
+mod asked;
+mod extensions;
 mod seats;
-mod side;
 #[cfg(test)]
 mod tests;
 
 pub use answers::{
     Trap, answer, demote, pass, return_from_trap, set, start, stay, stop, take_trap,
 };
+pub use asked::Asked;
+pub use extensions::extension_of;
 pub use seats::{ALL_HARTS, Seat, forget, interrupt};
-pub use side::{Forbidden, Side};

@@ -7,9 +7,9 @@ ghost use Rattle.machine_model.specs.HardwareEvent.{interrupted_hosts};
 ghost use Rattle.hart_answers.specs.Hosts.{host_at, hosts_of};
 ghost use Rattle.hart_answers.specs.Seats.{forgotten, notified};
 
-use crate::side::Side;
 use csr_file::Csrs;
 use hart::Hart;
+use page_guard::Side;
 use sv_types::has_bit;
 
 /// The guest's software interrupt in `hvip`.

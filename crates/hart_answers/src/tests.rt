@@ -1,12 +1,12 @@
 // One hart through all answers, and two harts that a write and an interrupt reach, on guarded memory.
 use super::{
-    Forbidden, Seat, Side, Trap, answer, demote, forget, interrupt, pass, return_from_trap, set,
-    start, stay, stop, take_trap,
+    Seat, Trap, answer, demote, forget, interrupt, pass, return_from_trap, set, start, stay, stop,
+    take_trap,
 };
 use gstage_tables::Trees;
 use hart::Hart;
 use host_mem::HostMem;
-use page_guard::{Entries, Guard};
+use page_guard::{Entries, Forbidden, Guard, Side};
 use std::test::Fail;
 use sv_types::Mode;
 
@@ -27,7 +27,7 @@ fn a_hart_through_all_answers(rt: HostRuntime) -> Result<(), Fail> {
     let guard = Guard::new(rt.alloc(), &mut mem)?;
     let entries = Entries::new(rt.alloc(), &[0x8000_0104])?;
     let mut side = Side::at_boot(&guard);
-    let mut hart = Hart::at_boot(1);
+    let mut hart = Hart::at_boot();
     start(&mut hart, &mut side, &guard, 1, 0x8000_0000, 7);
     assert_eq!(rt;
         (hart.regs.get(10), hart.regs.get(11), hart.started),
@@ -76,9 +76,9 @@ fn two_harts_behind_a_write_and_an_interrupt(rt: HostRuntime) -> Result<(), Fail
     assert_eq!(rt; mem.table_bytes(), size);
     assert_eq!(rt; mem.ram_pages(), 16);
     let guard = Guard::new(rt.alloc(), &mut mem)?;
-    let mut first = Hart::at_boot(0);
+    let mut first = Hart::at_boot();
     first.reservation = Some(0x2000);
-    let mut second = Hart::at_boot(1);
+    let mut second = Hart::at_boot();
     second.reservation = Some(0x2008);
     let mut seats = [
         Seat {

@@ -1,0 +1,61 @@
+// What a call asks.
+
+ghost use Rattle.std.specs.Prelude.{◌≡◌, true};
+ghost use Rattle.reference.specs.Calls.{Facts, asked_by};
+ghost use Rattle.reference.specs.ModuleCalls.{answer_of, module_call};
+ghost use Rattle.hart_answers.specs.Asking.{is_about_modules};
+
+use crate::extensions::extension_of;
+use reference::Extension;
+use rv64_exec::Regs;
+use std::marker::Model;
+
+/// What a call asks, as its registers say.
+#[derive(Clone, Copy, Debug, PartialEq, Eq, Drop)]
+pub struct Asked {
+    /// The number of the extension.
+    pub extension: u64,
+    /// The number of the function in the extension.
+    pub function: u64,
+    pub a0: u64,
+    pub a1: u64,
+    pub a2: u64,
+    pub a3: u64,
+}
+
+impl Model for Asked {
+    ghost use Rattle.reference.specs.Calls.{Asked as Call};
+
+    ghost Value = { Call };
+
+    ghost use Rattle.hart_answers.specs.Asking.{call_of, fields_of};
+
+    ghost view = { call_of };
+
+    ghost inverse = { fields_of };
+}
+
+impl Asked {
+    /// What the registers of a hart that calls ask.
+    pub fn by(regs: &Regs) -> Asked
+        ensures { result ≡ asked_by regs.now }
+    {
+        Asked {
+            extension: regs.get(17),
+            function: regs.get(16),
+            a0: regs.get(10),
+            a1: regs.get(11),
+            a2: regs.get(12),
+            a3: regs.get(13),
+        }
+    }
+
+    /// Whether it is a call about modules.
+    #[tactic(auto, using(crate::proofs::Modules::modules_answer))]
+    pub fn is_about_modules(&self) -> bool
+        ensures about { result ≡ is_about_modules self.now }
+        ensures modules { (f : Facts) → result ≡ true → answer_of f self.now ≡ module_call f self.now }
+    {
+        matches!(extension_of(self.extension), Some(Extension::Modules))
+    }
+}
