@@ -1,4 +1,5 @@
 mod Bits
 mod Changed
-mod Chosen
 mod Inputs
+mod Started
+mod Starting

@@ -1,5 +1,3 @@
-pub mod Asking
-pub mod Called
-pub mod Choices
 pub mod Codes
+pub mod Known
 pub mod Masks

@@ -1,111 +1,83 @@
-// The answer to a call, by its extension.
+// What an answer does: to the hart that called, to other harts, to devices and to the journal.
 
-ghost use Rattle.std.specs.Prelude.{◌≡◌, ◌≢◌, ◌<◌, ◌≤◌, ℕ, List, length};
-ghost use Rattle.reference.specs.States.{Devices as Parts, Journal as Records};
-ghost use Rattle.machine_model.specs.HostCalls.{host_timer_call, host_ipi, host_reset, host_call_of};
-ghost use Rattle.machine_model.specs.Machine.{Machine};
+ghost use Rattle.std.specs.Prelude.{◌≡◌, ◌<◌, ◌≤◌, length};
+ghost use Rattle.reference.specs.Answers.{devices_beside, journal_beside};
+ghost use Rattle.reference.specs.Counting.{MayCount};
+ghost use Rattle.machine_model.specs.HostCalls.{host_replied, hosts_beside};
+ghost use Rattle.machine_model.specs.Machine.{update};
 ghost use Rattle.hart_answers.specs.Hosts.{hosts_of};
-ghost use Rattle.call_answers.specs.Called.{called};
+ghost use Rattle.call_answers.specs.Known.{StartsOneOf};
 
-use crate::asked::Asked;
-use crate::codes::{Code, Reply};
-use crate::extensions::Extension;
-use crate::legacy::{get_char, put_char, set_timer, shut_down};
-use crate::masks::mask_exists;
-use crate::places::reply_at;
-use crate::replies::{base, fence};
-use crate::starts::hart_call;
+use crate::places::{reply_at, start_at};
 use device_bus::Devices;
 use dma_guard::DiskPort;
 use hart_answers::{Seat, interrupt};
 use journal_records::Journal;
-use page_guard::{Entries, Guard};
+use page_guard::Guard;
+use reference::{Answer, Beside};
 
-/// The timer extension: sets the timer of the hart that called.
-#[tactic(auto, unfolding(machine_model::specs::HostCalls::host_timer_call))]
-fn timer_call<D: DiskPort>(which: u8, seats: &mut [Seat], devices: &mut Devices<D>, asked: &Asked)
-    requires there { which < length seats.old }
-    requires few { length seats.old ≤ 4 }
-    ensures machine { (m : Machine) (entries : List ℕ) (journal : Records) → called m entries (hosts_of seats.new) devices.new journal ≡ host_timer_call (called m entries (hosts_of seats.old) devices.old journal) which asked.now }
+/// The timer that never is due.
+const NEVER: u64 = u64::MAX;
+
+// What happens to other harts; the hart that called may be among those that are interrupted.
+#[tactic(auto, using(hart_answers::proofs::Hosts::hosts_length), unfolding(machine_model::specs::HostCalls::hosts_beside))]
+fn change_harts(seats: &mut [Seat], guard: &Guard, beside: Beside)
+    requires starts { StartsOneOf (length seats.old) beside }
+    ensures hosts { hosts_of seats.new ≡ hosts_beside beside (hosts_of seats.old) }
     ensures number { length seats.new ≡ length seats.old }
 {
-    if asked.function == 0 {
-        devices.set_timer(which, asked.a0);
-        reply_at(seats, which, Reply::of_code(Code::Success));
-    } else {
-        reply_at(seats, which, Reply::of_code(Code::NotSupported));
+    match beside {
+        Beside::SendsInterrupts { mask, base } => interrupt(seats, mask, base),
+        Beside::StartsHart { other, pc, opaque } => start_at(seats, guard, other, pc, opaque),
+        _ => {}
     }
 }
 
-/// Sends a software interrupt to each hart that is named, behind the answer: the hart that called may be one of them.
-#[tactic(auto, unfolding(machine_model::specs::HostCalls::host_ipi), using(hart_answers::proofs::Hosts::hosts_length))]
-fn send_interrupts(which: u8, seats: &mut [Seat], asked: &Asked)
-    requires there { which < length seats.old }
-    ensures machine { (m : Machine) (entries : List ℕ) (devices : Parts) (journal : Records) → called m entries (hosts_of seats.new) devices journal ≡ host_ipi (called m entries (hosts_of seats.old) devices journal) which asked.now }
-    ensures number { length seats.new ≡ length seats.old }
+// What happens to devices.
+#[tactic(auto, unfolding(reference::specs::Answers::devices_beside))]
+fn change_devices<D: DiskPort>(which: u8, devices: &mut Devices<D>, beside: Beside)
+    requires there { which < 4 }
+    requires starts { StartsOneOf 4 beside }
+    ensures { devices.new ≡ devices_beside beside which devices.old }
 {
-    if asked.function != 0 {
-        reply_at(seats, which, Reply::of_code(Code::NotSupported));
-    } else if mask_exists(seats.len() as u64, asked.a0, asked.a1) {
-        reply_at(seats, which, Reply::of_code(Code::Success));
-        interrupt(seats, asked.a0, asked.a1);
-    } else {
-        reply_at(seats, which, Reply::of_code(Code::InvalidParameter));
+    match beside {
+        Beside::SetsTimer { at } => devices.set_timer(which, at),
+        Beside::StartsHart {
+            other,
+            pc: _,
+            opaque: _,
+        } => devices.set_timer(other, NEVER),
+        Beside::TakesInput => {
+            devices.take_input();
+        }
+        _ => {}
     }
 }
 
-/// System reset, of which only shutdown is there.
-#[tactic(auto, unfolding(machine_model::specs::HostCalls::host_reset))]
-fn reset(which: u8, seats: &mut [Seat], journal: &mut Journal, asked: &Asked)
-    requires there { which < length seats.old }
-    ensures machine { (m : Machine) (entries : List ℕ) (devices : Parts) → called m entries (hosts_of seats.new) devices journal.new ≡ host_reset (called m entries (hosts_of seats.old) devices journal.old) which asked.now }
-    ensures number { length seats.new ≡ length seats.old }
-{
-    if asked.function != 0 {
-        reply_at(seats, which, Reply::of_code(Code::NotSupported));
-    } else if asked.a0 == 0 {
-        shut_down(which, seats, journal);
-    } else if asked.a0 <= 2 {
-        reply_at(seats, which, Reply::of_code(Code::NotSupported));
-    } else {
-        reply_at(seats, which, Reply::of_code(Code::InvalidParameter));
-    }
-}
-
-/// The answer to a call from kernel mode that isn't one about modules.
-#[tactic(auto, using(crate::proofs::Chosen::chosen, hart_answers::proofs::Hosts::hosts_length))]
-pub fn serve_call<D: DiskPort>(
+/// Does what an answer says, but to pages and modules: what becomes of the hart that called, and what happens beside to other
+/// harts, to devices and in the journal.
+#[tactic(auto, using(crate::proofs::Starting::fewer))]
+pub fn give<D: DiskPort>(
     which: u8,
     seats: &mut [Seat],
     guard: &Guard,
-    entries: &Entries,
     devices: &mut Devices<D>,
     journal: &mut Journal,
-    asked: &Asked,
+    answer: &Answer,
 )
     requires there { which < length seats.old }
     requires few { length seats.old ≤ 4 }
     requires room { length journal.old.printed < 4096 }
-    requires others { asked.now.extension ≢ 0x08534543 }
-    ensures machine { (m : Machine) → called m entries.now (hosts_of seats.new) devices.new journal.new ≡ host_call_of (called m entries.now (hosts_of seats.old) devices.old journal.old) which asked.now }
+    requires counts { MayCount journal.old.counts }
+    requires starts { StartsOneOf (length seats.old) answer.now.beside }
+    ensures hosts { hosts_of seats.new ≡ hosts_beside answer.now.beside (update (hosts_of seats.old) which (host_replied answer.now.reply)) }
+    ensures devices { devices.new ≡ devices_beside answer.now.beside which devices.old }
+    ensures journal { journal.new ≡ journal_beside answer.now.beside which journal.old }
     ensures number { length seats.new ≡ length seats.old }
 {
-    match Extension::of(asked.extension) {
-        Extension::SetTimer => set_timer(which, seats, devices, asked.a0),
-        Extension::PutChar => put_char(which, seats, journal, asked.a0),
-        Extension::GetChar => get_char(which, seats, devices),
-        Extension::ShutDown => shut_down(which, seats, journal),
-        Extension::Base => reply_at(seats, which, base(asked)),
-        Extension::Timer => timer_call(which, seats, devices, asked),
-        Extension::Interrupt => send_interrupts(which, seats, asked),
-        Extension::Fence => {
-            let reply = fence(seats.len() as u64, asked);
-            reply_at(seats, which, reply);
-        }
-        Extension::HartState => hart_call(which, seats, guard, entries, devices, asked),
-        Extension::Reset => reset(which, seats, journal, asked),
-        Extension::Modules | Extension::Unknown => {
-            reply_at(seats, which, Reply::of_code(Code::NotSupported));
-        }
-    }
+    let Answer { reply, beside } = *answer;
+    reply_at(seats, which, reply);
+    change_harts(seats, guard, beside);
+    change_devices(which, devices, beside);
+    journal.record(which, beside);
 }

@@ -1,8 +1,10 @@
-// The codes of SBI, and what a call answers.
+// The codes of SBI, and plain answers.
 
 ghost use Rattle.std.specs.Prelude.{◌≡◌};
-ghost use Rattle.reference.specs.Calls.{code_word};
+ghost use Rattle.reference.specs.Calls.{code, code_word, value, plain};
 ghost use Rattle.call_answers.specs.Codes.{code_number};
+
+use reference::{Answer, Beside, Reply};
 
 /// How a call went.
 #[derive(Clone, Copy, Debug, PartialEq, Eq, Drop)]
@@ -30,28 +32,29 @@ impl Code {
     }
 }
 
-/// What a call answers: its code, which a0 takes, and a value, which a1 takes.
-#[derive(Clone, Copy, Debug, PartialEq, Eq, Drop)]
-pub struct Reply {
-    pub code: u64,
-    pub value: u64,
+/// A code without a value.
+pub fn reply_of_code(how: Code) -> Reply
+    ensures { result ≡ code (code_number how) }
+{
+    Reply::Replies {
+        a0: how.word(),
+        a1: 0,
+    }
 }
 
-impl Reply {
-    /// A code without a value.
-    pub fn of_code(code: Code) -> Reply
-        ensures { result ≡ record { code = code_word (code_number code); value = 0 } }
-    {
-        Reply {
-            code: code.word(),
-            value: 0,
-        }
-    }
+/// Success with a value.
+pub fn reply_of_value(number: u64) -> Reply
+    ensures { result ≡ value number }
+{
+    Reply::Replies { a0: 0, a1: number }
+}
 
-    /// Success with a value.
-    pub fn of_value(value: u64) -> Reply
-        ensures { result ≡ record { code = 0; value = value } }
-    {
-        Reply { code: 0, value }
+/// A reply with nothing beside.
+pub fn plain(reply: Reply) -> Answer
+    ensures { result ≡ plain reply }
+{
+    Answer {
+        reply,
+        beside: Beside::Nothing,
     }
 }

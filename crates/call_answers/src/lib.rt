@@ -1,18 +1,16 @@
-//! SecVisor's answers to calls from kernel mode, all but those about modules.
+//! SecVisor's answers to calls from kernel mode: what each is answered, but for those about modules, and what an answer does to
+//! harts, devices and journal.
 #![tactic(auto)]
 
-mod asked;
 mod calls;
 mod codes;
-mod extensions;
-mod legacy;
+mod decisions;
+mod laws;
 mod masks;
 mod places;
-mod replies;
-mod starts;
 #[cfg(test)]
 mod tests;
 
-pub use asked::Asked;
-pub use calls::serve_call;
-pub use extensions::Extension;
+pub use calls::give;
+pub use decisions::answer_of;
+pub use laws::law_starts;

@@ -1,59 +1,42 @@
 // One hart of all changed in its place.
 
 ghost use Rattle.std.specs.Prelude.{◌≡◌, ◌<◌, length};
-ghost use Rattle.machine_model.specs.HostHarts.{host_with, host_answered, host_stayed, host_stopped, host_started};
+ghost use Rattle.sv_types.specs.declared.wires.Mode.{Mode as Privilege};
+ghost use Rattle.machine_model.specs.HostHarts.{host_started};
+ghost use Rattle.machine_model.specs.HostCalls.{host_replied};
 ghost use Rattle.machine_model.specs.Machine.{update};
-ghost use Rattle.hart_answers.specs.Hosts.{hosts_of};
+ghost use Rattle.hart_answers.specs.Hosts.{host_of, hosts_of};
 
-use crate::codes::Reply;
+use hart::Hart;
 use hart_answers::{Seat, answer, set, start, stay, stop};
 use page_guard::Guard;
+use reference::Reply;
 
 /// The register a0.
 const A0: u8 = 10;
 
-/// The hart goes on after its call with a reply.
+// What becomes of the hart that called.
+#[tactic(auto, unfolding(machine_model::specs::HostCalls::host_replied))]
+fn reply_to(hart: &mut Hart, reply: Reply)
+    ensures { (mode : Privilege) → host_of hart.new mode ≡ host_replied reply (host_of hart.old mode) }
+{
+    match reply {
+        Reply::Gives { a0 } => set(hart, A0, a0),
+        Reply::Replies { a0, a1 } => answer(hart, a0, a1),
+        Reply::Stays => stay(hart),
+        Reply::Stops => stop(hart),
+    }
+}
+
+/// The hart that called gets its reply.
 #[tactic(auto, using(crate::proofs::Changed::seat_changed))]
 pub fn reply_at(seats: &mut [Seat], which: u8, reply: Reply)
     requires there { which < length seats.old }
-    ensures hosts { hosts_of seats.new ≡ update (hosts_of seats.old) which (host_answered reply.code reply.value) }
+    ensures hosts { hosts_of seats.new ≡ update (hosts_of seats.old) which (host_replied reply) }
     ensures number { length seats.new ≡ length seats.old }
 {
     let seat = &mut seats[usize::from(which)];
-    answer(&mut seat.hart, reply.code, reply.value);
-}
-
-/// The hart goes on after its call with a0 set.
-#[tactic(auto, using(crate::proofs::Changed::seat_changed))]
-pub fn give_at(seats: &mut [Seat], which: u8, value: u64)
-    requires there { which < length seats.old }
-    ensures hosts { hosts_of seats.new ≡ update (hosts_of seats.old) which (host_with 10 value) }
-    ensures number { length seats.new ≡ length seats.old }
-{
-    let seat = &mut seats[usize::from(which)];
-    set(&mut seat.hart, A0, value);
-}
-
-/// The hart stays at its call.
-#[tactic(auto, using(crate::proofs::Changed::seat_changed))]
-pub fn stay_at(seats: &mut [Seat], which: u8)
-    requires there { which < length seats.old }
-    ensures hosts { hosts_of seats.new ≡ update (hosts_of seats.old) which host_stayed }
-    ensures number { length seats.new ≡ length seats.old }
-{
-    let seat = &mut seats[usize::from(which)];
-    stay(&mut seat.hart);
-}
-
-/// The hart stops at its call.
-#[tactic(auto, using(crate::proofs::Changed::seat_changed))]
-pub fn stop_at(seats: &mut [Seat], which: u8)
-    requires there { which < length seats.old }
-    ensures hosts { hosts_of seats.new ≡ update (hosts_of seats.old) which host_stopped }
-    ensures number { length seats.new ≡ length seats.old }
-{
-    let seat = &mut seats[usize::from(which)];
-    stop(&mut seat.hart);
+    reply_to(&mut seat.hart, reply);
 }
 
 /// The hart begins in kernel mode at an address, with its number and a value.

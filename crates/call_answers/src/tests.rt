@@ -1,13 +1,13 @@
 // Calls of a hart beside another one, on guarded memory.
-use super::{Asked, serve_call};
+use super::{answer_of, give};
 use block_device::Block;
 use device_bus::Devices;
 use gstage_tables::Trees;
 use hart::Hart;
-use hart_answers::{ALL_HARTS, Seat, Side, start};
+use hart_answers::{ALL_HARTS, Asked, Seat, start};
 use host_mem::HostMem;
 use journal_records::Journal;
-use page_guard::{Entries, Guard};
+use page_guard::{Entries, Guard, Side};
 use std::test::Fail;
 use sv_types::Verdict;
 
@@ -112,17 +112,17 @@ fn calls_one_after_another(rt: HostRuntime) -> Result<(), Fail> {
     let entries = Entries::new(rt.alloc(), &[ENTRY])?;
     let disk = vec![in rt.alloc(); 0u8; 512]?;
     let mut devices = Devices::new(Block::new(disk));
-    let mut journal = Journal::new(rt.alloc())?;
-    let mut hart = Hart::at_boot(0);
+    let mut hart = Hart::at_boot();
     let mut side = Side::at_boot(&guard);
     start(&mut hart, &mut side, &guard, 0, 0x8000_0000, 0);
     let caller = Seat { hart, side };
     let other = Seat {
-        hart: Hart::at_boot(1),
+        hart: Hart::at_boot(),
         side: Side::at_boot(&guard),
     };
     let mut seats = [caller, other];
     for row in ROWS {
+        let mut journal = Journal::new(rt.alloc())?;
         let asked = Asked {
             extension: row.extension,
             function: row.function,
@@ -131,24 +131,17 @@ fn calls_one_after_another(rt: HostRuntime) -> Result<(), Fail> {
             a2: 7,
             a3: 0,
         };
-        assert!(rt; journal.printed().is_empty() && !asked.is_about_modules());
-        serve_call(
-            0,
-            &mut seats,
-            &guard,
-            &entries,
-            &mut devices,
-            &mut journal,
-            &asked,
-        );
+        assert!(rt; !asked.is_about_modules());
+        let answer = answer_of(&seats, &entries, devices.input(), &asked);
+        give(0, &mut seats, &guard, &mut devices, &mut journal, &answer);
         let [caller, _] = &seats;
-        let answer = (caller.hart.regs.get(10), caller.hart.regs.get(11));
-        assert_eq!(rt; answer, (row.code.cast_unsigned(), row.value));
+        let registers = (caller.hart.regs.get(10), caller.hart.regs.get(11));
+        assert_eq!(rt; journal.verdict(), Verdict::Running);
+        assert_eq!(rt; registers, (row.code.cast_unsigned(), row.value));
     }
     let [caller, other] = &seats;
     assert_eq!(rt; caller.hart.pc, 0x8000_0024);
     assert_eq!(rt; (caller.hart.csrs.hvip, other.hart.csrs.hvip), (4, 4));
     assert_eq!(rt; (other.hart.pc, other.hart.regs.get(11)), (ENTRY, 7));
-    assert_eq!(rt; journal.verdict(), Verdict::Running);
     Ok(())
 }

@@ -1,0 +1,218 @@
+// What each call is answered. Each function is the definition's line of the same name.
+
+ghost use Rattle.std.specs.Prelude.{◌≡◌, ◌<◌, ◌≤◌, ℕ, length, slice_get, OnSome, false};
+ghost use Rattle.reference.specs.Calls.{Facts, first_input, base_call, timer_call, ipi_call, fence_call, start_other, status_of_hart, hart_call, shut_down, reset_call};
+ghost use Rattle.reference.specs.ModuleCalls.{answer_of};
+ghost use Rattle.hart_answers.specs.Asking.{is_about_modules};
+ghost use Rattle.call_answers.specs.Known.{started_of, StartsOneOf};
+
+use crate::codes::{Code, plain, reply_of_code, reply_of_value};
+use crate::masks::mask_exists;
+use hart_answers::{Asked, Seat, extension_of};
+use page_guard::Entries;
+use reference::{Answer, Beside, Extension, Reply};
+
+/// SBI 1.0.
+const SPECIFICATION: u64 = 0x0100_0000;
+
+/// The number of this implementation of SBI.
+const IMPLEMENTATION: u64 = 0x0053_4543;
+
+const VERSION: u64 = 1;
+
+/// The code -1: no input waits.
+const NO_INPUT: u64 = u64::MAX;
+
+// The next byte of input, or the code for none.
+#[tactic(auto, using(crate::proofs::Inputs::input_there, crate::proofs::Inputs::no_input_there))]
+fn first_input(input: &[u8]) -> u64
+    ensures { result ≡ first_input input.now }
+{
+    match input.first() {
+        Some(byte) => u64::from(*byte),
+        None => NO_INPUT,
+    }
+}
+
+#[tactic(auto, unfolding(reference::specs::Calls::base_call))]
+fn base_call(asked: &Asked) -> Reply
+    ensures { result ≡ base_call asked.now }
+{
+    match asked.function {
+        0 => reply_of_value(SPECIFICATION),
+        1 => reply_of_value(IMPLEMENTATION),
+        2 => reply_of_value(VERSION),
+        3 => reply_of_value(u64::from(extension_of(asked.a0).is_some())),
+        4..=6 => reply_of_value(0),
+        _ => reply_of_code(Code::NotSupported),
+    }
+}
+
+#[tactic(auto, unfolding(reference::specs::Calls::timer_call))]
+fn timer_call(asked: &Asked) -> Answer
+    ensures answer { result ≡ timer_call asked.now }
+    ensures starts { (n : ℕ) → StartsOneOf n result.beside }
+{
+    if asked.function == 0 {
+        Answer {
+            reply: reply_of_code(Code::Success),
+            beside: Beside::SetsTimer { at: asked.a0 },
+        }
+    } else {
+        plain(reply_of_code(Code::NotSupported))
+    }
+}
+
+#[tactic(auto, unfolding(reference::specs::Calls::ipi_call))]
+fn ipi_call(harts: u64, asked: &Asked) -> Answer
+    ensures answer { (f : Facts) → length f.started ≡ harts → result ≡ ipi_call f asked.now }
+    ensures starts { (n : ℕ) → StartsOneOf n result.beside }
+{
+    if asked.function != 0 {
+        plain(reply_of_code(Code::NotSupported))
+    } else if mask_exists(harts, asked.a0, asked.a1) {
+        Answer {
+            reply: reply_of_code(Code::Success),
+            beside: Beside::SendsInterrupts {
+                mask: asked.a0,
+                base: asked.a1,
+            },
+        }
+    } else {
+        plain(reply_of_code(Code::InvalidParameter))
+    }
+}
+
+#[tactic(auto, unfolding(reference::specs::Calls::fence_call))]
+fn fence_call(harts: u64, asked: &Asked) -> Reply
+    ensures { (f : Facts) → length f.started ≡ harts → result ≡ fence_call f asked.now }
+{
+    if asked.function > 2 {
+        reply_of_code(Code::NotSupported)
+    } else if mask_exists(harts, asked.a0, asked.a1) {
+        reply_of_code(Code::Success)
+    } else {
+        reply_of_code(Code::InvalidParameter)
+    }
+}
+
+// Whether a hart is started, if it is there.
+#[tactic(auto, using(crate::proofs::Started::started_at))]
+fn is_started(seats: &[Seat], hart: u64) -> Option<bool>
+    ensures started { result ≡ slice_get (started_of seats.now) hart }
+    ensures there { OnSome result (hart < length seats.now) }
+{
+    match seats.get(hart as usize) {
+        None => None,
+        Some(seat) => Some(seat.hart.started),
+    }
+}
+
+#[tactic(auto, unfolding(reference::specs::Calls::start_other))]
+fn start_other(seats: &[Seat], entries: &Entries, asked: &Asked) -> Answer
+    requires few { length seats.now ≤ 4 }
+    ensures answer { (f : Facts) → f.rules.entries ≡ entries.now → result ≡ start_other f asked.now (slice_get (started_of seats.now) asked.now.a0) }
+    ensures starts { StartsOneOf (length seats.now) result.beside }
+{
+    match is_started(seats, asked.a0) {
+        None => plain(reply_of_code(Code::InvalidParameter)),
+        Some(true) => plain(reply_of_code(Code::Already)),
+        Some(false) => {
+            if entries.permits(asked.a1) {
+                Answer {
+                    reply: reply_of_code(Code::Success),
+                    beside: Beside::StartsHart {
+                        other: asked.a0 as u8,
+                        pc: asked.a1,
+                        opaque: asked.a2,
+                    },
+                }
+            } else {
+                plain(reply_of_code(Code::InvalidAddress))
+            }
+        }
+    }
+}
+
+fn status_of_hart(seats: &[Seat], asked: &Asked) -> Reply
+    ensures { result ≡ status_of_hart (slice_get (started_of seats.now) asked.now.a0) }
+{
+    match is_started(seats, asked.a0) {
+        None => reply_of_code(Code::InvalidParameter),
+        Some(started) => reply_of_value(u64::from(!started)),
+    }
+}
+
+#[tactic(auto, unfolding(reference::specs::Calls::hart_call))]
+fn hart_call(seats: &[Seat], entries: &Entries, asked: &Asked) -> Answer
+    requires few { length seats.now ≤ 4 }
+    ensures answer { (f : Facts) → f.rules.entries ≡ entries.now → f.started ≡ started_of seats.now → result ≡ hart_call f asked.now }
+    ensures starts { StartsOneOf (length seats.now) result.beside }
+{
+    match asked.function {
+        0 => start_other(seats, entries, asked),
+        1 => plain(Reply::Stops),
+        2 => plain(status_of_hart(seats, asked)),
+        _ => plain(reply_of_code(Code::NotSupported)),
+    }
+}
+
+fn shut_down() -> Answer
+    ensures { result ≡ shut_down }
+{
+    Answer {
+        reply: Reply::Stays,
+        beside: Beside::ShutsDown,
+    }
+}
+
+#[tactic(auto, unfolding(reference::specs::Calls::reset_call))]
+fn reset_call(asked: &Asked) -> Answer
+    ensures answer { result ≡ reset_call asked.now }
+    ensures starts { (n : ℕ) → StartsOneOf n result.beside }
+{
+    if asked.function != 0 {
+        plain(reply_of_code(Code::NotSupported))
+    } else if asked.a0 == 0 {
+        shut_down()
+    } else if asked.a0 <= 2 {
+        plain(reply_of_code(Code::NotSupported))
+    } else {
+        plain(reply_of_code(Code::InvalidParameter))
+    }
+}
+
+/// The answer to a call from kernel mode that isn't one about modules.
+#[tactic(auto, using(crate::proofs::Started::started_number), unfolding(reference::specs::ModuleCalls::answer_by))]
+pub fn answer_of(seats: &[Seat], entries: &Entries, input: &[u8], asked: &Asked) -> Answer
+    requires few { length seats.now ≤ 4 }
+    requires others { is_about_modules asked.now ≡ false }
+    ensures answer { (f : Facts) → f.rules.entries ≡ entries.now → f.started ≡ started_of seats.now → f.input ≡ input.now → result ≡ answer_of f asked.now }
+    ensures starts { StartsOneOf (length seats.now) result.beside }
+{
+    let harts = seats.len() as u64;
+    match extension_of(asked.extension) {
+        None | Some(Extension::Modules) => plain(reply_of_code(Code::NotSupported)),
+        Some(Extension::SetTimer) => Answer {
+            reply: Reply::Gives { a0: 0 },
+            beside: Beside::SetsTimer { at: asked.a0 },
+        },
+        Some(Extension::PutChar) => Answer {
+            reply: Reply::Gives { a0: 0 },
+            beside: Beside::Prints { value: asked.a0 },
+        },
+        Some(Extension::GetChar) => Answer {
+            reply: Reply::Gives {
+                a0: first_input(input),
+            },
+            beside: Beside::TakesInput,
+        },
+        Some(Extension::ShutDown) => shut_down(),
+        Some(Extension::Base) => plain(base_call(asked)),
+        Some(Extension::Timer) => timer_call(asked),
+        Some(Extension::Interrupt) => ipi_call(harts, asked),
+        Some(Extension::Fence) => plain(fence_call(harts, asked)),
+        Some(Extension::HartState) => hart_call(seats, entries, asked),
+        Some(Extension::Reset) => reset_call(asked),
+    }
+}
