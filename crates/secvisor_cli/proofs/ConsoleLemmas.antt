@@ -192,10 +192,10 @@ counts_after n m next flushed e now new has counts steps f =
     subst (λ (c : Counts). CountsAtMost (n + 1) c) (sym (away_counts next flushed f.cleared f.away))
     (step_counts n m next has.state e has.stands (steps.stands has.state has.stands) counts)
 
-pub room_after : (n : ℕ) (m next : Machine) (e : Event) → HasState m → CountsAtMost n m.journal.counts → Steps m e next → length m.journal.printed < 4096 →
+pub room_after : (m next : Machine) (e : Event) → HasState m → Steps m e next → length m.journal.printed < 4096 →
     length next.journal.printed ≤ 4096
-room_after n m next e has counts steps room =
-    let grown = step_room n m next has.state e has.stands (steps.stands has.state has.stands) steps.event counts in omega arith
+room_after m next e has steps room =
+    let grown = step_room m next has.state e has.stands (steps.stands has.state has.stands) steps.event in omega arith
 
 pub counts_within : (n most : ℕ) (c : Counts) → n ≤ most → CountsAtMost n c → CountsAtMost most c
 counts_within n most c le at = record {

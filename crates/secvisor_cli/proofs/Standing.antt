@@ -13,11 +13,12 @@ use Rattle.reference.specs.Counting.{CountsAtMost}
 use Rattle.reference.specs.Report.{output, report}
 use Rattle.reference.specs.Run.{step}
 use Rattle.reference.specs.States.{State, Journal}
-use Rattle.machine_model.specs.HardwareEvent.{IsEvent, HappensUnder, Happens, TurnOf, HartTurn, StartedTurn, AfterOutcome, attempted, is_loading, Written, written}
+use Rattle.machine_model.specs.HardwareEvent.{IsEvent, HappensUnder, Happens, TurnOf, HartTurn, StartedTurn, OneOrTwo, Attempts, AfterOutcome, sent_again, hart_again, attempted, is_loading, Written, written}
+use Rattle.machine_model.specs.HostHarts.{asks_again}
 use Rattle.machine_model.specs.Machine.{Machine, HostHart}
 use Rattle.machine_model.specs.Reaches.{Cleared, IsNew}
 use Rattle.machine_model.specs.StandsFor.{StandsFor, machine_of, without_printed}
-use Rattle.run_laws.specs.GrowthLaws.{Grows}
+use Rattle.run_laws.specs.GrowthLaws.{RiseByOne}
 use Rattle.run_laws.proofs.StepsGrow.{grows_law}
 use Rattle.answer_laws.proofs.RunsReach.{clear_law}
 use Rattle.outside.specs.Outside.{SinkState, after_taking}
@@ -62,9 +63,16 @@ outcome_keeps (Outcome.Exit exit) m h a after it = ap (λ (x : Machine). x.clear
 outcome_keeps (Outcome.Retired wrote) m h a after it = ap (λ (x : Machine). x.cleared) it.same
 outcome_keeps Outcome.GuestTrap m h a after it = ap (λ (x : Machine). x.cleared) it.same
 
+once_keeps : (m : Machine) (h : ℕ) (hart : HostHart) (after : Machine) → Attempts m h hart after → after.cleared ≡ m.cleared
+once_keeps m h hart after it = outcome_keeps (attempted m h hart).outcome m h (attempted m h hart) after it
+
+attempts_keep : (again : Bool) (m : Machine) (h : ℕ) (hart : HostHart) (after : Machine) → OneOrTwo again m h hart after → after.cleared ≡ m.cleared
+attempts_keep false m h hart after it = once_keeps m h hart after it
+attempts_keep true m h hart after it = once_keeps (sent_again m h hart) h (hart_again m h hart) after it
+
 started_keeps : (loads : Bool) (m : Machine) (h : ℕ) (hart : HostHart) (after : Machine) → StartedTurn loads m h hart after → after.cleared ≡ m.cleared
 started_keeps true m h hart after it = ap (λ (x : Machine). x.cleared) it.same
-started_keeps false m h hart after it = outcome_keeps (attempted m h hart).outcome m h (attempted m h hart) after it
+started_keeps false m h hart after it = attempts_keep (asks_again m.region.ram m.rules hart (attempted m h hart).outcome) m h hart after it
 
 hart_keeps : (started : Bool) (m : Machine) (h : ℕ) (hart : HostHart) (after : Machine) → HartTurn started m h hart after → after.cleared ≡ m.cleared
 hart_keeps true m h hart after it = started_keeps (is_loading m.loading h) m h hart after it
@@ -105,40 +113,34 @@ event_ended m e ended = stays_under m.journal.verdict m e ended
 
 -- ---- growth
 
--- there is a number that no count exceeds
-counts_at_sum : (c : Counts) → (n : ℕ) × CountsAtMost n c
-counts_at_sum c = (
-  c.turns + c.beats + c.keys + c.ticks + c.retired + c.traps + c.enters + c.leaves + c.demotes + c.denied + c.dropped + c.loads + c.unloads + c.refused + c.notes,
-  record {
-    turns = omega arith;
-    beats = omega arith;
-    keys = omega arith;
-    ticks = omega arith;
-    retired = omega arith;
-    traps = omega arith;
-    enters = omega arith;
-    leaves = omega arith;
-    demotes = omega arith;
-    denied = omega arith;
-    dropped = omega arith;
-    loads = omega arith;
-    unloads = omega arith;
-    refused = omega arith;
-    notes = omega arith;
-  },
-)
-
 pub prints_behind : (r : State) (e : Event) → (more : List ℕ) × ((step r e).journal.printed ≡ r.journal.printed ++ more)
-prints_behind r e = let at = counts_at_sum r.journal.counts in (grows_law r e at.0 at.1).behind
+prints_behind r e = (grows_law r e).behind
 
-grows : (n : ℕ) (m : Machine) (r : State) (e : Event) → StandsFor m r → CountsAtMost n m.journal.counts → Grows n r.journal (step r e).journal
-grows n m r e s counts = grows_law r e n (subst (λ (c : Counts). CountsAtMost n c) (counts_are m r s) counts)
+risen : (n : ℕ) (old new : Counts) → RiseByOne old new → CountsAtMost n old → CountsAtMost (n + 1) new
+risen n old new rise most = record {
+  turns = omega (arith, rise.turns, most.turns);
+  beats = omega (arith, rise.beats, most.beats);
+  keys = omega (arith, rise.keys, most.keys);
+  ticks = omega (arith, rise.ticks, most.ticks);
+  retired = omega (arith, rise.retired, most.retired);
+  traps = omega (arith, rise.traps, most.traps);
+  enters = omega (arith, rise.enters, most.enters);
+  leaves = omega (arith, rise.leaves, most.leaves);
+  demotes = omega (arith, rise.demotes, most.demotes);
+  denied = omega (arith, rise.denied, most.denied);
+  dropped = omega (arith, rise.dropped, most.dropped);
+  loads = omega (arith, rise.loads, most.loads);
+  unloads = omega (arith, rise.unloads, most.unloads);
+  refused = omega (arith, rise.refused, most.refused);
+  notes = omega (arith, rise.notes, most.notes);
+}
 
 -- an event raises no count by more than one
 pub step_counts : (n : ℕ) (m next : Machine) (r : State) (e : Event) → StandsFor m r → StandsFor next (step r e) → CountsAtMost n m.journal.counts →
     CountsAtMost (n + 1) next.journal.counts
 step_counts n m next r e s after counts =
-    subst (λ (c : Counts). CountsAtMost (n + 1) c) (sym (counts_are next (step r e) after)) (grows n m r e s counts).counts
+    subst (λ (c : Counts). CountsAtMost (n + 1) c) (sym (counts_are next (step r e) after))
+    (risen n r.journal.counts (step r e).journal.counts (grows_law r e).counts (subst (λ (c : Counts). CountsAtMost n c) (counts_are m r s) counts))
 
 left_over : (m : Machine) (r : State) → StandsFor m r → length m.journal.printed + m.cleared ≡ length r.journal.printed
 left_over m r s =
@@ -147,10 +149,10 @@ left_over m r s =
     omega arith
 
 -- an event prints one byte at most
-pub step_room : (n : ℕ) (m next : Machine) (r : State) (e : Event) → StandsFor m r → StandsFor next (step r e) → IsEvent m e next → CountsAtMost n m.journal.counts →
+pub step_room : (m next : Machine) (r : State) (e : Event) → StandsFor m r → StandsFor next (step r e) → IsEvent m e next →
     length next.journal.printed ≤ length m.journal.printed + 1
-step_room n m next r e s after event counts =
-    let grown = (grows n m r e s counts).console in
+step_room m next r e s after event =
+    let grown = (grows_law r e).console in
     let before = left_over m r s in
     let behind = left_over next (step r e) after in
     let same = event_keeps m e next event in

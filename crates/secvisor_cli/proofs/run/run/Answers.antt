@@ -36,7 +36,7 @@ flush_full-requires g c =
     record {
       is_open = subst (λ b. IsTrue b) (sym (ap (λ (s : SinkState). s.is_open) c.events.invariant.taken.taken)) c.requires.is_open;
       count = subst (λ n. n < 18446744073709551615) (sym (ap (λ (s : SinkState). s.faults) c.events.invariant.taken.taken)) c.requires.count;
-      room = room_after c.events.i c.events.machine c.step.new.self _ c.events.invariant.has c.events.invariant.counts steps c.events.invariant.room;
+      room = room_after c.events.machine c.step.new.self _ c.events.invariant.has steps c.events.invariant.room;
     }
 
 pub returns-in_err-flush_full-clause-some : goal.returns-in_err-flush_full-clause-some
