@@ -1,33 +1,47 @@
--- The gate's records are those of the machine that the parts are put into.
-use Rattle.std.proofs.Common.{◌≡◌, ℕ, zero, suc, List, [], ◌∷◌, refl, ◌∙◌, ap, Bool, slice_set}
-use Rattle.std.specs.Prelude.{Option, Some, None, is_some, option_map}
+-- What holds of the load under way, from what each answer keeps.
+use Rattle.std.proofs.Common.{◌≡◌, ℕ, List, refl, sym, ◌∙◌, ap, subst, Bool, true, false}
+use Rattle.std.specs.Prelude.{Option, Some, None, IfSome, is_some, option_map, slice_get}
 use Rattle.sv_types.specs.Policies.{Rules}
-use Rattle.machine_model.specs.Machine.{Machine, HostHart, update}
-use Rattle.module_gate.specs.Gates.{Records}
-use Rattle.module_answers.specs.Conditions.{AreJoined}
+use Rattle.sv_types.specs.declared.module.Span.{Span}
+use Rattle.sv_types.specs.declared.wires.Protection.{Protection}
+use Rattle.sv_types.specs.declared.wires.Protection.TheVariants.{Held}
+use Rattle.page_guard.specs.Guarded.{AllAre, IsInRam}
+use Rattle.module_gate.specs.Gates.{load_span, module_span, pages_at}
+use Rattle.module_answers.specs.Conditions.{AreJoined, AreGuarded, IsHeld, MayEnd, TakesItsPages}
 use Rattle.module_answers.specs.Parts.{load_of, loading_of}
 use Rattle.module_answers.specs.declared.modules.Modules.{Modules}
 use Rattle.module_answers.specs.declared.modules.UnderWay.{UnderWay}
 
--- what a gate knows of a machine
-abbrev pub records_in : Machine → Records
-records_in m = record { loaded = m.loaded; loading = is_some m.loading; retired = m.retired }
+pub takes_its_pages : (rules : Rules) (modules : Modules) (u : UnderWay) → AreJoined rules modules → modules.loading ≡ Some u → TakesItsPages rules u
+takes_its_pages rules modules u joined there = subst (λ (o : Option UnderWay). IfSome o (TakesItsPages rules)) there joined.pages
 
--- the gate with another answer to whether a load is under way
-abbrev pub where_loading : Records → Bool → Records
-where_loading gate loading = record { loaded = gate.loaded; loading = loading; retired = gate.retired }
+pub is_held : (rules : Rules) (guard : List Protection) (modules : Modules) (u : UnderWay) → AreGuarded rules guard modules.gate.loaded (loading_of modules) → modules.loading ≡ Some u
+    → IsHeld rules guard modules.gate.loaded (load_of u)
+is_held rules guard modules u guarded there = subst (λ (o : Option UnderWay). IfSome (option_map load_of o) (IsHeld rules guard modules.gate.loaded)) there guarded.load
 
-same_there : (o : Option UnderWay) → is_some o ≡ is_some (option_map load_of o)
-same_there None = refl
-same_there (Some u) = refl
+pub under_way_there : (rules : Rules) (modules : Modules) (u : UnderWay) → AreJoined rules modules → modules.loading ≡ Some u → modules.gate.loading ≡ true
+under_way_there rules modules u joined there = joined.gate ∙ ap is_some there
 
-pub gate_is : (rules : Rules) (modules : Modules) → AreJoined rules modules → modules.gate ≡ where_loading modules.gate (is_some (loading_of modules))
-gate_is rules modules joined = ap (where_loading modules.gate) (joined.gate ∙ same_there modules.loading)
+same_span : (rules : Rules) (u : UnderWay) → TakesItsPages rules u → module_span rules u.load.about ≡ load_span u.load
+same_span rules u pages = ap (pages_at u.load.about.gpa) pages
 
--- a hart that was put in is changed in place
-pub update_there : (harts : List HostHart) (h : ℕ) (host : HostHart) (change : HostHart → HostHart)
-    → update (slice_set harts h host) h change ≡ slice_set harts h (change host)
-unfolding update
-update_there [] h host change = refl
-update_there (x ∷ harts) zero host change = refl
-update_there (x ∷ harts) (suc h) host change = ap (◌∷◌ x) (update_there harts h host change)
+pub may_end : (rules : Rules) (guard : List Protection) (modules : Modules) (u : UnderWay) → AreJoined rules modules → AreGuarded rules guard modules.gate.loaded (loading_of modules)
+    → modules.loading ≡ Some u → MayEnd guard modules.gate.loaded u
+may_end rules guard modules u joined guarded there =
+    let held = is_held rules guard modules u guarded there in
+    let same = same_span rules u (takes_its_pages rules modules u joined there) in
+    record {
+      inside = subst (IsInRam guard) same held.inside;
+      held = subst (λ (s : Span). AllAre guard s Held) same held.held;
+      other = held.other;
+    }
+
+none_by : (o : Option UnderWay) → is_some (option_map load_of o) ≡ false → o ≡ None
+none_by None e = refl
+none_by (Some u) e = cc
+
+pub none_under_way : (modules : Modules) → is_some (loading_of modules) ≡ false → modules.loading ≡ None
+none_under_way modules idle = none_by modules.loading idle
+
+pub gate_idle : (rules : Rules) (modules : Modules) → AreJoined rules modules → is_some (loading_of modules) ≡ false → modules.gate.loading ≡ false
+gate_idle rules modules joined idle = joined.gate ∙ ap is_some (none_under_way modules idle)

@@ -1,5 +1,4 @@
+pub mod Given
 pub mod Joined
-pub mod LoadCalls
 pub mod LoadTurns
-pub mod RetireCalls
-pub mod UnloadCalls
+pub mod PagesGiven

@@ -1,19 +1,17 @@
--- A machine, whatever its other parts are, with those put in that calls about modules see. This project's own.
-use Rattle.std.specs.Prelude.{ℕ, ℤ, Bool, if◌then◌else◌, List, Option, Some, None, map, option_map, slice_set}
+-- A machine, whatever its other parts are, with those put in that answers about modules change, and the facts that decide them.
+-- This project's own.
+use Rattle.std.specs.Prelude.{ℕ, Bool, not, List, Option, Some, None, map, option_map, is_some}
 use Rattle.sv_types.specs.Policies.{Rules}
 use Rattle.sv_types.specs.Regions.{Region}
 use Rattle.sv_types.specs.declared.wires.Protection.{Protection}
 use Rattle.sv_types.specs.declared.wires.Protection.TheVariants.{Free}
-use Rattle.reference.specs.Calls.{Asked, success}
-use Rattle.reference.specs.ModuleCalls.{refused_by_measure}
-use Rattle.reference.specs.Protections.{is_free}
-use Rattle.reference.specs.States.{Journal}
-use Rattle.machine_model.specs.Machine.{Machine, HostHart, HostLoad}
+use Rattle.reference.specs.Calls.{Facts}
+use Rattle.reference.specs.Protections.{is_free, protection_at}
+use Rattle.machine_model.specs.Machine.{Machine, HostLoad}
 use Rattle.page_guard.specs.Guarded.{with_span}
 use Rattle.module_gate.specs.Gates.{host_load, load_span}
 use Rattle.module_answers.specs.declared.modules.Modules.{Modules}
 use Rattle.module_answers.specs.declared.modules.UnderWay.{UnderWay}
-use Rattle.module_answers.specs.declared.calls.ModuleCall.{ModuleCall}
 
 -- a load under way, as the machine records it
 abbrev pub load_of : UnderWay → HostLoad
@@ -22,33 +20,29 @@ load_of u = host_load u.hart u.load
 abbrev pub loading_of : Modules → Option HostLoad
 loading_of modules = option_map load_of modules.loading
 
-abbrev pub moduled : Machine → Rules → Region → ℕ → HostHart → List Protection → Modules → Journal → Machine
-moduled m rules region h host guard modules journal = record m {
+abbrev pub moduled : Machine → Rules → Region → List Protection → Modules → Machine
+moduled m rules region guard modules = record m {
   rules = rules;
   region = region;
-  harts = slice_set m.harts h host;
   protections = guard;
   dma = map is_free guard;
   loaded = modules.gate.loaded;
   loading = loading_of modules;
   retired = modules.gate.retired;
-  journal = journal;
 }
 
--- what a call asks, of the extension of a number
-abbrev pub asked_of : ℕ → ModuleCall → Asked
-asked_of extension call = record {
-  extension = extension;
-  function = call.function;
-  a0 = call.id;
-  a1 = call.gpa;
-  a2 = call.va;
-  a3 = call.data_va;
+-- what answers depend on; about modules they don't on harts and input
+abbrev pub facts_in : (started : List Bool) → (input : List ℕ) → Rules → (ram : List ℕ) → (guard : List Protection) → Modules → Facts
+facts_in started input rules ram guard modules = record {
+  rules = rules;
+  started = started;
+  input = input;
+  ram = ram;
+  protected = λ page. not (is_free (protection_at guard page));
+  loads = is_some (loading_of modules);
+  loaded = modules.gate.loaded;
+  retired = modules.gate.retired;
 }
-
--- the code of a decision
-abbrev pub decision : Bool → ℤ
-decision good = if good then success else refused_by_measure
 
 -- the protections with the pages of a load under way, if one is, free again
 abbrev pub without_load : List Protection → Option UnderWay → List Protection

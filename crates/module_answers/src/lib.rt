@@ -1,13 +1,14 @@
-//! SecVisor's answers to the calls that load and unload modules, and the turns of a load that is under way.
+//! SecVisor's answers to the calls that load and unload modules, and the load that is under way.
 #![tactic(auto)]
 
-mod answers;
-mod calls;
+mod decisions;
+mod giving;
 mod modules;
 #[cfg(test)]
 mod tests;
 mod turns;
 
-pub use calls::{ModuleCall, serve_module_call};
+pub use decisions::module_answer;
+pub use giving::give_pages;
 pub use modules::{Modules, UnderWay};
-pub use turns::serve_load_turn;
+pub use turns::load_turn;

@@ -1,6 +1,6 @@
 // The gate of modules with the load that is under way.
 
-ghost use Rattle.std.specs.Prelude.{◌≡◌, Some, None, IfOk};
+ghost use Rattle.std.specs.Prelude.{◌≡◌, Some, None, IfOk, is_some};
 ghost use Rattle.sv_types.specs.Policies.{rules_of};
 ghost use Rattle.page_guard.specs.Guarded.{IsTheirs};
 ghost use Rattle.module_gate.specs.Gates.{no_modules};
@@ -39,6 +39,16 @@ impl Modules {
         })
     }
 
+    /// Whether a load is under way.
+    pub fn is_loading(&self) -> bool
+        ensures { result ≡ is_some (loading_of self.now) }
+    {
+        match &self.loading {
+            None => false,
+            Some(_) => true,
+        }
+    }
+
     /// Frees the pages of a load that is under way, and drops the rest.
     pub fn end(self, guard: &mut Guard, mem: &mut HostMem, policy: &Policy)
         requires joined { AreJoined (rules_of policy.now) self }
@@ -50,7 +60,7 @@ impl Modules {
     {
         let Modules { mut gate, loading } = self;
         if let Some(UnderWay { hart: _, load }) = loading {
-            load.cancel(&mut gate, guard, mem);
+            load.release(&mut gate, guard, mem);
         }
     }
 }

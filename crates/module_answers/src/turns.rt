@@ -1,47 +1,24 @@
 // The turns of a load under way.
 
-ghost use Rattle.std.specs.Prelude.{◌≡◌, ◌+◌, ◌-◌, ◌*◌, ◌<◌, ◌≤◌, ◌%◌, ℕ, suc, true, false, length, IsTrue, slice_get, if◌then◌else◌};
+ghost use Rattle.std.specs.Prelude.{◌≡◌, ◌+◌, ◌-◌, ◌*◌, ◌<◌, ◌≤◌, ℕ, suc, Some, None, List, length, IfSome, OnSome, IsTrue, slice_get};
 ghost use Rattle.sv_types.specs.Bytes.{page_size, page_of, page_bytes};
 ghost use Rattle.sv_types.specs.Policies.{rules_of, rules_within};
-ghost use Rattle.sv_types.specs.declared.event.Note.TheVariants.{Load as Loaded};
-ghost use Rattle.sv_types.specs.declared.wires.Mode.{Mode as Privilege};
-ghost use Rattle.sv_types.specs.declared.wires.Protection.TheVariants.{Free, Held, Approved};
-ghost use Rattle.reference.specs.Calls.{code_word};
-ghost use Rattle.reference.specs.Counting.{MayCount, counted, noted, count_load};
-ghost use Rattle.reference.specs.ModuleCalls.{count_answer};
-ghost use Rattle.reference.specs.States.{find_module, pages_in_rule};
-ghost use Rattle.machine_model.specs.HostExits.{host_is_good, load_counted, served_load_turn, with_tables};
-ghost use Rattle.machine_model.specs.HostHarts.{host_answered};
+ghost use Rattle.sv_types.specs.declared.wires.Protection.{Protection};
+ghost use Rattle.reference.specs.ModuleCalls.{load_decision};
+ghost use Rattle.reference.specs.States.{pages_in_rule};
+ghost use Rattle.machine_model.specs.HostCalls.{host_given};
+ghost use Rattle.machine_model.specs.HostExits.{host_is_good, load_counted, served_load_turn};
 ghost use Rattle.machine_model.specs.Machine.{Machine};
-ghost use Rattle.page_guard.specs.Guarded.{with_span, IsInRam, AllAre, IsTheirs};
-ghost use Rattle.hart_answers.specs.Hosts.{host_of};
-ghost use Rattle.module_gate.specs.Gates.{host_load, load_span, decided};
-ghost use Rattle.module_answers.specs.Changes.{turn_changes};
-ghost use Rattle.module_answers.specs.Conditions.{AreJoined, AreGuarded};
-ghost use Rattle.module_answers.specs.Parts.{moduled, loading_of, decision};
+ghost use Rattle.module_gate.specs.Gates.{host_load};
+ghost use Rattle.module_answers.specs.Conditions.{AreJoined, IsReadable, IsGiven};
+ghost use Rattle.module_answers.specs.Parts.{moduled};
 
-use crate::answers::answer_load;
-use crate::calls::SUCCESS;
+use crate::decisions::load_decision;
 use crate::modules::{Modules, UnderWay, put_load};
-use hart::Hart;
 use host_mem::HostMem;
-use journal_records::Journal;
-use module_gate::{Gate, Load};
-use page_guard::Guard;
-use sv_types::{PAGE_BYTES, Policy, RAM_BASE};
-
-/// The code of a load whose pages aren't as the policy measured them, or whose fields aren't right.
-const REFUSED_BY_MEASURE: i64 = -4;
-
-// The number of a module's pages, 0 where the policy has no such module.
-fn pages_of(policy: &Policy, id: u64) -> u32
-    ensures { result ≡ pages_in_rule (slice_get (rules_of policy.now).modules id) }
-{
-    match policy.modules.get(id as usize) {
-        Some(rule) => rule.pages,
-        None => 0,
-    }
-}
+use module_gate::{Load, page_number, pages_of};
+use reference::Answer;
+use sv_types::Policy;
 
 // The bytes of the next page of the module, as RAM has them now.
 fn next_page<'a>(load: &Load, mem: &'a HostMem, policy: &Policy) -> &'a [u8]
@@ -53,7 +30,7 @@ fn next_page<'a>(load: &Load, mem: &'a HostMem, policy: &Policy) -> &'a [u8]
     ensures size { length result.now ≡ page_size }
 {
     let about = load.about();
-    let first = about.gpa.saturating_sub(RAM_BASE) / PAGE_BYTES;
+    let first = page_number(about.gpa);
     let ram_pages = mem.ram_pages() as u64;
     prove!(first < ram_pages);
     let counted = pages_of(policy, about.id) - load.left();
@@ -73,92 +50,28 @@ fn count_page(load: &mut Load, mem: &HostMem, policy: &Policy)
     load.page(policy, next_page(load, mem, policy));
 }
 
-// The decision of a load of which all pages are counted: the module is loaded, or its pages are free again. Says which.
-fn decide(
-    which: u8,
-    hart: &mut Hart,
-    guard: &mut Guard,
-    mem: &mut HostMem,
-    policy: &Policy,
-    gate: &mut Gate,
-    journal: &mut Journal,
-    load: Load,
-) -> bool
-    requires counts { MayCount journal.old.counts }
-    requires under_way { gate.old.loading ≡ true }
-    requires other { find_module gate.old.loaded load.about.id ≡ None }
-    requires counted { load.left ≡ 0 }
-    requires inside { IsInRam guard.old (load_span load) }
-    requires held { AllAre guard.old (load_span load) Held }
-    requires theirs { IsTheirs mem.old guard.old }
-    ensures answer { (asker : ℕ) → result ≡ host_is_good (host_load asker load) (slice_get (rules_of policy.now).modules load.about.id) }
-    ensures gate { gate.new ≡ decided gate.old load.about result }
-    ensures guard { guard.new ≡ with_span guard.old (load_span load) (if result then Approved else Free) }
-    ensures hart { (mode : Privilege) → host_of hart.new mode ≡ host_answered (code_word (decision result)) 0 (host_of hart.old mode) }
-    ensures journal { journal.new ≡ noted (Loaded which journal.old.counts.turns load.about.id (decision result)) (counted (count_answer (decision result)) (if result then counted count_load journal.old else journal.old)) }
-    ensures size { length guard.new ≡ length guard.old }
-    ensures theirs { IsTheirs mem.new guard.new }
-    ensures ram { mem.new.ram ≡ mem.old.ram }
-    ensures id { hart.new.id ≡ hart.old.id }
-{
-    let id = load.about().id;
-    if load.decide(gate, guard, mem, policy) {
-        journal.count_load();
-        answer_load(which, hart, journal, id, SUCCESS);
-        true
-    } else {
-        answer_load(which, hart, journal, id, REFUSED_BY_MEASURE);
-        false
-    }
-}
-
-/// A turn of a load under way, if one is: the next page is counted, or, where none is left, the load is decided. Says
-/// whether it set protections.
-pub fn serve_load_turn(
-    which: u8,
-    hart: &mut Hart,
-    guard: &mut Guard,
-    mem: &mut HostMem,
-    policy: &Policy,
-    modules: &mut Modules,
-    journal: &mut Journal,
-) -> bool
+/// A turn of a load under way: the next page is counted, or, where none is left, the load's decision is the answer. None also
+/// where no load is under way.
+pub fn load_turn(mem: &HostMem, policy: &Policy, modules: &mut Modules) -> Option<Answer>
     requires within { IsTrue (rules_within (rules_of policy.now)) }
-    requires theirs { IsTheirs mem.old guard.old }
-    requires counts { MayCount journal.old.counts }
     requires joined { AreJoined (rules_of policy.now) modules.old }
-    requires guarded { AreGuarded (rules_of policy.now) guard.old modules.old.gate.loaded (loading_of modules.old) }
-    ensures machine { (m : Machine) (mode : Privilege) → moduled m (rules_of policy.now) mem.new which (host_of hart.new mode) guard.new modules.new journal.new ≡ with_tables (served_load_turn (moduled m (rules_of policy.now) mem.old which (host_of hart.old mode) guard.old modules.old journal.old) which) mem.new.tables }
-    ensures changed { result ≡ turn_changes modules.old.loading }
-    ensures kept { result ≡ false → (guard.new ≡ guard.old) × (mem.new ≡ mem.old) }
+    requires readable { IsReadable (rules_of policy.now) mem.now modules.old }
+    ensures counted { result ≡ None → (m : Machine) (h : ℕ) (guard : List Protection) → moduled m (rules_of policy.now) mem.now guard modules.new ≡ served_load_turn (moduled m (rules_of policy.now) mem.now guard modules.old) h }
+    ensures decided { IfSome result (λ answer. (m : Machine) (h : ℕ) (guard : List Protection) → served_load_turn (moduled m (rules_of policy.now) mem.now guard modules.old) h ≡ host_given (moduled m (rules_of policy.now) mem.now guard modules.old) h answer) }
+    ensures given { IfSome result (λ answer. (guard : List Protection) → IsGiven (rules_of policy.now) mem.now.ram guard modules.old answer.beside) }
+    ensures kept { OnSome result (modules.new ≡ modules.old) }
     ensures joined { AreJoined (rules_of policy.now) modules.new }
-    ensures size { length guard.new ≡ length guard.old }
-    ensures theirs { IsTheirs mem.new guard.new }
-    ensures ram { mem.new.ram ≡ mem.old.ram }
-    ensures id { hart.new.id ≡ hart.old.id }
 {
-    let Some(under_way) = modules.loading.take() else {
-        return false;
+    let Some(UnderWay { hart, mut load }) = modules.loading.take() else {
+        return None;
     };
-    let UnderWay {
-        hart: asker,
-        mut load,
-    } = under_way;
     if load.left() == 0 {
-        decide(
-            which,
-            hart,
-            guard,
-            mem,
-            policy,
-            &mut modules.gate,
-            journal,
-            load,
-        );
-        true
+        let answer = load_decision(load.is_good(policy), load.about());
+        put_load(modules, hart, load);
+        Some(answer)
     } else {
         count_page(&mut load, mem, policy);
-        put_load(modules, asker, load);
-        false
+        put_load(modules, hart, load);
+        None
     }
 }

@@ -1,0 +1,49 @@
+-- What each answer makes of pages and modules is what the machine's does.
+use Rattle.std.proofs.Common.{◌≡◌, ℕ, List, refl, sym, ap, subst, true, false}
+use Rattle.std.specs.Prelude.{Option, Some, None, IfSome, slice_get}
+use Rattle.sv_types.specs.Policies.{Rules}
+use Rattle.sv_types.specs.Regions.{Region}
+use Rattle.sv_types.specs.declared.saved.SavedModule.{SavedModule}
+use Rattle.sv_types.specs.declared.wires.Protection.{Protection}
+use Rattle.sv_types.specs.declared.wires.Protection.TheVariants.{Free, Held, Approved}
+use Rattle.reference.specs.States.{pages_in_rule, with_module}
+use Rattle.reference.specs.declared.answers.Beside.TheVariants.{BeginsLoad, ApprovesModule, ReleasesModule}
+use Rattle.machine_model.specs.HostCalls.{host_pages_beside}
+use Rattle.machine_model.specs.HostExits.{with_tables}
+use Rattle.machine_model.specs.Machine.{Machine}
+use Rattle.page_guard.specs.Guarded.{with_span}
+use Rattle.module_gate.specs.Gates.{PageTurns, begun, load_span, pages_at}
+use Rattle.module_answers.specs.Parts.{moduled}
+use Rattle.module_answers.specs.declared.modules.Modules.{Modules}
+use Rattle.module_answers.specs.declared.modules.UnderWay.{UnderWay}
+
+pub at_load : (P : UnderWay → Type 0) (o : Option UnderWay) (u : UnderWay) → o ≡ Some u → IfSome o P → P u
+at_load P o u there holds = subst (λ (o : Option UnderWay). IfSome o P) there holds
+
+module _ (m : Machine) (rules : Rules) (region : Region) (h : ℕ) (guard : List Protection) (modules : Modules) (tables : List ℕ) where
+  abbrev after : List Protection → Modules → Machine
+  after guard modules = moduled m rules (record region { tables = tables }) guard modules
+
+  abbrev old : Machine
+  old = moduled m rules region guard modules
+
+  pub begins : (about : SavedModule) (pages asked : ℕ) → pages ≡ asked
+      → after (with_span guard (load_span (begun about pages)) Held) (record { gate = record modules.gate { loading = true }; loading = Some (record { hart = h; load = begun about pages }) })
+      ≡ with_tables (host_pages_beside (BeginsLoad about asked) h old) tables
+  unfolding host_pages_beside
+  begins about pages asked same =
+      ap (λ (k : ℕ). after (with_span guard (load_span (begun about k)) Held) (record { gate = record modules.gate { loading = true }; loading = Some (record { hart = h; load = begun about k }) })) same
+
+  pub approves : (load : PageTurns) → pages_in_rule (slice_get rules.modules load.about.id) ≡ load.pages
+      → after (with_span guard (load_span load) Approved) (record { gate = record modules.gate { loaded = with_module modules.gate.loaded load.about; loading = false }; loading = None })
+      ≡ with_tables (host_pages_beside (ApprovesModule load.about) h old) tables
+  unfolding host_pages_beside
+  approves load takes =
+      ap (λ (k : ℕ). after (with_span guard (pages_at load.about.gpa k) Approved) (record { gate = record modules.gate { loaded = with_module modules.gate.loaded load.about; loading = false }; loading = None })) (sym takes)
+
+  pub releases : (load : PageTurns) → pages_in_rule (slice_get rules.modules load.about.id) ≡ load.pages
+      → after (with_span guard (load_span load) Free) (record { gate = record modules.gate { loading = false }; loading = None })
+      ≡ with_tables (host_pages_beside (ReleasesModule load.about) h old) tables
+  unfolding host_pages_beside
+  releases load takes =
+      ap (λ (k : ℕ). after (with_span guard (pages_at load.about.gpa k) Free) (record { gate = record modules.gate { loading = false }; loading = None })) (sym takes)

@@ -1,0 +1,117 @@
+// What an answer does to pages and modules.
+
+ghost use Rattle.std.specs.Prelude.{◌≡◌, false, true, Some, None, length, IsTrue, IsSome, IfSome, slice_get};
+ghost use Rattle.sv_types.specs.Policies.{rules_of, rules_within};
+ghost use Rattle.sv_types.specs.declared.wires.Protection.TheVariants.{Free, Held, Approved};
+ghost use Rattle.reference.specs.States.{with_module, pages_in_rule};
+ghost use Rattle.machine_model.specs.HostCalls.{host_pages_beside};
+ghost use Rattle.machine_model.specs.HostExits.{with_tables};
+ghost use Rattle.machine_model.specs.Machine.{Machine};
+ghost use Rattle.page_guard.specs.Guarded.{with_span, IsTheirs};
+ghost use Rattle.module_gate.specs.Gates.{begun, is_good_place, load_span};
+ghost use Rattle.module_answers.specs.Changes.{sets_protections};
+ghost use Rattle.module_answers.specs.Conditions.{AreJoined, AreGuarded, MayEnd, IsGiven};
+ghost use Rattle.module_answers.specs.Parts.{moduled, loading_of};
+
+use crate::modules::{Modules, UnderWay, put_load};
+use host_mem::HostMem;
+use page_guard::Guard;
+use reference::Beside;
+use sv_types::{Policy, SavedModule};
+
+// A load begins.
+fn begin_load(
+    which: u8,
+    guard: &mut Guard,
+    mem: &mut HostMem,
+    policy: &Policy,
+    modules: &mut Modules,
+    about: SavedModule,
+)
+    requires within { IsTrue (rules_within (rules_of policy.now)) }
+    requires theirs { IsTheirs mem.old guard.old }
+    requires known { IsSome (slice_get (rules_of policy.now).modules about.id) }
+    requires none { modules.old.loading ≡ None }
+    requires idle { modules.old.gate.loading ≡ false }
+    requires place { is_good_place mem.old.ram guard.old about (pages_in_rule (slice_get (rules_of policy.now).modules about.id)) ≡ true }
+    ensures modules { modules.new ≡ record { gate = record modules.old.gate { loading = true }; loading = Some (record { hart = which; load = begun about (pages_in_rule (slice_get (rules_of policy.now).modules about.id)) }) } }
+    ensures guard { guard.new ≡ with_span guard.old (load_span (begun about (pages_in_rule (slice_get (rules_of policy.now).modules about.id)))) Held }
+    ensures size { length guard.new ≡ length guard.old }
+    ensures theirs { IsTheirs mem.new guard.new }
+    ensures ram { mem.new.ram ≡ mem.old.ram }
+{
+    let load = modules.gate.begin(guard, mem, policy, about);
+    put_load(modules, which, load);
+}
+
+// The load under way ends, and its pages are approved.
+fn approve_load(guard: &mut Guard, mem: &mut HostMem, modules: &mut Modules)
+    requires theirs { IsTheirs mem.old guard.old }
+    requires may { IfSome modules.old.loading (MayEnd guard.old modules.old.gate.loaded) }
+    requires there { IsSome modules.old.loading }
+    requires counted { IfSome modules.old.loading (λ u. u.load.left ≡ 0) }
+    ensures modules { IfSome modules.old.loading (λ u. modules.new ≡ record { gate = record modules.old.gate { loaded = with_module modules.old.gate.loaded u.load.about; loading = false }; loading = None }) }
+    ensures guard { IfSome modules.old.loading (λ u. guard.new ≡ with_span guard.old (load_span u.load) Approved) }
+    ensures size { length guard.new ≡ length guard.old }
+    ensures theirs { IsTheirs mem.new guard.new }
+    ensures ram { mem.new.ram ≡ mem.old.ram }
+{
+    let Some(UnderWay { hart: _, load }) = modules.loading.take() else {
+        unreachable!();
+    };
+    load.approve(&mut modules.gate, guard, mem);
+}
+
+// The load under way ends, and its pages are free again.
+fn release_load(guard: &mut Guard, mem: &mut HostMem, modules: &mut Modules)
+    requires theirs { IsTheirs mem.old guard.old }
+    requires may { IfSome modules.old.loading (MayEnd guard.old modules.old.gate.loaded) }
+    requires there { IsSome modules.old.loading }
+    ensures modules { IfSome modules.old.loading (λ u. modules.new ≡ record { gate = record modules.old.gate { loading = false }; loading = None }) }
+    ensures guard { IfSome modules.old.loading (λ u. guard.new ≡ with_span guard.old (load_span u.load) Free) }
+    ensures size { length guard.new ≡ length guard.old }
+    ensures theirs { IsTheirs mem.new guard.new }
+    ensures ram { mem.new.ram ≡ mem.old.ram }
+{
+    let Some(UnderWay { hart: _, load }) = modules.loading.take() else {
+        unreachable!();
+    };
+    load.release(&mut modules.gate, guard, mem);
+}
+
+/// Does to pages and modules what happens beside a reply. It is what a call, or the end of the load under way, is answered.
+/// Says whether it set protections.
+#[tactic(auto, unfolding(machine_model::specs::HostCalls::host_pages_beside, crate::specs::Changes::sets_protections))]
+pub fn give_pages(
+    which: u8,
+    guard: &mut Guard,
+    mem: &mut HostMem,
+    policy: &Policy,
+    modules: &mut Modules,
+    beside: &Beside,
+) -> bool
+    requires within { IsTrue (rules_within (rules_of policy.now)) }
+    requires theirs { IsTheirs mem.old guard.old }
+    requires joined { AreJoined (rules_of policy.now) modules.old }
+    requires guarded { AreGuarded (rules_of policy.now) guard.old modules.old.gate.loaded (loading_of modules.old) }
+    requires given { IsGiven (rules_of policy.now) mem.old.ram guard.old modules.old beside.now }
+    ensures machine { (m : Machine) → moduled m (rules_of policy.now) mem.new guard.new modules.new ≡ with_tables (host_pages_beside beside.now which (moduled m (rules_of policy.now) mem.old guard.old modules.old)) mem.new.tables }
+    ensures changed { result ≡ sets_protections beside.now }
+    ensures kept { result ≡ false → (guard.new ≡ guard.old) × (mem.new ≡ mem.old) }
+    ensures joined { AreJoined (rules_of policy.now) modules.new }
+    ensures size { length guard.new ≡ length guard.old }
+    ensures theirs { IsTheirs mem.new guard.new }
+    ensures ram { mem.new.ram ≡ mem.old.ram }
+{
+    match *beside {
+        Beside::BeginsLoad { about, pages: _ } => {
+            begin_load(which, guard, mem, policy, modules, about);
+        }
+        Beside::ApprovesModule { about: _ } => approve_load(guard, mem, modules),
+        Beside::ReleasesModule { about: _ } => release_load(guard, mem, modules),
+        Beside::UnloadsModule { about } => modules.gate.unload(guard, mem, policy, &about),
+        Beside::RetiresInit { span } => modules.gate.retire(guard, mem, policy, span),
+        _ => return false,
+    }
+    true
+}
