@@ -1,6 +1,7 @@
 -- A policy within its limits reads back from its printed table.
 use Rattle.std.proofs.Common.{◌≡◌, ℕ, ◌+◌, ◌*◌, ◌/◌, ◌%◌, ◌<◌, ◌≤◌, ◌-◌, nat_le, codes, pos, Bool, true, false, not, List, [], ◌∷◌, length, Option, Some, None, Ok, refl, sym, ap, subst, arith, if◌then◌else◌, ◌==◌}
 use Rattle.std.proofs.lemmas.Bool.{and_parts, leb-true, le-leb, eqb-true}
+use Rattle.std.proofs.lemmas.List.{nil_from_length}
 use Rattle.std.proofs.lemmas.Bool.Decides.{nat_tests}
 use Rattle.std.specs.List.{All}
 use Rattle.toml.specs.Data.{Members, get_member}
@@ -117,8 +118,8 @@ format_back n within = rw within (ap Ok (sym (eqb-true n 1 within)))
 
 -- in format 1 no entry is bound
 none_bound : (bound : List ℕ) (first other : Bool) → first ≡ true → (if first then length bound == 0 else other) ≡ true → bound ≡ []
-none_bound [] first other is within = refl
-none_bound (gpa ∷ bound) first other is within = rw is at within (cc within)
+none_bound bound true other is within = nil_from_length bound (eqb-true (length bound) 0 within)
+none_bound bound false other is within = absurd (cc is)
 
 -- what reading the parts of a printed policy gives
 record Back (r : Rules) : Type 0 where
@@ -183,7 +184,7 @@ pub rules_back : (r : Rules) → IsPolicy r → rules_within r ≡ true → rule
 rules_back r is within =
     let back = parts_back r is within in
     let same : r ≡ rules_from r.format r.harts r.ram_pages r.entries r.exports r.kernel r.init r.modules =
-        ap (λ (bound : List ℕ). record r { bound = bound }) back.bound in
+    ap (λ (bound : List ℕ). record r { bound = bound }) back.bound in
     subst (λ (x : Rules). rules_of_members (rules_members x) ≡ Ok x) (sym same)
     (lists_back r.format r.harts r.ram_pages r.entries r.exports r.kernel r.init r.modules (subst Back same back))
 
