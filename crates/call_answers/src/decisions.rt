@@ -20,6 +20,28 @@ const IMPLEMENTATION: u64 = 0x0053_4543;
 
 const VERSION: u64 = 1;
 
+// The functions of the base extension. From the vendor to the machine they tell who made it, which is nobody.
+
+const GET_SPECIFICATION: u64 = 0;
+
+const GET_IMPLEMENTATION: u64 = 1;
+
+const GET_VERSION: u64 = 2;
+
+const PROBE: u64 = 3;
+
+const GET_VENDOR: u64 = 4;
+
+const GET_MACHINE: u64 = 6;
+
+// The functions of hart state management.
+
+const START: u64 = 0;
+
+const STOP: u64 = 1;
+
+const STATUS: u64 = 2;
+
 /// The code -1: no input waits.
 const NO_INPUT: u64 = u64::MAX;
 
@@ -39,11 +61,11 @@ fn base_call(asked: &Asked) -> Reply
     ensures { result ≡ base_call asked.now }
 {
     match asked.function {
-        0 => reply_of_value(SPECIFICATION),
-        1 => reply_of_value(IMPLEMENTATION),
-        2 => reply_of_value(VERSION),
-        3 => reply_of_value(u64::from(extension_of(asked.a0).is_some())),
-        4..=6 => reply_of_value(0),
+        GET_SPECIFICATION => reply_of_value(SPECIFICATION),
+        GET_IMPLEMENTATION => reply_of_value(IMPLEMENTATION),
+        GET_VERSION => reply_of_value(VERSION),
+        PROBE => reply_of_value(u64::from(extension_of(asked.a0).is_some())),
+        GET_VENDOR..=GET_MACHINE => reply_of_value(0),
         _ => reply_of_code(Code::NotSupported),
     }
 }
@@ -150,9 +172,9 @@ fn hart_call(seats: &[Seat], entries: &Entries, asked: &Asked) -> Answer
     ensures starts { StartsOneOf (length seats.now) result.beside }
 {
     match asked.function {
-        0 => start_other(seats, entries, asked),
-        1 => plain(Reply::Stops),
-        2 => plain(status_of_hart(seats, asked)),
+        START => start_other(seats, entries, asked),
+        STOP => plain(Reply::Stops),
+        STATUS => plain(status_of_hart(seats, asked)),
         _ => plain(reply_of_code(Code::NotSupported)),
     }
 }
