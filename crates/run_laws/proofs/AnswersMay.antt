@@ -6,8 +6,8 @@ use Rattle.sv_types.specs.Policies.{ModuleRule}
 use Rattle.sv_types.specs.declared.module.Span.{Span}
 use Rattle.sv_types.specs.declared.saved.SavedModule.{SavedModule}
 use Rattle.sv_types.specs.declared.wires.Mode.TheVariants.{Kernel}
-use Rattle.reference.specs.States.{State, Hart, Loading, has_number, find_module, pages_in_rule}
-use Rattle.reference.specs.Calls.{Asked, facts_of, plain, refused, shut_down, mask_exists, timer_call, ipi_call, start_other, hart_call, reset_call}
+use Rattle.reference.specs.States.{State, Hart, Loading, has_number, find_module}
+use Rattle.reference.specs.Calls.{Asked, facts_of, mask_exists, timer_call, ipi_call, start_other, hart_call, reset_call}
 use Rattle.reference.specs.Loads.{is_good}
 use Rattle.reference.specs.ModuleCalls.{good_address, load_call, load_decision, unload_call, retire_call, module_call, answer_by}
 use Rattle.reference.specs.Soundness.{IsSound, HoldsModule}

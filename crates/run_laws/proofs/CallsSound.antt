@@ -1,5 +1,5 @@
 -- Soundness after calls from kernel mode and after each step of a load: after each answer, by what it does.
-use Rattle.std.proofs.Common.{◌≡◌, ◌∙◌, ℕ, zero, suc, List, [], length, refl, sym, ap, subst, Bool, true, false, slice_get, slice_set}
+use Rattle.std.proofs.Common.{◌≡◌, ◌∙◌, ℕ, zero, suc, List, length, refl, sym, ap, subst, Bool, true, false, slice_get, slice_set}
 use Rattle.std.specs.Prelude.{Some, None}
 use Rattle.sv_types.specs.Effects.{set_register}
 use Rattle.sv_types.specs.Policies.{Rules}

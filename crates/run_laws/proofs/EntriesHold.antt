@@ -1,6 +1,6 @@
 -- After an entry from user mode: the hart's next turn demotes it, or reads the word that the entry is bound to.
-use Rattle.std.proofs.Common.{◌≡◌, ℕ, zero, suc, ◌+◌, ◌-◌, ◌*◌, ◌/◌, ◌%◌, ◌^◌, ◌≤◌, ◌⊎◌, inl, inr, List, [], ◌∷◌, ◌++◌, length, map, refl, sym, ◌∙◌, ap, subst, Bool, true, false, ◌&&◌, ◌||◌, arith, bit_and, slice_get, slice_set}
-use Rattle.std.specs.Prelude.{Option, Some, None, option_map, if◌then◌else◌, is_some, not, nat_le, ◌==◌, IsTrue}
+use Rattle.std.proofs.Common.{◌≡◌, ℕ, zero, suc, ◌-◌, ◌/◌, ◌%◌, ◌^◌, ◌≤◌, ◌⊎◌, inl, inr, List, [], ◌∷◌, ◌++◌, length, refl, sym, ◌∙◌, ap, subst, Bool, true, false, ◌&&◌, ◌||◌, arith, bit_and, slice_get, slice_set}
+use Rattle.std.specs.Prelude.{Option, Some, None, if◌then◌else◌, is_some, not, ◌==◌, IsTrue}
 use Rattle.std.specs.List.{list_any}
 use Rattle.std.proofs.lemmas.Bool.{eqb-true, eq-eqb}
 use Rattle.std.proofs.lemmas.Bool.Decides.{nat_tests}
@@ -8,7 +8,7 @@ use Rattle.std.proofs.lemmas.Nat.{and_shr, and_mod, and_comm}
 use Rattle.std.specs.Int.Bits.{and_zero_l}
 use Rattle.sv_types.specs.ApprovedPages.{approved_bytes}
 use Rattle.sv_types.specs.Bits.{bit, with_bits}
-use Rattle.sv_types.specs.Bytes.{word, in_ram, ram_base, ram_place, page_of, page_size, place_in_page}
+use Rattle.sv_types.specs.Bytes.{word, in_ram, ram_base, ram_place, page_of, place_in_page}
 use Rattle.sv_types.specs.Policies.{Rules, rules_within, bound_within, bound_fits, all_bound, numbers_within, lists_within, init_within, modules_count_within, modules_within, entries_count_within, entries_within, exports_count_within, exports_within}
 use Rattle.sv_types.specs.Translation.{Destination, At, PageFault, Unreadable, place, entry_in_ram}
 use Rattle.sv_types.specs.Traps.{trap_target, deliverable, status_at_trap, supervisor_at_trap, first_interrupt, is_pending}
@@ -20,22 +20,20 @@ use Rattle.sv_types.specs.declared.event.Verdict.TheVariants.{Running, Shutdown,
 use Rattle.sv_types.specs.declared.wires.Access.TheVariants as Access
 use Rattle.sv_types.specs.declared.wires.Mode.{Mode}
 use Rattle.sv_types.specs.declared.wires.Mode.TheVariants.{Kernel, User}
-use Rattle.reference.specs.Counting.{count, count_turn, count_beat, count_key, count_tick}
+use Rattle.reference.specs.Counting.{count, count_turn, count_beat}
 use Rattle.reference.specs.Devices.{lines_at, beat, key, tick, with_disk, with_bytes, after_move, hart_after_write}
 use Rattle.reference.specs.Disk.{Beaten, Move, Idle, FromRam, IntoRam, DeniedAt, OutsideRam, disk_beat}
 use Rattle.reference.specs.Requests.{settings_of}
 use Rattle.reference.specs.Run.{run, step, happen, happen_under}
-use Rattle.reference.specs.Start.{IsStart}
 use Rattle.reference.specs.Soundness.{IsSound}
-use Rattle.reference.specs.States.{State, Hart, Binding, binding_of, binding_at, place_of_entry, has_number, is_approved_in, is_protected}
+use Rattle.reference.specs.States.{State, Hart, Binding, binding_of, binding_at, place_of_entry, has_number, is_protected}
 use Rattle.reference.specs.Trapping.{trap_from, hart_at_trap}
-use Rattle.reference.specs.Turn.{NoWord, Word, demote, carry_out_word, place_of_pc, leads_into, noted_gpa, fetched_in, fetched_at, fetch, act_on_fetch, fetch_and_act, leave_entry, outside, fetch_in_entry, bound_entry, act_on_pending, act, turn}
+use Rattle.reference.specs.Turn.{NoWord, demote, carry_out_word, place_of_pc, leads_into, noted_gpa, fetched_in, fetched_at, fetch, act_on_fetch, fetch_and_act, leave_entry, outside, fetch_in_entry, bound_entry, act_on_pending, act, turn}
 use Rattle.attempt_laws.specs.Agree.{IsNotLoading}
 use Rattle.attempt_laws.proofs.AttemptsAgree.{turn_is}
 use Rattle.attempt_laws.proofs.Everywhere.{Keeps, first_stage_keeps}
-use Rattle.run_laws.specs.EntryLaws.{IsAtEntry, Demotes, ReadsBound, DemotesOrReads, AtEntryLaw, Enters, IsNoTurnOf, AreNoTurnsOf, StandsAtEntry, EntryLaw}
-use Rattle.run_laws.proofs.Lookups.{both}
-use Rattle.run_laws.proofs.OthersRest.{IsWaiting, LooksLike, Watched, get_behind, turn_rests}
+use Rattle.run_laws.specs.EntryLaws.{IsAtEntry, Demotes, ReadsBound, DemotesOrReads, AtEntryLaw, IsNoTurnOf, AreNoTurnsOf, StandsAtEntry, EntryLaw}
+use Rattle.run_laws.proofs.OthersRest.{IsWaiting, get_behind, turn_rests}
 use Rattle.run_laws.proofs.StateLawsHold.{reached_sound, modules_law}
 
 -- ---- what a policy says of a bound entry

@@ -29,7 +29,7 @@ use Rattle.reference.specs.ModuleCalls.{answer_of, load_decision}
 use Rattle.reference.specs.Requests.{carried_out_writing, Source, NoSource, FromRam, FromDevice, Target, NoTarget, Guarded, ToRam, ToDevice, carry_out_device_load, carry_out_load, carry_out_load_reserved, carry_out_device_store, carry_out_store, write_stopped, carry_out_store_conditional, carry_out_amo, carry_out_csr, source_of, target_of, csr_asked}
 use Rattle.reference.specs.States.{State, Hart, Binding, Devices, Journal, Loading}
 use Rattle.reference.specs.Trapping.{trap_from, exception, returned_from_trap, may_enter}
-use Rattle.reference.specs.Turn.{place_of_pc, leads_into, noted_gpa, outside, leave_entry, fetch_in_entry, bound_entry, carry_out_kernel_only, carry_out_ecall, carry_out_sret, carry_out_effect, carry_out_instruction, carry_out_word, Fetched, NoWord, Stray, Word, fetch_of, act_on_fetch, act_on_pending, act, turn_of_started, turn_of, turn}
+use Rattle.reference.specs.Turn.{place_of_pc, leads_into, outside, leave_entry, fetch_in_entry, bound_entry, carry_out_kernel_only, carry_out_ecall, carry_out_sret, carry_out_effect, carry_out_instruction, carry_out_word, Fetched, NoWord, Stray, Word, fetch_of, act_on_fetch, act_on_pending, act, turn_of_started, turn_of, turn}
 use Rattle.attempt_laws.specs.Agree.{IsNotLoading}
 use Rattle.run_laws.proofs.AnswersMay.{MayBeside, answer_may}
 use Rattle.run_laws.proofs.Lookups.{both}
@@ -85,10 +85,10 @@ get_behind f (a ∷ harts) zero y e = ap (option_map f) e
 get_behind f (a ∷ harts) (suc k) y e = get_behind f harts k y e
 
 -- a hart with its software interrupt set, or as it was
-abbrev sent : Bool → Hart → Hart
+abbrev pub sent : Bool → Hart → Hart
 sent b hart = if b then with_software hart else hart
 
-get_sent : (named : ℕ → Bool) (first : ℕ) (harts : List Hart) (k : ℕ) (y : Hart) → slice_get harts k ≡ Some y
+pub get_sent : (named : ℕ → Bool) (first : ℕ) (harts : List Hart) (k : ℕ) (y : Hart) → slice_get harts k ≡ Some y
     → (b : Bool) × (slice_get (interrupted named first harts) k ≡ Some (sent b y))
 unfolding interrupted
 get_sent named first [] k y e = absurd (cc)
@@ -272,7 +272,7 @@ may_wake : (r : State) (b : Beside) → MayBeside r b → MayWake r b
 may_wake r (StartsHart other pc opaque) may = may.0
 may_wake r _ may = tt
 
-was_stopped : (harts : List Hart) (i : ℕ) → slice_get (map (λ (hart : Hart). hart.started) harts) i ≡ Some false
+pub was_stopped : (harts : List Hart) (i : ℕ) → slice_get (map (λ (hart : Hart). hart.started) harts) i ≡ Some false
     → (other : Hart) × ((slice_get harts i ≡ Some other) × (other.started ≡ false))
 was_stopped [] i e = absurd (cc)
 was_stopped (a ∷ harts) zero e = (a, (refl, cc))

@@ -16,7 +16,6 @@ use Rattle.sv_types.specs.declared.csr.Csr.{Csr}
 use Rattle.sv_types.specs.declared.instruction.AmoOp.{AmoOp}
 use Rattle.sv_types.specs.declared.instruction.CsrOp.{CsrOp}
 use Rattle.sv_types.specs.declared.wires.Access.TheVariants as Access
-use Rattle.sv_types.specs.declared.wires.Mode.{Mode}
 use Rattle.sv_types.proofs.ByteLemmas.{length_low_bytes}
 use Rattle.sv_types.specs.declared.event.Rule.TheVariants.{Entry, Write}
 use Rattle.sv_types.specs.declared.event.Verdict.TheVariants.{Stopped}
@@ -223,7 +222,7 @@ room_of : (ram : List ℕ) (gpa width : ℕ) → in_ram ram gpa width ≡ true �
 room_of ram gpa width e = grind (arith, nat_tests)
 
 -- a value's bytes lie in that page
-free_page : (r : State) (h : ℕ) (next : Hart) (gpa width value : ℕ) → IsWidth width → IsFreePlace r gpa width
+pub free_page : (r : State) (h : ℕ) (next : Hart) (gpa width value : ℕ) → IsWidth width → IsFreePlace r gpa width
     → InFreePage (carried_out r h next) (ram_place gpa) (low_bytes width value)
 free_page r h next gpa width value whole free =
     let size : length (low_bytes width value) ≡ width = length_low_bytes width value in

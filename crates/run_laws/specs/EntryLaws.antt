@@ -1,5 +1,5 @@
 -- What follows an entry from user mode where the policy binds entries, in each state that a run reaches. This project's own.
-use Rattle.std.specs.Prelude.{◌≡◌, ℕ, ◌⊎◌, Bool, true, false, List, [], ◌∷◌, ◌==◌, Option, Some, None, slice_get}
+use Rattle.std.specs.Prelude.{◌≡◌, ℕ, ◌⊎◌, Bool, true, false, List, [], ◌∷◌, ◌==◌, Some, None, slice_get}
 use Rattle.sv_types.specs.ApprovedPages.{approved_bytes}
 use Rattle.sv_types.specs.Bits.{bit}
 use Rattle.sv_types.specs.Bytes.{word, page_of, place_in_page}

@@ -1,0 +1,3 @@
+pub mod Does
+pub mod Turns
+pub mod LawsHold

@@ -1,0 +1,5 @@
+use Rattle.guarantee.proofs.LawsHold.{stops_law}
+use Rattle.guarantee.proofs.law_stops.Goals as goal
+
+pub returns : goal.returns
+returns c = stops_law

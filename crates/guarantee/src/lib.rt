@@ -1,0 +1,32 @@
+//! The guarantee: what a guest can't do, in each state that a run reaches from a start, at any next event.
+#![tactic(auto)]
+
+ghost use Rattle.guarantee.specs.Guarantee.{EntriesLaw, ExitsLaw, KernelWordsLaw, ProtectedBytesLaw, StopsLaw};
+
+pub use run_laws::law_sound;
+
+/// In kernel mode no word is executed but those that were measured.
+pub fn law_kernel_words()
+    ensures { KernelWordsLaw }
+{}
+
+/// A hart comes to kernel mode only by its own trap from user mode or by its start, and it begins at a permitted entry.
+pub fn law_entries()
+    ensures { EntriesLaw }
+{}
+
+/// A hart leaves kernel mode only in its own turn: by SRET to user mode, by a demotion, which executes nothing, or by stopping.
+pub fn law_exits()
+    ensures { ExitsLaw }
+{}
+
+/// No event changes a byte of a page that was held or approved before it, and a device's move to one changes nothing.
+pub fn law_protected_bytes()
+    ensures { ProtectedBytesLaw }
+{}
+
+/// The machine stops exactly where a trap from user mode leads elsewhere than to a permitted entry, or a word writes into a
+/// protected page. Then the verdict says where, and nothing else is changed.
+pub fn law_stops()
+    ensures { StopsLaw }
+{}
