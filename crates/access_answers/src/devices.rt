@@ -1,105 +1,103 @@
 // Accesses to device registers.
-ghost use Rattle.std.specs.Prelude.{◌≡◌, ◌%◌, ◌<◌, length};
+
+ghost use Rattle.std.specs.Prelude.{◌≡◌, ◌%◌, ◌<◌, length, [], false};
+ghost use Rattle.sv_types.specs.Causes.{cause_number};
 ghost use Rattle.reference.specs.Counting.{MayCount};
 ghost use Rattle.reference.specs.Devices.{device_load, device_store};
 ghost use Rattle.machine_model.specs.HostHarts.{host_device_load, host_device_store};
 ghost use Rattle.machine_model.specs.Machine.{Machine};
-ghost use Rattle.machine_model.specs.Served.{exit_gpa};
-ghost use Rattle.hart_answers.specs.Hosts.{host_of};
+ghost use Rattle.hart_answers.specs.Hosts.{host_at};
 ghost use Rattle.access_answers.specs.Accessed.{accessed};
 
-use crate::faults::fault;
-use crate::instructions::{device_gpa, loaded_value};
+use crate::values::loaded_value;
 use device_bus::Devices;
 use dma_guard::DiskPort;
-use hart::Hart;
-use hart_answers::{Side, pass, set};
+use hart_answers::{Seat, Trap, pass, set};
 use journal_records::Journal;
 use page_guard::{Entries, Guard};
-use sv_types::{Cause, Exit};
+use sv_types::Cause;
+use trap_answers::guest_trap;
 
-/// The register that a load sets, and how it takes the value.
+/// A load: the register that it sets, its virtual address, how it takes the value, and the guest-physical address.
 #[derive(Clone, Copy, Debug, PartialEq, Eq, Drop)]
-pub struct Destination {
+pub struct Load {
     pub rd: u8,
+    pub address: u64,
     pub width: u8,
     pub signed: bool,
+    pub gpa: u64,
 }
 
-/// A load of a device register, or the guest's access fault where none is there.
-pub fn device_load<D: DiskPort>(
-    which: u8,
-    hart: &mut Hart,
-    side: &mut Side,
-    guard: &Guard,
-    entries: &Entries,
-    devices: &mut Devices<D>,
-    journal: &mut Journal,
-    exit: Exit,
-    to: Destination,
-)
-    requires aligned { hart.old.pc % 4 ≡ 0 }
-    requires counts { MayCount journal.old.counts }
-    requires register { to.rd < 32 }
-    ensures machine { (m : Machine) → accessed m entries.now which (host_of hart.new side.new) devices.new journal.new ≡ host_device_load (accessed m entries.now which (host_of hart.old side.old) devices.old journal.old) which (host_of hart.old side.old) side.old to.rd exit.stval to.width to.signed (device_load devices.old (exit_gpa exit) to.width) }
-    ensures id { hart.new.id ≡ hart.old.id }
-{
-    match devices.load(device_gpa(&exit), to.width) {
-        Some(value) => {
-            set(hart, to.rd, loaded_value(to.signed, to.width, value));
-            journal.count_retired();
-        }
-        None => fault(
-            which,
-            hart,
-            side,
-            guard,
-            entries,
-            journal,
-            Cause::LoadAccess,
-            exit.stval,
-        ),
-    }
-}
-
-/// What is to be stored.
+/// A store: its virtual address, the guest-physical one, and what is stored.
 #[derive(Clone, Copy, Debug, PartialEq, Eq, Drop)]
-pub struct Source {
+pub struct Store {
+    pub address: u64,
+    pub gpa: u64,
     pub width: u8,
     pub value: u64,
 }
 
-/// A store to a device register, or the guest's access fault where none is there.
-pub fn device_store<D: DiskPort>(
+/// A load of a device's register, or the guest's access fault where none is there. It takes all that a trap takes, and the
+/// devices.
+pub fn device_load<D: DiskPort>(
     which: u8,
-    hart: &mut Hart,
-    side: &mut Side,
+    seat: &mut Seat,
     guard: &Guard,
     entries: &Entries,
     devices: &mut Devices<D>,
     journal: &mut Journal,
-    exit: Exit,
-    from: Source,
+    load: Load,
 )
-    requires aligned { hart.old.pc % 4 ≡ 0 }
+    requires aligned { seat.old.hart.pc % 4 ≡ 0 }
+    requires counts { MayCount journal.old.counts }
+    requires register { load.rd < 32 }
+    ensures machine { (m : Machine) → m.rules.entries ≡ entries.now → m.rules.bound ≡ [] → accessed m which (host_at seat.new) devices.new journal.new ≡ host_device_load (accessed m which (host_at seat.old) devices.old journal.old) which (host_at seat.old) seat.old.side load.rd load.address load.width load.signed (device_load devices.old load.gpa load.width) }
+{
+    match devices.load(load.gpa, load.width) {
+        Some(value) => {
+            let value = loaded_value(load.signed, load.width, value);
+            set(&mut seat.hart, load.rd, value);
+            journal.count_retired();
+        }
+        None => {
+            let fault = access_fault(Cause::LoadAccess, load.address);
+            guest_trap(which, seat, guard, entries, journal, fault);
+        }
+    }
+}
+
+/// A store to a device's register, or the guest's access fault where none is there. It takes all that a trap takes, and the
+/// devices.
+pub fn device_store<D: DiskPort>(
+    which: u8,
+    seat: &mut Seat,
+    guard: &Guard,
+    entries: &Entries,
+    devices: &mut Devices<D>,
+    journal: &mut Journal,
+    store: Store,
+)
+    requires aligned { seat.old.hart.pc % 4 ≡ 0 }
     requires counts { MayCount journal.old.counts }
     requires room { length journal.old.printed < 4096 }
-    ensures machine { (m : Machine) → accessed m entries.now which (host_of hart.new side.new) devices.new journal.new ≡ host_device_store (accessed m entries.now which (host_of hart.old side.old) devices.old journal.old) which (host_of hart.old side.old) side.old exit.stval (device_store devices.old journal.old (exit_gpa exit) from.width from.value) }
-    ensures id { hart.new.id ≡ hart.old.id }
+    ensures machine { (m : Machine) → m.rules.entries ≡ entries.now → m.rules.bound ≡ [] → accessed m which (host_at seat.new) devices.new journal.new ≡ host_device_store (accessed m which (host_at seat.old) devices.old journal.old) which (host_at seat.old) seat.old.side store.address (device_store devices.old journal.old store.gpa store.width store.value) }
 {
-    if devices.store(journal, device_gpa(&exit), from.width, from.value) {
-        pass(hart);
+    if devices.store(journal, store.gpa, store.width, store.value) {
+        pass(&mut seat.hart);
         journal.count_retired();
     } else {
-        fault(
-            which,
-            hart,
-            side,
-            guard,
-            entries,
-            journal,
-            Cause::StoreAccess,
-            exit.stval,
-        );
+        let fault = access_fault(Cause::StoreAccess, store.address);
+        guest_trap(which, seat, guard, entries, journal, fault);
+    }
+}
+
+// An access fault of the guest, with the address that `stval` takes.
+fn access_fault(cause: Cause, address: u64) -> Trap
+    ensures { result ≡ record { interrupt = false; cause = cause_number cause; tval = address } }
+{
+    Trap {
+        interrupt: false,
+        cause: cause.number(),
+        tval: address,
     }
 }

@@ -1,11 +1,9 @@
-//! SecVisor's answers to accesses that the hardware refused: to device registers, and to pages of RAM that are protected.
+//! SecVisor's answers to loads and stores that reach a device's register.
 #![tactic(auto)]
 
-mod accesses;
 mod devices;
-mod faults;
-mod instructions;
 #[cfg(test)]
 mod tests;
+mod values;
 
-pub use accesses::serve_access;
+pub use devices::{Load, Store, device_load, device_store};

@@ -1,4 +1,2 @@
 pub mod Places
 pub mod Sret
-pub mod Virtual
-pub mod Demotions

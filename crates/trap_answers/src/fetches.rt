@@ -1,93 +1,60 @@
-// Refused fetches.
+// Refused fetches, and instructions that the hardware leaves to SecVisor.
 
-ghost use Rattle.std.specs.Prelude.{◌≡◌, ◌%◌, ℕ, List, Some, None, if◌then◌else◌};
-ghost use Rattle.sv_types.specs.Bytes.{in_ram};
-ghost use Rattle.sv_types.specs.declared.wires.Mode.TheVariants.{Kernel};
-ghost use Rattle.machine_model.specs.HostHarts.{host_demote, served_fetch};
-ghost use Rattle.reference.specs.Counting.{MayCount};
-ghost use Rattle.machine_model.specs.Machine.{Machine};
-ghost use Rattle.machine_model.specs.Served.{exit_gpa};
-ghost use Rattle.hart_answers.specs.Hosts.{host_of};
-ghost use Rattle.trap_answers.specs.Answered.{answered};
+ghost use Rattle.std.specs.Prelude.{◌≡◌};
+ghost use Rattle.machine_model.specs.Served.{raises, is_sret_word, fetch_answer, virtual_answer};
+ghost use Rattle.trap_answers.specs.Possible.{IsPossible};
 
-use crate::traps::{exception, guest_trap};
-use hart::Hart;
-use hart_answers::{Side, demote};
+use crate::addresses::{gpa_in_ram, is_implicit};
 use host_mem::HostMem;
-use journal_records::Journal;
-use page_guard::{Entries, Guard};
-use sv_types::{Cause, Exit, Mode, PAGE_BYTES, RAM_BASE};
+use machine_model::ExitAnswer;
+use sv_types::{Cause, Exit, Mode};
 
-/// The transformed instruction of an implicit read of a first-stage entry.
-pub const IMPLICIT_READ: u32 = 0x3000;
+/// The word of SRET.
+const SRET: u64 = 0x1020_0073;
 
-/// The guest-physical address of `width` bytes to which an access was refused, where they all lie in RAM.
-pub fn gpa_in_ram(mem: &HostMem, exit: &Exit, width: u64) -> Option<u64>
-    ensures { result ≡ (if in_ram mem.now.ram (exit_gpa exit.now) width then Some (exit_gpa exit.now) else None) }
+/// The guest has an exception, with the value that `stval` takes.
+pub(crate) fn raises(cause: Cause, tval: u64) -> ExitAnswer
+    ensures { result ≡ raises cause tval }
 {
-    let size = PAGE_BYTES * mem.ram_pages() as u64;
-    if exit.htval >= 1 << 40 {
-        return None;
-    }
-    let low = if exit.htinst == IMPLICIT_READ {
-        0
-    } else {
-        exit.stval % 4
-    };
-    let gpa = 4 * exit.htval + low;
-    if gpa >= RAM_BASE && gpa - RAM_BASE <= size && size - (gpa - RAM_BASE) >= width {
-        Some(gpa)
-    } else {
-        None
+    ExitAnswer::Traps {
+        interrupt: false,
+        cause: cause.number(),
+        tval,
     }
 }
 
-// Kernel mode is left, with a note.
-#[tactic(auto, using(crate::proofs::Places::update_there))]
-fn demotion(
-    which: u8,
-    hart: &mut Hart,
-    side: &mut Side,
-    guard: &Guard,
-    journal: &mut Journal,
-    gpa: u64,
-)
-    requires { MayCount journal.old.counts }
-    ensures machine { (m : Machine) (entries : List ℕ) → answered m entries which (host_of hart.new side.new) journal.new ≡ host_demote (answered m entries which (host_of hart.old side.old) journal.old) which (host_of hart.old side.old) gpa }
-    ensures id { hart.new.id ≡ hart.old.id }
+/// A refused fetch: kernel mode is left where the page isn't approved, and else the guest has an access fault.
+#[tactic(auto, unfolding(machine_model::specs::Served::fetch_answer))]
+pub(crate) fn fetch_answer(mem: &HostMem, mode: Mode, exit: &Exit) -> ExitAnswer
+    ensures answer { result ≡ fetch_answer mem.now.ram mode exit.now }
+    ensures possible { IsPossible mode result }
 {
-    journal.demote(which, hart.pc, gpa);
-    demote(hart, side, guard);
+    if mode == Mode::User || is_implicit(exit) {
+        return raises(Cause::InstrAccess, exit.stval);
+    }
+    match gpa_in_ram(mem, exit, 4) {
+        Some(gpa) => ExitAnswer::Demotes { gpa },
+        None => raises(Cause::InstrAccess, exit.stval),
+    }
 }
 
-/// The answer to a refused fetch: kernel mode is left where the page isn't approved; else the guest has an access fault.
-#[tactic(auto, unfolding(machine_model::specs::HostHarts::served_fetch))]
-pub fn serve_fetch(
-    which: u8,
-    hart: &mut Hart,
-    side: &mut Side,
-    guard: &Guard,
-    entries: &Entries,
-    mem: &HostMem,
-    journal: &mut Journal,
-    exit: Exit,
-)
-    requires aligned { hart.old.pc % 4 ≡ 0 }
-    requires counts { MayCount journal.old.counts }
-    ensures machine { (m : Machine) → m.region ≡ mem.now → answered m entries.now which (host_of hart.new side.new) journal.new ≡ served_fetch (answered m entries.now which (host_of hart.old side.old) journal.old) which (host_of hart.old side.old) side.old exit }
-    ensures id { hart.new.id ≡ hart.old.id }
+// The low 32 bits of a word are those of SRET.
+#[tactic(auto, using(crate::proofs::Sret::sret_word))]
+fn is_sret(word: u64) -> bool
+    ensures { result ≡ is_sret_word word }
 {
-    let fault = exception(Cause::InstrAccess, exit.stval);
-    match side.mode() {
-        Mode::User => guest_trap(which, hart, side, guard, entries, journal, fault),
-        Mode::Kernel => {
-            if exit.htinst == IMPLICIT_READ {
-                guest_trap(which, hart, side, guard, entries, journal, fault);
-            } else if let Some(gpa) = gpa_in_ram(mem, &exit, 4) {
-                demotion(which, hart, side, guard, journal, gpa);
-            } else {
-                guest_trap(which, hart, side, guard, entries, journal, fault);
-            }
-        }
+    word & 0xFFFF_FFFF == SRET
+}
+
+/// SRET in kernel mode, which SecVisor carries out, or an instruction that is illegal to the guest.
+#[tactic(auto, unfolding(machine_model::specs::Served::virtual_answer))]
+pub(crate) fn virtual_answer(mode: Mode, exit: &Exit) -> ExitAnswer
+    ensures answer { result ≡ virtual_answer mode exit.now }
+    ensures possible { IsPossible mode result }
+{
+    if mode == Mode::Kernel && is_sret(exit.stval) {
+        ExitAnswer::Returns
+    } else {
+        raises(Cause::Illegal, exit.stval)
     }
 }

@@ -1,10 +1,15 @@
-//! SecVisor's answers to traps and to refused fetches: on one hart, its side and the journal.
+//! SecVisor's answers to the exits of a hart: what each is answered, and what traps, returns and demotions make of one hart and
+//! the journal.
 #![tactic(auto)]
 
+mod accesses;
+mod addresses;
+mod exits;
 mod fetches;
+mod instructions;
 #[cfg(test)]
 mod tests;
 mod traps;
 
-pub use fetches::{IMPLICIT_READ, gpa_in_ram, serve_fetch};
-pub use traps::{exception, guest_trap, serve_trap};
+pub use exits::exit_answer;
+pub use traps::{guest_demotion, guest_return, guest_trap, stop_at_write};

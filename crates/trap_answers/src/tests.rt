@@ -1,11 +1,12 @@
 // A hart that fetches from a page that isn't approved, and then traps to an address that isn't permitted.
-use super::{serve_fetch, serve_trap};
+use super::{exit_answer, guest_demotion, guest_trap};
 use gstage_tables::Trees;
 use hart::Hart;
-use hart_answers::{Side, start};
+use hart_answers::{Seat, Trap, start};
 use host_mem::HostMem;
 use journal_records::Journal;
-use page_guard::{Entries, Guard};
+use machine_model::ExitAnswer;
+use page_guard::{Entries, Guard, Side};
 use std::test::Fail;
 use sv_types::{Exit, Mode, Note, Rule, Verdict};
 
@@ -44,21 +45,33 @@ fn demoted_and_then_stopped(rt: HostRuntime) -> Result<(), Fail> {
     assert_eq!(rt; mem.ram_pages(), 16);
     let guard = Guard::new(rt.alloc(), &mut mem)?;
     let entries = Entries::new(rt.alloc(), &[0x8000_0104])?;
-    let mut side = Side::at_boot(&guard);
-    let mut hart = Hart::at_boot(0);
-    start(&mut hart, &mut side, &guard, 0, PC, 0);
+    let mut seat = Seat {
+        hart: Hart::at_boot(),
+        side: Side::at_boot(&guard),
+    };
+    start(&mut seat.hart, &mut seat.side, &guard, 0, PC, 0);
     let mut notes = Journal::new(rt.alloc())?;
-    assert!(rt; hart.pc.is_multiple_of(4));
-    serve_fetch(
-        0, &mut hart, &mut side, &guard, &entries, &mem, &mut notes, FETCH,
-    );
+    assert!(rt; seat.hart.pc.is_multiple_of(4));
+    let fetch = exit_answer(&mem, &seat.hart, seat.side.mode(), &FETCH);
+    assert_eq!(rt; fetch, ExitAnswer::Demotes { gpa: PC });
+    guest_demotion(0, &mut seat, &guard, &mut notes, PC);
     assert_eq!(rt; notes.notes().first(), Some(&DEMOTED));
-    assert_eq!(rt; side.mode(), Mode::User);
+    assert_eq!(rt; seat.side.mode(), Mode::User);
     let mut stop = Journal::new(rt.alloc())?;
-    assert!(rt; hart.pc.is_multiple_of(4));
-    serve_trap(
-        0, &mut hart, &mut side, &guard, &entries, &mut stop, ILLEGAL,
-    );
+    assert!(rt; seat.hart.pc.is_multiple_of(4));
+    let illegal = exit_answer(&mem, &seat.hart, seat.side.mode(), &ILLEGAL);
+    let trap = Trap {
+        interrupt: false,
+        cause: 2,
+        tval: 0,
+    };
+    let same = ExitAnswer::Traps {
+        interrupt: trap.interrupt,
+        cause: trap.cause,
+        tval: trap.tval,
+    };
+    assert_eq!(rt; illegal, same);
+    guest_trap(0, &mut seat, &guard, &entries, &mut stop, trap);
     let rule = Rule::Entry { target: 0 };
     assert_eq!(rt;
         stop.verdict(),

@@ -1,44 +1,33 @@
-// The guest's traps, and its returns from them.
+// What an answer does to a hart: the guest's trap, its return from one, and the end of its stay in kernel mode.
 
-ghost use Rattle.std.specs.Prelude.{◌≡◌, ◌%◌, ℕ, List, false};
-ghost use Rattle.sv_types.specs.Causes.{cause_number};
+ghost use Rattle.std.specs.Prelude.{◌≡◌, ◌%◌, ℕ, []};
 ghost use Rattle.sv_types.specs.declared.wires.Mode.TheVariants.{Kernel};
-ghost use Rattle.machine_model.specs.HostHarts.{host_trap, host_return, host_virtual, served_trap};
-ghost use Rattle.reference.specs.Counting.{MayCount};
+ghost use Rattle.machine_model.specs.HostHarts.{host_trap, host_return, host_demote, host_write_stopped};
 ghost use Rattle.machine_model.specs.Machine.{Machine};
-ghost use Rattle.machine_model.specs.Served.{is_sret_word};
-ghost use Rattle.hart_answers.specs.Hosts.{host_of};
+ghost use Rattle.reference.specs.Counting.{MayCount};
+ghost use Rattle.hart_answers.specs.Hosts.{host_at};
 ghost use Rattle.trap_answers.specs.Answered.{answered};
 
-use hart::Hart;
-use hart_answers::{Side, Trap, return_from_trap, take_trap};
+use hart_answers::{Seat, Trap, demote, return_from_trap, take_trap};
 use journal_records::Journal;
 use page_guard::{Entries, Guard};
-use sv_types::{Cause, Exit, Mode, Rule};
-
-/// The word of SRET.
-const SRET: u64 = 0x1020_0073;
-
-/// The number of the cause that stands for a virtual instruction.
-const VIRTUAL: u64 = 22;
+use sv_types::Rule;
 
 /// A trap of the guest: it comes to its handler, or, from user mode to a target that isn't permitted, the machine stops.
 pub fn guest_trap(
     which: u8,
-    hart: &mut Hart,
-    side: &mut Side,
+    seat: &mut Seat,
     guard: &Guard,
     entries: &Entries,
     journal: &mut Journal,
     trap: Trap,
 )
-    requires aligned { hart.old.pc % 4 ≡ 0 }
+    requires aligned { seat.old.hart.pc % 4 ≡ 0 }
     requires counts { MayCount journal.old.counts }
-    ensures machine { (m : Machine) → answered m entries.now which (host_of hart.new side.new) journal.new ≡ host_trap (answered m entries.now which (host_of hart.old side.old) journal.old) which (host_of hart.old side.old) side.old trap.interrupt trap.cause trap.tval }
-    ensures id { hart.new.id ≡ hart.old.id }
+    ensures machine { (m : Machine) → m.rules.entries ≡ entries.now → m.rules.bound ≡ [] → answered m which (host_at seat.new) journal.new ≡ host_trap (answered m which (host_at seat.old) journal.old) which (host_at seat.old) seat.old.side trap.interrupt trap.cause trap.tval }
 {
-    let from = side.mode();
-    match take_trap(hart, side, guard, entries, trap) {
+    let from = seat.side.mode();
+    match take_trap(&mut seat.hart, &mut seat.side, guard, entries, trap) {
         Ok(()) => journal.count_trap(from),
         Err(forbidden) => journal.stop(
             which,
@@ -49,97 +38,36 @@ pub fn guest_trap(
     }
 }
 
-/// An exception with the value that `stval` takes.
-pub fn exception(cause: Cause, tval: u64) -> Trap
-    ensures { result ≡ record { interrupt = false; cause = cause_number cause; tval = tval } }
-{
-    Trap {
-        interrupt: false,
-        cause: cause.number(),
-        tval,
-    }
-}
-
-// The guest's return from its trap.
+/// The guest's return from its trap.
 #[tactic(auto, using(crate::proofs::Places::update_there))]
-fn guest_return(which: u8, hart: &mut Hart, side: &mut Side, guard: &Guard, journal: &mut Journal)
-    requires kernel { side.old ≡ Kernel }
+pub fn guest_return(seat: &mut Seat, guard: &Guard, journal: &mut Journal)
+    requires kernel { seat.old.side ≡ Kernel }
     requires counts { MayCount journal.old.counts }
-    ensures machine { (m : Machine) (entries : List ℕ) → answered m entries which (host_of hart.new side.new) journal.new ≡ host_return (answered m entries which (host_of hart.old side.old) journal.old) which (host_of hart.old side.old) }
-    ensures id { hart.new.id ≡ hart.old.id }
+    ensures machine { (m : Machine) (h : ℕ) → answered m h (host_at seat.new) journal.new ≡ host_return (answered m h (host_at seat.old) journal.old) h (host_at seat.old) }
 {
-    return_from_trap(hart, side, guard);
-    journal.count_return(side.mode());
+    return_from_trap(&mut seat.hart, &mut seat.side, guard);
+    journal.count_return(seat.side.mode());
 }
 
-// The low 32 bits of a word are those of SRET.
-#[tactic(auto, using(crate::proofs::Sret::sret_word))]
-fn is_sret(word: u64) -> bool
-    ensures { result ≡ is_sret_word word }
+/// Kernel mode is left, with a note.
+#[tactic(auto, using(crate::proofs::Places::update_there))]
+pub fn guest_demotion(which: u8, seat: &mut Seat, guard: &Guard, journal: &mut Journal, gpa: u64)
+    requires counts { MayCount journal.old.counts }
+    ensures machine { (m : Machine) → answered m which (host_at seat.new) journal.new ≡ host_demote (answered m which (host_at seat.old) journal.old) which (host_at seat.old) gpa }
 {
-    word & 0xFFFF_FFFF == SRET
+    journal.demote(which, seat.hart.pc, gpa);
+    demote(&mut seat.hart, &mut seat.side, guard);
 }
 
-// An instruction that the hardware leaves to SecVisor: SRET in kernel mode, which it carries out, or an illegal one.
-#[tactic(auto, unfolding(machine_model::specs::HostHarts::host_virtual))]
-fn virtual_instruction(
-    which: u8,
-    hart: &mut Hart,
-    side: &mut Side,
-    guard: &Guard,
-    entries: &Entries,
-    journal: &mut Journal,
-    exit: Exit,
-)
-    requires aligned { hart.old.pc % 4 ≡ 0 }
-    requires counts { MayCount journal.old.counts }
-    ensures machine { (m : Machine) → answered m entries.now which (host_of hart.new side.new) journal.new ≡ host_virtual (answered m entries.now which (host_of hart.old side.old) journal.old) which (host_of hart.old side.old) side.old exit }
-    ensures id { hart.new.id ≡ hart.old.id }
+/// The machine stops, since a hart was to write a protected page.
+pub fn stop_at_write(which: u8, seat: &Seat, journal: &mut Journal, gpa: u64)
+    ensures machine { (m : Machine) → answered m which (host_at seat.now) journal.new ≡ host_write_stopped (answered m which (host_at seat.now) journal.old) which (host_at seat.now) gpa }
 {
-    let illegal = exception(Cause::Illegal, exit.stval);
-    match side.mode() {
-        Mode::Kernel => {
-            if is_sret(exit.stval) {
-                guest_return(which, hart, side, guard, journal);
-            } else {
-                guest_trap(which, hart, side, guard, entries, journal, illegal);
-            }
-        }
-        Mode::User => guest_trap(which, hart, side, guard, entries, journal, illegal),
-    }
-}
-
-/// The answer to an exit that is no refused fetch, access or call: the guest's trap, or its return from one.
-#[tactic(auto, unfolding(machine_model::specs::HostHarts::served_trap))]
-pub fn serve_trap(
-    which: u8,
-    hart: &mut Hart,
-    side: &mut Side,
-    guard: &Guard,
-    entries: &Entries,
-    journal: &mut Journal,
-    exit: Exit,
-)
-    requires aligned { hart.old.pc % 4 ≡ 0 }
-    requires counts { MayCount journal.old.counts }
-    ensures machine { (m : Machine) → answered m entries.now which (host_of hart.new side.new) journal.new ≡ served_trap (answered m entries.now which (host_of hart.old side.old) journal.old) which (host_of hart.old side.old) side.old exit }
-    ensures id { hart.new.id ≡ hart.old.id }
-{
-    if exit.interrupt {
-        let interrupt = Trap {
-            interrupt: true,
-            cause: exit.cause.saturating_sub(1),
-            tval: 0,
-        };
-        guest_trap(which, hart, side, guard, entries, journal, interrupt);
-    } else if exit.cause == VIRTUAL {
-        virtual_instruction(which, hart, side, guard, entries, journal, exit);
-    } else {
-        let same = Trap {
-            interrupt: false,
-            cause: exit.cause,
-            tval: exit.stval,
-        };
-        guest_trap(which, hart, side, guard, entries, journal, same);
-    }
+    journal.stop(
+        which,
+        Rule::Write {
+            pc: seat.hart.pc,
+            gpa,
+        },
+    );
 }

@@ -1,0 +1,13 @@
+-- What an exit of a hart that is in no entry may be answered. This project's own.
+use Rattle.std.specs.Prelude.{◌≡◌, ◌<◌, false, true}
+use Rattle.sv_types.specs.declared.wires.Mode.{Mode}
+use Rattle.sv_types.specs.declared.wires.Mode.TheVariants.{Kernel}
+use Rattle.machine_model.specs.declared.exits.ExitAnswer.{ExitAnswer}
+use Rattle.machine_model.specs.declared.exits.ExitAnswer.TheVariants.{Returns, LeavesEntry, LoadsDevice}
+
+-- only the kernel returns, no entry is left, and a load names a register
+abbrev pub IsPossible : Mode → ExitAnswer → Type 0
+IsPossible mode Returns = mode ≡ Kernel
+IsPossible mode LeavesEntry = true ≡ false
+IsPossible mode (LoadsDevice rd address width signed gpa) = rd < 32
+IsPossible mode _ = true ≡ true

@@ -1,0 +1,48 @@
+// Where an access was refused.
+
+ghost use Rattle.std.specs.Prelude.{◌≡◌, ◌%◌, Some, None, if◌then◌else◌};
+ghost use Rattle.sv_types.specs.Bytes.{in_ram};
+ghost use Rattle.machine_model.specs.Served.{is_implicit, exit_gpa, device_gpa};
+
+use host_mem::HostMem;
+use sv_types::{Exit, PAGE_BYTES, RAM_BASE};
+
+/// The transformed instruction of an implicit read of a first-stage entry.
+const IMPLICIT_READ: u32 = 0x3000;
+
+/// The access was an implicit read of a first-stage entry.
+pub(crate) fn is_implicit(exit: &Exit) -> bool
+    ensures { result ≡ is_implicit exit.now }
+{
+    exit.htinst == IMPLICIT_READ
+}
+
+// The two low bits of the guest-physical address of an access.
+fn low_bits(exit: &Exit) -> u64
+    ensures { result ≡ (if is_implicit exit.now then 0 else exit.now.stval % 4) }
+{
+    if is_implicit(exit) { 0 } else { exit.stval % 4 }
+}
+
+/// The guest-physical address of `width` bytes to which an access was refused, where they all lie in RAM.
+pub(crate) fn gpa_in_ram(mem: &HostMem, exit: &Exit, width: u64) -> Option<u64>
+    ensures { result ≡ (if in_ram mem.now.ram (exit_gpa exit.now) width then Some (exit_gpa exit.now) else None) }
+{
+    let size = PAGE_BYTES * mem.ram_pages() as u64;
+    if exit.htval >= 1 << 40 {
+        return None;
+    }
+    let gpa = 4 * exit.htval + low_bits(exit);
+    if gpa >= RAM_BASE && gpa - RAM_BASE <= size && size - (gpa - RAM_BASE) >= width {
+        Some(gpa)
+    } else {
+        None
+    }
+}
+
+/// The guest-physical address of an access to a device, or the last one of all where it lies beyond.
+pub(crate) fn device_gpa(exit: &Exit) -> u64
+    ensures { result ≡ device_gpa exit.now }
+{
+    exit.htval.saturating_mul(4).saturating_add(low_bits(exit))
+}

@@ -1,0 +1,36 @@
+// The instruction that an exit tells of.
+
+ghost use Rattle.std.specs.Prelude.{◌≡◌, ◌%◌, IfSome, IsTrue};
+ghost use Rattle.sv_types.specs.Encoding.{fits};
+ghost use Rattle.sv_types.specs.Effects.{effect_of};
+ghost use Rattle.sv_types.specs.Requests.{IsRequest};
+ghost use Rattle.machine_model.specs.Served.{transformed};
+
+use hart::Hart;
+use rv64_decode::{Instr, decode};
+use rv64_exec::effect;
+use sv_types::Effect;
+
+// What an instruction asks on a hart.
+#[tactic(auto, using(sv_types::proofs::EffectRequests::is_request))]
+fn asked(hart: &Hart, instr: &Instr) -> Effect
+    requires aligned { hart.now.pc % 4 ≡ 0 }
+    requires fits { IsTrue (fits instr.now) }
+    ensures effect { result ≡ effect_of instr.now hart.now.regs hart.now.pc }
+    ensures request { IsRequest result }
+{
+    effect(instr, &hart.regs, hart.pc)
+}
+
+/// What the transformed instruction of an exit asks, of which the address doesn't count.
+#[tactic(auto, unfolding(machine_model::specs::Served::transformed))]
+pub(crate) fn transformed(hart: &Hart, htinst: u32) -> Option<Effect>
+    requires aligned { hart.now.pc % 4 ≡ 0 }
+    ensures effect { result ≡ transformed htinst hart.now.regs hart.now.pc }
+    ensures request { IfSome result IsRequest }
+{
+    match decode(htinst) {
+        Some(instr) => Some(asked(hart, &instr)),
+        None => None,
+    }
+}
