@@ -36,9 +36,9 @@ use Rattle.reference.specs.Turn.{Fetched, NoWord, Stray, Word, fetched_in, fetch
 use Rattle.run_laws.proofs.Lookups.{both, is_there}
 use Rattle.run_laws.proofs.StateLawsHold.{reached_sound, bytes_law, modules_law}
 use Rattle.run_laws.proofs.StepsSound.{FreeMove, beat_page, beat_sound, counted_sound}
-use Rattle.guarantee.specs.Guarantee.{is_kernel, in_kernel, going, after_going, IsMeasured, KernelTurn, Loads, Traps, Demotes, Executes, KernelWordsLaw, Enters, ByTrap, ByStart, EntriesLaw, Leaves, ByReturn, ByDemotion, ByStop, ExitsLaw, ProtectedBytesLaw, Place, writes_at, written_by, WritesGuarded, Stops, AtEntry, AtWrite, StopsRight, StopsLaw}
+use Rattle.guarantee.specs.Guarantee.{is_kernel, in_kernel, going, after_going, IsMeasuredWord, KernelTurn, Loads, Traps, Demotes, Executes, KernelWordsLaw, Enters, ByTrap, ByStart, EntriesLaw, Leaves, ByReturn, ByDemotion, ByStop, ExitsLaw, ProtectedBytesLaw, Writes, WritesGuarded, Stops, AtEntry, AtWrite, StopsRight, StopsLaw}
 use Rattle.guarantee.proofs.Does.{IsMoving, Own, Same, Entered, Returned, Demoted, Halted, Other, Rests, Begins, IsNoStop, Ends, GoesOn, StopsAtEntry, StopsAtWrite, get_mapped, same_one, page_kept, demote_left}
-use Rattle.guarantee.proofs.Turns.{FetchedWrites, turn_does}
+use Rattle.guarantee.proofs.Turns.{FetchedWrites, FetchedReturns, turn_does}
 
 -- ---- a turn, while the machine runs
 
@@ -167,7 +167,7 @@ protected_bytes_law s events e is_start =
 
 data Becomes (r : State) (e : Event) (h : ℕ) (before : Hart) (next : State) (after : Hart) : Type 0 where
   Rested : (mode : after.mode ≡ before.mode) → (started : after.started ≡ before.started) → Becomes r e h before next after
-  Moved : (turn : e ≡ Turn h) → (at : IsMoving (count r count_turn) h before) → (own : Own (count r count_turn) h before next after) → Becomes r e h before next after
+  Moved : (turn : e ≡ Turn h) → (at : IsMoving (count r count_turn) h before) → (own : Own (FetchedReturns (count r count_turn) before) (count r count_turn) h before next after) → Becomes r e h before next after
   Began : (pc opaque : ℕ) → (stopped : before.started ≡ false) → (permitted : has_number r.rules.entries pc ≡ true)
       → (same : after ≡ started_hart h pc opaque) → Becomes r e h before next after
 
@@ -264,12 +264,12 @@ abbrev EntersRight : State → Event → ℕ → Hart → Hart → Type 0
 EntersRight r e h before after = Enters r e h before after × (has_number r.rules.entries after.pc ≡ true)
 
 own_enters : (r : State) (e : Event) (h : ℕ) (before : Hart) (next : State) (after : Hart) → e ≡ Turn h → in_kernel before ≡ false → in_kernel after ≡ true
-    → Own (count r count_turn) h before next after → EntersRight r e h before after
+    → Own (FetchedReturns (count r count_turn) before) (count r count_turn) h before next after → EntersRight r e h before after
 unfolding hart_at_trap hart_at_return
 own_enters r e h before next after turn out within (Same mode started) = absurd (both (in_kernel after) within (kernel_by after before false mode started out))
 own_enters r e h before next after turn out within (Entered interrupt cause tval user permitted same) =
     (ByTrap interrupt cause tval turn user same, subst (λ (x : Hart). has_number r.rules.entries x.pc ≡ true) (sym same) permitted)
-own_enters r e h before next after turn out within (Returned user same) =
+own_enters r e h before next after turn out within (Returned why user same) =
     absurd (both (in_kernel after) within (user_no_kernel after (ap (λ (x : Hart). x.mode) same ∙ user)))
 own_enters r e h before next after turn out within (Demoted gpa same all) =
     absurd (both (in_kernel after) within (user_no_kernel after (ap (λ (x : Hart). x.mode) same)))
@@ -289,11 +289,11 @@ entries_law s events e h before after is_start was is out within =
     enters (run s events) e h before (step (run s events) e) after out within (becomes s events e h before after is_start was is)
 
 own_leaves : (r : State) (h : ℕ) (before : Hart) (next : State) (after : Hart) → in_kernel before ≡ true → in_kernel after ≡ false
-    → Own (count r count_turn) h before next after → Leaves r next h before after
+    → Own (FetchedReturns (count r count_turn) before) (count r count_turn) h before next after → Leaves r next h before after
 own_leaves r h before next after within out (Same mode started) =
     absurd (both (in_kernel before) within (kernel_by before after false (sym mode) (sym started) out))
 own_leaves r h before next after within out (Entered interrupt cause tval user permitted same) = absurd (both (in_kernel before) within (user_no_kernel before user))
-own_leaves r h before next after within out (Returned user same) = ByReturn user same
+own_leaves r h before next after within out (Returned why user same) = ByReturn why.0 why.1.0 why.1.1 user same
 own_leaves r h before next after within out (Demoted gpa same all) = ByDemotion gpa all
 own_leaves r h before next after within out (Halted stopped) = ByStop stopped
 
@@ -391,30 +391,35 @@ trap_stops q h hart interrupt cause tval e = rw e refl
 none_some : {A : Type 0} (a : A) → None ≡ Some a → ⊥
 none_some a e = cc
 
+guarded_there : (q : State) (hart : Hart) (gpa at address bytes width : ℕ) → at ≡ address → bytes ≡ width → target_of q hart address width ≡ Guarded gpa
+    → target_of q hart at bytes ≡ Guarded gpa
+guarded_there q hart gpa at address bytes width same size leads =
+    subst (λ (a : ℕ). target_of q hart a bytes ≡ Guarded gpa) (sym same) (subst (λ (n : ℕ). target_of q hart address n ≡ Guarded gpa) (sym size) leads)
+
 -- a write into a protected page, by the effects that write
-effect_stops : (q : State) (h : ℕ) (hart : Hart) (w gpa : ℕ) (e : Effect) (place : Place) → writes_at e ≡ Some place → target_of q hart place.address place.width ≡ Guarded gpa
+effect_stops : (q : State) (h : ℕ) (hart : Hart) (w gpa : ℕ) (e : Effect) (address width : ℕ) → Writes e address width → target_of q hart address width ≡ Guarded gpa
     → carry_out_effect q h hart w e ≡ stopped_by q h (Write hart.pc gpa)
 unfolding carry_out_effect carry_out_store carry_out_store_conditional carry_out_amo
-effect_stops q h hart w gpa (Effect.Store address width value) place e leads =
-    let same : record { address = address; width = width } ≡ place = cc in
-    ap (carry_out_store q h hart address width value) (subst (λ (p : Place). target_of q hart p.address p.width ≡ Guarded gpa) (sym same) leads)
-effect_stops q h hart w gpa (Effect.StoreConditional rd address width value) place e leads =
-    let same : record { address = address; width = width } ≡ place = cc in
-    ap (carry_out_store_conditional q h hart rd address width value) (subst (λ (p : Place). target_of q hart p.address p.width ≡ Guarded gpa) (sym same) leads)
-effect_stops q h hart w gpa (Effect.Amo rd address width op value) place e leads =
-    let same : record { address = address; width = width } ≡ place = cc in
-    ap (carry_out_amo q h hart rd address width op value) (subst (λ (p : Place). target_of q hart p.address p.width ≡ Guarded gpa) (sym same) leads)
-effect_stops q h hart w gpa _ place e leads = absurd (none_some place e)
+effect_stops q h hart w gpa (Effect.Store at bytes value) address width is leads =
+    ap (carry_out_store q h hart at bytes value) (guarded_there q hart gpa at address bytes width is.0 is.1 leads)
+effect_stops q h hart w gpa (Effect.StoreConditional rd at bytes value) address width is leads =
+    ap (carry_out_store_conditional q h hart rd at bytes value) (guarded_there q hart gpa at address bytes width is.0 is.1 leads)
+effect_stops q h hart w gpa (Effect.Amo rd at bytes op value) address width is leads =
+    ap (carry_out_amo q h hart rd at bytes op value) (guarded_there q hart gpa at address bytes width is.0 is.1 leads)
+effect_stops q h hart w gpa _ address width is leads = absurd is
 
-instruction_stops : (q : State) (h : ℕ) (hart : Hart) (w gpa : ℕ) (x : Option Instr) (place : Place) → written_by x hart ≡ Some place
-    → target_of q hart place.address place.width ≡ Guarded gpa → carry_out_instruction q h hart w x ≡ stopped_by q h (Write hart.pc gpa)
+instruction_stops : (q : State) (h : ℕ) (hart : Hart) (w gpa : ℕ) (x : Option Instr) (e : Effect) (address width : ℕ)
+    → option_map (λ (i : Instr). effect_of i hart.registers hart.pc) x ≡ Some e → Writes e address width → target_of q hart address width ≡ Guarded gpa
+    → carry_out_instruction q h hart w x ≡ stopped_by q h (Write hart.pc gpa)
 unfolding carry_out_instruction
-instruction_stops q h hart w gpa None place e leads = absurd (none_some place e)
-instruction_stops q h hart w gpa (Some i) place e leads = effect_stops q h hart w gpa (effect_of i hart.registers hart.pc) place e leads
+instruction_stops q h hart w gpa None e address width is writes leads = absurd (none_some e is)
+instruction_stops q h hart w gpa (Some i) e address width is writes leads =
+    let same : effect_of i hart.registers hart.pc ≡ e = cc in
+    effect_stops q h hart w gpa (effect_of i hart.registers hart.pc) address width (subst (λ (x : Effect). Writes x address width) (sym same) writes) leads
 
 word_stops : (q : State) (h : ℕ) (hart : Hart) (w gpa : ℕ) → WritesGuarded q hart w gpa → carry_out_word q h hart w ≡ stopped_by q h (Write hart.pc gpa)
 unfolding carry_out_word
-word_stops q h hart w gpa k = instruction_stops q h hart w gpa (instruction_of w) k.place k.writes k.leads
+word_stops q h hart w gpa k = instruction_stops q h hart w gpa (instruction_of w) k.effect k.address k.width k.is k.writes k.leads
 
 pub stops_law : StopsLaw
 stops_law = record { only = only_there; traps = trap_stops; writes = word_stops }
@@ -444,7 +449,7 @@ no_word x w none e = both (is_word x) (ap is_word e) none
 
 measured_at : (s : State) (events : List Event) (hart : Hart) (w gpa : ℕ) (inside : Bool) (x : Option (List ℕ)) → IsStart s → place_of_pc (run s events) hart ≡ At gpa
     → approved_bytes (run s events).approved (page_of gpa) ≡ x
-    → (if inside then fetched_in (run s events).ram Kernel gpa x else NoWord Cause.InstrAccess) ≡ Word w → IsMeasured s (run s events) hart w
+    → (if inside then fetched_in (run s events).ram Kernel gpa x else NoWord Cause.InstrAccess) ≡ Word w → IsMeasuredWord s (run s events) hart w
 unfolding fetched_in
 measured_at s events hart w gpa true (Some bytes) is_start place found e =
     let approved : is_approved_in (run s events).approved (page_of gpa) ≡ true = some_there (approved_bytes (run s events).approved (page_of gpa)) bytes found in
@@ -461,7 +466,7 @@ measured_at s events hart w gpa true None is_start place found e = absurd (no_wo
 measured_at s events hart w gpa false x is_start place found e = absurd (no_word (NoWord Cause.InstrAccess) w refl e)
 
 measured_by : (s : State) (events : List Event) (hart : Hart) (w : ℕ) (d : Destination) → IsStart s → place_of_pc (run s events) hart ≡ d
-    → fetched_at (run s events).ram (run s events).approved Kernel d ≡ Word w → IsMeasured s (run s events) hart w
+    → fetched_at (run s events).ram (run s events).approved Kernel d ≡ Word w → IsMeasuredWord s (run s events) hart w
 unfolding fetched_at
 measured_by s events hart w PageFault is_start place e = absurd (no_word (NoWord Cause.InstrPage) w refl e)
 measured_by s events hart w (Unreadable entry) is_start place e = absurd (no_word (NoWord Cause.InstrAccess) w refl e)
@@ -469,7 +474,7 @@ measured_by s events hart w (At gpa) is_start place e =
     measured_at s events hart w gpa (in_ram (run s events).ram gpa 4) (approved_bytes (run s events).approved (page_of gpa)) is_start place refl e
 
 fetched_measured : (s : State) (events : List Event) (hart : Hart) (w : ℕ) → IsStart s → hart.mode ≡ Kernel → fetch_of (run s events) hart ≡ Word w
-    → IsMeasured s (run s events) hart w
+    → IsMeasuredWord s (run s events) hart w
 unfolding fetch
 fetched_measured s events hart w is_start mode e =
     measured_by s events hart w (place_of_pc (run s events) hart) is_start refl

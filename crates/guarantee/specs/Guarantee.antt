@@ -1,6 +1,6 @@
 -- What a guest can't do, whatever it and its devices try: in each law `r` is a state that a run reaches from a start `s`.
 -- This project's own.
-use Rattle.std.specs.Prelude.{◌≡◌, ℕ, ◌⊎◌, Bool, true, false, ◌&&◌, List, Option, Some, None, slice_get}
+use Rattle.std.specs.Prelude.{◌≡◌, ℕ, Bool, true, false, ◌&&◌, List, Option, Some, option_map, slice_get}
 use Rattle.sv_types.specs.ApprovedPages.{approved_bytes}
 use Rattle.sv_types.specs.Bytes.{word, page_bytes, page_of, place_in_page}
 use Rattle.sv_types.specs.Effects.{effect_of}
@@ -13,8 +13,6 @@ use Rattle.sv_types.specs.declared.event.Event.TheVariants.{Turn, Beat}
 use Rattle.sv_types.specs.declared.event.Rule.{Rule}
 use Rattle.sv_types.specs.declared.event.Rule.TheVariants.{Entry, Write}
 use Rattle.sv_types.specs.declared.event.Verdict.TheVariants.{Running, Stopped}
-use Rattle.sv_types.specs.declared.instruction.Instr.{Instr}
-use Rattle.sv_types.specs.declared.saved.SavedModule.{SavedModule}
 use Rattle.sv_types.specs.declared.wires.Mode.{Mode}
 use Rattle.sv_types.specs.declared.wires.Mode.TheVariants.{Kernel, User}
 use Rattle.reference.specs.Calls.{started_hart}
@@ -27,7 +25,7 @@ use Rattle.reference.specs.Start.{IsStart}
 use Rattle.reference.specs.States.{State, Hart, Loading, has_number, is_protected}
 use Rattle.reference.specs.Trapping.{hart_at_trap, hart_at_return, trap_from}
 use Rattle.reference.specs.Turn.{Word, carry_out_word, demote, fetch_of, leave_entry, outside, place_of_pc}
-use Rattle.run_laws.specs.StateLaws.{IsText, IsModulePage}
+use Rattle.run_laws.specs.StateLaws.{HasOrigin}
 
 abbrev pub is_kernel : Mode → Bool
 is_kernel Kernel = true
@@ -46,17 +44,21 @@ abbrev pub after_going : (left : Bool) → State → ℕ → Hart → State
 after_going false r h hart = r
 after_going true r h hart = leave_entry r h hart
 
+-- what the word does, none where it is no instruction
+abbrev pub effect_of_word : ℕ → Hart → Option Effect
+effect_of_word w hart = option_map (λ i. effect_of i hart.registers hart.pc) (instruction_of w)
+
 -- ---- words: what a turn in kernel mode is
 
 -- the word at the hart's pc lies in an approved page, as it was approved, and as RAM has it. The page is the kernel's text as it
--- was at the start, or a loaded module's that measures to the policy's digest with each field right
-pub record IsMeasured (s r : State) (hart : Hart) (w : ℕ) : Type 0 where
+-- was at the start, or a part of a loaded module's that measures to the policy's digest with each field right
+pub record IsMeasuredWord (s r : State) (hart : Hart) (w : ℕ) : Type 0 where
   pub gpa : ℕ
   pub bytes : List ℕ
   pub place : place_of_pc r hart ≡ At gpa
   pub approved : approved_bytes r.approved (page_of gpa) ≡ Some bytes
   pub kept : page_bytes r.ram (page_of gpa) ≡ bytes
-  pub origin : IsText s r (page_of gpa) ⊎ ((m : SavedModule) × IsModulePage r m (page_of gpa))
+  pub origin : HasOrigin s r (page_of gpa)
   pub word : w ≡ word bytes (place_in_page gpa) 4
 
 -- q is r with the turn counted
@@ -68,7 +70,7 @@ pub data KernelTurn (s r q : State) (h : ℕ) (hart : Hart) (next : State) : Typ
       next ≡ trap_from (after_going left q h hart) h (going left hart) Kernel interrupt cause tval → KernelTurn s r q h hart next
   -- it leaves for user mode, and executes nothing
   Demotes : (gpa : ℕ) → next ≡ demote q h hart gpa → KernelTurn s r q h hart next
-  Executes : (left : Bool) (w : ℕ) → IsMeasured s r hart w → next ≡ carry_out_word (after_going left q h hart) h (going left hart) w →
+  Executes : (left : Bool) (w : ℕ) → IsMeasuredWord s r hart w → next ≡ carry_out_word (after_going left q h hart) h (going left hart) w →
       KernelTurn s r q h hart next
 
 abbrev pub KernelWordsLaw : Type 0
@@ -91,8 +93,8 @@ EntriesLaw = (s : State) (events : List Event) (e : Event) (h : ℕ) (before aft
     Enters (run s events) e h before after × (has_number (run s events).rules.entries after.pc ≡ true)
 
 pub data Leaves (r next : State) (h : ℕ) (before after : Hart) : Type 0 where
-  -- by SRET, to the mode that sstatus has
-  ByReturn : mode_at_return before.supervisor.sstatus ≡ User → after ≡ hart_at_return before → Leaves r next h before after
+  ByReturn : (w : ℕ) → fetch_of r before ≡ Word w → effect_of_word w before ≡ Some Effect.Sret → mode_at_return before.supervisor.sstatus ≡ User →
+      after ≡ hart_at_return before → Leaves r next h before after
   ByDemotion : (gpa : ℕ) → next ≡ demote (count r count_turn) h before gpa → Leaves r next h before after
   ByStop : after.started ≡ false → Leaves r next h before after
 
@@ -113,26 +115,21 @@ ProtectedBytesLaw = (s : State) (events : List Event) (e : Event) → IsStart s 
 
 -- ---- stops
 
-pub record Place : Type 0 where
-  pub address : ℕ
-  pub width : ℕ
-
--- where an effect writes memory
-abbrev pub writes_at : Effect → Option Place
-writes_at (Effect.Store address width value) = Some (record { address = address; width = width })
-writes_at (Effect.StoreConditional rd address width value) = Some (record { address = address; width = width })
-writes_at (Effect.Amo rd address width op value) = Some (record { address = address; width = width })
-writes_at _ = None
-
-abbrev pub written_by : Option Instr → Hart → Option Place
-written_by None hart = None
-written_by (Some i) hart = writes_at (effect_of i hart.registers hart.pc)
+-- an effect writes so many bytes at an address
+abbrev pub Writes : Effect → (address width : ℕ) → Type 0
+Writes (Effect.Store at bytes value) address width = (at ≡ address) × (bytes ≡ width)
+Writes (Effect.StoreConditional rd at bytes value) address width = (at ≡ address) × (bytes ≡ width)
+Writes (Effect.Amo rd at bytes op value) address width = (at ≡ address) × (bytes ≡ width)
+Writes _ address width = ⊥
 
 -- a word writes into a protected page
 pub record WritesGuarded (r : State) (hart : Hart) (w gpa : ℕ) : Type 0 where
-  pub place : Place
-  pub writes : written_by (instruction_of w) hart ≡ Some place
-  pub leads : target_of r hart place.address place.width ≡ Guarded gpa
+  pub effect : Effect
+  pub is : effect_of_word w hart ≡ Some effect
+  pub address : ℕ
+  pub width : ℕ
+  pub writes : Writes effect address width
+  pub leads : target_of r hart address width ≡ Guarded gpa
 
 -- nothing changes but the count of turns and the verdict, which names the hart, the turn, and the target or the pc and the address
 pub data Stops (q : State) (h : ℕ) (hart : Hart) (next : State) : Type 0 where

@@ -1,20 +1,21 @@
 -- The laws of bytes and of modules.
-use Rattle.std.proofs.Common.{◌≡◌, ℕ, ◌*◌, ◌/◌, ◌⊎◌, inl, inr, List, [], length, sym, ◌∙◌, subst, true, false, ◌<◌}
+use Rattle.std.proofs.Common.{◌≡◌, ℕ, ◌+◌, ◌-◌, ◌*◌, ◌/◌, ◌%◌, ◌<◌, ◌≤◌, inl, inr, List, [], length, take, drop, sym, ◌∙◌, ap, subst, arith, true, false, slice_get}
+use Rattle.std.proofs.lemmas.List.{drop-take, take-take, drop-drop}
 use Rattle.std.specs.Prelude.{Option, Some, None}
 use Rattle.sv_types.specs.Boot.{flat_ram_pages}
-use Rattle.sv_types.specs.Bytes.{padded, page_bytes, page_size, ram_base}
+use Rattle.sv_types.specs.Bytes.{padded, part, page_bytes, page_size, ram_base, ram_place}
 use Rattle.sv_types.specs.Kernel.{header_entry, kernel_segments, segments_ram, text_pages}
 use Rattle.sv_types.specs.Policies.{Rules}
 use Rattle.sv_types.specs.ApprovedPages.{approved_bytes, numbers_from}
 use Rattle.sv_types.specs.declared.event.Event.{Event}
 use Rattle.sv_types.specs.declared.saved.SavedModule.{SavedModule}
 use Rattle.reference.specs.Origins.{IsPageOf, IsOwned, TextStays, is_kernel_text, ownership}
-use Rattle.reference.specs.States.{State, Loading, has_number, is_approved_in, find_module}
+use Rattle.reference.specs.States.{State, Loading, has_number, is_approved_in, find_module, pages_in_rule}
 use Rattle.reference.specs.Run.{run}
 use Rattle.reference.specs.Start.{IsStart, StartsFlat, StartsImage, start, flat_rules, flat_start, boot_start}
 use Rattle.reference.specs.Soundness.{IsSound, IsSoundLoad, HoldsModule}
-use Rattle.run_laws.specs.StateLaws.{BytesLaw, SoundLaw, IsText, IsModulePage, HoldsLoad, HasOrigins, ModulesLaw}
-use Rattle.run_laws.proofs.Lookups.{not_true, both, all_found}
+use Rattle.run_laws.specs.StateLaws.{BytesLaw, SoundLaw, IsText, IsModulePage, HasOrigin, HoldsLoad, HasOrigins, ModulesLaw}
+use Rattle.run_laws.proofs.Lookups.{not_true, both, all_found, numbers_bounds}
 use Rattle.run_laws.proofs.ModulesSound.{same_module}
 use Rattle.run_laws.proofs.Sounds.{Goes}
 use Rattle.run_laws.proofs.StartsSound.{CanStart, start_sound, start_text, flat_can, image_can}
@@ -64,14 +65,36 @@ sound_law s events is_start = reached_sound s events is_start
 text_of_start : (s r : State) (page : ℕ) → Begins s → TextStays (ownership s) (ownership r) → is_kernel_text (ownership r) page ≡ true → IsText s r page
 text_of_start s r page b stays e = record { unretired = e; bytes = stays.bytes page e ∙ b.text page (stays.was page e) }
 
+-- a part of a part of a list
+part_in : (list : List ℕ) (at n i m : ℕ) → i + m ≤ n → part (part list at n) i m ≡ part list (at + i) m
+part_in list at n i m fits =
+    let split : n ≡ i + (n - i) = omega arith in
+    let e = subst (λ (k : ℕ). drop i (take k (drop at list)) ≡ take (n - i) (drop i (drop at list))) (sym split) (drop-take i (n - i) (drop at list)) in
+    rw (e, drop-drop) (take-take m (n - i) (drop (at + i) list) (omega arith))
+
+page_place : (at page : ℕ) → at % 4096 ≡ 0 → at / 4096 ≤ page → at + 4096 * (page - at / 4096) ≡ 4096 * page
+page_place at page aligned behind = omega arith
+
+page_fits : (first n page : ℕ) → first ≤ page → page < first + n → 4096 * (page - first) + 4096 ≤ 4096 * n
+page_fits first n page behind before = omega arith
+
+-- a module's page is a part of its text, since the module begins with a page
+page_in_text : (ram : List ℕ) (place n page : ℕ) → place % 4096 ≡ 0 → has_number (numbers_from (place / 4096) n) page ≡ true
+    → page_bytes ram page ≡ part (part ram place (page_size * n)) (page_size * (page - place / 4096)) page_size
+page_in_text ram place n page aligned inside =
+    let bounds = numbers_bounds (place / 4096) n page inside in
+    sym (part_in ram place (page_size * n) (page_size * (page - place / 4096)) page_size (page_fits (place / 4096) n page bounds.0 bounds.1)
+    ∙ ap (λ (at : ℕ). part ram at page_size) (page_place place page aligned bounds.0))
+
 module_page : (r : State) (m : SavedModule) (page : ℕ) → IsSound r → IsPageOf r.rules r.loaded m page → IsModulePage r m page
 module_page r m page sound p = record {
-  page_of = p;
+  its_page = p;
   approved = λ q there. sound.pages.modules m q (record { loaded_is = p.loaded_is; inside = there });
   measured = sound.modules m p.loaded_is;
+  text = page_in_text r.ram (ram_place m.gpa) (pages_in_rule (slice_get r.rules.modules m.id)) page (sound.modules m p.loaded_is).aligned p.inside;
 }
 
-origin_of : (s r : State) (page : ℕ) → Begins s → Goes s r → IsOwned (ownership r) page → IsText s r page ⊎ ((m : SavedModule) × IsModulePage r m page)
+origin_of : (s r : State) (page : ℕ) → Begins s → Goes s r → IsOwned (ownership r) page → HasOrigin s r page
 origin_of s r page b goes (inl text) = inl (text_of_start s r page b goes.text text)
 origin_of s r page b goes (inr of) = inr (of.0, module_page r of.0 page goes.sound of.1)
 

@@ -1,11 +1,12 @@
 -- Two laws of the reference machine alone, for each state that a run reaches from a start. This project's own.
-use Rattle.std.specs.Prelude.{◌≡◌, ℕ, ◌<◌, ◌⊎◌, true, false, List, [], length, Option, Some, None, slice_get}
-use Rattle.sv_types.specs.Bytes.{page_bytes}
+use Rattle.std.specs.Prelude.{◌≡◌, ℕ, ◌-◌, ◌*◌, ◌<◌, ◌⊎◌, true, false, List, [], length, Option, Some, None, slice_get}
+use Rattle.sv_types.specs.Bytes.{part, page_bytes, page_of, page_size}
 use Rattle.sv_types.specs.ApprovedPages.{approved_bytes}
 use Rattle.sv_types.specs.declared.event.Event.{Event}
 use Rattle.sv_types.specs.declared.saved.SavedModule.{SavedModule}
+use Rattle.reference.specs.Loads.{module_text}
 use Rattle.reference.specs.Origins.{IsPageOf, IsMeasured, Ascends, is_kernel_text, ownership}
-use Rattle.reference.specs.States.{State, Loading, has_number, is_approved_in, find_module, module_pages}
+use Rattle.reference.specs.States.{State, Loading, has_number, is_approved_in, find_module, module_pages, pages_in_rule}
 use Rattle.reference.specs.Run.{run}
 use Rattle.reference.specs.Start.{IsStart}
 use Rattle.reference.specs.Soundness.{IsSound, KeepsText}
@@ -28,11 +29,17 @@ pub record IsText (s r : State) (page : ℕ) : Type 0 where
   pub bytes : approved_bytes r.approved page ≡ Some (page_bytes s.ram page)
 
 -- a page of a loaded module, all of whose pages are approved. Its text in RAM, each field cleared, measures to the policy's
--- digest, and the fields are right for its bases
+-- digest, and the fields are right for its bases; and the page is a part of that text
 pub record IsModulePage (r : State) (m : SavedModule) (page : ℕ) : Type 0 where
-  pub page_of : IsPageOf r.rules r.loaded m page
+  pub its_page : IsPageOf r.rules r.loaded m page
   pub approved : (q : ℕ) → has_number (module_pages r.rules m) q ≡ true → is_approved_in r.approved q ≡ true
   pub measured : IsMeasured r.rules r.ram m
+  pub text : page_bytes r.ram page ≡
+      part (module_text r.ram m (pages_in_rule (slice_get r.rules.modules m.id))) (page_size * (page - page_of m.gpa)) page_size
+
+-- where an approved page comes from
+abbrev pub HasOrigin : (s r : State) → (page : ℕ) → Type 0
+HasOrigin s r page = IsText s r page ⊎ ((m : SavedModule) × IsModulePage r m page)
 
 -- the pages that are held are those of the load under way
 abbrev pub HoldsLoad : State → Option Loading → Type 0
@@ -45,7 +52,7 @@ pub record HasOrigins (s r : State) : Type 0 where
   pub rules : r.rules ≡ s.rules
   pub text : r.text ≡ s.text
   -- where approved pages come from
-  pub origin : (page : ℕ) → is_approved_in r.approved page ≡ true → IsText s r page ⊎ ((m : SavedModule) × IsModulePage r m page)
+  pub origin : (page : ℕ) → is_approved_in r.approved page ≡ true → HasOrigin s r page
   pub held : HoldsLoad r r.loading
   -- the kernel's text, the pages of each module and those that are held share none
   pub text_and_module : (m : SavedModule) (page : ℕ) → IsPageOf r.rules r.loaded m page → is_kernel_text (ownership r) page ≡ false
