@@ -1,5 +1,5 @@
 -- What a load or a store at the bus makes of the machine, by whether a register is there.
-use Rattle.std.proofs.Common.{◌≡◌, ℕ, List, [], Bool, true, false, refl, ap}
+use Rattle.std.proofs.Common.{◌≡◌, ℕ, Bool, true, false, refl, ap}
 use Rattle.std.specs.Prelude.{Option, Some, None, option_map, is_some, unwrap_or}
 use Rattle.sv_types.specs.Requests.{loaded_value}
 use Rattle.sv_types.specs.declared.cause.Cause.{Cause}
