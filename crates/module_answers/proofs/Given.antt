@@ -1,5 +1,5 @@
 -- What an answer that is given may do to pages and modules: a line for each that changes them.
-use Rattle.std.proofs.Common.{◌≡◌, ℕ, List, [], ◌∷◌, length, refl, sym, ap, subst, Bool, true, false, not, slice_get, inl, inr}
+use Rattle.std.proofs.Common.{◌≡◌, ℕ, List, [], ◌∷◌, length, refl, sym, subst, Bool, true, false, not, slice_get, inl, inr}
 use Rattle.std.specs.Prelude.{Option, Some, None, if◌then◌else◌, ◌==◌, nat_le, is_some}
 use Rattle.std.proofs.lemmas.Bool.{eqb-true}
 use Rattle.sv_types.specs.Policies.{Rules, ModuleRule}
@@ -7,14 +7,14 @@ use Rattle.sv_types.specs.declared.module.Span.{Span}
 use Rattle.sv_types.specs.declared.saved.SavedModule.{SavedModule}
 use Rattle.sv_types.specs.declared.wires.Protection.{Protection}
 use Rattle.reference.specs.Calls.{Asked, Facts, mask_exists, timer_call, ipi_call, start_other, hart_call, reset_call}
-use Rattle.reference.specs.ModuleCalls.{good_address, module_asked, load_call, load_decision, unload_call, retire_call, module_call, answer_by, answer_of}
+use Rattle.reference.specs.ModuleCalls.{good_address, module_asked, load_call, load_decision, unload_call, retire_call, module_call, answer_by}
 use Rattle.reference.specs.States.{find_module, has_number}
 use Rattle.reference.specs.declared.answers.Answer.{Answer}
 use Rattle.reference.specs.declared.answers.Beside.{Beside}
 use Rattle.reference.specs.declared.answers.Beside.TheVariants.{BeginsLoad, ApprovesModule, ReleasesModule, UnloadsModule, RetiresInit}
 use Rattle.reference.specs.declared.answers.Extension.{Extension}
 use Rattle.module_gate.specs.Gates.{is_good_place}
-use Rattle.module_answers.specs.Conditions.{IsGiven, IsOfCall, IsOfLoad}
+use Rattle.module_answers.specs.Conditions.{IsGiven}
 use Rattle.module_answers.specs.Parts.{loading_of, facts_in}
 use Rattle.module_answers.specs.declared.modules.Modules.{Modules}
 use Rattle.module_answers.specs.declared.modules.UnderWay.{UnderWay}

@@ -1,6 +1,6 @@
 -- What holds of the load under way, from what each answer keeps.
-use Rattle.std.proofs.Common.{◌≡◌, ℕ, List, refl, sym, ◌∙◌, ap, subst, Bool, true, false}
-use Rattle.std.specs.Prelude.{Option, Some, None, IfSome, is_some, option_map, slice_get}
+use Rattle.std.proofs.Common.{◌≡◌, List, refl, ◌∙◌, ap, subst, true, false}
+use Rattle.std.specs.Prelude.{Option, Some, None, IfSome, is_some, option_map}
 use Rattle.sv_types.specs.Policies.{Rules}
 use Rattle.sv_types.specs.declared.module.Span.{Span}
 use Rattle.sv_types.specs.declared.wires.Protection.{Protection}

@@ -1,5 +1,5 @@
 -- What each answer makes of pages and modules is what the machine's does.
-use Rattle.std.proofs.Common.{◌≡◌, ℕ, List, refl, sym, ap, subst, true, false}
+use Rattle.std.proofs.Common.{◌≡◌, ℕ, List, sym, ap, subst, true, false}
 use Rattle.std.specs.Prelude.{Option, Some, None, IfSome, slice_get}
 use Rattle.sv_types.specs.Policies.{Rules}
 use Rattle.sv_types.specs.Regions.{Region}

@@ -1,6 +1,6 @@
 -- A place where a module may be loaded: its pages are in RAM, and none of them is taken.
-use Rattle.std.proofs.Common.{◌≡◌, ℕ, zero, suc, ◌+◌, ◌*◌, ◌<◌, ◌≤◌, ◌&&◌, List, [], ◌∷◌, ◌++◌, length, refl, ◌∙◌, ap, Bool, true, false, not, arith, add-one}
-use Rattle.std.specs.Prelude.{Option, Some, None, find, if◌then◌else◌, ◌||◌, ◌==◌, ◌%◌, nat_le}
+use Rattle.std.proofs.Common.{◌≡◌, ℕ, zero, suc, ◌+◌, ◌*◌, ◌&&◌, List, [], ◌∷◌, ◌++◌, length, refl, ◌∙◌, ap, Bool, true, false, not, arith, add-one}
+use Rattle.std.specs.Prelude.{Some, None, find, if◌then◌else◌, ◌||◌, ◌==◌, ◌%◌}
 use Rattle.std.specs.List.{list_any}
 use Rattle.std.proofs.lemmas.Bool.{and_parts}
 use Rattle.std.proofs.lemmas.Bool.Decides.{nat_tests}

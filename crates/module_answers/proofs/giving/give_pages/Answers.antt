@@ -1,19 +1,11 @@
-use Rattle.std.proofs.Common.{rules, ◌≡◌, ◌∙◌, sym, refl, ap, subst, slice_get, true}
-use Rattle.std.specs.Prelude.{Option, Some, None, IfSome, is_some}
+use Rattle.std.proofs.Common.{◌≡◌, ◌∙◌, sym, refl, ap, subst, slice_get}
+use Rattle.std.specs.Prelude.{Option, Some, IfSome, is_some}
 use Rattle.sv_types.specs.Policies.{ModuleRule, rules_of}
-use Rattle.sv_types.specs.declared.saved.SavedModule.{SavedModule}
 use Rattle.reference.specs.States.{find_module, pages_in_rule}
-use Rattle.reference.specs.declared.answers.Beside.{Beside}
-use Rattle.reference.specs.declared.answers.Beside.TheVariants.{BeginsLoad, ApprovesModule, ReleasesModule}
-use Rattle.machine_model.specs.HostCalls.{host_pages_beside}
-use Rattle.machine_model.specs.HostExits.{with_tables}
-use Rattle.machine_model.specs.Machine.{Machine}
 use Rattle.module_gate.specs.Gates.{is_good_place}
-use Rattle.module_answers.specs.Conditions.{MayEnd}
-use Rattle.module_answers.specs.Parts.{moduled}
 use Rattle.module_answers.specs.declared.modules.UnderWay.{UnderWay}
 use Rattle.module_answers.proofs.Given.{MayBegin, IsCounted, MayDo, may_do}
-use Rattle.module_answers.proofs.Joined.{may_end, takes_its_pages, none_under_way, gate_idle}
+use Rattle.module_answers.proofs.Joined.{takes_its_pages, none_under_way, gate_idle}
 use Rattle.module_answers.proofs.PagesGiven.{at_load, begins, approves, releases}
 use Rattle.module_answers.proofs.giving.give_pages.Goals as goal
 

@@ -1,6 +1,5 @@
-use Rattle.std.proofs.Common.{rules, ◌≡◌, ◌+◌, ◌∙◌, sym, ap, subst, List, [], length, arith, slice_get, true}
+use Rattle.std.proofs.Common.{rules, ◌≡◌, ◌∙◌, sym, ap, [], length, arith, slice_get, true}
 use Rattle.std.specs.Prelude.{Some}
-use Rattle.sv_types.specs.Bytes.{page_of}
 use Rattle.sv_types.specs.Policies.{rules_of, module_rule}
 use Rattle.reference.specs.States.{pages_in_rule}
 use Rattle.module_gate.specs.Gates.{is_good_place}
