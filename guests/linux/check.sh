@@ -1,0 +1,95 @@
+#!/usr/bin/env bash
+# check.sh exact|kinds|seeds|write SECVISOR [FOLDER]: measures and runs the guests that build.sh made in FOLDER.
+#   exact  policies, words of `measure` and output are the stored ones, byte for byte; takes the packages named in
+#          docs/LINUX.md
+#   kinds  notes and verdict are the stored ones but for turns, harts, addresses and pages; for other packages
+#   seeds  the boots on one and on four harts end with a shutdown under four other seeds
+#   write  stores policies, words and output
+set -uo pipefail
+here=$(cd "$(dirname "$0")" && pwd)
+expected=$here/expected
+what=${1:-}
+program=$(realpath "$(command -v "${2:-secvisor}")") || exit 2
+cd "${3:-$here/out}" || exit 2
+failed=0
+
+fail() {
+    echo "$1"
+    failed=1
+}
+
+# What a run's notes and verdict say, without numbers that another build changes.
+kinds() {
+    sed -nE '/^(demote|denied gpa|load|unload|retire|verdict) ?/ {
+        s/ (hart|turn) [0-9]+//g
+        s/0x[0-9a-f]{16}/ADDRESS/g
+        p
+    }' "$1"
+}
+
+measure_all() {
+    while read -r policy words; do
+        # shellcheck disable=SC2086
+        "$program" $words > /dev/null || fail "$policy: status $?"
+    done < measure.txt
+}
+
+run_guest() {
+    "$program" run "$1.elf" "$1.policy" "$2" "$3" 2000000000 none
+    echo "status $?"
+}
+
+# compare NAME: the output against the stored one, in the way that was asked for.
+compare() {
+    case $what in
+    exact) cmp "$1.txt" "$expected/$1.txt" && cmp "$1.policy" "$expected/$1.policy" ;;
+    kinds) diff <(kinds "$1.txt") <(kinds "$expected/$1.txt") ;;
+    write) mkdir -p "$expected" && cp "$1.txt" "$1.policy" "$expected" ;;
+    esac
+}
+
+run_all() {
+    while read -r name _ _ _ _ disk script; do
+        run_guest "$name" "$disk" "$script" > "$name.txt"
+        if compare "$name"; then echo "$name: $(tail -2 "$name.txt" | head -1)"; else fail "$name differs"; fi
+    done < <(grep -v '^#' "$here/guests.txt")
+}
+
+run_seeds() {
+    for name in boot four; do
+        for seed in 2 3 4 5; do
+            run_guest "$name" none "auto:$seed" > "$name.$seed.txt"
+            if tail -2 "$name.$seed.txt" | tr '\n' ' ' | grep -qx 'verdict shutdown status 0 '; then
+                echo "$name auto:$seed: $(grep ^turns "$name.$seed.txt")"
+            else
+                fail "$name auto:$seed: $(tail -2 "$name.$seed.txt" | head -1)"
+            fi
+        done
+    done
+}
+
+case $what in
+exact)
+    diff measure.txt "$expected/measure.txt" || fail "measure.txt differs"
+    measure_all
+    run_all
+    ;;
+kinds)
+    measure_all
+    run_all
+    ;;
+seeds)
+    measure_all
+    run_seeds
+    ;;
+write)
+    measure_all
+    run_all
+    cp measure.txt "$expected"
+    ;;
+*)
+    echo "check.sh exact|kinds|seeds|write SECVISOR [FOLDER]"
+    failed=2
+    ;;
+esac
+exit $failed
