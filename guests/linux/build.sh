@@ -1,6 +1,6 @@
 #!/usr/bin/env bash
 # build.sh [FOLDER]: makes every guest of guests.txt in FOLDER (out/ beside this file) from nothing but Debian 12's packages:
-#   apt-get install linux-source-6.1 gcc-riscv64-linux-gnu make gcc flex bison bc libelf-dev libssl-dev xz-utils patch python3
+#   apt-get install linux-source-6.1 gcc-riscv64-linux-gnu make gcc flex bison bc xz-utils patch python3
 # FOLDER then holds NAME.elf, the modules, disk and script, and measure.txt with the words of each `measure`.
 # JOBS is how many compilers run at once.
 set -euo pipefail

@@ -1,5 +1,6 @@
 #!/usr/bin/env bash
-# check.sh exact|kinds|seeds|write SECVISOR [FOLDER]: measures and runs the guests that build.sh made in FOLDER.
+# check.sh exact|kinds|seeds|write SECVISOR [FOLDER [GUEST...]]: measures and runs the guests that build.sh made in FOLDER,
+# all or those named.
 #   exact  policies, words of `measure` and output are the stored ones, byte for byte; takes the packages named in
 #          docs/LINUX.md
 #   kinds  notes and verdict are the stored ones but for turns, harts, addresses and pages; for other packages
@@ -11,11 +12,17 @@ expected=$here/expected
 what=${1:-}
 program=$(realpath "$(command -v "${2:-secvisor}")") || exit 2
 cd "${3:-$here/out}" || exit 2
+guests=" ${*:4} "
 failed=0
 
 fail() {
     echo "$1"
     failed=1
+}
+
+# wanted NAME: all guests are, or those that were named.
+wanted() {
+    [ "$guests" = '  ' ] || [[ $guests == *" $1 "* ]]
 }
 
 # What a run's notes and verdict say, without numbers that another build changes.
@@ -29,6 +36,7 @@ kinds() {
 
 measure_all() {
     while read -r policy words; do
+        wanted "${policy%.policy}" || continue
         # shellcheck disable=SC2086
         "$program" $words > /dev/null || fail "$policy: status $?"
     done < measure.txt
@@ -50,6 +58,7 @@ compare() {
 
 run_all() {
     while read -r name _ _ _ _ disk script; do
+        wanted "$name" || continue
         run_guest "$name" "$disk" "$script" > "$name.txt"
         if compare "$name"; then echo "$name: $(tail -2 "$name.txt" | head -1)"; else fail "$name differs"; fi
     done < <(grep -v '^#' "$here/guests.txt")
@@ -57,6 +66,7 @@ run_all() {
 
 run_seeds() {
     for name in boot four; do
+        wanted "$name" || continue
         for seed in 2 3 4 5; do
             run_guest "$name" none "auto:$seed" > "$name.$seed.txt"
             if tail -2 "$name.$seed.txt" | tr '\n' ' ' | grep -qx 'verdict shutdown status 0 '; then
@@ -88,7 +98,7 @@ write)
     cp measure.txt "$expected"
     ;;
 *)
-    echo "check.sh exact|kinds|seeds|write SECVISOR [FOLDER]"
+    echo "check.sh exact|kinds|seeds|write SECVISOR [FOLDER [GUEST...]]"
     failed=2
     ;;
 esac

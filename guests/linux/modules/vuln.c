@@ -29,7 +29,7 @@ asm(".pushsection .text\n"
 
 static unsigned long physical(unsigned long at)
 {
-	if (is_vmalloc_or_module_addr((void *)at))
+	if (within_module(at, THIS_MODULE))
 		return page_to_phys(vmalloc_to_page((void *)at)) + offset_in_page(at);
 	return __pa(lm_alias(at));
 }
