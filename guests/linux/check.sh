@@ -10,7 +10,8 @@ set -uo pipefail
 here=$(cd "$(dirname "$0")" && pwd)
 expected=$here/expected
 what=${1:-}
-program=$(realpath "$(command -v "${2:-secvisor}")") || exit 2
+program=$(command -v "${2:-secvisor}") || { echo "no program ${2:-secvisor}"; exit 2; }
+program=$(realpath "$program")
 cd "${3:-$here/out}" || exit 2
 guests=" ${*:4} "
 failed=0
