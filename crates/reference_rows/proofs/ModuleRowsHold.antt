@@ -1,12 +1,14 @@
 -- Modules, computed.
-use Rattle.std.proofs.Common.{◌≡◌, refl, [], ◌∷◌}
+use Rattle.std.proofs.Common.{◌≡◌, ℕ, refl, [], ◌∷◌, Bool, true, false}
 use Rattle.std.specs.Prelude.{pos}
 use Rattle.sv_types.specs.declared.event.Note.TheVariants.{Denied, Load, Unload}
 use Rattle.sha2.specs.Sha256.{sha256, first_words, schedule, rounds, compress, hash_after, digest_bytes}
 use Rattle.sv_types.specs.Measure.{measure}
 use Rattle.reference.specs.Loads.{is_good, is_as_measured, decide, load_step_of}
 use Rattle.reference.specs.Relocations.{masked, fields_right, field_right, clear_field, site_value}
-use Rattle.reference_rows.specs.ModuleRows.{ModuleRows, all_calls, beat_after_a_page, beat_before_the_call, refused_by}
+use Rattle.machine_model.specs.HostExits.{load_counted, page_counted, page_sites}
+use Rattle.machine_model.specs.Machine.{HostLoad}
+use Rattle.reference_rows.specs.ModuleRows.{ModuleRows, loaded_at, turned_at, cleared_digest, all_calls, beat_after_a_page, beat_before_the_call, refused_by}
 use Rattle.reference_rows.proofs.Computing.{computing}
 
 its_calls_noted : all_calls.journal.notes ≡ Load 1 2 1 (refused_by 6) ∷ Load 0 6 0 (pos 0) ∷ Load 0 7 0 (refused_by 5) ∷ Load 0 8 1 (refused_by 4) ∷ Load 0 9 1 (refused_by 4) ∷ Load 0 10 2 (refused_by 2) ∷ Unload 0 11 1 (refused_by 2) ∷ Unload 0 12 0 (pos 0) ∷ []
@@ -21,8 +23,28 @@ its_bytes_written_before_count : beat_before_the_call.journal.notes ≡ Load 0 5
 unfolding computing load_step_of decide is_good is_as_measured masked fields_right field_right clear_field site_value measure sha256 first_words schedule rounds compress hash_after digest_bytes
 its_bytes_written_before_count = refl
 
-pub module_rows : ModuleRows
+its_right_address : (loaded_at 0x80005000).journal.notes ≡ Load 0 3 0 (pos 0) ∷ []
 unfolding computing load_step_of decide is_good is_as_measured masked fields_right field_right clear_field site_value measure sha256 first_words schedule rounds compress hash_after digest_bytes
+its_right_address = refl
+
+its_wrong_address : (loaded_at 0x80006000).journal.notes ≡ Load 0 3 0 (refused_by 3) ∷ []
+unfolding computing load_step_of decide is_good is_as_measured masked fields_right field_right clear_field site_value measure sha256 first_words schedule rounds compress hash_after digest_bytes
+its_wrong_address = refl
+
+turned : (gpa : ℕ) (right : Bool) → HostLoad
+turned gpa right =
+    record { hart = 0; about = record { id = 0; gpa = gpa; va = 0x80008000; data_va = 0 }; left = 0; digests = cleared_digest ∷ []; right = right }
+
+its_right_page : turned_at 0x80005000 ≡ turned 0x80005000 true
+unfolding computing load_step_of decide is_good is_as_measured masked fields_right field_right clear_field site_value measure sha256 first_words schedule rounds compress hash_after digest_bytes load_counted page_counted page_sites turned
+its_right_page = refl
+
+its_wrong_page : turned_at 0x80006000 ≡ turned 0x80006000 false
+unfolding computing load_step_of decide is_good is_as_measured masked fields_right field_right clear_field site_value measure sha256 first_words schedule rounds compress hash_after digest_bytes load_counted page_counted page_sites turned
+its_wrong_page = refl
+
+pub module_rows : ModuleRows
+unfolding computing load_step_of decide is_good is_as_measured masked fields_right field_right clear_field site_value measure sha256 first_words schedule rounds compress hash_after digest_bytes turned
 module_rows = record {
   right_call = refl;
   wrong_call = refl;
@@ -39,6 +61,10 @@ module_rows = record {
   calls_noted = its_calls_noted;
   held_pages_are_not_written = its_held_pages_are_not_written;
   bytes_written_before_count = its_bytes_written_before_count;
+  right_address = its_right_address;
+  wrong_address = its_wrong_address;
+  right_page_turned = its_right_page;
+  wrong_page_turned = its_wrong_page;
   unload_demotes_who_runs_there = refl;
   unload_while_a_load_is_under_way = refl;
   unload_of_none = refl;

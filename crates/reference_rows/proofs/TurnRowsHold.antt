@@ -53,5 +53,11 @@ turn_rows = record {
   fence_of_translation_of_the_kernel = refl;
   fence = refl;
   instruction_of_a_hypervisor = refl;
+  previous_mode_of_the_kernel = refl;
+  previous_mode_of_the_user = refl;
+  last_note = refl;
+  no_room_for_a_note = refl;
+  most_notes_are_kept = refl;
+  note_is_counted = refl;
   trap_to_an_address_that_is_no_entry = refl;
 }

@@ -7,7 +7,7 @@ use Rattle.sv_types.specs.declared.wires.Mode.TheVariants.{Kernel, User}
 use Rattle.reference.specs.Devices.{device_load, device_store}
 use Rattle.reference.specs.Answers.{call}
 use Rattle.reference.specs.Requests.{carry_out_device_load, carry_out_device_store, write_stopped}
-use Rattle.reference.specs.States.{State, Hart, Binding}
+use Rattle.reference.specs.States.{State, Hart}
 use Rattle.reference.specs.Trapping.{Interrupted, trap, exception, returned_from_trap}
 use Rattle.reference.specs.Turn.{demote}
 use Rattle.machine_model.specs.Served.{Seen, exit_answer, serve_exit}

@@ -14,6 +14,8 @@ use Rattle.reference.specs.Relocations.{masked, fields_right}
 use Rattle.reference.specs.Run.{step, run}
 use Rattle.reference.specs.Start.{start}
 use Rattle.reference.specs.States.{State, with_hart}
+use Rattle.machine_model.specs.HostExits.{load_counted}
+use Rattle.machine_model.specs.Machine.{HostLoad}
 use Rattle.reference_rows.specs.CallRows.{asking, answer, refused}
 use Rattle.reference_rows.specs.DeviceRows.{busy_with, disk_with}
 use Rattle.reference_rows.specs.Guests.{words, page, hart_in, hart_of, at_pc}
@@ -111,6 +113,37 @@ running_in_it = with_hart with_second 1 (hart_in Kernel 0x80004000 (replicate 32
 abbrev pub with_init : State
 with_init = begin (Some (record { first = 1; count = 4 }))
 
+-- a module of one page, whose first field holds its own address. At page 5 it is right, and at page 6 another address stands there
+abbrev pub address_site : List Site
+address_site = site 0 2 0 0 ∷ []
+
+-- SHA-256 of the page with its field cleared, and of that digest
+abbrev pub cleared_digest : List ℕ
+cleared_digest = 201 ∷ 118 ∷ 143 ∷ 36 ∷ 73 ∷ 111 ∷ 235 ∷ 244 ∷ 147 ∷ 81 ∷ 133 ∷ 117 ∷ 220 ∷ 148 ∷ 44 ∷ 16 ∷ 37 ∷ 229 ∷ 216 ∷ 187 ∷ 2 ∷ 92 ∷ 156 ∷ 242 ∷ 128 ∷ 122 ∷ 89 ∷ 149 ∷ 128 ∷ 61 ∷ 218 ∷ 205 ∷ []
+
+abbrev pub address_rule : ModuleRule
+address_rule = record {
+  name = [];
+  pages = 1;
+  measure = 55 ∷ 21 ∷ 96 ∷ 201 ∷ 140 ∷ 169 ∷ 196 ∷ 224 ∷ 171 ∷ 124 ∷ 213 ∷ 215 ∷ 203 ∷ 47 ∷ 201 ∷ 204 ∷ 185 ∷ 27 ∷ 239 ∷ 143 ∷ 255 ∷ 214 ∷ 139 ∷ 67 ∷ 220 ∷ 203 ∷ 255 ∷ 18 ∷ 29 ∷ 78 ∷ 30 ∷ 174 ∷ [];
+  sites = address_site;
+}
+
+abbrev pub address_rules : Rules
+address_rules = record (rules_with None) { modules = address_rule ∷ [] }
+
+abbrev pub two_addresses : List ℕ
+two_addresses = padded (page (words (0x00000073 ∷ 0x00000073 ∷ [])) ++ replicate 16384 0
+    ++ page (words (0x80008000 ∷ 0 ∷ 0x00000073 ∷ [])) ++ page (words (0x80008004 ∷ 0 ∷ 0x00000073 ∷ []))) 32768
+
+abbrev pub loaded_at : ℕ → State
+loaded_at gpa = run (loads (start address_rules two_addresses (0 ∷ []) 0x80000000 []) 0 0 gpa) (Turn 0 ∷ Turn 0 ∷ [])
+
+-- what is kept of its load when its page was turned
+abbrev pub turned_at : ℕ → HostLoad
+turned_at gpa = load_counted address_rules two_addresses
+    (record { hart = 0; about = record { id = 0; gpa = gpa; va = 0x80008000; data_va = 0 }; left = 1; digests = []; right = true }) 0 (Some address_rule)
+
 abbrev pub pages_of : State → List ℕ
 pages_of r = map (λ (entry : ApprovedPage). entry.page) r.approved
 
@@ -150,6 +183,23 @@ pub record ModuleRows : Type 0 where
   -- ---- bytes of the deciding moment
   pub held_pages_are_not_written : beat_after_a_page.journal.notes ≡ Denied 0x80005000 ∷ Load 0 5 0 (pos 0) ∷ []
   pub bytes_written_before_count : beat_before_the_call.journal.notes ≡ Load 0 5 0 (refused_by 3) ∷ []
+  -- ---- a module with one field
+  pub right_address : (loaded_at 0x80005000).journal.notes ≡ Load 0 3 0 (pos 0) ∷ []
+  pub wrong_address : (loaded_at 0x80006000).journal.notes ≡ Load 0 3 0 (refused_by 3) ∷ []
+  pub right_page_turned : turned_at 0x80005000 ≡ record {
+    hart = 0;
+    about = record { id = 0; gpa = 0x80005000; va = 0x80008000; data_va = 0 };
+    left = 0;
+    digests = cleared_digest ∷ [];
+    right = true;
+  }
+  pub wrong_page_turned : turned_at 0x80006000 ≡ record {
+    hart = 0;
+    about = record { id = 0; gpa = 0x80006000; va = 0x80008000; data_va = 0 };
+    left = 0;
+    digests = cleared_digest ∷ [];
+    right = false;
+  }
   -- ---- unload and retire
   pub unload_demotes_who_runs_there : (step (asks running_in_it 0 1 1 0 0) (Turn 1)).journal.notes ≡ Unload 0 1 1 (pos 0) ∷ Demote 1 2 0x80004000 0x80004000 ∷ []
   pub unload_while_a_load_is_under_way : answer (asks (record with_second { loading = Some (record { hart = 1; about = record { id = 0; gpa = 0x80005000; va = 0; data_va = 0 }; left = 3 }) }) 0 1 1 0 0) ≡ refused 7

@@ -1,12 +1,14 @@
 -- One turn, a row for each case: interrupts, fetches, and each kind of effect. This project's own.
-use Rattle.std.specs.Prelude.{◌≡◌, ℕ, List, [], ◌∷◌, Some, None, true}
+use Rattle.std.specs.Prelude.{◌≡◌, ℕ, List, [], ◌∷◌, length, replicate, slice_get, Some, None, true}
 use Rattle.sv_types.specs.Bytes.{word}
-use Rattle.sv_types.specs.declared.event.Note.TheVariants.{Demote}
+use Rattle.sv_types.specs.declared.event.Note.TheVariants.{Demote, Denied}
 use Rattle.sv_types.specs.declared.event.Rule.TheVariants.{Write}
 use Rattle.sv_types.specs.declared.event.Verdict.TheVariants.{Stopped}
 use Rattle.sv_types.specs.declared.wires.Mode.TheVariants.{Kernel, User}
 use Rattle.reference.specs.Calls.{registers_at_boot}
-use Rattle.reference.specs.States.{Hart}
+use Rattle.sv_types.specs.declared.event.Event.TheVariants.{Turn}
+use Rattle.reference.specs.Run.{step}
+use Rattle.reference.specs.States.{State, Hart, with_hart}
 use Rattle.reference_rows.specs.Guests.{small, hart_in, with_two, with_vector, turn_of_hart, as_kernel, as_user, hart_of, register_of, trapped, trap_of, at_pc}
 
 -- Sv39 whose root is a page of zeros: nothing is mapped
@@ -26,6 +28,15 @@ reserving place = record (hart_in Kernel 0x80000000 (with_two 0x80002000 7)) { r
 
 abbrev pub sc : ℕ
 sc = 0x1862B3AF
+
+abbrev pub status_of : State → ℕ
+status_of r = (hart_of r 0).supervisor.sstatus
+
+-- so many notes stand in the journal, and the kernel's hart is demoted, which makes one more
+abbrev pub after_notes : ℕ → State
+after_notes n =
+    let r : State = with_hart (small 0x13 0x13) 0 (hart_in Kernel 0x80001000 plain) in
+    step (record r { journal = record r.journal { notes = replicate n (Denied 0) } }) (Turn 0)
 
 pub record TurnRows : Type 0 where
   -- ---- before the fetch
@@ -83,5 +94,13 @@ pub record TurnRows : Type 0 where
   pub fence_of_translation_of_the_kernel : at_pc (as_kernel 0x12000073 plain) ≡ 0x80000004 ∷ 1 ∷ []
   pub fence : at_pc (as_user 0x0FF0000F plain) ≡ 0x80001004 ∷ 1 ∷ []
   pub instruction_of_a_hypervisor : trapped (as_kernel 0x6002C373 plain) ≡ trap_of 2 0x6002C373
+  -- ---- the mode that a trap came from, in SPP
+  pub previous_mode_of_the_kernel : status_of (turn_of_hart (small 0x13 0) interrupted_hart) ≡ 0x120
+  pub previous_mode_of_the_user : status_of (turn_of_hart (small 0 0x73) (record (hart_in User 0x80001000 plain) { supervisor = record with_vector { sstatus = 0x102 } })) ≡ 0x20
+  -- ---- notes, of which the first 4,096 are kept
+  pub last_note : slice_get (after_notes 4095).journal.notes 4095 ≡ Some (Demote 0 1 0x80001000 0x80001000)
+  pub no_room_for_a_note : slice_get (after_notes 4096).journal.notes 4095 ≡ Some (Denied 0)
+  pub most_notes_are_kept : length (after_notes 4096).journal.notes ≡ 4096
+  pub note_is_counted : (after_notes 4096).journal.counts.notes ≡ 1
   -- ---- traps from user mode
   pub trap_to_an_address_that_is_no_entry : (turn_of_hart (small 0 0) (record (hart_in User 0x80001000 plain) { supervisor = record with_vector { stvec = 0x80000104 } })).journal.counts.traps ≡ 0
