@@ -1,5 +1,5 @@
 -- A call about modules is answered as one.
-use Rattle.std.proofs.Common.{◌≡◌, true, Option, Some, None, ap, refl}
+use Rattle.std.proofs.Common.{◌≡◌, true, Option, Some, None, refl}
 use Rattle.reference.specs.Calls.{Asked, Facts, extension_of}
 use Rattle.reference.specs.ModuleCalls.{answer_by, answer_of, module_call}
 use Rattle.reference.specs.declared.answers.Extension.{Extension}

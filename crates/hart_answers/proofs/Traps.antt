@@ -1,6 +1,6 @@
 -- Where no entry is bound, no hart is in one.
 use Rattle.std.proofs.Common.{◌≡◌, ℕ, Bool, List, [], ◌∷◌, refl, ap, ◌∙◌}
-use Rattle.std.specs.Prelude.{Some, None}
+use Rattle.std.specs.Prelude.{None}
 use Rattle.sv_types.specs.Policies.{Rules}
 use Rattle.sv_types.specs.Traps.{trap_target}
 use Rattle.sv_types.specs.declared.wires.Mode.{Mode}
@@ -8,7 +8,7 @@ use Rattle.sv_types.specs.declared.wires.Mode.TheVariants.{Kernel, User}
 use Rattle.reference.specs.States.{place_of_entry}
 use Rattle.reference.specs.Trapping.{entry_at_trap}
 use Rattle.hart.specs.declared.hart.Hart.{Hart}
-use Rattle.machine_model.specs.HostHarts.{host_entered, host_at_trap, host_stopped, host_stayed}
+use Rattle.machine_model.specs.HostHarts.{host_entered, host_at_trap}
 use Rattle.machine_model.specs.StandsFor.{hregs_in}
 use Rattle.hart_answers.specs.Hosts.{host_of}
 

@@ -1,5 +1,5 @@
 -- What a call asks, as the definitions have it, and whether it is one about modules. This project's own.
-use Rattle.std.specs.Prelude.{Bool, true, false, Option, Some, None}
+use Rattle.std.specs.Prelude.{Bool, true, false, Option, Some}
 use Rattle.reference.specs.Calls.{Asked, extension_of}
 use Rattle.reference.specs.declared.answers.Extension.{Extension}
 use Rattle.hart_answers.specs.declared.asked.Asked.TheInside.{Inside}
