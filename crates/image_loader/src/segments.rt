@@ -2,7 +2,7 @@
 // from the later ones that begin or end in it, so that segments over one another aren't each written.
 
 ghost use Rattle.std.specs.List.{All};
-ghost use Rattle.std.specs.Prelude.{◌≡◌, ℕ, ◌+◌, ◌-◌, ◌*◌, ◌/◌, ◌<◌, ◌≤◌, ◌==◌, ◌&&◌, false, nat_le, nat_lt, map, length, replicate, slice_index, slice_index_or, if◌then◌else◌, IfOk, OnOk};
+ghost use Rattle.std.specs.Prelude.{◌≡◌, ℕ, ◌+◌, ◌-◌, ◌*◌, ◌/◌, ◌<◌, ◌≤◌, ◌==◌, ◌&&◌, false, nat_le, nat_lt, map, length, replicate, slice_index, slice_index_or, if◌then◌else◌, IfOk, OnErr, OnOk};
 ghost use Rattle.sv_types.specs.Bytes.{page_size, overwrite, padded, part, ram_place};
 ghost use Rattle.sv_types.specs.Kernel.{segments_ram};
 ghost use Rattle.elf64_load.specs.Images.{segment_of, segments_of};
@@ -26,6 +26,7 @@ pub fn fill_ram(
     requires zeros { mem.old.ram ≡ replicate (page_size * ram_pages) 0 }
     requires placed { ArePlaced ram_pages (segments_of image.now) }
     ensures ram { OnOk result (mem.new ≡ record mem.old { ram = segments_ram (segments_of image.now) ram_pages }) }
+    ensures kept { OnErr result (mem.new ≡ mem.old) }
     ensures tables { mem.new.tables ≡ mem.old.tables }
     ensures size { length mem.new.ram ≡ length mem.old.ram }
 {

@@ -1,13 +1,12 @@
 -- Reservations have guest-physical addresses of 64 bits, in every state that a run reaches: one is made where RAM is loaded,
 -- and nothing else moves one.
 use Rattle.std.proofs.Common.{◌≡◌, ℕ, zero, suc, ◌+◌, ◌*◌, ◌%◌, ◌^◌, ◌<◌, ◌≤◌, List, [], ◌∷◌, map, length, refl, sym, subst, Bool, true, false, not, arith, slice_get, slice_set}
-use Rattle.std.specs.Prelude.{Option, Some, None, if◌then◌else◌, ◌==◌, is_some, nat_le}
+use Rattle.std.specs.Prelude.{Option, Some, None, if◌then◌else◌, ◌==◌}
 use Rattle.std.proofs.lemmas.Bool.Decides.{nat_tests}
-use Rattle.sv_types.specs.Bytes.{in_ram, page_size, ram_place}
+use Rattle.sv_types.specs.Bytes.{in_ram, page_of, page_size, ram_place}
 use Rattle.sv_types.specs.Causes.{cause_number}
 use Rattle.sv_types.specs.Effects.{effect_of}
 use Rattle.sv_types.specs.Instructions.{instruction_of}
-use Rattle.sv_types.specs.Policies.{ModuleRule}
 use Rattle.sv_types.specs.Regions.{most_ram_pages}
 use Rattle.sv_types.specs.Requests.{after_write, covers, reserved_at, touches}
 use Rattle.sv_types.specs.Translation.{Destination, At, PageFault, Unreadable, Settings, place}
@@ -22,23 +21,26 @@ use Rattle.sv_types.specs.declared.event.Verdict.TheVariants.{Running, Shutdown,
 use Rattle.sv_types.specs.declared.instruction.AmoOp.{AmoOp}
 use Rattle.sv_types.specs.declared.instruction.CsrOp.{CsrOp}
 use Rattle.sv_types.specs.declared.instruction.Instr.{Instr}
-use Rattle.sv_types.specs.declared.module.Span.{Span}
-use Rattle.sv_types.specs.declared.saved.SavedModule.{SavedModule}
 use Rattle.sv_types.specs.declared.wires.Access.TheVariants as Access
 use Rattle.sv_types.specs.declared.wires.Interrupt.{Interrupt}
 use Rattle.sv_types.specs.declared.wires.Mode.{Mode}
 use Rattle.sv_types.specs.declared.wires.Mode.TheVariants.{Kernel, User}
-use Rattle.reference.specs.States.{State, Hart, Loading, find_module, has_number, is_protected}
+use Rattle.reference.specs.States.{State, Hart, Loading, Binding, is_protected}
 use Rattle.reference.specs.Counting.{count, count_turn, count_beat, count_key, count_tick}
-use Rattle.reference.specs.Calls.{Asked, asked_by, hart_at, interrupted, with_software, mask_names, mask_exists, base_call, timer_call, ipi_call, fence_call, start_other, status_of_hart, hart_call, reset_call}
+use Rattle.reference.specs.Answers.{replied, harts_beside, answered}
+use Rattle.reference.specs.Calls.{hart_at, interrupted, with_software, mask_names}
+use Rattle.reference.specs.declared.answers.Answer.{Answer}
+use Rattle.reference.specs.declared.answers.Beside.{Beside}
+use Rattle.reference.specs.declared.answers.Beside.TheVariants.{SendsInterrupts, StartsHart}
+use Rattle.reference.specs.declared.answers.Reply.{Reply}
+use Rattle.reference.specs.declared.answers.Reply.TheVariants.{Gives, Replies, Stays, Stops}
 use Rattle.reference.specs.Devices.{DeviceLoad, DeviceStore, hart_after_write, with_bytes, after_move, beat, key, tick, device_load, device_store, lines_at, with_disk}
 use Rattle.reference.specs.Disk.{Beaten, Move, Idle, FromRam, IntoRam, DeniedAt, OutsideRam, disk_beat}
-use Rattle.reference.specs.Loads.{is_good, decide, load_step_of}
-use Rattle.reference.specs.ModuleCalls.{good_address, load_call, unload_call, retire_call, module_call, call_of}
+use Rattle.reference.specs.Loads.{decide, load_step_of}
 use Rattle.reference.specs.Requests.{Source, Target, carried_out_writing, load_source, settings_of, source_at, source_of, target_of, csr_asked, carry_out_device_load, carry_out_load, carry_out_load_reserved, carry_out_device_store, carry_out_store, carry_out_store_conditional, carry_out_amo, carry_out_csr}
 use Rattle.reference.specs.Run.{happen, happen_under, step}
 use Rattle.reference.specs.Trapping.{hart_at_return, hart_at_trap, trap_from, exception, returned_from_trap, may_enter}
-use Rattle.reference.specs.Turn.{carry_out_kernel_only, carry_out_ecall, carry_out_sret, carry_out_effect, carry_out_instruction, carry_out_word, Fetched, NoWord, Stray, Word, fetch_of, act_on_fetch, act_on_pending, act, turn_of_started, turn_of, turn}
+use Rattle.reference.specs.Turn.{carry_out_kernel_only, carry_out_ecall, carry_out_sret, carry_out_effect, carry_out_instruction, carry_out_word, Fetched, NoWord, Stray, Word, fetch_of, act_on_fetch, place_of_pc, leads_into, outside, leave_entry, fetch_in_entry, bound_entry, act_on_pending, act, turn_of_started, turn_of, turn}
 use Rattle.saved_machine.specs.SavedStates.{gpa_at}
 use Rattle.machine.specs.Machines.{HasAddress, HaveAddresses}
 
@@ -210,110 +212,29 @@ unfolding carry_out_csr
 csr_keeps r h hart w rd op operand writes None k has = exception_keeps r h hart Cause.Illegal w k
 csr_keeps r h hart w rd op operand writes (Some csr) k has = set_addressed r.harts h _ k (csr_next writes hart _ refl has)
 
--- ---- calls
+-- ---- calls, by what an answer does
 
-base_keeps : (r : State) (h : ℕ) (hart : Hart) (ask : Asked) → Keeps r → Keeps (base_call r h hart ask)
-unfolding base_call
-base_keeps r h hart ask k =
-    choose_keeps (ask.function == 0) _ _ (set_addressed r.harts h _ k tt)
-    (choose_keeps (ask.function == 1) _ _ (set_addressed r.harts h _ k tt)
-    (choose_keeps (ask.function == 2) _ _ (set_addressed r.harts h _ k tt)
-    (choose_keeps (ask.function == 3) _ _ (set_addressed r.harts h _ k tt)
-    (choose_keeps (nat_le ask.function 6) _ _ (set_addressed r.harts h _ k tt) (set_addressed r.harts h _ k tt)))))
+replied_addressed : (reply : Reply) (hart : Hart) → HasAddress (replied reply hart).reservation
+unfolding replied
+replied_addressed (Gives a0) hart = tt
+replied_addressed (Replies a0 a1) hart = tt
+replied_addressed Stays hart = tt
+replied_addressed Stops hart = tt
 
-timer_keeps : (r : State) (h : ℕ) (hart : Hart) (ask : Asked) → Keeps r → Keeps (timer_call r h hart ask)
-unfolding timer_call
-timer_keeps r h hart ask k = choose_keeps (ask.function == 0) _ _ (set_addressed r.harts h _ k tt) (set_addressed r.harts h _ k tt)
+beside_addressed : (b : Beside) (harts : List Hart) → HaveAddresses harts → HaveAddresses (harts_beside b harts)
+unfolding harts_beside hart_at
+beside_addressed (SendsInterrupts mask base) harts have = sent_addressed (mask_names mask base) 0 harts have
+beside_addressed (StartsHart other pc opaque) harts have = set_addressed harts other _ have tt
+beside_addressed _ harts have = have
 
-ipi_keeps : (r : State) (h : ℕ) (hart : Hart) (ask : Asked) → Keeps r → Keeps (ipi_call r h hart ask)
-unfolding ipi_call
-ipi_keeps r h hart ask k =
-    choose_keeps (not (ask.function == 0)) _ _ (set_addressed r.harts h _ k tt)
-    (choose_keeps (mask_exists (length r.harts) ask.a0 ask.a1) _ _
-    (sent_addressed (mask_names ask.a0 ask.a1) 0 _ (set_addressed r.harts h _ k tt)) (set_addressed r.harts h _ k tt))
-
-fence_keeps : (r : State) (h : ℕ) (hart : Hart) (ask : Asked) → Keeps r → Keeps (fence_call r h hart ask)
-unfolding fence_call
-fence_keeps r h hart ask k =
-    choose_keeps (not (nat_le ask.function 2)) _ _ (set_addressed r.harts h _ k tt)
-    (choose_keeps (mask_exists (length r.harts) ask.a0 ask.a1) _ _ (set_addressed r.harts h _ k tt) (set_addressed r.harts h _ k tt))
-
-start_keeps : (r : State) (h : ℕ) (hart : Hart) (ask : Asked) (other : Option Hart) → Keeps r → Keeps (start_other r h hart ask other)
-unfolding start_other hart_at
-start_keeps r h hart ask None k = set_addressed r.harts h _ k tt
-start_keeps r h hart ask (Some other) k =
-    choose_keeps other.started _ _ (set_addressed r.harts h _ k tt)
-    (choose_keeps (has_number r.rules.entries ask.a1) _ _
-    (set_addressed (slice_set r.harts h _) ask.a0 _ (set_addressed r.harts h _ k tt) tt) (set_addressed r.harts h _ k tt))
-
-status_keeps : (r : State) (h : ℕ) (hart : Hart) (other : Option Hart) → Keeps r → Keeps (status_of_hart r h hart other)
-status_keeps r h hart None k = set_addressed r.harts h _ k tt
-status_keeps r h hart (Some other) k = set_addressed r.harts h _ k tt
-
-hart_keeps : (r : State) (h : ℕ) (hart : Hart) (ask : Asked) → Keeps r → Keeps (hart_call r h hart ask)
-unfolding hart_call
-hart_keeps r h hart ask k =
-    choose_keeps (ask.function == 0) _ _ (start_keeps r h hart ask (slice_get r.harts ask.a0) k)
-    (choose_keeps (ask.function == 1) _ _ (set_addressed r.harts h _ k tt)
-    (choose_keeps (ask.function == 2) _ _ (status_keeps r h hart (slice_get r.harts ask.a0) k) (set_addressed r.harts h _ k tt)))
-
-reset_keeps : (r : State) (h : ℕ) (hart : Hart) (ask : Asked) → Keeps r → Keeps (reset_call r h hart ask)
-unfolding reset_call
-reset_keeps r h hart ask k =
-    choose_keeps (not (ask.function == 0)) _ _ (set_addressed r.harts h _ k tt)
-    (choose_keeps (ask.a0 == 0) _ _ (set_addressed r.harts h _ k tt)
-    (choose_keeps (nat_le ask.a0 2) _ _ (set_addressed r.harts h _ k tt) (set_addressed r.harts h _ k tt)))
-
--- ---- modules
-
-load_call_keeps : (r : State) (h : ℕ) (hart : Hart) (ask : Asked) (x : Option ModuleRule) → Keeps r → Keeps (load_call r h hart ask x)
-unfolding load_call
-load_call_keeps r h hart ask None k = set_addressed r.harts h _ k tt
-load_call_keeps r h hart ask (Some rule) k =
-    choose_keeps (is_some r.loading) _ _ (set_addressed r.harts h _ k tt)
-    (choose_keeps (is_some (find_module r.loaded ask.a0)) _ _ (set_addressed r.harts h _ k tt)
-    (choose_keeps (good_address r ask.a1 ask.a2 rule.pages) _ _ (set_addressed r.harts h _ k tt) (set_addressed r.harts h _ k tt)))
-
-unload_keeps : (r : State) (h : ℕ) (hart : Hart) (id : ℕ) (x : Option SavedModule) → Keeps r → Keeps (unload_call r h hart id x)
-unfolding unload_call
-unload_keeps r h hart id None k = set_addressed r.harts h _ k tt
-unload_keeps r h hart id (Some m) k = choose_keeps (is_some r.loading) _ _ (set_addressed r.harts h _ k tt) (set_addressed r.harts h _ k tt)
-
-retire_keeps : (r : State) (h : ℕ) (hart : Hart) (x : Option Span) → Keeps r → Keeps (retire_call r h hart x)
-unfolding retire_call
-retire_keeps r h hart None k = set_addressed r.harts h _ k tt
-retire_keeps r h hart (Some span) k = choose_keeps r.retired _ _ (set_addressed r.harts h _ k tt) (set_addressed r.harts h _ k tt)
-
-module_keeps : (r : State) (h : ℕ) (hart : Hart) (ask : Asked) → Keeps r → Keeps (module_call r h hart ask)
-unfolding module_call
-module_keeps r h hart ask k =
-    choose_keeps (ask.function == 0) _ _ (load_call_keeps r h hart ask (slice_get r.rules.modules ask.a0) k)
-    (choose_keeps (ask.function == 1) _ _ (unload_keeps r h hart ask.a0 (find_module r.loaded ask.a0) k)
-    (choose_keeps (ask.function == 2) _ _ (retire_keeps r h hart r.rules.init k) (set_addressed r.harts h _ k tt)))
-
-call_keeps : (r : State) (h : ℕ) (hart : Hart) (ask : Asked) → Keeps r → Keeps (call_of r h hart ask)
-unfolding call_of
-call_keeps r h hart ask k =
-    choose_keeps (ask.extension == 0) _ _ (set_addressed r.harts h _ k tt)
-    (choose_keeps (ask.extension == 1) _ _ (set_addressed r.harts h _ k tt)
-    (choose_keeps (ask.extension == 2) _ _ (set_addressed r.harts h _ k tt)
-    (choose_keeps (ask.extension == 8) _ _ (set_addressed r.harts h _ k tt)
-    (choose_keeps (ask.extension == 0x10) _ _ (base_keeps r h hart ask k)
-    (choose_keeps (ask.extension == 0x54494D45) _ _ (timer_keeps r h hart ask k)
-    (choose_keeps (ask.extension == 0x735049) _ _ (ipi_keeps r h hart ask k)
-    (choose_keeps (ask.extension == 0x52464E43) _ _ (fence_keeps r h hart ask k)
-    (choose_keeps (ask.extension == 0x48534D) _ _ (hart_keeps r h hart ask k)
-    (choose_keeps (ask.extension == 0x53525354) _ _ (reset_keeps r h hart ask k)
-    (choose_keeps (ask.extension == 0x08534543) _ _ (module_keeps r h hart ask k) (set_addressed r.harts h _ k tt)))))))))))
-
-decision_keeps : (r : State) (h : ℕ) (hart : Hart) (m : SavedModule) → Keeps r → Keeps (decide r h hart m)
-unfolding decide
-decision_keeps r h hart m k =
-    choose_keeps (is_good r.rules r.ram m (slice_get r.rules.modules m.id)) _ _ (set_addressed r.harts h _ k tt) (set_addressed r.harts h _ k tt)
+answered_keeps : (r : State) (h : ℕ) (hart : Hart) (a : Answer) → Keeps r → Keeps (answered r h hart a)
+unfolding answered
+answered_keeps r h hart a k =
+    beside_addressed a.beside (slice_set r.harts h (replied a.reply hart)) (set_addressed r.harts h (replied a.reply hart) k (replied_addressed a.reply hart))
 
 load_step_keeps : (r : State) (h : ℕ) (hart : Hart) (load : Loading) (left : ℕ) → Keeps r → Keeps (load_step_of r h hart load left)
-unfolding load_step_of
-load_step_keeps r h hart load zero k = decision_keeps r h hart load.about k
+unfolding load_step_of decide
+load_step_keeps r h hart load zero k = answered_keeps r h hart _ k
 load_step_keeps r h hart load (suc left) k = k
 
 -- ---- instructions
@@ -325,7 +246,7 @@ kernel_only_keeps r h hart w User k has = exception_keeps r h hart Cause.Illegal
 
 ecall_keeps : (r : State) (h : ℕ) (hart : Hart) (mode : Mode) → Keeps r → Keeps (carry_out_ecall r h hart mode)
 unfolding carry_out_ecall
-ecall_keeps r h hart Kernel k = call_keeps r h hart (asked_by hart.registers) k
+ecall_keeps r h hart Kernel k = answered_keeps r h hart _ k
 ecall_keeps r h hart User k = exception_keeps r h hart Cause.UserCall 0 k
 
 sret_keeps : (r : State) (h : ℕ) (hart : Hart) (w : ℕ) (mode : Mode) → Keeps r → Keeps (carry_out_sret r h hart w mode)
@@ -368,10 +289,19 @@ fetch_keeps r h hart (NoWord cause) small k has = exception_keeps r h hart cause
 fetch_keeps r h hart (Stray gpa) small k has = set_addressed r.harts h _ k tt
 fetch_keeps r h hart (Word w) small k has = instruction_keeps r h hart w (instruction_of w) small k has
 
+-- in an entry, the pc leads into its page, or the hart is demoted, or it leaves the entry and goes on
+entry_keeps : (r : State) (h : ℕ) (hart : Hart) (x : Option Binding) → IsSmall r.ram → Keeps r → HasAddress hart.reservation → Keeps (fetch_in_entry r h hart x)
+unfolding fetch_in_entry
+entry_keeps r h hart None small k has = fetch_keeps r h hart (fetch_of r hart) small k has
+entry_keeps r h hart (Some entry) small k has =
+    choose_keeps (leads_into r (page_of entry.gpa) (place_of_pc r hart)) _ _ (fetch_keeps r h hart (fetch_of r hart) small k has)
+    (choose_keeps (hart.pc == entry.va) _ _ (set_addressed r.harts h _ k tt)
+    (fetch_keeps (leave_entry r h hart) h (outside hart) (fetch_of (leave_entry r h hart) (outside hart)) small (set_addressed r.harts h _ k has) has))
+
 pending_keeps : (r : State) (h : ℕ) (hart : Hart) (x : Option Interrupt) → IsSmall r.ram → Keeps r → HasAddress hart.reservation → Keeps (act_on_pending r h hart x)
 unfolding act_on_pending
 pending_keeps r h hart (Some interrupt) small k has = trap_keeps r h hart hart.mode true (interrupt_number interrupt) 0 k
-pending_keeps r h hart None small k has = fetch_keeps r h hart (fetch_of r hart) small k has
+pending_keeps r h hart None small k has = entry_keeps r h hart (bound_entry r.rules hart.entry) small k has
 
 act_keeps : (r : State) (h : ℕ) (hart : Hart) → IsSmall r.ram → Keeps r → HasAddress hart.reservation → Keeps (act r h hart)
 unfolding act

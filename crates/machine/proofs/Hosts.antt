@@ -1,9 +1,11 @@
 -- A hart, and a cache, among all.
 use Rattle.std.proofs.Common.{◌≡◌, ℕ, zero, suc, ◌<◌, ◌⊎◌, inl, inr, List, [], ◌∷◌, length, map, refl, ap, sym, ◌∙◌, arith, subst, slice_set, Bool}
 use Rattle.std.specs.Prelude.{Option, Some, None, slice_get, slice_index_or}
+use Rattle.sv_types.specs.Hardware.{Core}
 use Rattle.sv_types.specs.declared.cached.CacheLine.{CacheLine}
 use Rattle.sv_types.specs.declared.outcome.Outcome.{Outcome}
-use Rattle.machine_model.specs.Machine.{HostHart, forgets, all_forget}
+use Rattle.machine_model.specs.Machine.{HostHart, forgets, all_forget, update, with_core}
+use Rattle.hart_answers.proofs.Hosts.{hosts_set, hosts_updated}
 use Rattle.hart_answers.specs.Hosts.{host_at, hosts_of}
 use Rattle.hart_answers.specs.declared.seats.Seat.{Seat}
 use Rattle.machine.specs.Attempts.{hart_in, IsUsable, AreUsable}
@@ -12,6 +14,21 @@ pub host_there : (seats : List Seat) (h : ℕ) (d : Seat) → h < length seats �
 host_there [] h d below = absurd (omega arith)
 host_there (x ∷ seats) zero d below = refl
 host_there (x ∷ seats) (suc h) d below = host_there seats h d (omega arith)
+
+-- a hart whose core alone is changed, put back in its place
+pub core_put : (seats : List Seat) (h : ℕ) (d new : Seat) (next : HostHart → Core) → h < length seats
+    → host_at new ≡ with_core (next (host_at (slice_index_or seats h d))) (host_at (slice_index_or seats h d))
+    → hosts_of (slice_set seats h new) ≡ update (hosts_of seats) h (with_core (next (hart_in (hosts_of seats) h)))
+core_put seats h d new next below same =
+    let old : HostHart = host_at (slice_index_or seats h d) in
+    sym (hosts_set seats h new) ∙ ap (slice_set (hosts_of seats) h) same ∙ sym (hosts_updated seats h d (with_core (next old)))
+    ∙ ap (λ (host : HostHart). update (hosts_of seats) h (with_core (next host))) (sym (host_there seats h d below))
+
+-- no side is in an entry
+pub none_entered : (seats : List Seat) (h : ℕ) → (hart_in (hosts_of seats) h).entry ≡ None
+none_entered [] h = refl
+none_entered (x ∷ seats) zero = refl
+none_entered (x ∷ seats) (suc h) = none_entered seats h
 
 -- ---- caches
 

@@ -1,6 +1,6 @@
 -- A kernel's image before the first event.
 use Rattle.std.proofs.Common.{get_or, ◌==◌, ◌^◌, ◌<◌, inl, inr, ◌≡◌, ℕ, zero, suc, ◌+◌, ◌-◌, ◌%◌, ◌≤◌, true, IsTrue, List, [], ◌∷◌, ◌++◌, length, take, replicate, refl, sym, ◌∙◌, ap, arith, subst}
-use Rattle.std.specs.Prelude.{Option, Some, None, find, flat_map}
+use Rattle.std.specs.Prelude.{Bool, false, Option, Some, None, find, flat_map, if◌then◌else◌}
 use Rattle.std.proofs.lemmas.Bool.Decides.{nat_tests}
 use Rattle.std.proofs.lemmas.Bool.{cases_Bool}
 use Rattle.elf64_load.specs.Images.{segments_of}
@@ -12,7 +12,7 @@ use Rattle.reference.specs.States.{has_number}
 use Rattle.sv_types.specs.ApprovedPages.{numbers_from}
 use Rattle.sv_types.specs.Bytes.{padded}
 use Rattle.sv_types.specs.Kernel.{LoadedSegment, filled_part, header_entry, is_text_of, segments_ram, text_page, text_page_in, text_of}
-use Rattle.sv_types.specs.Policies.{Rules, rules_within}
+use Rattle.sv_types.specs.Policies.{Rules, bound_within, rules_within}
 use Rattle.sv_types.specs.Regions.{Region}
 use Rattle.sv_types.specs.SecondStage.{with_ram}
 use Rattle.sv_types.specs.declared.wires.Protection.{Protection}
@@ -73,6 +73,22 @@ harts_within rules within = grind (arith, nat_tests)
 
 pub pages_within : (rules : Rules) → IsTrue (rules_within rules) → rules.ram_pages ≤ 65536
 pages_within rules within = grind (arith, nat_tests)
+
+none_bound : (bound : List ℕ) → length bound ≡ 0 → bound ≡ []
+none_bound [] none = refl
+none_bound (x ∷ bound) none = absurd (omega (arith, none))
+
+chosen : (b x y : Bool) → b ≡ true → IsTrue (if b then x else y) → IsTrue x
+chosen true x y is holds = holds
+chosen false x y is holds = absurd (cc)
+
+-- in format 1 no entry is bound
+pub unbound_within : (rules : Rules) → IsTrue (rules_within rules) → rules.bound ≡ []
+unbound_within rules within =
+    let format : (rules.format == 1) ≡ true = grind (arith, nat_tests) in
+    let bound : IsTrue (bound_within rules) = grind (arith, nat_tests) in
+    let none : IsTrue (length rules.bound == 0) = chosen (rules.format == 1) (length rules.bound == 0) _ format bound in
+    none_bound rules.bound (grind (arith, nat_tests))
 
 word_at : (entries : List ℕ) (entry : ℕ) → ((i : ℕ) → get_or entries i 0 < 2 ^ 64) → has_number entries entry ≡ true → entry < 2 ^ 64
 word_at [] entry fits there = absurd (cc there)

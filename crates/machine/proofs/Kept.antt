@@ -21,9 +21,9 @@ use Rattle.machine.specs.Keeping.{AreKeepable, IsKeepable, gpa_behind, kept_hart
 
 -- ---- harts
 
-mode_kept : (mode : Mode) → (hregs_in mode).mode ≡ mode
-mode_kept Kernel = refl
-mode_kept User = refl
+mode_kept : (mode : Mode) (entry : Option ℕ) → (hregs_in mode entry).mode ≡ mode
+mode_kept Kernel entry = refl
+mode_kept User entry = refl
 
 enabled_kept : (sie : ℕ) → at_guest_places (2 * sie) ≡ sie
 enabled_kept sie = omega arith
@@ -39,7 +39,7 @@ reservation_kept tables (Some place) = let same : tables + place - tables ≡ pl
 hart_kept : (tables : ℕ) (exits : HypervisorRegisters) (clock : Clock) (h : ℕ) (hart : Hart)
     → kept_hart tables (timer_of clock h) (host_hart tables exits hart) ≡ saved_hart clock h hart
 hart_kept tables exits clock h hart =
-    rw (mode_kept hart.mode, enabled_kept hart.supervisor.sie, software_kept hart.supervisor.software, reservation_kept tables hart.reservation) refl
+    rw (mode_kept hart.mode hart.entry, enabled_kept hart.supervisor.sie, software_kept hart.supervisor.software, reservation_kept tables hart.reservation) refl
 
 harts_kept : (tables : ℕ) (exits : List HypervisorRegisters) (clock : Clock) (h : ℕ) (harts : List Hart) → length exits ≡ length harts
     → kept_harts tables clock h (host_harts tables exits harts) ≡ saved_harts clock h harts

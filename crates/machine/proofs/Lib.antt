@@ -6,7 +6,7 @@ pub mod Emptied
 pub mod Turns
 pub mod Seated
 pub mod Called
-pub mod Moduled
+pub mod Given
 pub mod BeatsFit
 pub mod Ready
 pub mod Stepped

@@ -22,10 +22,10 @@ use Rattle.reference.specs.Counting.{counted, count_turn, count_retired, count_t
 use Rattle.reference.specs.Devices.{lines_at}
 use Rattle.reference.specs.Run.{step}
 use Rattle.reference.specs.States.{State}
-use Rattle.machine_model.specs.HardwareEvent.{attempted}
+use Rattle.machine_model.specs.HardwareEvent.{attempted, left_by}
 use Rattle.machine_model.specs.Machine.{Machine, HostHart, HostLoad, raised}
 use Rattle.machine_model.specs.StandsFor.{StandsFor}
-use Rattle.machine_model.specs.Steps.{IsStep, IsTurn, StepsUnder, left_by}
+use Rattle.machine_model.specs.Steps.{IsStep, IsTurn, StepsUnder}
 use Rattle.answer_laws.proofs.TurnsServed.{step_law}
 use Rattle.standing_laws.proofs.Standings.{hart_in_may_attempt, in_order}
 use Rattle.standing_laws.proofs.Loads.{loaded_approved, loading_held}
@@ -86,12 +86,12 @@ size_by m r h (Outcome.Retired wrote) stands on makes e =
     let left = left_by (raised m count_turn) h (hart_in m.harts h) in
     let after : Machine = record left { journal = counted count_retired left.journal } in
     same_size m after r (step r (Turn h)) stands
-    (stepped m after r h stands on (turn_attempts (raised m count_turn) after h (Outcome.Retired wrote) (started_below m.harts h makes.started) makes.started makes.free e refl)) refl
+    (stepped m after r h stands on (turn_attempts (raised m count_turn) after h (Outcome.Retired wrote) (started_below m.harts h makes.started) makes.started makes.free makes.outside e refl)) refl
 size_by m r h Outcome.GuestTrap stands on makes e =
     let left = left_by (raised m count_turn) h (hart_in m.harts h) in
     let after : Machine = record left { journal = counted (count_trap Kernel) left.journal } in
     same_size m after r (step r (Turn h)) stands
-    (stepped m after r h stands on (turn_attempts (raised m count_turn) after h Outcome.GuestTrap (started_below m.harts h makes.started) makes.started makes.free e refl)) refl
+    (stepped m after r h stands on (turn_attempts (raised m count_turn) after h Outcome.GuestTrap (started_below m.harts h makes.started) makes.started makes.free makes.outside e refl)) refl
 size_by m r h (Outcome.Exit exit) stands on makes e =
     ap (λ (x : Region). length x.ram)
     (subst (λ (o : Outcome). OnlyWrites m.region (attempted m h (hart_in m.harts h)).region o) (sym e)

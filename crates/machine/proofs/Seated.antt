@@ -1,88 +1,113 @@
 -- An answer on one hart is the machine's.
-use Rattle.std.proofs.Common.{◌≡◌, ℕ, ◌<◌, List, length, refl, sym, ◌∙◌, ap, subst}
-use Rattle.std.specs.Prelude.{slice_index_or, slice_set}
-use Rattle.std.specs.Vec.{with_item}
+use Rattle.std.proofs.Common.{◌≡◌, ℕ, ◌<◌, true, false, List, [], length, refl, sym, ◌∙◌, ap, subst}
+use Rattle.std.specs.Prelude.{Option, None, slice_index_or, slice_set}
+use Rattle.sv_types.specs.Policies.{rules_of}
+use Rattle.sv_types.specs.declared.wires.Exit.{Exit}
 use Rattle.sv_types.specs.declared.wires.Mode.{Mode}
 use Rattle.sv_types.specs.declared.wires.Mode.TheVariants.{Kernel, User}
 use Rattle.reference.specs.States.{Devices, Journal}
+use Rattle.machine_model.specs.HardwareEvent.{is_loading}
+use Rattle.machine_model.specs.HostHarts.{host_seen}
 use Rattle.machine_model.specs.Machine.{Machine, HostHart}
+use Rattle.machine_model.specs.Served.{exit_answer}
 use Rattle.machine_model.specs.StandsFor.{hregs_in}
+use Rattle.machine_model.specs.Steps.{WithTables}
+use Rattle.machine_model.specs.declared.exits.ExitAnswer.{ExitAnswer}
+use Rattle.page_guard.specs.Guarded.{IsTheirs}
 use Rattle.hart_answers.proofs.Hosts.{hosts_length, hosts_set, hosts_same}
 use Rattle.hart_answers.specs.Hosts.{host_at, hosts_of}
 use Rattle.hart_answers.specs.declared.seats.Seat.{Seat}
 use Rattle.access_answers.specs.Accessed.{accessed}
 use Rattle.trap_answers.specs.Answered.{answered}
-use Rattle.machine_model.specs.Steps.{WithTables}
-use Rattle.page_guard.specs.Guarded.{IsTheirs}
-use Rattle.machine.proofs.Hosts.{host_there}
+use Rattle.trap_answers.specs.Possible.{IsPossible}
+use Rattle.machine.proofs.Hosts.{host_there, none_entered, started_there}
 use Rattle.machine.proofs.Turns.{stays}
 use Rattle.machine.specs.Attempts.{hart_in}
 use Rattle.machine.specs.Parts.{machine_of_parts}
+use Rattle.machine.specs.Turns.{Attempts, HasPagesOf}
 use Rattle.machine.specs.declared.parts.Parts.TheInside.{Inside}
 
-pub same_mode : (mode : Mode) → (hregs_in mode).mode ≡ mode
-same_mode Kernel = refl
-same_mode User = refl
+pub same_mode : (mode : Mode) (entry : Option ℕ) → (hregs_in mode entry).mode ≡ mode
+same_mode Kernel entry = refl
+same_mode User entry = refl
 
-module _ (p : Inside) (h : ℕ) (old : Seat) (is : old ≡ slice_index_or p.seats.items h old) (entries : p.entries ≡ p.policy.entries.items) where
+module _ (p : Inside) (h : ℕ) (old : Seat) (is : old ≡ slice_index_or p.seats.items h old) where
   abbrev whole : Machine
   whole = machine_of_parts p
 
   -- the hart that was there
-  pub put_back : answered whole p.entries h (host_at old) p.journal ≡ whole
+  put_back : answered whole h (host_at old) p.journal ≡ whole
   put_back =
-      ap (λ (es : List ℕ). answered whole es h (host_at old) p.journal) entries
-      ∙ ap (λ (harts : List HostHart). record whole { harts = harts })
+      ap (λ (harts : List HostHart). record whole { harts = harts })
       (subst (λ (s : Seat). slice_set (hosts_of p.seats.items) h (host_at s) ≡ hosts_of p.seats.items) (sym is) (hosts_same p.seats.items h old))
 
-  -- another one in its place
-  pub put_in : (new : Seat) (journal : Journal) → answered whole p.entries h (host_at new) journal
-      ≡ machine_of_parts (record p { seats = with_item p.seats h new; journal = journal })
-  put_in new journal =
-      ap (λ (es : List ℕ). answered whole es h (host_at new) journal) entries
-      ∙ ap (λ (harts : List HostHart). record whole { harts = harts; journal = journal }) (hosts_set p.seats.items h new)
-
-  pub mine : h < length (hosts_of p.seats.items) → host_at old ≡ hart_in (hosts_of p.seats.items) h
+  mine : h < length (hosts_of p.seats.items) → host_at old ≡ hart_in (hosts_of p.seats.items) h
   mine below = ap host_at is ∙ sym (host_there p.seats.items h old (subst (λ (n : ℕ). h < n) (hosts_length p.seats.items) below))
 
-  -- an answer on the hart is the machine's answer
-  pub one_hart : (f : Machine → HostHart → Mode → Machine) (new : Seat) (journal : Journal) → h < length whole.harts
-      → answered whole p.entries h (host_at new) journal ≡ f (answered whole p.entries h (host_at old) p.journal) (host_at old) old.side
-      → machine_of_parts (record p { seats = with_item p.seats h new; journal = journal })
-      ≡ f whole (hart_in (hosts_of p.seats.items) h) (hart_in (hosts_of p.seats.items) h).core.hregs.mode
-  one_hart f new journal below made =
-      sym (put_in new journal) ∙ made
+  pub below_there : (now : Machine) → whole ≡ now → h < length p.seats.items → h < length now.harts
+  below_there now same below = subst (λ (m : Machine). h < length m.harts) same (subst (λ (n : ℕ). h < n) (sym (hosts_length p.seats.items)) below)
+
+  -- it makes an attempt, outside of every entry
+  pub attempts_there : (now : Machine) → whole ≡ now → h < length p.seats.items → old.hart.started ≡ true → is_loading now.loading h ≡ false → Attempts now h
+  attempts_there now same below started free = record {
+    started = subst (λ (m : Machine). (hart_in m.harts h).started ≡ true) same (started_there p.seats.items h old true below is started);
+    free = free;
+    outside = subst (λ (m : Machine). (hart_in m.harts h).entry ≡ None) same (none_entered p.seats.items h);
+  }
+
+  -- its mode is its side
+  sided : h < length (hosts_of p.seats.items) → old.side ≡ (hart_in (hosts_of p.seats.items) h).core.hregs.mode
+  sided below = sym (same_mode old.side None) ∙ ap (λ (host : HostHart). host.core.hregs.mode) (mine below)
+
+  pub side_there : (now : Machine) → whole ≡ now → h < length now.harts → old.side ≡ (hart_in now.harts h).core.hregs.mode
+  side_there now same below =
+      subst (λ (m : Machine). old.side ≡ (hart_in m.harts h).core.hregs.mode) same (sided (subst (λ (m : Machine). h < length m.harts) (sym same) below))
+
+  -- what its exit is answered
+  pub seen_there : (exit : Exit) (answer : ExitAnswer) (now : Machine) → whole ≡ now → h < length now.harts
+      → answer ≡ exit_answer (host_seen p.mem.ram (rules_of p.policy) (host_at old) old.side exit) exit
+      → answer ≡ exit_answer (host_seen now.region.ram now.rules (hart_in now.harts h) (hart_in now.harts h).core.hregs.mode exit) exit
+  seen_there exit answer now same below made =
+      let here = subst (λ (m : Machine). h < length m.harts) (sym same) below in
+      subst (λ (m : Machine). answer ≡ exit_answer (host_seen m.region.ram m.rules (hart_in m.harts h) (hart_in m.harts h).core.hregs.mode exit) exit) same
+      (made
+      ∙ ap (λ (mode : Mode). exit_answer (host_seen p.mem.ram (rules_of p.policy) (host_at old) mode exit) exit) (sided here)
+      ∙ ap (λ (host : HostHart). exit_answer (host_seen p.mem.ram (rules_of p.policy) host (hart_in whole.harts h).core.hregs.mode exit) exit) (mine here))
+
+  pub possible_there : (answer : ExitAnswer) (now : Machine) → whole ≡ now → h < length now.harts → IsPossible old.side answer
+      → IsPossible (hart_in now.harts h).core.hregs.mode answer
+  possible_there answer now same below = subst (λ (mode : Mode). IsPossible mode answer) (side_there now same below)
+
+  -- what an answer on the hart makes of the machine, whose tables stay
+  behind : (f : Machine → HostHart → Mode → Machine) (after now : Machine) → whole ≡ now → h < length now.harts
+      → IsTheirs p.mem p.guard → length p.guard ≡ p.policy.ram_pages → p.policy.bound.items ≡ []
+      → HasPagesOf whole after → after ≡ f (answered whole h (host_at old) p.journal) (host_at old) old.side
+      → WithTables now (f now (hart_in now.harts h) (hart_in now.harts h).core.hregs.mode) after
+  behind f after now same below theirs pages unbound has made =
+      let here = subst (λ (m : Machine). h < length m.harts) (sym same) below in
+      subst (λ (m : Machine). WithTables m (f m (hart_in m.harts h) (hart_in m.harts h).core.hregs.mode) after) same
+      (stays whole (f whole (hart_in whole.harts h) (hart_in whole.harts h).core.hregs.mode) after has
+      (made
       ∙ ap (λ (m : Machine). f m (host_at old) old.side) put_back
-      ∙ ap (f whole (host_at old)) (sym (same_mode old.side))
-      ∙ ap (λ (host : HostHart). f whole host host.core.hregs.mode) (mine below)
+      ∙ ap (f whole (host_at old)) (sided here)
+      ∙ ap (λ (host : HostHart). f whole host (hart_in whole.harts h).core.hregs.mode) (mine here))
+      theirs pages unbound)
 
-  -- the same, of the machine that a contract sees, whose tables stay
-  pub answers : (f : Machine → HostHart → Mode → Machine) (new : Seat) (journal : Journal) (now : Machine) → whole ≡ now → h < length now.harts
-      → IsTheirs p.mem p.guard → length p.guard ≡ p.policy.ram_pages
-      → answered whole p.entries h (host_at new) journal ≡ f (answered whole p.entries h (host_at old) p.journal) (host_at old) old.side
-      → WithTables now (f now (hart_in now.harts h) (hart_in now.harts h).core.hregs.mode)
-      (machine_of_parts (record p { seats = with_item p.seats h new; journal = journal }))
-  answers f new journal now is below theirs pages made =
-      subst (λ (m : Machine). WithTables m (f m (hart_in m.harts h) (hart_in m.harts h).core.hregs.mode) (machine_of_parts (record p { seats = with_item p.seats h new; journal = journal }))) is
-      (stays whole (f whole (hart_in whole.harts h) (hart_in whole.harts h).core.hregs.mode) (machine_of_parts (record p { seats = with_item p.seats h new; journal = journal }))
-      (record { region = refl; protections = refl })
-      (one_hart f new journal (subst (λ (m : Machine). h < length m.harts) (sym is) below) made) theirs pages)
-
-  -- an answer on the hart that devices take part in
-  pub device_answers : (f : Machine → HostHart → Mode → Machine) (new : Seat) (devices : Devices) (journal : Journal) (now : Machine) → whole ≡ now
-      → h < length now.harts → IsTheirs p.mem p.guard → length p.guard ≡ p.policy.ram_pages
-      → accessed whole p.entries h (host_at new) devices journal ≡ f (accessed whole p.entries h (host_at old) p.devices p.journal) (host_at old) old.side
+  pub answers : (f : Machine → HostHart → Mode → Machine) (new : Seat) (devices : Devices) (journal : Journal) (now : Machine) → whole ≡ now
+      → h < length now.harts → IsTheirs p.mem p.guard → length p.guard ≡ p.policy.ram_pages → p.policy.bound.items ≡ []
+      → accessed whole h (host_at new) devices journal ≡ f (answered whole h (host_at old) p.journal) (host_at old) old.side
       → WithTables now (f now (hart_in now.harts h) (hart_in now.harts h).core.hregs.mode)
       (record whole { harts = hosts_of (slice_set p.seats.items h new); devices = devices; journal = journal })
-  device_answers f new devices journal now is below theirs pages made =
-      let after : Machine = record whole { harts = hosts_of (slice_set p.seats.items h new); devices = devices; journal = journal } in
-      let put : accessed whole p.entries h (host_at new) devices journal ≡ after = ap (λ (m : Machine). record m { devices = devices }) (put_in new journal) in
-      let back : accessed whole p.entries h (host_at old) p.devices p.journal ≡ whole = ap (λ (m : Machine). record m { devices = p.devices }) put_back in
-      subst (λ (m : Machine). WithTables m (f m (hart_in m.harts h) (hart_in m.harts h).core.hregs.mode) after) is
-      (stays whole (f whole (hart_in whole.harts h) (hart_in whole.harts h).core.hregs.mode) after
+  answers f new devices journal now same below theirs pages unbound made =
+      behind f (record whole { harts = hosts_of (slice_set p.seats.items h new); devices = devices; journal = journal }) now same below theirs pages unbound
       (record { region = refl; protections = refl })
-      (sym put ∙ made
-      ∙ ap (λ (m : Machine). f m (host_at old) old.side) back
-      ∙ ap (f whole (host_at old)) (sym (same_mode old.side))
-      ∙ ap (λ (host : HostHart). f whole host host.core.hregs.mode) (mine (subst (λ (m : Machine). h < length m.harts) (sym is) below)))
-      theirs pages)
+      (ap (λ (harts : List HostHart). record whole { harts = harts; devices = devices; journal = journal }) (sym (hosts_set p.seats.items h new)) ∙ made)
+
+  -- an answer that leaves the hart as it is
+  pub journal_answers : (f : Machine → HostHart → Mode → Machine) (journal : Journal) (now : Machine) → whole ≡ now
+      → h < length now.harts → IsTheirs p.mem p.guard → length p.guard ≡ p.policy.ram_pages → p.policy.bound.items ≡ []
+      → answered whole h (host_at old) journal ≡ f (answered whole h (host_at old) p.journal) (host_at old) old.side
+      → WithTables now (f now (hart_in now.harts h) (hart_in now.harts h).core.hregs.mode) (record whole { journal = journal })
+  journal_answers f journal now same below theirs pages unbound made =
+      behind f (record whole { journal = journal }) now same below theirs pages unbound (record { region = refl; protections = refl })
+      (ap (λ (m : Machine). record m { journal = journal }) (sym put_back) ∙ made)

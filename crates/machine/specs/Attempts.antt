@@ -1,6 +1,6 @@
 -- What an attempt of a hart asks for, and the caches of second-stage walks. This project's own.
 use Rattle.std.specs.Prelude.{◌≡◌, ◌%◌, ℕ, zero, suc, true, false, List}
-use Rattle.std.specs.Prelude.{[], ◌∷◌, length, Option, replicate, Some, slice_get, slice_index_or}
+use Rattle.std.specs.Prelude.{[], ◌∷◌, length, Option, replicate, Some, None, slice_get, slice_index_or}
 use Rattle.sv_types.specs.CachedWalks.{CacheAgrees, UnderViews, no_lines}
 use Rattle.sv_types.specs.HardwareAttempt.{attempt}
 use Rattle.sv_types.specs.HypervisorRegisters.{registers_at_boot}
@@ -19,10 +19,11 @@ nobody = record {
     registers = replicate 32 0;
     pc = 0;
     csrs = registers_at_boot;
-    hregs = hregs_in Kernel;
-    reservation = Option.None;
+    hregs = hregs_in Kernel None;
+    reservation = None;
   };
   started = false;
+  entry = None;
 }
 
 abbrev pub hart_in : List HostHart → ℕ → HostHart
@@ -38,7 +39,7 @@ pub record IsReady (region : Region) (host : HostHart) (lines : Lines) : Type 0 
 -- a cache that agrees with the tables, all of whose lines are of the views
 pub record IsUsable (tables : List ℕ) (lines : List (Option CacheLine)) : Type 0 where
   pub agrees : CacheAgrees tables lines
-  pub views : UnderViews lines
+  pub views : UnderViews [] lines
 
 pub record AreUsable (tables : List ℕ) (caches : List (List (Option CacheLine))) : Type 0 where
   pub each : (h : ℕ) (lines : List (Option CacheLine)) → slice_get caches h ≡ Some lines → IsUsable tables lines

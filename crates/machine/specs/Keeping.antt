@@ -46,6 +46,7 @@ kept_hart tables timer host = record {
   sip = at_guest_places host.core.csrs.hvip;
   satp = host.core.csrs.vsatp;
   reservation = option_map (gpa_behind tables) host.core.reservation;
+  entry = host.entry;
   timer = timer;
 }
 

@@ -1,5 +1,5 @@
 -- The machine from its parts, and what is true of them. This project's own.
-use Rattle.std.specs.Prelude.{◌≡◌, ◌≤◌, map, length}
+use Rattle.std.specs.Prelude.{◌≡◌, ◌≤◌, [], map, length}
 use Rattle.sv_types.specs.Policies.{rules_of}
 use Rattle.reference.specs.Protections.{is_free}
 use Rattle.machine_model.specs.Machine.{Machine}
@@ -29,6 +29,7 @@ machine_of_parts p = record {
 -- the parts go with one another
 pub record IsJoined (p : Inside) : Type 0 where
   pub entries : p.entries ≡ p.policy.entries.items
+  pub unbound : p.policy.bound.items ≡ []
   pub few : length p.seats.items ≤ 4
   pub caches : length p.caches.items ≡ length p.seats.items
   pub theirs : IsTheirs p.mem p.guard

@@ -1,8 +1,8 @@
 // One attempt of a hart, and what its write takes from the others.
 
-ghost use Rattle.std.specs.Prelude.{◌≡◌, ◌+◌, ◌-◌, ◌<◌, ◌%◌, ◌^◌, length, slice_set};
+ghost use Rattle.std.specs.Prelude.{◌≡◌, ◌+◌, ◌-◌, ◌<◌, ◌%◌, ◌^◌, length};
 ghost use Rattle.sv_types.specs.HardwareAttempt.{attempt};
-ghost use Rattle.machine_model.specs.Machine.{running, all_forget};
+ghost use Rattle.machine_model.specs.Machine.{with_core, update, all_forget};
 ghost use Rattle.hart_answers.specs.Hosts.{host_at, hosts_of};
 ghost use Rattle.machine.specs.Attempts.{hart_in, IsReady, IsUsable, AreUsable};
 
@@ -24,7 +24,7 @@ fn attempt_in_seat<W: Wires>(
     requires ready { IsReady mem.old (host_at seat.old) (W.seen wires.now) }
     requires usable { IsUsable mem.old.tables cache.old }
     ensures counted { cpu.new ≡ cpu.old + 1 }
-    ensures host { host_at seat.new ≡ running (attempt mem.old (host_at seat.old).core (W.seen wires.now)).core }
+    ensures host { host_at seat.new ≡ with_core (attempt mem.old (host_at seat.old).core (W.seen wires.now)).core (host_at seat.old) }
     ensures region { mem.new ≡ (attempt mem.old (host_at seat.old).core (W.seen wires.now)).region }
     ensures outcome { result ≡ (attempt mem.old (host_at seat.old).core (W.seen wires.now)).outcome }
     ensures aligned { seat.new.hart.pc % 4 ≡ 0 }
@@ -52,7 +52,7 @@ pub(crate) fn attempt<W: Wires>(
     requires ready { IsReady mem.old (hart_in (hosts_of seats.old) which) (W.seen wires.now) }
     requires usable { AreUsable mem.old.tables caches.old }
     ensures counted { cpu.new ≡ cpu.old + 1 }
-    ensures harts { hosts_of seats.new ≡ all_forget result (slice_set (hosts_of seats.old) which (running (attempt mem.old (hart_in (hosts_of seats.old) which).core (W.seen wires.now)).core)) }
+    ensures harts { hosts_of seats.new ≡ all_forget result (update (hosts_of seats.old) which (with_core (attempt mem.old (hart_in (hosts_of seats.old) which).core (W.seen wires.now)).core)) }
     ensures region { mem.new ≡ (attempt mem.old (hart_in (hosts_of seats.old) which).core (W.seen wires.now)).region }
     ensures outcome { result ≡ (attempt mem.old (hart_in (hosts_of seats.old) which).core (W.seen wires.now)).outcome }
     ensures aligned { (hart_in (hosts_of seats.new) which).core.pc % 4 ≡ 0 }

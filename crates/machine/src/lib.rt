@@ -5,6 +5,7 @@ mod attempts;
 mod beats;
 mod boot;
 mod caches;
+mod exits;
 mod image_start;
 mod machine;
 mod machine_start;

@@ -1,28 +1,24 @@
 // The parts of the machine, and what an event does to them.
 
-ghost use Rattle.std.specs.Prelude.{◌≡◌, ◌≢◌, ℕ, ◌+◌, ◌-◌, ◌<◌, ◌%◌, ◌^◌, true, length, slice_get};
+ghost use Rattle.std.specs.Prelude.{◌≡◌, ℕ, ◌+◌, ◌-◌, ◌<◌, ◌%◌, ◌^◌, true, length, slice_get};
 ghost use Rattle.reference.specs.Devices.{lines_at};
 ghost use Rattle.machine_model.specs.Machine.{after_attempt};
 ghost use Rattle.machine_model.specs.HardwareEvent.{attempted, is_loading};
 ghost use Rattle.machine_model.specs.HostEvents.{event_served};
-ghost use Rattle.machine_model.specs.HostCalls.{host_call_of, served_call};
-ghost use Rattle.machine_model.specs.HostExits.{host_exit, served_load_turn};
-ghost use Rattle.machine_model.specs.HostHarts.{served_access, served_fetch, served_trap};
-ghost use Rattle.reference.specs.Calls.{asked_by};
+ghost use Rattle.machine_model.specs.HostExits.{served_load_turn};
 ghost use Rattle.reference.specs.Counting.{CountsAtMost, MayCount};
 ghost use Rattle.sv_types.specs.declared.event.Event.TheVariants.{Beat, Key, Tick};
 ghost use Rattle.sv_types.specs.declared.event.Verdict.TheVariants.{Running};
 ghost use Rattle.machine_model.specs.Reaches.{without_first_printed};
 ghost use Rattle.machine_model.specs.Steps.{IsStep, IsTurn, TurnServed, WithTables};
 ghost use Rattle.machine.specs.Attempts.{hart_in, IsReady};
-ghost use Rattle.machine.specs.Turns.{IsGuarded, MayAttempt, Finished};
+ghost use Rattle.machine.specs.Turns.{AreOutside, IsGuarded, MayAttempt, Finished};
 
 use crate::attempts::attempt;
 use crate::beats::beat_disk;
-use crate::caches::fence;
 use crate::wires::HartWires;
 use block_device::Block;
-use call_answers::Asked;
+use call_answers::law_starts;
 use device_bus::Devices;
 use dma_guard::Beaten;
 use gstage_cache::Cache;
@@ -30,19 +26,10 @@ use hart::Cpu;
 use hart_answers::{Seat, forget};
 use host_mem::HostMem;
 use journal_records::Journal;
-use module_answers::{ModuleCall, Modules, serve_load_turn, serve_module_call};
+use module_answers::{Modules, load_turn};
 use page_guard::{Entries, Guard};
 use std::marker::Model;
-use sv_types::{Counts, Event, Exit, Mode, Outcome, Policy, RAM_BASE, Verdict};
-
-/// The causes of exits: a call from kernel mode, a refused fetch, load and store.
-const CALL: u64 = 10;
-
-const FETCH: u64 = 20;
-
-const LOAD: u64 = 21;
-
-const STORE: u64 = 23;
+use sv_types::{Counts, Event, Mode, Outcome, Policy, RAM_BASE, Verdict};
 
 /// Harts with their sides and caches, host memory, devices, and what SecVisor guards and records. Contracts see the machine.
 pub(crate) struct Parts {
@@ -98,167 +85,6 @@ impl Parts {
         )
     }
 
-    // The answer to a trap that is no refused fetch, access or call.
-    #[tactic(auto, using(hart_answers::proofs::Hosts::hosts_length))]
-    fn serve_trap(&mut self, which: u8, exit: Exit)
-        requires there { which < length self.old.harts }
-        requires aligned { (hart_in self.old.harts which).core.pc % 4 ≡ 0 }
-        requires counts { MayCount self.old.journal.counts }
-        ensures { WithTables self.old (served_trap self.old which (hart_in self.old.harts which) (hart_in self.old.harts which).core.hregs.mode exit) self.new }
-    {
-        let seat = &mut self.seats[which as usize];
-        trap_answers::serve_trap(
-            which,
-            &mut seat.hart,
-            &mut seat.side,
-            &self.guard,
-            &self.entries,
-            &mut self.journal,
-            exit,
-        );
-    }
-
-    // The answer to a refused fetch.
-    #[tactic(auto, using(hart_answers::proofs::Hosts::hosts_length))]
-    fn serve_fetch(&mut self, which: u8, exit: Exit)
-        requires there { which < length self.old.harts }
-        requires aligned { (hart_in self.old.harts which).core.pc % 4 ≡ 0 }
-        requires counts { MayCount self.old.journal.counts }
-        ensures { WithTables self.old (served_fetch self.old which (hart_in self.old.harts which) (hart_in self.old.harts which).core.hregs.mode exit) self.new }
-    {
-        let seat = &mut self.seats[which as usize];
-        trap_answers::serve_fetch(
-            which,
-            &mut seat.hart,
-            &mut seat.side,
-            &self.guard,
-            &self.entries,
-            &self.mem,
-            &mut self.journal,
-            exit,
-        );
-    }
-
-    // The answer to an access that was refused, or that reaches a device.
-    #[tactic(auto, using(hart_answers::proofs::Hosts::hosts_length))]
-    fn serve_access(&mut self, which: u8, exit: Exit)
-        requires there { which < length self.old.harts }
-        requires aligned { (hart_in self.old.harts which).core.pc % 4 ≡ 0 }
-        requires counts { MayCount self.old.journal.counts }
-        requires room { length self.old.journal.printed < 4096 }
-        ensures { WithTables self.old (served_access self.old which (hart_in self.old.harts which) (hart_in self.old.harts which).core.hregs.mode exit) self.new }
-    {
-        let seat = &mut self.seats[which as usize];
-        access_answers::serve_access(
-            which,
-            &mut seat.hart,
-            &mut seat.side,
-            &self.guard,
-            &self.entries,
-            &self.mem,
-            &mut self.devices,
-            &mut self.journal,
-            exit,
-        );
-    }
-
-    // What the registers of a hart ask.
-    #[tactic(auto, using(hart_answers::proofs::Hosts::hosts_length, crate::proofs::Called::registers_there))]
-    fn asked(&self, which: u8) -> Asked
-        requires there { which < length self.now.harts }
-        ensures { result ≡ asked_by (hart_in self.now.harts which).core.registers }
-    {
-        Asked::by(&self.seats[which as usize].hart.regs)
-    }
-
-    // The answer to a call about modules.
-    fn serve_module_call(&mut self, which: u8, asked: &Asked)
-        requires there { which < length self.old.harts }
-        requires counts { MayCount self.old.journal.counts }
-        requires guarded { IsGuarded self.old }
-        requires modules { asked.now.extension ≡ 0x08534543 }
-        ensures { WithTables self.old (host_call_of self.old which asked.now) self.new }
-    {
-        let call = ModuleCall {
-            function: asked.function,
-            id: asked.a0,
-            gpa: asked.a1,
-            va: asked.a2,
-            data_va: asked.a3,
-        };
-        let changed = serve_module_call(
-            which,
-            &mut self.seats[which as usize].hart,
-            &mut self.guard,
-            &mut self.mem,
-            &self.policy,
-            &mut self.modules,
-            &mut self.journal,
-            &call,
-        );
-        fence(&mut self.caches, changed);
-    }
-
-    // The answer to any other call.
-    #[tactic(auto, using(hart_answers::proofs::Hosts::hosts_length))]
-    fn serve_other_call(&mut self, which: u8, asked: &Asked)
-        requires there { which < length self.old.harts }
-        requires room { length self.old.journal.printed < 4096 }
-        requires others { asked.now.extension ≢ 0x08534543 }
-        ensures { WithTables self.old (host_call_of self.old which asked.now) self.new }
-    {
-        call_answers::serve_call(
-            which,
-            &mut self.seats,
-            &self.guard,
-            &self.entries,
-            &mut self.devices,
-            &mut self.journal,
-            asked,
-        );
-    }
-
-    // The answer to a call from kernel mode.
-    fn serve_call(&mut self, which: u8)
-        requires there { which < length self.old.harts }
-        requires counts { MayCount self.old.journal.counts }
-        requires room { length self.old.journal.printed < 4096 }
-        requires guarded { IsGuarded self.old }
-        ensures { WithTables self.old (served_call self.old which (hart_in self.old.harts which)) self.new }
-    {
-        let asked = self.asked(which);
-        if asked.is_about_modules() {
-            self.serve_module_call(which, &asked);
-        } else {
-            self.serve_other_call(which, &asked);
-        }
-    }
-
-    // An exit of a hart that is there.
-    #[tactic(auto, unfolding(machine_model::specs::HostExits::host_exit))]
-    fn serve_host_exit(&mut self, which: u8, exit: Exit)
-        requires there { which < length self.old.harts }
-        requires aligned { (hart_in self.old.harts which).core.pc % 4 ≡ 0 }
-        requires counts { MayCount self.old.journal.counts }
-        requires room { length self.old.journal.printed < 4096 }
-        requires guarded { IsGuarded self.old }
-        ensures { WithTables self.old (host_exit self.old which (hart_in self.old.harts which) (hart_in self.old.harts which).core.hregs.mode exit) self.new }
-    {
-        if exit.interrupt {
-            self.serve_trap(which, exit);
-        } else if exit.cause == CALL {
-            self.serve_call(which);
-        } else if exit.cause == FETCH {
-            self.serve_fetch(which, exit);
-        } else if exit.cause == LOAD {
-            self.serve_access(which, exit);
-        } else if exit.cause == STORE {
-            self.serve_access(which, exit);
-        } else {
-            self.serve_trap(which, exit);
-        }
-    }
-
     // What follows an attempt.
     #[tactic(auto, using(crate::proofs::Turns::served_there))]
     fn finish(&mut self, which: u8, outcome: Outcome)
@@ -272,7 +98,7 @@ impl Parts {
         match outcome {
             Outcome::Retired { wrote: _ } => self.journal.count_retired(),
             Outcome::GuestTrap => self.journal.count_trap(Mode::Kernel),
-            Outcome::Exit(exit) => self.serve_host_exit(which, exit),
+            Outcome::Exit(exit) => self.serve_exit(which, exit),
         }
     }
 
@@ -287,24 +113,18 @@ impl Parts {
         }
     }
 
-    // A load under way goes on.
+    // A load under way goes on: a page is counted, or its answer is given.
     fn serve_load_turn(&mut self, which: u8)
         requires there { which < length self.old.harts }
-        requires loading { is_loading self.old.loading which ≡ true }
         requires counts { MayCount self.old.journal.counts }
+        requires room { length self.old.journal.printed < 4096 }
         requires guarded { IsGuarded self.old }
         ensures { WithTables self.old (served_load_turn self.old which) self.new }
     {
-        let changed = serve_load_turn(
-            which,
-            &mut self.seats[which as usize].hart,
-            &mut self.guard,
-            &mut self.mem,
-            &self.policy,
-            &mut self.modules,
-            &mut self.journal,
-        );
-        fence(&mut self.caches, changed);
+        law_starts();
+        if let Some(answer) = load_turn(&self.mem, &self.policy, &mut self.modules) {
+            self.give(which, &answer);
+        }
     }
 
     // A turn of a hart, the count of turns raised already.
@@ -398,7 +218,8 @@ impl Parts {
         requires attempts { self.old.attempts < 2 ^ 64 - 1 }
         requires guarded { IsGuarded self.old }
         requires ready { self.old.journal.verdict ≡ Running → (h : ℕ) → MayAttempt self.old h }
-        ensures { IsStep self.old event self.new }
+        ensures step { IsStep self.old event self.new }
+        ensures outside { AreOutside self.old }
     {
         if self.journal.verdict() != Verdict::Running {
             return;

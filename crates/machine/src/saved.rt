@@ -113,6 +113,7 @@ fn saved_hart(seat: &Seat, timer: u64, tables: usize) -> SavedHart
         sip: csrs.hvip >> 1,
         satp: csrs.vsatp,
         reservation: saved_reservation(hart.reservation, tables),
+        entry: None,
         timer,
     }
 }

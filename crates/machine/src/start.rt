@@ -21,11 +21,11 @@ use device_bus::Devices;
 use gstage_cache::Cache;
 use gstage_tables::Trees;
 use hart::{Cpu, Hart};
-use hart_answers::{Seat, Side};
+use hart_answers::Seat;
 use host_mem::HostMem;
 use journal_records::Journal;
 use module_answers::Modules;
-use page_guard::{Entries, Guard};
+use page_guard::{Entries, Guard, Side};
 use page_measure::{Silent, measure};
 use std::alloc::{AllocError, Global};
 use std::thread::Threads;
@@ -52,6 +52,7 @@ impl Parts {
         requires pages { length guard ≡ policy.ram_pages }
         requires one { 1 ≤ policy.harts }
         requires four { policy.harts ≤ 4 }
+        requires unbound { policy.bound.items ≡ [] }
         requires sectors { length disk.items % 512 ≡ 0 }
         ensures { IfOk result (λ p. p ≡ machine_at_boot (rules_of policy) mem entry guard disk.items) }
     {
@@ -102,11 +103,11 @@ impl Parts {
 
 // ---- harts
 
-fn seat_at_boot(guard: &Guard, id: u8) -> Seat
+fn seat_at_boot(guard: &Guard) -> Seat
     ensures { host_at result ≡ host_at_boot 0 false }
 {
     Seat {
-        hart: Hart::at_boot(id),
+        hart: Hart::at_boot(),
         side: Side::at_boot(guard),
     }
 }
@@ -114,7 +115,7 @@ fn seat_at_boot(guard: &Guard, id: u8) -> Seat
 fn first_seat(guard: &Guard, entry: u64) -> Seat
     ensures { host_at result ≡ host_at_boot entry true }
 {
-    let mut hart = Hart::at_boot(0);
+    let mut hart = Hart::at_boot();
     hart.pc = entry;
     hart.started = true;
     Seat {
@@ -135,8 +136,8 @@ fn seats_at_boot(
 {
     let mut seats = Vec::new(alloc);
     seats.push(first_seat(guard, entry))?;
-    'seated: for id in 1..harts {
-        seats.push(seat_at_boot(guard, id))?;
+    'seated: for _ in 1..harts {
+        seats.push(seat_at_boot(guard))?;
     }
     Ok(seats)
 }
@@ -201,6 +202,7 @@ fn flat_policy(alloc: Global, wanted: [u8; 32]) -> Result<Policy, AllocError>
         harts: 1,
         ram_pages: FLAT_PAGES as u32,
         entries,
+        bound: Vec::new(alloc),
         exports: Vec::new(alloc),
         kernel: wanted,
         init: None,

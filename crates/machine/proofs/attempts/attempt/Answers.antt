@@ -1,10 +1,9 @@
 use Rattle.std.proofs.Common.{◌≡◌, ◌<◌, ◌%◌, ℕ, sym, ◌∙◌, ap, subst}
 use Rattle.sv_types.specs.HardwareAttempt.{attempt}
-use Rattle.machine_model.specs.Machine.{HostHart, running, all_forget}
-use Rattle.hart_answers.proofs.Hosts.{hosts_set}
+use Rattle.machine_model.specs.Machine.{HostHart, all_forget}
 use Rattle.hart_answers.specs.Hosts.{hosts_of}
-use Rattle.std.specs.Prelude.{slice_set, List}
-use Rattle.machine.proofs.Hosts.{host_there, pc_there, usable_there, usable_set}
+use Rattle.std.specs.Prelude.{List}
+use Rattle.machine.proofs.Hosts.{core_put, pc_there, usable_there, usable_set}
 use Rattle.machine.specs.Attempts.{hart_in}
 use Rattle.machine.proofs.attempts.attempt.Goals as goal
 
@@ -15,13 +14,10 @@ attempt_in_seat-outcome-requires-clause-usable g c =
 
 pub returns-clause-harts : goal.returns-clause-harts
 returns-clause-harts g c =
-    let there = host_there c.args.seats.now c.args.which c.index-seats-which.result c.requires.there in
     c.forget_wrote.ensures.hosts
     ∙ ap (all_forget c.attempt_in_seat-outcome.result)
-    (sym (hosts_set c.args.seats.now c.args.which c.attempt_in_seat-outcome.new.seat)
-    ∙ ap (slice_set (hosts_of c.args.seats.now) c.args.which)
-    (c.attempt_in_seat-outcome.ensures.host
-    ∙ ap (λ (host : HostHart). running (attempt c.args.mem.now host.core (g.W.Wires.seen c.args.wires.now)).core) (sym there)))
+    (core_put c.args.seats.now c.args.which c.index-seats-which.result c.attempt_in_seat-outcome.new.seat
+    (λ host. (attempt c.args.mem.now host.core (g.W.Wires.seen c.args.wires.now)).core) c.requires.there c.attempt_in_seat-outcome.ensures.host)
 
 pub returns-clause-usable : goal.returns-clause-usable
 returns-clause-usable g c =

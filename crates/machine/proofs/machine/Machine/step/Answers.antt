@@ -16,11 +16,11 @@ step-requires-clause-ready c = λ on h. may_attempt c.self.inside.parts c.self.i
 
 pub invariant_of-self : goal.invariant_of-self
 invariant_of-self c =
-    let bounded = step_bounded c.self.inside.parts c.step.new.self c.self.invariant.state c.args.event c.self.invariant.stands c.step.ensures
+    let bounded = step_bounded c.self.inside.parts c.step.new.self c.self.invariant.state c.args.event c.self.invariant.stands c.step.ensures.step c.step.ensures.outside
     (record { attempts = c.self.invariant.attempts; printed = c.self.invariant.printed }) in
     record {
       state = step c.self.invariant.state c.args.event;
-      stands = step_stands c.self.inside.parts c.step.new.self c.args.event c.step.ensures c.self.invariant.state c.self.invariant.stands;
+      stands = step_stands c.self.inside.parts c.step.new.self c.args.event c.step.ensures.step c.self.invariant.state c.self.invariant.stands;
       addresses = step_addressed c.self.invariant.state c.args.event c.self.invariant.stands.unseen_is_right.region.most c.self.invariant.addresses;
       attempts = bounded.attempts;
       printed = bounded.printed;
@@ -28,10 +28,10 @@ invariant_of-self c =
 
 pub returns-clause-stands : goal.returns-clause-stands
 returns-clause-stands c =
-    step_stands c.args.self.now c.step.new.self c.args.event (subst (λ (m : Machine). IsStep m c.args.event c.step.new.self) c.self.view_is c.step.ensures)
+    step_stands c.args.self.now c.step.new.self c.args.event (subst (λ (m : Machine). IsStep m c.args.event c.step.new.self) c.self.view_is c.step.ensures.step)
 
 pub returns-clause-event : goal.returns-clause-event
 returns-clause-event c =
     step_happens c.args.self.now c.step.new.self c.self.invariant.state c.args.event
     (subst (λ (m : Machine). StandsFor m c.self.invariant.state) c.self.view_is c.self.invariant.stands)
-    (subst (λ (m : Machine). IsStep m c.args.event c.step.new.self) c.self.view_is c.step.ensures)
+    (subst (λ (m : Machine). IsStep m c.args.event c.step.new.self) c.self.view_is c.step.ensures.step)

@@ -1,0 +1,13 @@
+use Rattle.sv_types.specs.Policies.{rules_of}
+use Rattle.machine.proofs.Seated.{possible_there, seen_there}
+use Rattle.machine.proofs.parts.Parts.exit_answer.Goals as goal
+
+pub returns-clause-answer : goal.returns-clause-answer
+returns-clause-answer c =
+    seen_there c.self.inside c.args.which c.index-seat.result.now c.index-seat.ensures c.args.exit.now c.exit_answer.result c.args.self.now c.self.view_is
+    c.requires.there (c.exit_answer.ensures.answer (rules_of c.self.inside.policy))
+
+pub returns-clause-possible : goal.returns-clause-possible
+returns-clause-possible c =
+    possible_there c.self.inside c.args.which c.index-seat.result.now c.index-seat.ensures c.exit_answer.result c.args.self.now c.self.view_is
+    c.requires.there c.exit_answer.ensures.possible

@@ -1,0 +1,53 @@
+use Rattle.std.proofs.Common.{ℕ, List, length, sym, ◌∙◌, ap, subst, rules}
+use Rattle.std.proofs.lemmas.List.{with_items_is}
+use Rattle.call_answers.specs.Known.{StartsOneOf}
+use Rattle.hart_answers.specs.Hosts.{hosts_of}
+use Rattle.hart_answers.specs.declared.seats.Seat.{Seat}
+use Rattle.machine_model.specs.HostCalls.{host_given, host_replied, hosts_beside}
+use Rattle.machine_model.specs.Machine.{update}
+use Rattle.machine_model.specs.Steps.{WithTables}
+use Rattle.machine.proofs.Called.{harts_number}
+use Rattle.machine.proofs.Emptied.{usable_after}
+use Rattle.machine.proofs.Given.{given_in, gives, left_parts}
+use Rattle.machine.proofs.Hosts.{Lines}
+use Rattle.machine.specs.Attempts.{AreUsable}
+use Rattle.machine.specs.Parts.{machine_of_parts}
+use Rattle.machine.proofs.parts.Parts.give.Goals as goal
+
+pub give-requires-clause-starts : goal.give-requires-clause-starts
+give-requires-clause-starts c =
+    subst (λ (n : ℕ). StartsOneOf n c.args.answer.now.beside)
+    (harts_number c.self.inside c.args.self.now c.self.view_is ∙ sym (ap (λ (seats : List Seat). length seats) c.deref_mut.ensures.value)) c.requires.starts
+
+pub give_pages-changed-requires-clause-given : goal.give_pages-changed-requires-clause-given
+give_pages-changed-requires-clause-given c = given_in c.self.inside c.args.answer.now.beside c.args.self.now c.self.view_is c.requires.given
+
+pub invariant_of-self : goal.invariant_of-self
+invariant_of-self c =
+    let pages = c.give_pages-changed in
+    let same = with_items_is c.self.inside.caches c.fence.new.caches (c.fence.ensures.number ∙ c.deref_mut-2.ensures.len) in
+    record {
+      entries = c.self.invariant.entries;
+      unbound = c.self.invariant.unbound;
+      few = search rules;
+      caches = search rules;
+      theirs = pages.ensures.theirs;
+      usable = subst (λ (caches : List Lines). AreUsable pages.new.mem.tables caches) (sym same)
+          (usable_after pages.result c.self.inside.mem pages.new.mem c.self.inside.caches.items c.deref_mut-2.result.now c.fence.new.caches c.deref_mut-2.ensures.value
+          c.self.invariant.usable pages.ensures.kept c.fence.ensures.usable c.fence.ensures.kept);
+      pages = pages.ensures.size ∙ c.self.invariant.pages;
+      modules = pages.ensures.joined;
+    }
+
+pub returns : goal.returns
+returns c =
+    let pages = c.give_pages-changed in
+    let answer = c.args.answer.now in
+    let same = with_items_is c.self.inside.seats c.give.new.seats (c.give.ensures.number ∙ c.deref_mut.ensures.len) in
+    subst (λ (seats : List Seat). WithTables c.args.self.now (host_given c.args.self.now c.args.which answer)
+        (left_parts c.self.inside seats c.give.new.devices c.give.new.journal pages.new.mem pages.new.guard pages.new.modules)) (sym same)
+    (gives c.self.inside c.args.which answer c.give.new.seats c.give.new.devices c.give.new.journal pages.new.mem pages.new.guard pages.new.modules
+    c.args.self.now c.self.view_is
+    (c.give.ensures.hosts ∙ ap (λ (seats : List Seat). hosts_beside answer.beside (update (hosts_of seats) c.args.which (host_replied answer.reply))) c.deref_mut.ensures.value)
+    c.give.ensures.devices c.give.ensures.journal (pages.ensures.machine (machine_of_parts c.self.inside))
+    c.self.invariant.theirs pages.ensures.theirs pages.ensures.size c.self.invariant.pages c.self.invariant.unbound)

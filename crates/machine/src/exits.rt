@@ -1,0 +1,285 @@
+// What SecVisor answers where a hart exits.
+
+ghost use Rattle.std.specs.Prelude.{◌≡◌, ◌<◌, ◌%◌, ◌*◌, length};
+ghost use Rattle.reference.specs.Calls.{asked_by};
+ghost use Rattle.reference.specs.Counting.{MayCount};
+ghost use Rattle.reference.specs.ModuleCalls.{answer_of};
+ghost use Rattle.machine_model.specs.HostCalls.{host_facts, host_given, served_call};
+ghost use Rattle.machine_model.specs.HostExits.{host_exit, host_exit_answered};
+ghost use Rattle.machine_model.specs.HostHarts.{host_seen};
+ghost use Rattle.machine_model.specs.Served.{exit_answer};
+ghost use Rattle.machine_model.specs.Steps.{WithTables};
+ghost use Rattle.machine_model.specs.declared.exits.ExitAnswer.TheVariants.{Traps, Returns, Demotes, StopsAtWrite, LoadsDevice, StoresDevice};
+ghost use Rattle.sv_types.specs.declared.wires.Mode.TheVariants.{Kernel};
+ghost use Rattle.call_answers.specs.Known.{StartsOneOf};
+ghost use Rattle.trap_answers.specs.Possible.{IsPossible};
+ghost use Rattle.machine.specs.Attempts.{hart_in};
+ghost use Rattle.machine.specs.Turns.{IsGiven, IsGuarded, answered_exit};
+
+use crate::caches::fence;
+use crate::parts::Parts;
+use access_answers::{Load, Store, device_load, device_store};
+use call_answers::law_starts;
+use hart_answers::{Asked, Trap};
+use machine_model::ExitAnswer;
+use module_answers::{give_pages, module_answer};
+use reference::Answer;
+use sv_types::Exit;
+use trap_answers::{exit_answer, guest_demotion, guest_return, guest_trap, stop_at_write};
+
+impl Parts {
+    // What an exit of a hart is answered.
+    #[tactic(auto, using(crate::proofs::Seated::seen_there))]
+    fn exit_answer(&self, which: u8, exit: &Exit) -> ExitAnswer
+        requires there { which < length self.now.harts }
+        requires aligned { (hart_in self.now.harts which).core.pc % 4 ≡ 0 }
+        ensures answer { result ≡ exit_answer (host_seen self.now.region.ram self.now.rules (hart_in self.now.harts which) (hart_in self.now.harts which).core.hregs.mode exit.now) exit.now }
+        ensures possible { IsPossible (hart_in self.now.harts which).core.hregs.mode result }
+    {
+        let seat = &self.seats[which as usize];
+        exit_answer(&self.mem, &seat.hart, seat.side.mode(), exit)
+    }
+
+    // A hart traps.
+    #[tactic(auto, using(hart_answers::proofs::Hosts::hosts_length))]
+    fn guest_trap(&mut self, which: u8, trap: Trap)
+        requires there { which < length self.old.harts }
+        requires aligned { (hart_in self.old.harts which).core.pc % 4 ≡ 0 }
+        requires counts { MayCount self.old.journal.counts }
+        ensures { WithTables self.old (answered_exit self.old which (Traps trap.interrupt trap.cause trap.tval)) self.new }
+    {
+        let seat = &mut self.seats[which as usize];
+        guest_trap(
+            which,
+            seat,
+            &self.guard,
+            &self.entries,
+            &mut self.journal,
+            trap,
+        );
+    }
+
+    // It returns from its trap.
+    #[tactic(auto, using(hart_answers::proofs::Hosts::hosts_length))]
+    fn guest_return(&mut self, which: u8)
+        requires there { which < length self.old.harts }
+        requires kernel { (hart_in self.old.harts which).core.hregs.mode ≡ Kernel }
+        requires counts { MayCount self.old.journal.counts }
+        ensures { WithTables self.old (answered_exit self.old which Returns) self.new }
+    {
+        let seat = &mut self.seats[which as usize];
+        guest_return(seat, &self.guard, &mut self.journal);
+    }
+
+    // It leaves kernel mode.
+    #[tactic(auto, using(hart_answers::proofs::Hosts::hosts_length))]
+    fn guest_demotion(&mut self, which: u8, gpa: u64)
+        requires there { which < length self.old.harts }
+        requires counts { MayCount self.old.journal.counts }
+        ensures { WithTables self.old (answered_exit self.old which (Demotes gpa)) self.new }
+    {
+        let seat = &mut self.seats[which as usize];
+        guest_demotion(which, seat, &self.guard, &mut self.journal, gpa);
+    }
+
+    // It stops the machine by a store into a protected page.
+    #[tactic(auto, using(hart_answers::proofs::Hosts::hosts_length))]
+    fn stop_at_write(&mut self, which: u8, gpa: u64)
+        requires there { which < length self.old.harts }
+        ensures { WithTables self.old (answered_exit self.old which (StopsAtWrite gpa)) self.new }
+    {
+        stop_at_write(
+            which,
+            &self.seats[which as usize],
+            &mut self.journal,
+            gpa,
+        );
+    }
+
+    // It loads from a device's register.
+    #[tactic(auto, using(hart_answers::proofs::Hosts::hosts_length))]
+    fn device_load(&mut self, which: u8, load: Load)
+        requires there { which < length self.old.harts }
+        requires aligned { (hart_in self.old.harts which).core.pc % 4 ≡ 0 }
+        requires counts { MayCount self.old.journal.counts }
+        requires register { load.rd < 32 }
+        ensures { WithTables self.old (answered_exit self.old which (LoadsDevice load.rd load.address load.width load.signed load.gpa)) self.new }
+    {
+        let seat = &mut self.seats[which as usize];
+        device_load(
+            which,
+            seat,
+            &self.guard,
+            &self.entries,
+            &mut self.devices,
+            &mut self.journal,
+            load,
+        );
+    }
+
+    // It stores into a device's register.
+    #[tactic(auto, using(hart_answers::proofs::Hosts::hosts_length))]
+    fn device_store(&mut self, which: u8, store: Store)
+        requires there { which < length self.old.harts }
+        requires aligned { (hart_in self.old.harts which).core.pc % 4 ≡ 0 }
+        requires counts { MayCount self.old.journal.counts }
+        requires room { length self.old.journal.printed < 4096 }
+        ensures { WithTables self.old (answered_exit self.old which (StoresDevice store.address store.gpa store.width store.value)) self.new }
+    {
+        let seat = &mut self.seats[which as usize];
+        device_store(
+            which,
+            seat,
+            &self.guard,
+            &self.entries,
+            &mut self.devices,
+            &mut self.journal,
+            store,
+        );
+    }
+
+    // What its call is answered.
+    #[tactic(auto, using(hart_answers::proofs::Hosts::hosts_length, crate::proofs::Called::registers_there))]
+    fn call_answer(&self, which: u8) -> Answer
+        requires there { which < length self.now.harts }
+        requires guarded { IsGuarded self.now }
+        ensures answer { result ≡ answer_of (host_facts self.now) (asked_by (hart_in self.now.harts which).core.registers) }
+        ensures starts { StartsOneOf (length self.now.harts) result.beside }
+    {
+        let asked = Asked::by(&self.seats[which as usize].hart.regs);
+        law_starts();
+        if asked.is_about_modules() {
+            module_answer(
+                &self.policy,
+                &self.guard,
+                &self.mem,
+                &self.modules,
+                &asked,
+            )
+        } else {
+            call_answers::answer_of(
+                &self.seats,
+                &self.entries,
+                self.devices.input(),
+                &asked,
+            )
+        }
+    }
+
+    // Does what the answer to a call says, or the decision of a load.
+    pub(crate) fn give(&mut self, which: u8, answer: &Answer)
+        requires there { which < length self.old.harts }
+        requires counts { MayCount self.old.journal.counts }
+        requires room { length self.old.journal.printed < 4096 }
+        requires guarded { IsGuarded self.old }
+        requires given { IsGiven self.old answer.now.beside }
+        requires starts { StartsOneOf (length self.old.harts) answer.now.beside }
+        ensures { WithTables self.old (host_given self.old which answer.now) self.new }
+    {
+        call_answers::give(
+            which,
+            &mut self.seats,
+            &self.guard,
+            &mut self.devices,
+            &mut self.journal,
+            answer,
+        );
+        let changed = give_pages(
+            which,
+            &mut self.guard,
+            &mut self.mem,
+            &self.policy,
+            &mut self.modules,
+            &answer.beside,
+        );
+        fence(&mut self.caches, changed);
+    }
+
+    // A call from kernel mode.
+    fn serve_call(&mut self, which: u8)
+        requires there { which < length self.old.harts }
+        requires counts { MayCount self.old.journal.counts }
+        requires room { length self.old.journal.printed < 4096 }
+        requires guarded { IsGuarded self.old }
+        ensures { WithTables self.old (served_call self.old which (hart_in self.old.harts which)) self.new }
+    {
+        let answer = self.call_answer(which);
+        self.give(which, &answer);
+    }
+
+    // Does what an exit is answered.
+    #[tactic(auto, unfolding(machine_model::specs::HostExits::host_exit_answered))]
+    fn carry_out(&mut self, which: u8, answer: ExitAnswer)
+        requires there { which < length self.old.harts }
+        requires aligned { (hart_in self.old.harts which).core.pc % 4 ≡ 0 }
+        requires counts { MayCount self.old.journal.counts }
+        requires room { length self.old.journal.printed < 4096 }
+        requires guarded { IsGuarded self.old }
+        requires possible { IsPossible (hart_in self.old.harts which).core.hregs.mode answer }
+        ensures { WithTables self.old (answered_exit self.old which answer) self.new }
+    {
+        match answer {
+            ExitAnswer::Traps {
+                interrupt,
+                cause,
+                tval,
+            } => self.guest_trap(
+                which,
+                Trap {
+                    interrupt,
+                    cause,
+                    tval,
+                },
+            ),
+            ExitAnswer::Returns => self.guest_return(which),
+            ExitAnswer::Demotes { gpa } => self.guest_demotion(which, gpa),
+            ExitAnswer::LeavesEntry => unreachable!(),
+            ExitAnswer::StopsAtWrite { gpa } => self.stop_at_write(which, gpa),
+            ExitAnswer::LoadsDevice {
+                rd,
+                address,
+                width,
+                signed,
+                gpa,
+            } => self.device_load(
+                which,
+                Load {
+                    rd,
+                    address,
+                    width,
+                    signed,
+                    gpa,
+                },
+            ),
+            ExitAnswer::StoresDevice {
+                address,
+                gpa,
+                width,
+                value,
+            } => self.device_store(
+                which,
+                Store {
+                    address,
+                    gpa,
+                    width,
+                    value,
+                },
+            ),
+            ExitAnswer::Calls => self.serve_call(which),
+        }
+    }
+
+    /// The answer to an exit of a hart.
+    #[tactic(auto, unfolding(machine_model::specs::HostExits::host_exit))]
+    pub(crate) fn serve_exit(&mut self, which: u8, exit: Exit)
+        requires there { which < length self.old.harts }
+        requires aligned { (hart_in self.old.harts which).core.pc % 4 ≡ 0 }
+        requires counts { MayCount self.old.journal.counts }
+        requires room { length self.old.journal.printed < 4096 }
+        requires guarded { IsGuarded self.old }
+        ensures { WithTables self.old (host_exit self.old which (hart_in self.old.harts which) (hart_in self.old.harts which).core.hregs.mode exit) self.new }
+    {
+        let answer = self.exit_answer(which, &exit);
+        self.carry_out(which, answer);
+    }
+}
