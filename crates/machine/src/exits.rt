@@ -29,7 +29,7 @@ use trap_answers::{exit_answer, guest_demotion, guest_return, guest_trap, stop_a
 
 impl Parts {
     // What an exit of a hart is answered.
-    #[tactic(auto, using(crate::proofs::Seated::seen_there))]
+    #[tactic(auto, using(hart_answers::proofs::Hosts::hosts_length))]
     fn exit_answer(&self, which: u8, exit: &Exit) -> ExitAnswer
         requires there { which < length self.now.harts }
         requires aligned { (hart_in self.now.harts which).core.pc % 4 ≡ 0 }

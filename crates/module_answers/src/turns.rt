@@ -10,7 +10,7 @@ ghost use Rattle.machine_model.specs.HostCalls.{host_given};
 ghost use Rattle.machine_model.specs.HostExits.{host_is_good, load_counted, served_load_turn};
 ghost use Rattle.machine_model.specs.Machine.{Machine};
 ghost use Rattle.module_gate.specs.Gates.{host_load};
-ghost use Rattle.module_answers.specs.Conditions.{AreJoined, IsReadable, IsGiven};
+ghost use Rattle.module_answers.specs.Conditions.{AreJoined, IsReadable, IsOfLoad};
 ghost use Rattle.module_answers.specs.Parts.{moduled};
 
 use crate::decisions::load_decision;
@@ -58,7 +58,7 @@ pub fn load_turn(mem: &HostMem, policy: &Policy, modules: &mut Modules) -> Optio
     requires readable { IsReadable (rules_of policy.now) mem.now modules.old }
     ensures counted { result ≡ None → (m : Machine) (h : ℕ) (guard : List Protection) → moduled m (rules_of policy.now) mem.now guard modules.new ≡ served_load_turn (moduled m (rules_of policy.now) mem.now guard modules.old) h }
     ensures decided { IfSome result (λ answer. (m : Machine) (h : ℕ) (guard : List Protection) → served_load_turn (moduled m (rules_of policy.now) mem.now guard modules.old) h ≡ host_given (moduled m (rules_of policy.now) mem.now guard modules.old) h answer) }
-    ensures given { IfSome result (λ answer. (guard : List Protection) → IsGiven (rules_of policy.now) mem.now.ram guard modules.old answer.beside) }
+    ensures given { IfSome result (λ answer. IsOfLoad (rules_of policy.now) modules.old answer.beside) }
     ensures kept { OnSome result (modules.new ≡ modules.old) }
     ensures joined { AreJoined (rules_of policy.now) modules.new }
 {
