@@ -45,9 +45,10 @@ fn hold_named<R: std::rt::Files + AllocGlobal, F: Files>(
     made: &str,
     files: &mut F,
 ) -> io::Result<()>
-    requires permitted { (name bytes : List ℕ) → IsTrue ((F.state files.old).permits_save name bytes) }
+    requires permitted { (saves : List (List ℕ × List ℕ)) → IsTrue ((F.state files.old).permits_save saves) }
     requires count { (F.state files.old).save_faults < 2 ^ 64 - 1 }
-    ensures leaves { OnOk result (F.state files.new ≡ record (F.state files.old) { held = (F.state files.new).held }) }
+    ensures permits { OnOk result ((saves : List (List ℕ × List ℕ)) → IsTrue ((F.state files.new).permits_save saves)) }
+    ensures counts { OnOk result (((F.state files.new).read_faults ≡ (F.state files.old).read_faults) × ((F.state files.new).save_faults ≡ (F.state files.old).save_faults)) }
 {
     for word in words {
         if word.as_str() != made {
@@ -63,9 +64,10 @@ fn hold<R: std::rt::Files + AllocGlobal, F: Files>(
     word: &str,
     files: &mut F,
 ) -> io::Result<()>
-    requires permitted { (name bytes : List ℕ) → IsTrue ((F.state files.old).permits_save name bytes) }
+    requires permitted { (saves : List (List ℕ × List ℕ)) → IsTrue ((F.state files.old).permits_save saves) }
     requires count { (F.state files.old).save_faults < 2 ^ 64 - 1 }
-    ensures leaves { OnOk result (F.state files.new ≡ record (F.state files.old) { held = (F.state files.new).held }) }
+    ensures permits { OnOk result ((saves : List (List ℕ × List ℕ)) → IsTrue ((F.state files.new).permits_save saves)) }
+    ensures counts { OnOk result (((F.state files.new).read_faults ≡ (F.state files.old).read_faults) × ((F.state files.new).save_faults ≡ (F.state files.old).save_faults)) }
 {
     match fs::read(rt, word) {
         Ok(bytes) => save(word, &bytes, files),
@@ -81,9 +83,10 @@ fn hold<R: std::rt::Files + AllocGlobal, F: Files>(
 
 // Puts bytes under a name, or says that there is no room for them.
 fn save<F: Files>(name: &str, bytes: &[u8], files: &mut F) -> io::Result<()>
-    requires permitted { IsTrue ((F.state files.old).permits_save name.now bytes.now) }
+    requires permitted { (saves : List (List ℕ × List ℕ)) → IsTrue ((F.state files.old).permits_save saves) }
     requires count { (F.state files.old).save_faults < 2 ^ 64 - 1 }
-    ensures leaves { OnOk result (F.state files.new ≡ record (F.state files.old) { held = (F.state files.new).held }) }
+    ensures permits { OnOk result ((saves : List (List ℕ × List ℕ)) → IsTrue ((F.state files.new).permits_save saves)) }
+    ensures counts { OnOk result (((F.state files.new).read_faults ≡ (F.state files.old).read_faults) × ((F.state files.new).save_faults ≡ (F.state files.old).save_faults)) }
 {
     match files.save(name, bytes) {
         Ok(()) => Ok(()),

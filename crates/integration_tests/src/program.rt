@@ -146,8 +146,8 @@ pub(crate) fn answer_on<R: Threads + Sync, F: Files, O: Sink>(
     files: &mut F,
     out: &mut O,
 ) -> Answer
-    requires names { (names : List (List ℕ)) → IsTrue ((F.state files.old).permits names) }
-    requires saving { (name bytes : List ℕ) → IsTrue ((F.state files.old).permits_save name bytes) }
+    requires names { (asked : List (List ℕ × ℕ)) → IsTrue ((F.state files.old).permits asked) }
+    requires saving { (saves : List (List ℕ × List ℕ)) → IsTrue ((F.state files.old).permits_save saves) }
     requires is_open { IsTrue (O.state out.old).is_open }
     requires reads { (F.state files.old).read_faults < 2 ^ 64 - 1 }
     requires saves { (F.state files.old).save_faults < 2 ^ 64 - 1 }

@@ -1,5 +1,5 @@
 -- Files in memory: names with their bytes, of which the first of a name counts.
-use Rattle.std.specs.Prelude.{◌+◌, ◌-◌, ◌^◌, ◌<◌, ◌==◌, ℕ, min, List, Bool, true, false, find, map, option_map, Option, Some, None, Vec}
+use Rattle.std.specs.Prelude.{◌+◌, ◌-◌, ◌^◌, ◌<◌, ◌≤◌, ◌==◌, ◌&&◌, ◌||◌, not, nat_lt, nat_le, ℕ, min, length, vec_capacity, All, List, Bool, true, false, find, map, option_map, Option, Some, None, Vec}
 use Rattle.std.specs.List.{list_any}
 use Rattle.std.specs.Str.{bytes_eq}
 use Rattle.std.specs.declared.alloc.Global.{Global}
@@ -29,11 +29,15 @@ abbrev pub memory_state : List File → ℕ → ℕ → FilesState
 memory_state files read_faults save_faults = record {
   tells = true;
   held = held_in files;
-  permits = λ names. true;
-  permits_save = λ name bytes. true;
+  permits = λ asked. true;
+  permits_save = λ saves. true;
   read_faults = read_faults;
   save_faults = save_faults;
 }
+
+-- each of the spare rooms holds so many bytes
+abbrev pub HaveRoom : ℕ → List (Vec ℕ Global) → Type 0
+HaveRoom room spare = All (λ (v : Vec ℕ Global). room ≤ vec_capacity v) spare
 
 -- ---- which calls fail
 
@@ -44,6 +48,15 @@ call_number calls = min (calls + 1) (2 ^ 64 - 1)
 -- the call behind so many calls is one of those that are to fail
 abbrev pub is_to_fail : List ℕ → ℕ → Bool
 is_to_fail failing calls = list_any (λ number. number == call_number calls) failing
+
+-- a text that can be a name has 1 to 64 bytes
+abbrev pub is_name_text : List ℕ → Bool
+is_name_text text = nat_lt 0 (length text) && nat_le (length text) 64
+
+-- A save fails: its number is listed, it is beyond the room that is left, the text is no name, or no file more has a place.
+abbrev pub save_fails : (failing : List ℕ) → (saves room places : ℕ) → (name bytes : List ℕ) → Bool
+save_fails failing saves room places name bytes =
+    is_to_fail failing saves || nat_lt room (length bytes) || not (is_name_text name && not (places == 0))
 
 -- more bytes than the limit, or want of memory
 abbrev pub IsTooLongOrMemory : ℕ → ℕ → FileRefusal → Type 0
@@ -61,8 +74,8 @@ abbrev pub real_state : ℕ → ℕ → FilesState
 real_state read_faults save_faults = record {
   tells = false;
   held = λ name. None;
-  permits = λ names. true;
-  permits_save = λ name bytes. true;
+  permits = λ asked. true;
+  permits_save = λ saves. true;
   read_faults = read_faults;
   save_faults = save_faults;
 }

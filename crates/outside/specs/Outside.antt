@@ -12,26 +12,30 @@ pub record FilesState : Type 0 where
   pub tells : Bool
   -- what each name holds
   pub held : List ℕ → Option (List ℕ)
-  -- the names that may be asked for from now on, one after another
-  pub permits : List (List ℕ) → Bool
-  -- the name and the bytes that may be saved
-  pub permits_save : List ℕ → List ℕ → Bool
+  -- the names that may be asked for from now on, one after another, each with the most bytes that may be read of it
+  pub permits : List (List ℕ × ℕ) → Bool
+  -- the names that may be saved under from now on, one after another, each with its bytes
+  pub permits_save : List (List ℕ × List ℕ) → Bool
   -- how often a read failed, and how often a save
   pub read_faults : ℕ
   pub save_faults : ℕ
 
--- the files once a name was asked for: what was permitted behind that name is permitted now
-abbrev pub after_asking : List ℕ → FilesState → FilesState
-after_asking name files = record files { permits = λ names. files.permits (name ∷ names) }
+-- the files once a name was asked for with a limit: what was permitted behind that is permitted now
+abbrev pub after_asking : (name : List ℕ) → (limit : ℕ) → FilesState → FilesState
+after_asking name limit files = record files { permits = λ asked. files.permits ((name, limit) ∷ asked) }
+
+-- the files once bytes were saved under a name, or the save failed: what was permitted behind that is permitted now
+abbrev pub after_saving : (name bytes : List ℕ) → FilesState → FilesState
+after_saving name bytes files = record files { permits_save = λ saves. files.permits_save ((name, bytes) ∷ saves) }
 
 -- the files after an answer to a read: a failure raises the count of reads alone
-abbrev pub ReadLeaves : FilesState → FilesState → List ℕ → Result (Vec ℕ Global) FileRefusal → Type 0
-ReadLeaves old new name (Ok bytes) = new ≡ after_asking name old
-ReadLeaves old new name (Err Absent) = new ≡ after_asking name old
-ReadLeaves old new name (Err TooLong) = new ≡ after_asking name old
-ReadLeaves old new name (Err Memory) = new ≡ after_asking name old
-ReadLeaves old new name (Err Failed) =
-    (old.read_faults < new.read_faults) × (new ≡ record (after_asking name old) { read_faults = new.read_faults })
+abbrev pub ReadLeaves : FilesState → FilesState → List ℕ → ℕ → Result (Vec ℕ Global) FileRefusal → Type 0
+ReadLeaves old new name limit (Ok bytes) = new ≡ after_asking name limit old
+ReadLeaves old new name limit (Err Absent) = new ≡ after_asking name limit old
+ReadLeaves old new name limit (Err TooLong) = new ≡ after_asking name limit old
+ReadLeaves old new name limit (Err Memory) = new ≡ after_asking name limit old
+ReadLeaves old new name limit (Err Failed) =
+    (old.read_faults < new.read_faults) × (new ≡ record (after_asking name limit old) { read_faults = new.read_faults })
 
 -- what an answer to a read says of the name's bytes
 abbrev pub ReadTells : FilesState → List ℕ → ℕ → Result (Vec ℕ Global) FileRefusal → Type 0

@@ -2,7 +2,7 @@
 #![tactic(auto)]
 
 ghost use Rattle.std.specs.Prelude.{◌≡◌, ◌≢◌, ◌<◌, ◌≤◌, ◌-◌, ◌^◌, ℕ, List, [], ◌∷◌, Some, length, take, OnOk, OnErr, IfOk, IsTrue};
-ghost use Rattle.outside.specs.Outside.{FilesState, SinkState, ReadLeaves, ReadTells, after_taking, WriteFails};
+ghost use Rattle.outside.specs.Outside.{FilesState, SinkState, ReadLeaves, ReadTells, after_saving, after_taking, WriteFails};
 
 mod calls;
 mod memory_files;
@@ -41,22 +41,24 @@ pub trait Files {
     /// What the files hold, where they tell it, and how often they failed.
     ghost state: { Self → FilesState };
 
-    /// All bytes that a name holds, if they are at most `limit`. The name has to be one that may be asked for next.
+    /// All bytes that a name holds, if they are at most `limit`. The name has to be one that may be asked for next, with
+    /// this limit.
     fn read(&mut self, alloc: Global, name: &str, limit: usize) -> Result<Vec<u8>, FileRefusal>
-        requires permitted { IsTrue ((state self.old).permits (name.now ∷ [])) }
+        requires permitted { IsTrue ((state self.old).permits ((name.now, limit) ∷ [])) }
         requires count { (state self.old).read_faults < 2 ^ 64 - 1 }
         ensures tells { ReadTells (state self.old) name.now limit result }
-        ensures leaves { ReadLeaves (state self.old) (state self.new) name.now result };
+        ensures leaves { ReadLeaves (state self.old) (state self.new) name.now limit result };
 
-    /// Puts bytes under a name, where these may be saved there. Other names stay.
+    /// Puts bytes under a name, where these may be saved there next: that is used up, also where the save fails. Other names
+    /// stay.
     fn save(&mut self, name: &str, bytes: &[u8]) -> Result<(), SaveFailed>
-        requires permitted { IsTrue ((state self.old).permits_save name.now bytes.now) }
+        requires permitted { IsTrue ((state self.old).permits_save ((name.now, bytes.now) ∷ [])) }
         requires count { (state self.old).save_faults < 2 ^ 64 - 1 }
         ensures saved { OnOk result (IsTrue (state self.old).tells → (state self.new).held name.now ≡ Some bytes.now) }
         ensures others { (other : List ℕ) → other ≢ name.now → (state self.new).held other ≡ (state self.old).held other }
         ensures fault { OnErr result ((state self.old).save_faults < (state self.new).save_faults) }
         ensures no_fault { OnOk result ((state self.new).save_faults ≡ (state self.old).save_faults) }
-        ensures leaves { state self.new ≡ record (state self.old) { held = (state self.new).held; save_faults = (state self.new).save_faults } };
+        ensures leaves { state self.new ≡ record (after_saving name.now bytes.now (state self.old)) { held = (state self.new).held; save_faults = (state self.new).save_faults } };
 }
 
 /// Where lines and console bytes go.

@@ -1,8 +1,9 @@
 // Files in memory.
-ghost use Rattle.std.specs.Prelude.{◌≡◌, ◌≢◌, ◌<◌, ◌-◌, ◌^◌, ℕ, List, Option, ◌+◌, ◌↔◌, IfOk, OnOk, OnErr, IsErr, IsErrOf, IfSome, IfErr, MatchOption, AllPairs, IsTrue, ◌≤◌, Some, length};
+ghost use Rattle.std.specs.Prelude.{◌≡◌, ◌≢◌, ◌<◌, ◌-◌, ◌^◌, ℕ, List, Option, ◌+◌, ◌↔◌, IfOk, OnOk, OnErr, IsErrOf, IfErr, AllPairs, IsTrue, ◌≤◌, Some, length, vec_len, vec_capacity, ◌&&◌, not, ◌==◌, false};
 ghost use Rattle.std.specs.Option.{option_copied};
-ghost use Rattle.outside.specs.Outside.{ReadTells, ReadLeaves};
-ghost use Rattle.outside.specs.Held.{contents, held_in, memory_state, call_number, is_to_fail, IsTooLongOrMemory};
+ghost use Rattle.std.specs.Result.{is_err};
+ghost use Rattle.outside.specs.Outside.{ReadTells, ReadLeaves, after_saving};
+ghost use Rattle.outside.specs.Held.{contents, held_in, memory_state, call_number, is_to_fail, is_name_text, save_fails, HaveRoom, IsTooLongOrMemory};
 
 use crate::calls::{call_number, is_to_fail};
 use crate::{FileRefusal, Files, SaveFailed};
@@ -21,6 +22,8 @@ pub struct MemFiles {
     saves: u64,
     read_faults: u64,
     save_faults: u64,
+    ghost places: { vec_len files + vec_len spare ≤ vec_capacity files },
+    ghost rooms: { HaveRoom room spare.items },
 }
 
 impl MemFiles {
@@ -40,7 +43,7 @@ impl MemFiles {
         ensures saves { IfOk result (λ f. f.save_faults ≡ 0) }
         ensures failing_reads { IfOk result (λ f. (f.failing_reads.items ≡ failing_reads.now) × (f.reads ≡ 0)) }
         ensures failing_saves { IfOk result (λ f. (f.failing_saves.items ≡ failing_saves.now) × (f.saves ≡ 0)) }
-        ensures room { IfOk result (λ f. f.room ≡ room) }
+        ensures room { IfOk result (λ f. (f.room ≡ room) × (vec_len f.spare ≡ saves)) }
     {
         Ok(MemFiles {
             files: copied_files(alloc, held, saves)?,
@@ -71,9 +74,13 @@ fn copied_files(
     held: &[(Name, Vec<u8>)],
     saves: usize,
 ) -> Result<Vec<(Name, Vec<u8>)>, AllocError>
-    ensures { IfOk result (λ files. contents files.items ≡ contents held.now) }
+    ensures files { IfOk result (λ files. contents files.items ≡ contents held.now) }
+    ensures places { IfOk result (λ files. vec_len files + saves ≤ vec_capacity files) }
 {
-    let mut files = Vec::with_capacity(alloc, held.len().saturating_add(saves))?;
+    let Some(places) = held.len().checked_add(saves) else {
+        return Err(AllocError);
+    };
+    let mut files = Vec::with_capacity(alloc, places)?;
     for file in held {
         let bytes = file.1.to_vec(alloc)?;
         files.push((file.0, bytes))?;
@@ -81,9 +88,12 @@ fn copied_files(
     Ok(files)
 }
 
-fn spare_rooms(alloc: Global, saves: usize, room: usize) -> Result<Vec<Vec<u8>>, AllocError> {
+fn spare_rooms(alloc: Global, saves: usize, room: usize) -> Result<Vec<Vec<u8>>, AllocError>
+    ensures count { IfOk result (λ rooms. vec_len rooms ≡ saves) }
+    ensures rooms { IfOk result (λ rooms. HaveRoom room rooms.items) }
+{
     let mut rooms = Vec::new(alloc);
-    for _ in 0..saves {
+    'spares: while rooms.len() < saves {
         rooms.push(Vec::with_capacity(alloc, room)?)?;
     }
     Ok(rooms)
@@ -95,7 +105,7 @@ impl Files for MemFiles {
     fn read(&mut self, alloc: Global, name: &str, limit: usize) -> Result<Vec<u8>, FileRefusal>
         requires count { self.old.read_faults < 2 ^ 64 - 1 }
         ensures tells { ReadTells (memory_state self.old.files.items self.old.read_faults self.old.save_faults) name.now limit result }
-        ensures leaves { ReadLeaves (memory_state self.old.files.items self.old.read_faults self.old.save_faults) (memory_state self.new.files.items self.new.read_faults self.new.save_faults) name.now result }
+        ensures leaves { ReadLeaves (memory_state self.old.files.items self.old.read_faults self.old.save_faults) (memory_state self.new.files.items self.new.read_faults self.new.save_faults) name.now limit result }
         // A read fails exactly where its number is listed.
         ensures fails { IsErrOf result FileRefusal.Failed ↔ IsTrue (is_to_fail self.old.failing_reads.items self.old.reads) }
         ensures counted { self.new.reads ≡ call_number self.old.reads }
@@ -115,21 +125,24 @@ impl Files for MemFiles {
         }
     }
 
+    #[tactic(auto, using(crate::proofs::Rooms::room_for_less))]
     fn save(&mut self, name: &str, bytes: &[u8]) -> Result<(), SaveFailed>
         requires count { self.old.save_faults < 2 ^ 64 - 1 }
         ensures saved { OnOk result (held_in self.new.files.items name.now ≡ Some bytes.now) }
         ensures others { (other : List ℕ) → other ≢ name.now → held_in self.new.files.items other ≡ held_in self.old.files.items other }
         ensures fault { OnErr result (self.new.save_faults ≡ self.old.save_faults + 1) }
         ensures no_fault { OnOk result (self.new.save_faults ≡ self.old.save_faults) }
-        ensures read_faults { self.new.read_faults ≡ self.old.read_faults }
-        // A save fails where its number is listed, and where the room that is left is exceeded.
-        ensures listed { IsTrue (is_to_fail self.old.failing_saves.items self.old.saves) → IsErr result }
-        ensures exceeded { self.old.room < length bytes.now → IsErr result }
+        ensures leaves { memory_state self.new.files.items self.new.read_faults self.new.save_faults ≡ record (after_saving name.now bytes.now (memory_state self.old.files.items self.old.read_faults self.old.save_faults)) { held = held_in self.new.files.items; save_faults = self.new.save_faults } }
+        // A save fails exactly where its number is listed, the room that is left is exceeded, no file more has a place, or the
+        // text is no name. Then every name holds what it held.
+        ensures fails { is_err result ≡ save_fails self.old.failing_saves.items self.old.saves self.old.room (vec_len self.old.spare) name.now bytes.now }
+        ensures kept { OnErr result (self.new.files.items ≡ self.old.files.items) }
         ensures counted { self.new.saves ≡ call_number self.old.saves }
         ensures failing { (self.new.failing_reads ≡ self.old.failing_reads) × (self.new.failing_saves ≡ self.old.failing_saves) }
-        // The room is that of all saves together.
+        // The room is that of all saves together, and each takes the place of a file.
         ensures room { OnOk result (self.new.room + length bytes.now ≡ self.old.room) }
-        ensures kept_room { OnErr result (self.new.room ≡ self.old.room) }
+        ensures place { OnOk result (vec_len self.new.spare + 1 ≡ vec_len self.old.spare) }
+        ensures kept_room { OnErr result ((self.new.room ≡ self.old.room) × (vec_len self.new.spare ≡ vec_len self.old.spare)) }
         ensures reads { self.new.reads ≡ self.old.reads }
     {
         let is_to_fail = is_to_fail(&self.failing_saves, self.saves);
@@ -159,20 +172,44 @@ fn copy_within(alloc: Global, bytes: &[u8], limit: usize) -> Result<Vec<u8>, Fil
     }
 }
 
-// Puts a file in front, in a room that is spare. It takes no memory.
+// Puts a file in front, in a room that is spare. False exactly where the text is no name, or no room is spare: then all
+// stays as it was. It takes no memory.
+#[tactic(auto, using(crate::proofs::Rooms::rooms_left))]
 fn put(files: &mut Vec<(Name, Vec<u8>)>, spare: &mut Vec<Vec<u8>>, name: &str, bytes: &[u8]) -> bool
+    requires places { vec_len files.old + vec_len spare.old ≤ vec_capacity files.old }
+    requires rooms { HaveRoom (length bytes.now) spare.old.items }
+    ensures done { result ≡ (is_name_text name.now && not (vec_len spare.old == 0)) }
     ensures put { IsTrue result → held_in files.new.items name.now ≡ Some bytes.now }
     ensures others { (other : List ℕ) → other ≢ name.now → held_in files.new.items other ≡ held_in files.old.items other }
+    ensures places { vec_len files.new + vec_len spare.new ≤ vec_capacity files.new }
+    ensures taken { IsTrue result → vec_len spare.new + 1 ≡ vec_len spare.old }
+    ensures kept { result ≡ false → (files.new.items ≡ files.old.items) × (vec_len spare.new ≡ vec_len spare.old) }
+    ensures rooms { (room : ℕ) → HaveRoom room spare.old.items → HaveRoom room spare.new.items }
 {
     let Some(name) = Name::new(name) else {
         return false;
     };
-    let Some(mut room) = spare.pop() else {
+    let Some(room) = spare.pop() else {
         return false;
     };
-    if files.len() == files.capacity() || room.capacity() < bytes.len() {
-        return false;
-    }
+    put_in_front(files, name, room, bytes);
+    true
+}
+
+// Puts a file in front, for which there is a place, in a room that holds its bytes.
+fn put_in_front(files: &mut Vec<(Name, Vec<u8>)>, name: Name, mut room: Vec<u8>, bytes: &[u8])
+    requires place { vec_len files.old < vec_capacity files.old }
+    requires room { length bytes.now ≤ vec_capacity room }
+    ensures put { held_in files.new.items name ≡ Some bytes.now }
+    ensures others { (other : List ℕ) → other ≢ name → held_in files.new.items other ≡ held_in files.old.items other }
+    ensures count { vec_len files.new ≡ vec_len files.old + 1 }
+    ensures capacity { vec_capacity files.old ≤ vec_capacity files.new }
+{
     room.clear();
-    room.extend_from_slice(bytes).is_ok() && files.insert(0, (name, room)).is_ok()
+    if room.extend_from_slice(bytes).is_err() {
+        unreachable!();
+    }
+    if files.insert(0, (name, room)).is_err() {
+        unreachable!();
+    }
 }

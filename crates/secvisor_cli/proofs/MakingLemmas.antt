@@ -20,8 +20,8 @@ use Rattle.secvisor_cli.specs.CommandLine.{PolicyWords}
 use Rattle.secvisor_cli.specs.Plans.{Due, Refuse, Make, Plan, End, Judge, Held, most_image_bytes, most_object_bytes, making_refusal, made_judged, made_part, Kernel, digest_part, Modules, with_module, module_part, modules_part, making_plan}
 use Rattle.secvisor_cli.specs.Reading.{FoundAs, Follows, MayFollow}
 use Rattle.secvisor_cli.specs.Ready.{PartRead, stop_of_making, IsMade, Prepares, Passes, MayStage}
-use Rattle.secvisor_cli.proofs.ReadyLemmas.{end_ready, read_ready, stopped_ready}
-use Rattle.secvisor_cli.proofs.StageLemmas.{judge_ready, judge_wants, read_follows, read_may, read_faults}
+use Rattle.secvisor_cli.proofs.ReadyLemmas.{end_ready, judge_ready, judge_wants, read_ready, stopped_ready}
+use Rattle.secvisor_cli.proofs.StageLemmas.{read_follows, read_may, read_faults}
 
 -- ---- a part, and what is made of it
 
@@ -78,7 +78,7 @@ made_unread part name limit judge next old now stop it = stopped_ready part name
 abbrev kernel_with : (file digest : List ℕ) → Kernel
 kernel_with file digest = record { file = file; digest = digest }
 
-pub kernel_asked : (name : List ℕ) (ram_pages : ℕ) (files : FilesState) → MayStage (digest_part name ram_pages) files → IsTrue (files.permits (name ∷ []))
+pub kernel_asked : (name : List ℕ) (ram_pages : ℕ) (files : FilesState) → MayStage (digest_part name ram_pages) files → IsTrue (files.permits ((name, most_image_bytes) ∷ []))
 unfolding digest_part made_part
 kernel_asked name ram_pages files may = may.may.0
 
@@ -106,7 +106,7 @@ kernel_unread name ram_pages old now stop it = λ next.
 
 -- ---- a module
 
-pub module_asked : (name : List ℕ) (before : Modules) (files : FilesState) → MayStage (module_part name before) files → IsTrue (files.permits (name ∷ []))
+pub module_asked : (name : List ℕ) (before : Modules) (files : FilesState) → MayStage (module_part name before) files → IsTrue (files.permits ((name, most_object_bytes) ∷ []))
 unfolding module_part made_part
 module_asked name before files may = may.may.0
 

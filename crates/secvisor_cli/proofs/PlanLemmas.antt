@@ -14,8 +14,8 @@ pub record Keeps (old new : FilesState) : Type 0 where
   pub reads : old.read_faults ≤ new.read_faults
   pub saves : new.save_faults ≡ old.save_faults
 
-keeps_asked : (old new : FilesState) (name : List ℕ) → new ≡ after_asking name old → Keeps old new
-keeps_asked old new name is =
+keeps_asked : (old new : FilesState) (name : List ℕ) (limit : ℕ) → new ≡ after_asking name limit old → Keeps old new
+keeps_asked old new name limit is =
     let same : new.read_faults ≡ old.read_faults = ap (λ (f : FilesState). f.read_faults) is in
     record {
       tells = ap (λ (f : FilesState). f.tells) is;
@@ -33,9 +33,9 @@ keeps_found old new name limit Faulty it =
       reads = omega arith;
       saves = ap (λ (f : FilesState). f.save_faults) it.1;
     }
-keeps_found old new name limit Missing it = keeps_asked old new name it.2
-keeps_found old new name limit Longer it = keeps_asked old new name it.1
-keeps_found old new name limit (Held bytes) it = keeps_asked old new name it.2
+keeps_found old new name limit Missing it = keeps_asked old new name limit it.2
+keeps_found old new name limit Longer it = keeps_asked old new name limit it.1
+keeps_found old new name limit (Held bytes) it = keeps_asked old new name limit it.2
 
 keeps_both : (old mid new : FilesState) → Keeps old mid → Keeps mid new → Keeps old new
 keeps_both old mid new a b =
@@ -63,7 +63,7 @@ keeps_same old new is =
 -- no name changes, nothing is saved, and the count of reads no falls
 pub follows_keeps : (plan : Plan) (old new : FilesState) (reached : Option Due) → Follows plan old new reached → Keeps old new
 follows_keeps (End due) old new reached it = keeps_same old new it.1
-follows_keeps (Read name limit next) old new reached (inl wanting) = keeps_asked old new name wanting.1
+follows_keeps (Read name limit next) old new reached (inl wanting) = keeps_asked old new name limit wanting.1
 follows_keeps (Read name limit next) old new reached (inr it) =
     keeps_both old it.1 new (keeps_found old it.1 name limit it.0 it.2) (follows_keeps (next it.0) it.1 new reached it.3)
 follows_keeps (Judge next) old new reached (inl wanting) = keeps_same old new wanting.1
@@ -117,11 +117,11 @@ save_at_count (Some saving) files n may = hold_at_count saving.name saving.conte
 
 follow_at_count : (plan : Plan) (files : FilesState) (n : ℕ) → MayFollow plan files → MayFollow plan (record files { read_faults = n })
 follow_at_count (End due) files n may = save_at_count (saves_due due) files n may
-follow_at_count (Read name limit next) files n may = (may.0, λ found. follow_at_count (next found) (after_asking name files) n (may.1 found))
+follow_at_count (Read name limit next) files n may = (may.0, λ found. follow_at_count (next found) (after_asking name limit files) n (may.1 found))
 follow_at_count (Judge next) files n may = follow_at_count next files n may
 
-follow_found : (plan : Plan) (old now : FilesState) (name : List ℕ) (limit : ℕ) (found : Found) → FoundAs old now name limit found → MayFollow plan (after_asking name old) → MayFollow plan now
-follow_found plan old now name limit Faulty it may = subst (λ (f : FilesState). MayFollow plan f) (sym it.1) (follow_at_count plan (after_asking name old) now.read_faults may)
+follow_found : (plan : Plan) (old now : FilesState) (name : List ℕ) (limit : ℕ) (found : Found) → FoundAs old now name limit found → MayFollow plan (after_asking name limit old) → MayFollow plan now
+follow_found plan old now name limit Faulty it may = subst (λ (f : FilesState). MayFollow plan f) (sym it.1) (follow_at_count plan (after_asking name limit old) now.read_faults may)
 follow_found plan old now name limit Missing it may = subst (λ (f : FilesState). MayFollow plan f) (sym it.2) may
 follow_found plan old now name limit Longer it may = subst (λ (f : FilesState). MayFollow plan f) (sym it.1) may
 follow_found plan old now name limit (Held bytes) it may = subst (λ (f : FilesState). MayFollow plan f) (sym it.2) may
@@ -146,17 +146,17 @@ saves_under (Judge next) old read due name (inr it) under = saves_under next old
 
 -- ---- files of which any name may be asked for
 
-hold_any : (name : List ℕ) (content : Content) (files : FilesState) → ((name bytes : List ℕ) → IsTrue (files.permits_save name bytes)) → MayHold name content files
-hold_any name (Exactly bytes) files saves = saves name bytes
-hold_any name (PolicyOf rules) files saves = λ text reads. saves name text
+hold_any : (name : List ℕ) (content : Content) (files : FilesState) → ((saves : List (List ℕ × List ℕ)) → IsTrue (files.permits_save saves)) → MayHold name content files
+hold_any name (Exactly bytes) files saves = saves ((name, bytes) ∷ [])
+hold_any name (PolicyOf rules) files saves = λ text reads. saves ((name, text) ∷ [])
 
-may_save_any : (asked : Option Saving) (files : FilesState) → ((name bytes : List ℕ) → IsTrue (files.permits_save name bytes)) → MaySave asked files
+may_save_any : (asked : Option Saving) (files : FilesState) → ((saves : List (List ℕ × List ℕ)) → IsTrue (files.permits_save saves)) → MaySave asked files
 may_save_any None files saves = tt
 may_save_any (Some saving) files saves = hold_any saving.name saving.content files saves
 
-pub may_follow : (plan : Plan) (files : FilesState) → ((names : List (List ℕ)) → IsTrue (files.permits names)) →
-    ((name bytes : List ℕ) → IsTrue (files.permits_save name bytes)) → MayFollow plan files
+pub may_follow : (plan : Plan) (files : FilesState) → ((asked : List (List ℕ × ℕ)) → IsTrue (files.permits asked)) →
+    ((saves : List (List ℕ × List ℕ)) → IsTrue (files.permits_save saves)) → MayFollow plan files
 may_follow (End due) files all saves = may_save_any (saves_due due) files saves
 may_follow (Read name limit next) files all saves =
-    (all (name ∷ []), λ found. may_follow (next found) (after_asking name files) (λ names. all (name ∷ names)) saves)
+    (all ((name, limit) ∷ []), λ found. may_follow (next found) (after_asking name limit files) (λ asked. all ((name, limit) ∷ asked)) saves)
 may_follow (Judge next) files all saves = may_follow next files all saves

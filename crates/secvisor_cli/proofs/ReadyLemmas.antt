@@ -28,10 +28,10 @@ use Rattle.secvisor_cli.specs.declared.ready.Ready.TheVariants.{Run}
 use Rattle.secvisor_cli.specs.declared.ready.Stop.{Stop}
 use Rattle.secvisor_cli.specs.declared.ready.Stop.TheVariants.{Refused, Memory}
 use Rattle.secvisor_cli.specs.CommandLine.{most_events}
-use Rattle.secvisor_cli.specs.Plans.{Due, Refuse, RunFrom, Plan, End, Found, Faulty, Missing, Longer, Held, found_plan, read_part, measure_judged, pages_judged, is_whole_pages, gen_disk, gen_due}
+use Rattle.secvisor_cli.specs.Plans.{Due, Refuse, RunFrom, Plan, End, Judge, Found, Faulty, Missing, Longer, Held, found_plan, read_part, measure_judged, pages_judged, is_whole_pages, gen_disk, gen_due}
 use Rattle.secvisor_cli.specs.Reading.{FoundAs}
 use Rattle.secvisor_cli.proofs.Standing.{counts_are, printed_few}
-use Rattle.secvisor_cli.specs.Ready.{unread, PartRead, stop_of, IsReady, Prepares}
+use Rattle.secvisor_cli.specs.Ready.{unread, PartRead, stop_of, IsReady, IsReadyWhere, Prepares}
 
 -- ---- any plan
 
@@ -40,8 +40,20 @@ pub err_by : {T E : Type 0} (result : Result T E) (e : E) (P : Result T E → Ty
 err_by (Ok x) e P is p = absurd is
 err_by (Err x) e P is p = subst (λ y. P (Err y)) (sym is) p
 
-pub end_ready : (due : Due) (files : FilesState) (result : Result Ready Stop) → IsReady due result → Prepares (End due) files files result
+pub end_ready : (due : Due) (files : FilesState) (result : Result Ready Stop) → IsReadyWhere (Some due) result → Prepares (End due) files files result
 end_ready due files result ready = record { reached = Some due; follows = (refl, refl); ready = ready }
+
+pub judge_ready : (plan : Plan) (old new : FilesState) (result : Result Ready Stop) → Prepares plan old new result → Prepares (Judge plan) old new result
+judge_ready plan old new result p = record { reached = p.reached; follows = inr p.follows; ready = p.ready }
+
+pub judge_wants : (plan : Plan) (files : FilesState) → Prepares (Judge plan) files files (Err Memory)
+judge_wants plan files = record { reached = None; follows = inl (refl, refl); ready = refl }
+
+-- what is due is made ready, for which memory may be wanting
+pub judge_end : (due : Due) (files : FilesState) (result : Result Ready Stop) → IsReady due result → Prepares (Judge (End due)) files files result
+judge_end due files (Ok ready) it = judge_ready (End due) files files (Ok ready) (end_ready due files (Ok ready) it)
+judge_end due files (Err (Refused refusal)) it = judge_ready (End due) files files (Err (Refused refusal)) (end_ready due files (Err (Refused refusal)) it)
+judge_end due files (Err Memory) it = judge_wants (End due) files
 
 pub read_ready : (part : Part) (name : List ℕ) (limit : ℕ) (next : List ℕ → Plan) (old now new : FilesState) (bytes : List ℕ) (result : Result Ready Stop) →
     FoundAs old now name limit (Held bytes) → Prepares (next bytes) now new result → Prepares (read_part part name limit next) old new result
@@ -139,8 +151,8 @@ boot_wants : (pages wanted : List ℕ) (events : List Event) → IsReady (measur
 unfolding measure_judged
 boot_wants pages wanted events =
     elim (bytes_eq (measure pages) wanted) as (λ b. IsReady (if b then RunFrom (flat_start pages wanted) events None else Refuse (Measure (measure pages) wanted)) (Err Memory)) [
-      | true ↦ refl
-      | false ↦ refl
+      | true ↦ tt
+      | false ↦ tt
     ]
 
 pub stopped_boot : (pages wanted : List ℕ) (events : List Event) (boot : BootRefusal) → RefusesFlat pages wanted boot → IsReady (measure_judged pages wanted events) (Err (stop_of boot))
@@ -182,7 +194,7 @@ gen_ready calls ready new events script save =
 
 pub gen_wants : (calls : ℕ) → IsReady (gen_due calls) (Err Memory)
 unfolding gen_due
-gen_wants calls = refl
+gen_wants calls = tt
 
 -- ---- the disk of the generated guest
 

@@ -1,5 +1,5 @@
 -- What saving changes, and how it answers.
-use Rattle.std.proofs.Common.{◌≡◌, ◌≤◌, ◌<◌, ℕ, List, IsTrue, refl, sym, ap, subst, arith, inl, inr, ◌⊎◌, Option, Some, None, Result, Ok, Err, IsErrOf, IfOk, OnOk}
+use Rattle.std.proofs.Common.{◌≡◌, ◌≢◌, ◌≤◌, ◌<◌, ℕ, List, IsTrue, refl, sym, ap, subst, arith, inl, inr, ◌⊎◌, Option, Some, None, Result, Ok, Err, IsErrOf, IfOk, OnOk}
 use Rattle.sv_types.specs.declared.event.Event.{Event}
 use Rattle.sv_types.specs.declared.status.Status.{Status}
 use Rattle.sv_types.specs.Output.{run_status}
@@ -7,10 +7,10 @@ use Rattle.reference.specs.Report.{output}
 use Rattle.reference.specs.Run.{run}
 use Rattle.reference.specs.States.{State}
 use Rattle.machine_model.specs.Machine.{Machine}
-use Rattle.outside.specs.Outside.{FilesState, SinkState, after_taking, TookPrefix}
+use Rattle.outside.specs.Outside.{FilesState, SinkState, after_saving, after_taking, TookPrefix}
 use Rattle.secvisor_cli.specs.declared.trouble.Trouble.{Trouble}
 use Rattle.secvisor_cli.specs.declared.trouble.Trouble.TheVariants.{Write, Memory}
-use Rattle.secvisor_cli.specs.Plans.{Saving, saving}
+use Rattle.secvisor_cli.specs.Plans.{Exactly, Saving, saving}
 use Rattle.secvisor_cli.specs.Reading.{IsUnder, Saved, SaveBroke}
 use Rattle.secvisor_cli.specs.Answers.{Outside, AfterSave, SavedBehind, Writes, RunsTo, RunsAndSaves, MeetsSavesBehind, is_answer, settled}
 use Rattle.secvisor_cli.proofs.EndLemmas.{runs_under}
@@ -65,6 +65,16 @@ unchanged None old new c never = c.none refl
 unchanged (Some s) old new c never = absurd (never s.name refl)
 
 -- ---- one save
+
+-- exactly these bytes were saved, or their save failed
+pub saved_exactly : (name bytes : List ℕ) (old new : FilesState) → (IsTrue old.tells → new.held name ≡ Some bytes) →
+    ((other : List ℕ) → other ≢ name → new.held other ≡ old.held other) → new ≡ record (after_saving name bytes old) { held = new.held } →
+    Saved (record { name = name; content = Exactly bytes }) old new
+saved_exactly name bytes old new held others leaves = record { bytes = bytes; content = refl; held = held; others = others; leaves = leaves }
+
+pub broke_exactly : (name bytes : List ℕ) (old new : FilesState) → old.save_faults < new.save_faults → ((other : List ℕ) → other ≢ name → new.held other ≡ old.held other) →
+    new ≡ record (after_saving name bytes old) { held = new.held; save_faults = new.save_faults } → SaveBroke (record { name = name; content = Exactly bytes }) old new
+broke_exactly name bytes old new faults others leaves = record { bytes = bytes; content = refl; faults = faults; others = others; leaves = leaves }
 
 pub not_saved : (asked : Option Saving) (files : FilesState) (trouble : Trouble) → SavedBehind asked files files (Err trouble) (Err trouble)
 not_saved None files trouble = (refl, refl)

@@ -1,5 +1,5 @@
 -- The stages of a run's plan, and its boot.
-use Rattle.std.proofs.Common.{◌≡◌, ◌≢◌, ◌%◌, ◌==◌, ℕ, List, [], ◌∷◌, length, Bool, IsTrue, true, false, refl, sym, ◌∙◌, ap, subst, inl, inr, Option, Some, None, Result, Ok, Err, if◌then◌else◌}
+use Rattle.std.proofs.Common.{◌≡◌, ◌≢◌, ◌%◌, ◌==◌, ℕ, List, [], ◌∷◌, length, Bool, IsTrue, true, false, refl, sym, ◌∙◌, ap, subst, inr, Option, Some, None, Result, Ok, Err, if◌then◌else◌}
 use Rattle.std.specs.Result.{is_ok}
 use Rattle.std.specs.Str.{bytes_eq}
 use Rattle.sv_types.specs.declared.event.Event.{Event}
@@ -27,7 +27,7 @@ use Rattle.secvisor_cli.specs.CommandLine.{Command, RunWords, Rounds, Auto, Text
 use Rattle.secvisor_cli.specs.Plans.{Due, Refuse, RunFrom, Plan, End, Judge, Held, found_plan, read_part, most_policy_bytes, most_disk_bytes, most_script_bytes, policy_judged, policy_part, part_judged, kernel_part, disk_refusal, disk_part, text_part, script_part, image_measure, boot_judged, boot_plan, command_plan, plan_of}
 use Rattle.secvisor_cli.specs.Reading.{FoundAs, Follows, MayFollow}
 use Rattle.secvisor_cli.specs.Ready.{PartRead, stop_of, IsReady, Prepares, Passes, Staged, MayStage, IsPolicy, IsKernel, IsScript}
-use Rattle.secvisor_cli.proofs.ReadyLemmas.{end_ready, read_ready, stopped_ready, bytes_eq-same, bytes_eq-other}
+use Rattle.secvisor_cli.proofs.ReadyLemmas.{end_ready, judge_ready, judge_wants, judge_end, read_ready, stopped_ready, bytes_eq-same, bytes_eq-other}
 
 -- ---- any stage
 
@@ -35,12 +35,6 @@ use Rattle.secvisor_cli.proofs.ReadyLemmas.{end_ready, read_ready, stopped_ready
 pub pass_ready : {A : Type 0} (stage : (A → Plan) → Plan) (value : A) (next : A → Plan) (old now new : FilesState) (result : Result Ready Stop) →
     Passes stage value old now → Prepares (next value) now new result → Prepares (stage next) old new result
 pass_ready stage value next old now new result pass p = record { reached = p.reached; follows = pass.follows next new p.reached p.follows; ready = p.ready }
-
-pub judge_ready : (plan : Plan) (old new : FilesState) (result : Result Ready Stop) → Prepares plan old new result → Prepares (Judge plan) old new result
-judge_ready plan old new result p = record { reached = p.reached; follows = inr p.follows; ready = p.ready }
-
-pub judge_wants : (plan : Plan) (files : FilesState) → Prepares (Judge plan) files files (Err Memory)
-judge_wants plan files = record { reached = None; follows = inl (refl, refl); ready = refl }
 
 -- ---- the words
 
@@ -168,7 +162,7 @@ pub disk_unread : (name : List ℕ) (old new : FilesState) (stop : Stop) → Par
 unfolding disk_part
 disk_unread name old new stop it = λ next. stopped_ready _ _ _ _ old new stop it
 
-pub disk_asked : (name : List ℕ) (next : List ℕ → Plan) (files : FilesState) → MayFollow (disk_part (Some name) next) files → IsTrue (files.permits (name ∷ []))
+pub disk_asked : (name : List ℕ) (next : List ℕ → Plan) (files : FilesState) → MayFollow (disk_part (Some name) next) files → IsTrue (files.permits ((name, most_disk_bytes) ∷ []))
 unfolding disk_part
 disk_asked name next files may = may.0
 
@@ -261,10 +255,10 @@ unfolding boot_judged
 boot_wants rules file disk events save =
     elim (bytes_eq (image_measure file) rules.kernel) as (λ b. IsReady (measure_due rules file disk events save b) (Err Memory)) [
       | true ↦ elim (has_number rules.entries (header_entry file)) as (λ b. IsReady (entry_due rules file disk events save b) (Err Memory)) [
-        | true ↦ refl
-        | false ↦ refl
+        | true ↦ tt
+        | false ↦ tt
       ]
-      | false ↦ refl
+      | false ↦ tt
     ]
 
 pub boot_stopped : (rules : Rules) (file disk : List ℕ) (events : List Event) (save : Option (List ℕ)) (image : KernelImage) (boot : BootRefusal) → IsImageOf file rules.ram_pages image →
@@ -285,7 +279,7 @@ boot_stopped rules file disk events save image BootRefusal.Memory of it = boot_w
 -- ---- what stands behind the image
 
 abbrev after_script : RunWords → Rules → (file disk : List ℕ) → Schedule → Plan
-after_script words rules file disk schedule = End (boot_judged rules file disk (first_events words.events schedule) words.save)
+after_script words rules file disk schedule = Judge (End (boot_judged rules file disk (first_events words.events schedule) words.save))
 
 abbrev after_disk : RunWords → Rules → (file disk : List ℕ) → Plan
 after_disk words rules file disk = script_part rules.harts words.script (after_script words rules file disk)
@@ -325,4 +319,4 @@ pub script_ready : (words : RunWords) (rules : Rules) (file disk : List ℕ) (sc
     IsReady (boot_judged rules file disk (first_events words.events schedule) words.save) result → Prepares (kernel_part rules file (boot_plan words rules file)) old new result
 script_ready words rules file disk schedule old now new result accepted pass script ready =
     disk_ready words rules file disk old now new result accepted pass
-    (pass_ready (script_part rules.harts words.script) schedule (after_script words rules file disk) now new new result script (end_ready _ new result ready))
+    (pass_ready (script_part rules.harts words.script) schedule (after_script words rules file disk) now new new result script (judge_end _ new result ready))

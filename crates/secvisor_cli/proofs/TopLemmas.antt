@@ -40,56 +40,21 @@ use Rattle.secvisor_cli.specs.declared.trouble.Trouble.{Trouble}
 use Rattle.secvisor_cli.specs.declared.trouble.Trouble.TheVariants.{Write, Memory}
 use Rattle.secvisor_cli.specs.Refusals.{refusal_line, refusal_status, takes_memory}
 use Rattle.secvisor_cli.specs.CommandLine.{Command, Flat, Generated, Run, RunWords, Source, Rounds, Auto, Text, MakePolicy, PolicyWords, most_events, judged}
-use Rattle.secvisor_cli.specs.Plans.{Due, Refuse, RunFrom, Make, measured_line, Exactly, Saving, policy_saving, saves_due, most_image_bytes, most_object_bytes, making_refusal, made_judged, made_part, Kernel, digest_part, Modules, no_modules, with_module, module_part, modules_part, making_plan, measure_plan, Plan, End, bytes_due, status_due, found_plan, flat_plan, command_plan, plan_of, measure_judged, pages_judged, is_whole_pages, flat_events, gen_due, gen_disk, policy_judged, policy_part, part_judged, kernel_part, disk_refusal, disk_part, text_part, script_part, image_measure, boot_judged, boot_plan, image_plan, run_plan}
+use Rattle.secvisor_cli.specs.Plans.{Due, Refuse, RunFrom, Make, measured_line, Exactly, Saving, policy_saving, saves_due, most_image_bytes, most_object_bytes, making_refusal, made_judged, made_part, Kernel, digest_part, Modules, no_modules, with_module, module_part, modules_part, making_plan, measure_plan, Plan, End, bytes_due, status_due, found_plan, flat_plan, command_plan, plan_of, measure_judged, pages_judged, is_whole_pages, flat_events, gen_plan, gen_due, gen_disk, policy_judged, policy_part, part_judged, kernel_part, disk_refusal, disk_part, text_part, script_part, image_measure, boot_judged, boot_plan, image_plan, run_plan}
 use Rattle.secvisor_cli.specs.Reading.{Follows, MayFollow, MaySave, Saved, SaveBroke, SavesUnder}
 use Rattle.secvisor_cli.specs.Ready.{IsMade, IsReady, IsReadyWhere, IsFresh, MayCarryOut, MaySaveRun, Prepares}
-use Rattle.secvisor_cli.specs.Answers.{Outside, outside, Writes, SavedBehind, SavesAndWrites, WritesAndSaves, Answers, AnswersReached, Performs, MeetsSaves, MeetsSavesBehind, Meets, MeetsReached, Headline, BenchAfter, may_want, settled}
+use Rattle.secvisor_cli.specs.Answers.{Outside, outside, Writes, SavesAndWrites, WritesAndSaves, Answers, AnswersReached, Performs, MeetsSaves, MeetsSavesBehind, Meets, MeetsReached, Headline, BenchAfter, settled}
 use Rattle.secvisor_cli.proofs.WordLemmas.{NoReadFault, words_no_read_fault}
 use Rattle.secvisor_cli.proofs.EndLemmas.{runs_under}
 use Rattle.secvisor_cli.proofs.PlanLemmas.{HasFoundFaults, HasFault, Keeps, follows_keeps, may_save, read_fault, saves_under}
-use Rattle.secvisor_cli.proofs.SaveLemmas.{Changes, Wrote, changes, changes_same, changes_saved, changes_broke, unchanged, not_saved, no_memory, wrote, meets_saves, meets_faults}
+use Rattle.secvisor_cli.proofs.SaveLemmas.{Changes, Wrote, changes, changes_saved, changes_broke, unchanged, no_memory, wrote, meets_saves, meets_faults}
 
 -- ---- want of memory
-
-wanting_writes : (due : Status) (bytes : List ℕ) (sink : SinkState) → Writes due bytes sink sink (Err Memory)
-wanting_writes due bytes sink = record {
-  status = tt;
-  proper = tt;
-  whole = tt;
-  prefix = prefix_none sink bytes;
-  write = λ e. absurd (cc e);
-  memory = λ e. refl;
-}
-
-wanting_bench : (due : Due) (sink : SinkState) (bench : Option Machine) → BenchAfter (IsErrOf {T = Status} (Err Memory) Memory) due sink sink bench bench
-wanting_bench (Refuse refusal) sink bench = refl
-wanting_bench (RunFrom start events save) sink bench = inl (refl, refl, refl)
-wanting_bench (Make name rules) sink bench = refl
-
-wants_due : (due : Due) → IsReady due (Err stop.Memory) → IsTrue (may_want due)
-wants_due (Refuse refusal) it = it
-wants_due (RunFrom start events save) it = it
-wants_due (Make name rules) it = it
-
-wanting_saves : (asked : Option Saving) (files : FilesState) → SavedBehind asked files files (Err Memory) (Err Memory)
-wanting_saves asked files = not_saved asked files Memory
-
-wanting_due : (due : Due) (files : FilesState) (sink : SinkState) (bench : Option Machine) → IsReady due (Err stop.Memory) →
-    WritesAndSaves due (outside files sink bench) (outside files sink bench) (Err Memory)
-wanting_due due files sink bench it = record {
-  written = Err Memory;
-  writes = wanting_writes (status_due due) (bytes_due due) sink;
-  saves = wanting_saves (saves_due due) files;
-  wants = λ _. wants_due due it;
-  bench = wanting_bench due sink bench;
-}
 
 pub wanting_answers : (reached : Option Due) (files : FilesState) (sink : SinkState) (bench : Option Machine) → IsReadyWhere reached (Err stop.Memory) →
     AnswersReached reached (outside files sink bench) (outside files sink bench) (Err Memory)
 wanting_answers None files sink bench it = (refl, refl)
-wanting_answers (Some (Refuse refusal)) files sink bench it = wanting_due (Refuse refusal) files sink bench it
-wanting_answers (Some (RunFrom start events save)) files sink bench it = wanting_due (RunFrom start events save) files sink bench it
-wanting_answers (Some (Make name rules)) files sink bench it = ((refl, refl), refl)
+wanting_answers (Some due) files sink bench it = absurd it
 
 -- ---- what is ready, and what is refused
 
@@ -111,10 +76,10 @@ may_save_run (RunFrom start events save) ready files it may = record {
 may_save_run (Make name rules) ready files it may = absurd it
 
 pub may_save_made : (due : Due) (made : Made) (files : FilesState) → IsReady due (Ok (Save made)) → MaySave (saves_due due) files →
-    IsTrue (files.permits_save made.name.now made.text.items)
+    IsTrue (files.permits_save ((made.name.now, made.text.items) ∷ []))
 may_save_made (Refuse refusal) made files it may = absurd it
 may_save_made (RunFrom start events save) made files it may = absurd it
-may_save_made (Make name rules) made files it may = subst (λ (n : List ℕ). IsTrue (files.permits_save n made.text.items)) (sym it.name_is) (may made.text.items it.reads)
+may_save_made (Make name rules) made files it may = subst (λ (n : List ℕ). IsTrue (files.permits_save ((n, made.text.items) ∷ []))) (sym it.name_is) (may made.text.items it.reads)
 
 may_where : (reached : Option Due) (ready : Ready) (files : FilesState) → IsReadyWhere reached (Ok ready) → ((due : Due) → reached ≡ Some due → MaySave (saves_due due) files) →
     MayCarryOut ready files
@@ -147,11 +112,11 @@ exact_saving made = record { name = made.name.now; content = Exactly made.text.i
 saved_as_policy : (name : List ℕ) (rules : Rules) (made : Made) (old new : FilesState) → IsMade name rules made → Saved (exact_saving made) old new → Saved (policy_saving name rules) old new
 saved_as_policy name rules made old new it s =
     subst (λ (n : List ℕ). Saved (policy_saving n rules) old new) it.name_is
-    (record { held = λ tells. (made.text.items, s.held tells, it.reads); others = s.others; leaves = s.leaves })
+    (record { bytes = s.bytes; content = subst (λ (text : List ℕ). rules_of_text text ≡ Ok rules) (sym s.content) it.reads; held = s.held; others = s.others; leaves = s.leaves })
 
 broke_as_policy : (name : List ℕ) (rules : Rules) (made : Made) (old new : FilesState) → IsMade name rules made → SaveBroke (exact_saving made) old new → SaveBroke (policy_saving name rules) old new
 broke_as_policy name rules made old new it b =
-    subst (λ (n : List ℕ). SaveBroke (policy_saving n rules) old new) it.name_is (record { faults = b.faults; others = b.others; leaves = b.leaves })
+    subst (λ (n : List ℕ). SaveBroke (policy_saving n rules) old new) it.name_is (record { bytes = b.bytes; content = subst (λ (text : List ℕ). rules_of_text text ≡ Ok rules) (sym b.content) it.reads; faults = b.faults; others = b.others; leaves = b.leaves })
 
 as_policy : (name : List ℕ) (rules : Rules) (made : Made) (f0 f1 : FilesState) (old new : SinkState) (result : Result Status Trouble) → IsMade name rules made →
     SavesAndWrites (exact_saving made) (string_bytes made.line) f0 f1 old new result → SavesAndWrites (policy_saving name rules) (measured_line rules.kernel) f0 f1 old new result
@@ -160,7 +125,7 @@ as_policy name rules made f0 f1 old new (Ok status) it s =
 as_policy name rules made f0 f1 old new (Err Write) it (inl s) = inl (broke_as_policy name rules made f0 f1 it s.0, s.1)
 as_policy name rules made f0 f1 old new (Err Write) it (inr s) =
     inr (saved_as_policy name rules made f0 f1 it s.0, subst (λ (line : List ℕ). BreaksOff old new line) it.line s.1)
-as_policy name rules made f0 f1 old new (Err Memory) it s = s
+as_policy name rules made f0 f1 old new (Err Memory) it s = absurd s
 
 pub made_answers : (due : Due) (made : Made) (f0 f1 : FilesState) (old new : SinkState) (bench : Option Machine) (result : Result Status Trouble) → IsReady due (Ok (Save made)) →
     SavesAndWrites (exact_saving made) (string_bytes made.line) f0 f1 old new result → Answers due (outside f0 old bench) (outside f1 new bench) result
@@ -170,13 +135,13 @@ made_answers (Make name rules) made f0 f1 old new bench result it s = (as_policy
 
 pub refused_answers : (reached : Option Due) (given : Refusal) (files : FilesState) (old new : SinkState) (bench : Option Machine) (result : Result Status Trouble) →
     IsReadyWhere reached (Err (Refused given)) → Writes (refusal_status given) (refusal_line given) old new result → (IsErrOf result Memory → IsTrue (takes_memory given)) →
-    AnswersReached reached (outside files old bench) (outside files new bench) result
-refused_answers None given files old new bench result it w wants = absurd (cc it)
-refused_answers (Some (Refuse refusal)) given files old new bench result it w wants =
+    (IsErrOf result Memory → new ≡ old) → AnswersReached reached (outside files old bench) (outside files new bench) result
+refused_answers None given files old new bench result it w wants quiet = absurd (cc it)
+refused_answers (Some (Refuse refusal)) given files old new bench result it w wants quiet =
     subst (λ (r : Refusal). Answers (Refuse r) (outside files old bench) (outside files new bench) result) it
-    (record { written = result; writes = w; saves = (refl, refl); wants = wants; bench = refl })
-refused_answers (Some (RunFrom start events save)) given files old new bench result it w wants = absurd it
-refused_answers (Some (Make name rules)) given files old new bench result it w wants = absurd it
+    (record { written = result; writes = w; saves = (refl, refl); wants = wants; quiet = quiet; bench = refl })
+refused_answers (Some (RunFrom start events save)) given files old new bench result it w wants quiet = absurd it
+refused_answers (Some (Make name rules)) given files old new bench result it w wants quiet = absurd it
 
 pub performs : (plan : Plan) (f0 f1 f2 : FilesState) (ready : Result Ready Stop) (old new : SinkState) (b0 b1 : Option Machine) (result : Result Status Trouble) → (p : Prepares plan f0 f1 ready) →
     AnswersReached p.reached (outside f1 old b0) (outside f2 new b1) result → Performs plan (outside f0 old b0) (outside f2 new b1) result
@@ -184,12 +149,10 @@ performs plan f0 f1 f2 ready old new b0 b1 result p a = record { reached = p.rea
 
 -- ---- the status
 
-bench_under : (P Q : Type 0) (due : Due) (old new : SinkState) (b0 b1 : Option Machine) → (P → Q) → (Q → P) → BenchAfter P due old new b0 b1 → BenchAfter Q due old new b0 b1
-bench_under P Q (Refuse refusal) old new b0 b1 f g bench = bench
-bench_under P Q (RunFrom start events save) old new b0 b1 f g (inl none) = inl (f none.0, none.1, none.2)
-bench_under P Q (RunFrom start events save) old new b0 b1 f g (inr some) =
-    inr (some.0, some.1, runs_under P Q start events some.0 old new g some.2)
-bench_under P Q (Make name rules) old new b0 b1 f g bench = bench
+bench_under : (P Q : Type 0) (due : Due) (old new : SinkState) (b0 b1 : Option Machine) → (Q → P) → BenchAfter P due old new b0 b1 → BenchAfter Q due old new b0 b1
+bench_under P Q (Refuse refusal) old new b0 b1 back bench = bench
+bench_under P Q (RunFrom start events save) old new b0 b1 back some = (some.0, some.1, runs_under P Q start events some.0 old new back some.2)
+bench_under P Q (Make name rules) old new b0 b1 back bench = bench
 
 meets_ok : (due : Due) (old new : Outside) (s : Status) → WritesAndSaves due old new (Ok s) → Wrote (status_due due) (bytes_due due) old.sink new.sink (Ok s) →
     MeetsSaves due old new s → Meets due old new s
@@ -200,7 +163,8 @@ meets_ok due old new s a w saves = record {
   saves = saves;
   no_write = λ _. ap (λ (k : SinkState). k.faults) w.whole;
   wants = λ is. absurd (no_memory s w.proper is);
-  bench = bench_under _ _ due old.sink new.sink old.bench new.bench (λ e. absurd (cc e)) (λ is. absurd (no_memory s w.proper is)) a.bench;
+  quiet = λ is. absurd (no_memory s w.proper is);
+  bench = bench_under _ _ due old.sink new.sink old.bench new.bench (λ is. absurd (no_memory s w.proper is)) a.bench;
 }
 
 meets_write : (due : Due) (old new : Outside) → WritesAndSaves due old new (Err Write) → Wrote (status_due due) (bytes_due due) old.sink new.sink (Err Write) →
@@ -212,7 +176,8 @@ meets_write due old new a w saves = record {
   saves = saves;
   no_write = λ never. absurd (never refl);
   wants = λ e. absurd (cc e);
-  bench = bench_under _ _ due old.sink new.sink old.bench new.bench (λ e. absurd (cc e)) (λ e. absurd (cc e)) a.bench;
+  quiet = λ e. absurd (cc e);
+  bench = bench_under _ _ due old.sink new.sink old.bench new.bench (λ e. absurd (cc e)) a.bench;
 }
 
 meets_memory : (due : Due) (old new : Outside) → WritesAndSaves due old new (Err Memory) → Wrote (status_due due) (bytes_due due) old.sink new.sink (Err Memory) →
@@ -224,7 +189,8 @@ meets_memory due old new a w saves = record {
   saves = saves;
   no_write = λ _. w.memory refl;
   wants = λ _. a.wants refl;
-  bench = bench_under _ _ due old.sink new.sink old.bench new.bench (λ _. refl) (λ _. refl) a.bench;
+  quiet = λ _. a.quiet refl;
+  bench = bench_under _ _ due old.sink new.sink old.bench new.bench (λ _. refl) a.bench;
 }
 
 meets_by : (due : Due) (old new : Outside) (result : Result Status Trouble) → WritesAndSaves due old new result → Wrote (status_due due) (bytes_due due) old.sink new.sink result →
@@ -251,38 +217,33 @@ meets_made name rules old new (Ok status) a bench =
       status = λ _. refl;
       whole = λ _. a.2;
       prefix = prefix_whole old.sink new.sink (measured_line rules.kernel) a.2;
-      saves = record { saved = λ _. a.1; broke = λ e. absurd (cc e); wanting = λ e. absurd (cc e) };
+      saves = record { saved = λ _. a.1; broke = λ e. absurd (cc e) };
       no_write = λ _. ap (λ (k : SinkState). k.faults) a.2;
-      wants = λ _. refl;
+      wants = λ e. absurd (cc e);
+      quiet = λ e. absurd (cc e);
       bench = bench;
     })
 meets_made name rules old new (Err Write) (inl a) bench = record {
   status = λ t. absurd (cc t);
   whole = λ t. absurd (cc t);
   prefix = subst (λ (k : SinkState). TookPrefix old.sink k (measured_line rules.kernel)) (sym a.1) (prefix_none old.sink (measured_line rules.kernel));
-  saves = record { saved = λ t. absurd (cc t); broke = λ _. inl a; wanting = λ e. absurd (cc e) };
+  saves = record { saved = λ t. absurd (cc t); broke = λ _. inl a };
   no_write = λ never. absurd (never refl);
-  wants = λ _. refl;
+  wants = λ e. absurd (cc e);
+  quiet = λ e. absurd (cc e);
   bench = bench;
 }
 meets_made name rules old new (Err Write) (inr a) bench = record {
   status = λ t. absurd (cc t);
   whole = λ t. absurd (cc t);
   prefix = a.1.prefix;
-  saves = record { saved = λ t. absurd (cc t); broke = λ _. inr (a.0, a.1.faults); wanting = λ e. absurd (cc e) };
+  saves = record { saved = λ t. absurd (cc t); broke = λ _. inr (a.0, a.1.faults) };
   no_write = λ never. absurd (never refl);
-  wants = λ _. refl;
+  wants = λ e. absurd (cc e);
+  quiet = λ e. absurd (cc e);
   bench = bench;
 }
-meets_made name rules old new (Err Memory) a bench = record {
-  status = λ t. absurd (cc t);
-  whole = λ t. absurd (cc t);
-  prefix = subst (λ (k : SinkState). TookPrefix old.sink k (measured_line rules.kernel)) (sym a.1) (prefix_none old.sink (measured_line rules.kernel));
-  saves = record { saved = λ t. absurd (cc t); broke = λ e. absurd (cc e); wanting = λ _. a };
-  no_write = λ _. ap (λ (k : SinkState). k.faults) a.1;
-  wants = λ _. refl;
-  bench = bench;
-}
+meets_made name rules old new (Err Memory) a bench = absurd a
 
 meets : (due : Due) (old new : Outside) (result : Result Status Trouble) → Answers due old new result → Meets due old new (settled result)
 meets (Refuse refusal) old new result a = meets_written (Refuse refusal) old new result a (meets_first (Refuse refusal) old new result a)
@@ -374,7 +335,7 @@ made_changes : (saving : Saving) (line : List ℕ) (f0 f1 : FilesState) (old new
 made_changes saving line f0 f1 old new (Ok status) a = changes_saved saving f0 f1 a.1
 made_changes saving line f0 f1 old new (Err Write) (inl a) = changes_broke saving f0 f1 a.0
 made_changes saving line f0 f1 old new (Err Write) (inr a) = changes_saved saving f0 f1 a.0
-made_changes saving line f0 f1 old new (Err Memory) a = changes_same (Some saving) f0 f1 a.0
+made_changes saving line f0 f1 old new (Err Memory) a = absurd a
 
 answer_changes : (due : Due) (old new : Outside) (result : Result Status Trouble) → Answers due old new result → Changes (saves_due due) old.files new.files
 answer_changes (Refuse refusal) old new result a = changes None old.files new.files a.written result a.saves
@@ -437,8 +398,8 @@ flat_found_faults : (file wanted : List ℕ) (events : ℕ) → HasFoundFaults (
 unfolding flat_plan found_plan
 flat_found_faults file wanted events = (λ e. cc e, λ bytes. pages_no_read_fault bytes wanted (flat_events events))
 
-gen_found_faults : (calls : ℕ) → HasFoundFaults (End (gen_due calls))
-unfolding gen_due
+gen_found_faults : (calls : ℕ) → HasFoundFaults (gen_plan calls)
+unfolding gen_plan gen_due
 gen_found_faults calls =
     run_no_read_fault (run (boot_start (generated_policy calls) (generated_image calls) gen_disk) (first_events most_events (Schedule.Weave 0))).journal.verdict
 

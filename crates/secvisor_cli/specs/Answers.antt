@@ -45,20 +45,24 @@ pub record RunsTo (wanting : Type 0) (start : State) (events : List Event) (mach
   -- nothing is written where memory was wanting
   pub quiet : wanting → new ≡ after_taking old cleared
 
--- The bench: as it was where nothing is to be booted, or where memory was wanting before anything was written; else the
--- machine that the run left.
+-- The bench: as it was where nothing is to be booted, and else the machine that the run left.
 abbrev pub BenchAfter : (wanting : Type 0) → Due → SinkState → SinkState → Option Machine → Option Machine → Type 0
 BenchAfter wanting (Refuse refusal) old new bench_old bench_new = bench_new ≡ bench_old
 BenchAfter wanting (RunFrom start events save) old new bench_old bench_new =
-    (wanting × (new ≡ old) × (bench_new ≡ bench_old))
-    ⊎ ((machine : Machine) × (bench_new ≡ Some machine) × RunsTo wanting start events machine old new)
+    (machine : Machine) × (bench_new ≡ Some machine) × RunsTo wanting start events machine old new
 BenchAfter wanting (Make name rules) old new bench_old bench_new = bench_new ≡ bench_old
 
--- words are refused without asking for memory
+-- words are refused without asking for memory, and a policy that is made is saved without
 abbrev pub may_want : Due → Bool
 may_want (Refuse refusal) = takes_memory refusal
 may_want (RunFrom start events save) = true
-may_want (Make name rules) = true
+may_want (Make name rules) = false
+
+-- Where memory is wanting for a refusal's line, nothing of it is written. What a run wrote before stands with its bench.
+abbrev pub StaysQuiet : Due → SinkState → SinkState → Type 0
+StaysQuiet (Refuse refusal) old new = new ≡ old
+StaysQuiet (RunFrom start events save) old new = Unit {0}
+StaysQuiet (Make name rules) old new = new ≡ old
 
 -- ---- the answer
 
@@ -112,13 +116,13 @@ pub record RunsAndSaves (start : State) (events : List Event) (save : Option (Li
   pub saves : SavedBehind (saving (run start events).devices.disk.bytes save) files_old files_new written result
   pub runs : RunsTo (IsErrOf result Memory) start events machine old new
 
--- A policy was saved, and then its line written. Where the save failed, or memory was wanting, nothing was written.
+-- A policy was saved, and then its line written. Where the save failed, nothing was written.
 abbrev pub SavesAndWrites : Saving → (line : List ℕ) → FilesState → FilesState → SinkState → SinkState → Result Status Trouble → Type 0
 SavesAndWrites saving line files saved old new (Ok status) =
     (status ≡ Status.Done) × Saved saving files saved × (new ≡ after_taking old line)
 SavesAndWrites saving line files saved old new (Err Write) =
     (SaveBroke saving files saved × (new ≡ old)) ⊎ (Saved saving files saved × BreaksOff old new line)
-SavesAndWrites saving line files saved old new (Err Memory) = (saved ≡ files) × (new ≡ old)
+SavesAndWrites saving line files saved old new (Err Memory) = ⊥
 
 -- what is due was written, and then saved
 pub record WritesAndSaves (due : Due) (old new : Outside) (result : Result Status Trouble) : Type 0 where
@@ -127,6 +131,7 @@ pub record WritesAndSaves (due : Due) (old new : Outside) (result : Result Statu
   pub writes : Writes (status_due due) (bytes_due due) old.sink new.sink written
   pub saves : SavedBehind (saves_due due) old.files new.files written result
   pub wants : IsErrOf result Memory → IsTrue (may_want due)
+  pub quiet : IsErrOf result Memory → StaysQuiet due old.sink new.sink
   pub bench : BenchAfter (IsErrOf result Memory) due old.sink new.sink old.bench new.bench
 
 -- a policy is saved before its line is written, and a disk behind the report
@@ -137,7 +142,7 @@ Answers (Make name rules) old new result =
     SavesAndWrites (policy_saving name rules) (measured_line rules.kernel) old.files new.files old.sink new.sink result
     × (new.bench ≡ old.bench)
 
--- the same where memory was wanting for a read: nothing happened
+-- the same where memory was wanting for a read, or before what is due was ready: nothing happened
 abbrev pub AnswersReached : Option Due → Outside → Outside → Result Status Trouble → Type 0
 AnswersReached None old new result = IsErrOf result Memory × (new ≡ old)
 AnswersReached (Some due) old new result = Answers due old new result
@@ -166,13 +171,12 @@ MeetsSavesBehind None bytes old new answer =
 MeetsSavesBehind (Some saving) bytes old new answer = MeetsSaving saving bytes old new answer
 
 -- Saved where the status is that of the end; else a write fault is that of the save, before which nothing is written, or
--- the sink's, behind it; nothing is saved or written where memory was wanting.
+-- the sink's, behind it.
 pub record MeetsSavingFirst (saving : Saving) (old new : Outside) (answer : Status) : Type 0 where
   pub saved : IsTrue (is_answer answer) → Saved saving old.files new.files
   pub broke : answer ≡ Status.WriteFault →
       (SaveBroke saving old.files new.files × (new.sink ≡ old.sink))
       ⊎ (Saved saving old.files new.files × (old.sink.faults < new.sink.faults))
-  pub wanting : answer ≡ Status.Memory → (new.files ≡ old.files) × (new.sink ≡ old.sink)
 
 abbrev pub MeetsSaves : Due → Outside → Outside → Status → Type 0
 MeetsSaves (Refuse refusal) old new answer = MeetsSavesBehind None (refusal_line refusal) old new answer
@@ -188,8 +192,10 @@ pub record Meets (due : Due) (old new : Outside) (answer : Status) : Type 0 wher
   pub prefix : TookPrefix old.sink new.sink (bytes_due due)
   pub saves : MeetsSaves due old new answer
   pub no_write : answer ≢ Status.WriteFault → new.sink.faults ≡ old.sink.faults
-  -- words that are refused never want memory
+  -- words that are refused never want memory, nor does a policy that is made
   pub wants : answer ≡ Status.Memory → IsTrue (may_want due)
+  -- nothing of a refusal's line is written where memory was wanting for it
+  pub quiet : answer ≡ Status.Memory → StaysQuiet due old.sink new.sink
   pub bench : BenchAfter (answer ≡ Status.Memory) due old.sink new.sink old.bench new.bench
 
 abbrev pub MeetsReached : Option Due → Outside → Outside → Status → Type 0

@@ -95,7 +95,8 @@ pub data Plan : Type 0 where
   End : Due → Plan
   -- at most so many bytes are read under a name, once, and what is found decides how it goes on
   Read : (name : List ℕ) → (limit : ℕ) → (next : Found → Plan) → Plan
-  -- the words, or what was read of a file, are judged, for which memory may be wanting, before it goes on
+  -- the words, or what was read of files, are judged, and what is due is made ready, for which memory may be wanting, before
+  -- it goes on
   Judge : (next : Plan) → Plan
 
 -- a part that is not read is refused, and else its bytes decide
@@ -128,7 +129,7 @@ flat_events events = first_events events (Schedule.Rounds 1 0)
 
 unfoldable pub flat_plan : (file wanted : List ℕ) → (events : ℕ) → Plan
 flat_plan file wanted events =
-    read_part Part.Flat file (page_size * flat_ram_pages) (λ bytes. End (pages_judged bytes wanted (flat_events events)))
+    read_part Part.Flat file (page_size * flat_ram_pages) (λ bytes. Judge (End (pages_judged bytes wanted (flat_events events))))
 
 -- ---- gen
 
@@ -140,6 +141,9 @@ gen_disk = map (λ place. place % 256) (numbers_from 0 1024)
 unfoldable pub gen_due : ℕ → Due
 gen_due calls =
     RunFrom (boot_start (generated_policy calls) (generated_image calls) gen_disk) (first_events most_events (Schedule.Weave 0)) None
+
+unfoldable pub gen_plan : ℕ → Plan
+gen_plan calls = Judge (End (gen_due calls))
 
 -- ---- run: each part is judged before the next one is read
 
@@ -214,7 +218,7 @@ boot_judged rules file disk events save =
 unfoldable pub boot_plan : RunWords → Rules → (file : List ℕ) → Plan
 boot_plan words rules file =
     disk_part words.disk (λ disk. script_part rules.harts words.script
-    (λ schedule. End (boot_judged rules file disk (first_events words.events schedule) words.save)))
+    (λ schedule. Judge (End (boot_judged rules file disk (first_events words.events schedule) words.save))))
 
 unfoldable pub image_plan : RunWords → Rules → Plan
 image_plan words rules = image_part rules words.image (boot_plan words rules)
@@ -286,7 +290,7 @@ measure_plan words =
 
 unfoldable pub command_plan : Command → Plan
 command_plan (Flat file wanted events) = flat_plan file wanted events
-command_plan (Generated calls) = End (gen_due calls)
+command_plan (Generated calls) = gen_plan calls
 command_plan (Run words) = run_plan words
 command_plan (MakePolicy words) = measure_plan words
 

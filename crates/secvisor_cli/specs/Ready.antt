@@ -1,5 +1,5 @@
 -- What is made ready of a command, before anything is written.
-use Rattle.std.specs.Prelude.{◌≡◌, ◌≤◌, ◌^◌, ℕ, List, [], IsTrue, Option, Some, None, Result, Ok, Err, IsErrOf, Vec, map, string_bytes}
+use Rattle.std.specs.Prelude.{◌≡◌, ◌≤◌, ◌^◌, ℕ, List, [], Option, Some, None, Result, Ok, Err, IsErrOf, Vec, map, string_bytes}
 use Rattle.std.specs.Option.{option_copied}
 use Rattle.std.specs.declared.alloc.Global.{Global}
 use Rattle.reference.specs.Counting.{CountsAtMost}
@@ -34,7 +34,6 @@ use Rattle.secvisor_cli.specs.declared.ready.Stop.{Stop}
 use Rattle.secvisor_cli.specs.declared.ready.Stop.TheVariants.{Refused, Memory}
 use Rattle.secvisor_cli.specs.Plans.{Due, Refuse, RunFrom, Make, measured_line, making_refusal, Kernel, Modules, saves_due, Plan, Found, Faulty, Missing, Longer, Held}
 use Rattle.secvisor_cli.specs.Reading.{Follows, FoundAs, MayFollow, MaySave}
-use Rattle.secvisor_cli.specs.Answers.{may_want}
 use Rattle.secvisor_cli.specs.Standing.{HasState}
 
 -- the refusal of a part that isn't read
@@ -48,7 +47,7 @@ unread part (Held bytes) = None
 abbrev pub PartRead : Part → List ℕ → ℕ → FilesState → FilesState → Result (Vec ℕ Global) Stop → Type 0
 PartRead part name limit old new (Ok bytes) = FoundAs old new name limit (Held bytes.items)
 PartRead part name limit old new (Err (Refused refusal)) = (found : Found) × FoundAs old new name limit found × (unread part found ≡ Some refusal)
-PartRead part name limit old new (Err Memory) = new ≡ after_asking name old
+PartRead part name limit old new (Err Memory) = new ≡ after_asking name limit old
 
 -- a boot that is refused
 abbrev pub stop_of : BootRefusal → Stop
@@ -93,7 +92,7 @@ IsReady (Refuse refusal) (Ok ready) = ⊥
 IsReady (Refuse refusal) (Err (Refused given)) = given ≡ refusal
 IsReady (RunFrom start events save) (Err (Refused given)) = ⊥
 IsReady (Make name rules) (Err (Refused given)) = ⊥
-IsReady due (Err Memory) = IsTrue (may_want due)
+IsReady due (Err Memory) = Unit {0}
 
 -- what is ready is due, and what it saves may be saved
 pub record MayCarryOut (ready : Ready) (files : FilesState) : Type 0 where
@@ -101,9 +100,12 @@ pub record MayCarryOut (ready : Ready) (files : FilesState) : Type 0 where
   pub ready_is : IsReady due (Ok ready)
   pub may : MaySave (saves_due due) files
 
+-- where memory was wanting, the end of the plan wasn't reached
 abbrev pub IsReadyWhere : Option Due → Result Ready Stop → Type 0
 IsReadyWhere None result = IsErrOf result Memory
-IsReadyWhere (Some due) result = IsReady due result
+IsReadyWhere (Some due) (Ok ready) = IsReady due (Ok ready)
+IsReadyWhere (Some due) (Err (Refused refusal)) = IsReady due (Err (Refused refusal))
+IsReadyWhere (Some due) (Err Memory) = ⊥
 
 pub record Prepares (plan : Plan) (old new : FilesState) (result : Result Ready Stop) : Type 0 where
   pub reached : Option Due

@@ -1,5 +1,5 @@
 // The answer to the words.
-ghost use Rattle.std.specs.Prelude.{◌≡◌, ◌<◌, ◌≤◌, ◌-◌, ◌^◌, ◌⊎◌, ℕ, List, Option, [], map, string_bytes, Ok, IsTrue, OnOk, IsErrOf, false};
+ghost use Rattle.std.specs.Prelude.{◌≡◌, ◌<◌, ◌≤◌, ◌-◌, ◌^◌, ◌⊎◌, ℕ, List, Option, [], ◌∷◌, map, string_bytes, Ok, IsTrue, OnOk, IsErrOf, false};
 ghost use Rattle.std.specs.Option.{option_copied};
 ghost use Rattle.std.specs.Result.{is_ok};
 ghost use Rattle.sv_types.specs.Output.{run_status};
@@ -54,7 +54,8 @@ pub fn secvisor<R: Threads + Sync, F: Files, O: Sink>(
     out: &mut O,
     bench: &mut Bench,
 ) -> Status
-    // Nothing but what the words name may be asked for, in its order, and each name once.
+    // Nothing but what the words name may be asked for, in its order, each part once and up to its limit; and what is due at
+    // the end may be saved once.
     requires permitted { MayFollow (plan_of (judged (map string_bytes words.now))) (F.state files.old) }
     requires is_open { IsTrue (O.state out.old).is_open }
     requires reads { (F.state files.old).read_faults < 2 ^ 64 - 1 }
@@ -165,6 +166,7 @@ fn refuse<O: Sink>(alloc: Global, refusal: &Refusal, out: &mut O) -> Result<Stat
     requires count { (O.state out.old).faults < 2 ^ 64 - 1 }
     ensures writes { Writes (refusal_status refusal.now) (refusal_line refusal.now) (O.state out.old) (O.state out.new) result }
     ensures wants { IsErrOf result Trouble.Memory → IsTrue (takes_memory refusal.now) }
+    ensures quiet { IsErrOf result Trouble.Memory → O.state out.new ≡ O.state out.old }
 {
     refusal.write_line(alloc, out)?;
     Ok(refusal.status())
@@ -193,6 +195,7 @@ fn carry_out<F: Files, O: Sink>(
 }
 
 // A policy is saved, and then its line is written.
+#[tactic(auto, using(crate::proofs::SaveLemmas::saved_exactly, crate::proofs::SaveLemmas::broke_exactly))]
 fn save_policy<F: Files, O: Sink>(
     made: &Made<'_>,
     files: &mut F,
@@ -201,7 +204,7 @@ fn save_policy<F: Files, O: Sink>(
     requires is_open { IsTrue (O.state out.old).is_open }
     requires count { (O.state out.old).faults < 2 ^ 64 - 1 }
     requires saves { (F.state files.old).save_faults < 2 ^ 64 - 1 }
-    requires permitted { IsTrue ((F.state files.old).permits_save made.now.name.now made.now.text.items) }
+    requires permitted { IsTrue ((F.state files.old).permits_save ((made.now.name.now, made.now.text.items) ∷ [])) }
     ensures { SavesAndWrites (record { name = made.now.name.now; content = Exactly made.now.text.items }) (string_bytes made.now.line)
         (F.state files.old) (F.state files.new) (O.state out.old) (O.state out.new) result }
 {

@@ -15,7 +15,7 @@ pub fn read_part<F: Files>(
     name: &str,
     limit: usize,
 ) -> Result<Vec<u8>, Stop>
-    requires permitted { IsTrue ((F.state files.old).permits (name.now ∷ [])) }
+    requires permitted { IsTrue ((F.state files.old).permits ((name.now, limit) ∷ [])) }
     requires count { (F.state files.old).read_faults < 2 ^ 64 - 1 }
     ensures { PartRead part name.now limit (F.state files.old) (F.state files.new) result }
 {

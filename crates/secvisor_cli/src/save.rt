@@ -10,6 +10,7 @@ use machine::Machine;
 use outside::Files;
 
 /// Saves the disk's bytes, where a name for them is given.
+#[tactic(auto, using(crate::proofs::SaveLemmas::saved_exactly, crate::proofs::SaveLemmas::broke_exactly))]
 pub fn save_disk<F: Files>(
     machine: &Machine,
     save: Option<&str>,

@@ -6,9 +6,9 @@ use Rattle.secvisor_cli.specs.Reading.{MayFollow}
 use Rattle.secvisor_cli.proofs.PlanLemmas.{may_follow}
 use Rattle.guest_runs.proofs.in_memory.call.Goals as goal
 
-words_follow : (words : List (List ℕ)) (files : FilesState) → ((names : List (List ℕ)) → IsTrue (files.permits names)) →
-    ((name bytes : List ℕ) → IsTrue (files.permits_save name bytes)) → MayFollow (plan_of (judged words)) files
+words_follow : (words : List (List ℕ)) (files : FilesState) → ((asked : List (List ℕ × ℕ)) → IsTrue (files.permits asked)) →
+    ((saves : List (List ℕ × List ℕ)) → IsTrue (files.permits_save saves)) → MayFollow (plan_of (judged words)) files
 words_follow words files all saves = may_follow (plan_of (judged words)) files all saves
 
 pub secvisor-status-requires-clause-permitted : goal.secvisor-status-requires-clause-permitted
-secvisor-status-requires-clause-permitted g c = λ κs lives. words_follow _ _ (λ names. refl) (λ name bytes. refl)
+secvisor-status-requires-clause-permitted g c = λ κs lives. words_follow _ _ (λ asked. refl) (λ saves. refl)

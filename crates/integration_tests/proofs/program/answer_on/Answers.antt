@@ -6,8 +6,8 @@ use Rattle.secvisor_cli.specs.Reading.{MayFollow}
 use Rattle.secvisor_cli.proofs.PlanLemmas.{may_follow}
 use Rattle.integration_tests.proofs.program.answer_on.Goals as goal
 
-words_follow : (words : List (List ℕ)) (files : FilesState) → ((names : List (List ℕ)) → IsTrue (files.permits names)) →
-    ((name bytes : List ℕ) → IsTrue (files.permits_save name bytes)) → MayFollow (plan_of (judged words)) files
+words_follow : (words : List (List ℕ)) (files : FilesState) → ((asked : List (List ℕ × ℕ)) → IsTrue (files.permits asked)) →
+    ((saves : List (List ℕ × List ℕ)) → IsTrue (files.permits_save saves)) → MayFollow (plan_of (judged words)) files
 words_follow words files all saves = may_follow (plan_of (judged words)) files all saves
 
 pub secvisor-status-requires-clause-permitted : goal.secvisor-status-requires-clause-permitted

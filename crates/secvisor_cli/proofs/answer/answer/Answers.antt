@@ -18,7 +18,7 @@ returns-in-Ok g c = performs _ _ _ _ _ _ _ _ _ _ c.in-Ok.ensures (ready_answers 
 pub returns-in-Err-Refused : goal.returns-in-Err-Refused
 returns-in-Err-Refused g c =
     let p = rw c.in-Err-Refused.field-0-is at c.in-Err-Refused.ensures in
-    performs _ _ _ _ _ _ _ _ _ _ p (refused_answers p.reached c.in-Err-Refused.refusal _ _ _ _ _ p.ready c.refuse.ensures.writes c.refuse.ensures.wants)
+    performs _ _ _ _ _ _ _ _ _ _ p (refused_answers p.reached c.in-Err-Refused.refusal _ _ _ _ _ p.ready c.refuse.ensures.writes c.refuse.ensures.wants c.refuse.ensures.quiet)
 
 pub returns-in-Err-Memory : goal.returns-in-Err-Memory
 returns-in-Err-Memory g c =

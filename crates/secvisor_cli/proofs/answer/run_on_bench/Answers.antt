@@ -1,4 +1,4 @@
-use Rattle.std.proofs.Common.{refl, inr}
+use Rattle.std.proofs.Common.{refl}
 use Rattle.secvisor_cli.proofs.answer.run_on_bench.Goals as goal
 
 pub returns : goal.returns
@@ -9,5 +9,6 @@ returns g c = λ start new.
       writes = it.writes;
       saves = it.saves;
       wants = λ _. refl;
-      bench = inr (c.run_and_save-result.new.machine, refl, it.runs);
+      quiet = λ _. tt;
+      bench = (c.run_and_save-result.new.machine, refl, it.runs);
     }

@@ -1,7 +1,7 @@
 use Rattle.std.proofs.Common.{◌≡◌, ℕ, subst, sym, ◌∙◌, List, true, false}
 use Rattle.secvisor_cli.specs.Plans.{flat_plan, flat_events, is_whole_pages, measure_judged}
 use Rattle.secvisor_cli.specs.Ready.{IsReady, Prepares}
-use Rattle.secvisor_cli.proofs.ReadyLemmas.{err_by, stopped_ready, read_ready, end_ready, pages_ready, part_of_pages}
+use Rattle.secvisor_cli.proofs.ReadyLemmas.{err_by, stopped_ready, read_ready, judge_end, pages_ready, part_of_pages}
 use Rattle.secvisor_cli.proofs.flat.prepare_flat.Goals as goal
 
 pub read_part-requires-clause-permitted : goal.read_part-requires-clause-permitted
@@ -19,7 +19,7 @@ unfolding flat_plan
 returns-then-not-is_whole_pages g c =
     let part : is_whole_pages c.deref.result.now ≡ false = sym c.is_whole_pages.ensures.value ∙ c.if-not-is_whole_pages.true in
     read_ready _ _ _ _ _ _ _ c.in_ok-bytes.bytes.items _ c.in_ok-bytes.ensures
-    (end_ready _ _ _ (part_of_pages c.in_ok-bytes.bytes.items _ _ (subst (λ (b : List ℕ). is_whole_pages b ≡ false) c.deref.ensures.value part)))
+    (judge_end _ _ _ (part_of_pages c.in_ok-bytes.bytes.items _ _ (subst (λ (b : List ℕ). is_whole_pages b ≡ false) c.deref.ensures.value part)))
 
 pub returns : goal.returns
 unfolding flat_plan
@@ -28,5 +28,5 @@ returns g c =
     let ready : IsReady (measure_judged c.in_ok-bytes.bytes.items c.args.flat.now.wanted (flat_events c.args.flat.now.events)) c.boot.result =
     subst (λ (b : List ℕ). IsReady (measure_judged b c.args.flat.now.wanted (flat_events c.args.flat.now.events)) c.boot.result) c.deref-2.ensures.value c.boot.ensures in
     read_ready _ _ _ _ _ _ _ c.in_ok-bytes.bytes.items _ c.in_ok-bytes.ensures
-    (end_ready _ _ _ (pages_ready c.in_ok-bytes.bytes.items c.args.flat.now.wanted (flat_events c.args.flat.now.events) c.boot.result
+    (judge_end _ _ _ (pages_ready c.in_ok-bytes.bytes.items c.args.flat.now.wanted (flat_events c.args.flat.now.events) c.boot.result
     (subst (λ (b : List ℕ). is_whole_pages b ≡ true) c.deref.ensures.value whole) ready))
