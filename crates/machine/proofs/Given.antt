@@ -13,7 +13,7 @@ use Rattle.reference.specs.States.{Devices, Journal}
 use Rattle.reference.specs.declared.answers.Answer.{Answer}
 use Rattle.reference.specs.declared.answers.Beside.{Beside}
 use Rattle.machine_model.specs.HostCalls.{host_given, host_pages_beside, host_replied, hosts_beside}
-use Rattle.machine_model.specs.HostExits.{host_is_good, with_tables}
+use Rattle.machine_model.specs.HostExits.{host_is_good, served_load_turn, with_tables}
 use Rattle.machine_model.specs.Machine.{Machine, HostHart, HostLoad, update}
 use Rattle.machine_model.specs.StandsFor.{bound_pages}
 use Rattle.machine_model.specs.Steps.{WithTables}
@@ -109,3 +109,13 @@ module _ (p : Inside) where
   counts f modules now is made theirs pages unbound =
       subst (λ (m : Machine). WithTables m (f m) (moduled whole (rules_of p.policy) p.mem p.guard modules)) is
       (stays whole (f whole) (moduled whole (rules_of p.policy) p.mem p.guard modules) (record { region = refl; protections = refl }) made theirs pages unbound)
+
+  -- a load that is decided
+  pub decides : (h : ℕ) (answer : Answer) (modules : Modules) (after now : Machine) → whole ≡ now → modules ≡ p.modules
+      → served_load_turn whole h ≡ host_given whole h answer
+      → WithTables (machine_of_parts (record p { modules = modules })) (host_given (machine_of_parts (record p { modules = modules })) h answer) after
+      → WithTables now (served_load_turn now h) after
+  decides h answer modules after now is kept decided given =
+      subst (λ (m : Machine). WithTables m (served_load_turn m h) after) is
+      (subst (λ (served : Machine). WithTables whole served after) (sym decided)
+      (subst (λ (x : Modules). WithTables (machine_of_parts (record p { modules = x })) (host_given (machine_of_parts (record p { modules = x })) h answer) after) kept given))

@@ -88,12 +88,7 @@ impl Parts {
         requires there { which < length self.old.harts }
         ensures { WithTables self.old (answered_exit self.old which (StopsAtWrite gpa)) self.new }
     {
-        stop_at_write(
-            which,
-            &self.seats[which as usize],
-            &mut self.journal,
-            gpa,
-        );
+        stop_at_write(which, &self.seats[which as usize], &mut self.journal, gpa);
     }
 
     // It loads from a device's register.
@@ -149,20 +144,9 @@ impl Parts {
         let asked = Asked::by(&self.seats[which as usize].hart.regs);
         law_starts();
         if asked.is_about_modules() {
-            module_answer(
-                &self.policy,
-                &self.guard,
-                &self.mem,
-                &self.modules,
-                &asked,
-            )
+            module_answer(&self.policy, &self.guard, &self.mem, &self.modules, &asked)
         } else {
-            call_answers::answer_of(
-                &self.seats,
-                &self.entries,
-                self.devices.input(),
-                &asked,
-            )
+            call_answers::answer_of(&self.seats, &self.entries, self.devices.input(), &asked)
         }
     }
 

@@ -3,7 +3,7 @@ use Rattle.std.proofs.lemmas.Result.{IfOk-weaker}
 use Rattle.start_laws.specs.Starts.{machine_at_boot, image_machine}
 use Rattle.elf64_load.specs.Images.{segments_of}
 use Rattle.sv_types.specs.Policies.{rules_of}
-use Rattle.machine.proofs.ImageStarting.{image_made}
+use Rattle.machine.proofs.ImageStarting.{image_made, unbound_within}
 use Rattle.machine.proofs.image_start.assemble.Goals as goal
 
 pub returns-clause-made : goal.returns-clause-made
@@ -13,3 +13,6 @@ returns-clause-made c =
     (λ p. p ≡ image_machine p.region.tables (rules_of c.args.policy) c.args.image.now.entry (segments_of c.args.image.now) c.args.disk.items)
     (λ p made. image_made p (rules_of c.args.policy) c.args.image.now.entry (segments_of c.args.image.now) c.image_guard.new.mem c.in_ok-guard.guard c.args.disk.items made (c.in_ok-guard.ensures.ram ∙ c.in_ok-mem.ensures.ram) c.in_ok-guard.ensures.guard)
     c.at_boot.ensures
+
+pub at_boot-requires-clause-unbound : goal.at_boot-requires-clause-unbound
+at_boot-requires-clause-unbound c = unbound_within (rules_of c.args.policy) c.requires.within

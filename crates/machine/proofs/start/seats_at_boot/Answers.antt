@@ -8,6 +8,6 @@ pub seated-preserved : goal.seated-preserved
 seated-preserved c =
     let seats = c.in_ok-push-2.ensures.items in (
       ap (λ (seats : List Seat). hosts_of seats) seats
-          ∙ next_seated c.seated.seats.items c.seat_at_boot.result c.seated.id c.args.entry c.seated.invariant.1.1 c.seated.invariant.0 c.seat_at_boot.ensures,
+          ∙ next_seated c.seated.seats.items c.seat_at_boot.result c.seated.counter c.args.entry c.seated.invariant.1.1 c.seated.invariant.0 c.seat_at_boot.ensures,
       (ap (λ (seats : List Seat). length seats) seats ∙ length_next c.seated.seats.items c.seat_at_boot.result ∙ ap (λ n. n + 1) c.seated.invariant.1.0, omega arith),
     )

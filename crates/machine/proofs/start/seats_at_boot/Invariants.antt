@@ -5,4 +5,4 @@ use Rattle.machine.proofs.start.seats_at_boot.Given as goal
 
 -- the harts so far
 abbrev pub invariant-seated : goal.invariant-seated
-invariant-seated l = (hosts_of l.seats.items ≡ hosts_at_boot l.id l.entry) × ((length l.seats.items ≡ l.id) × (1 ≤ l.id))
+invariant-seated l = (hosts_of l.seats.items ≡ hosts_at_boot l.counter l.entry) × ((length l.seats.items ≡ l.counter) × (1 ≤ l.counter))

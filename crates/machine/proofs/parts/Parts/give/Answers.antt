@@ -1,4 +1,4 @@
-use Rattle.std.proofs.Common.{ℕ, List, length, sym, ◌∙◌, ap, subst, rules}
+use Rattle.std.proofs.Common.{ℕ, ◌≤◌, List, length, sym, ◌∙◌, ap, subst}
 use Rattle.std.proofs.lemmas.List.{with_items_is}
 use Rattle.call_answers.specs.Known.{StartsOneOf}
 use Rattle.hart_answers.specs.Hosts.{hosts_of}
@@ -26,11 +26,14 @@ pub invariant_of-self : goal.invariant_of-self
 invariant_of-self c =
     let pages = c.give_pages-changed in
     let same = with_items_is c.self.inside.caches c.fence.new.caches (c.fence.ensures.number ∙ c.deref_mut-2.ensures.len) in
+    let seats = with_items_is c.self.inside.seats c.give.new.seats (c.give.ensures.number ∙ c.deref_mut.ensures.len) in
+    let number = ap (λ (xs : List Seat). length xs) seats ∙ c.give.ensures.number ∙ ap (λ (xs : List Seat). length xs) c.deref_mut.ensures.value in
     record {
       entries = c.self.invariant.entries;
       unbound = c.self.invariant.unbound;
-      few = search rules;
-      caches = search rules;
+      few = subst (λ (n : ℕ). n ≤ 4) (sym number) c.self.invariant.few;
+      caches = ap (λ (xs : List Lines). length xs) same ∙ c.fence.ensures.number ∙ ap (λ (xs : List Lines). length xs) c.deref_mut-2.ensures.value
+          ∙ c.self.invariant.caches ∙ sym number;
       theirs = pages.ensures.theirs;
       usable = subst (λ (caches : List Lines). AreUsable pages.new.mem.tables caches) (sym same)
           (usable_after pages.result c.self.inside.mem pages.new.mem c.self.inside.caches.items c.deref_mut-2.result.now c.fence.new.caches c.deref_mut-2.ensures.value
@@ -45,7 +48,7 @@ returns c =
     let answer = c.args.answer.now in
     let same = with_items_is c.self.inside.seats c.give.new.seats (c.give.ensures.number ∙ c.deref_mut.ensures.len) in
     subst (λ (seats : List Seat). WithTables c.args.self.now (host_given c.args.self.now c.args.which answer)
-        (left_parts c.self.inside seats c.give.new.devices c.give.new.journal pages.new.mem pages.new.guard pages.new.modules)) (sym same)
+    (left_parts c.self.inside seats c.give.new.devices c.give.new.journal pages.new.mem pages.new.guard pages.new.modules)) (sym same)
     (gives c.self.inside c.args.which answer c.give.new.seats c.give.new.devices c.give.new.journal pages.new.mem pages.new.guard pages.new.modules
     c.args.self.now c.self.view_is
     (c.give.ensures.hosts ∙ ap (λ (seats : List Seat). hosts_beside answer.beside (update (hosts_of seats) c.args.which (host_replied answer.reply))) c.deref_mut.ensures.value)

@@ -1,4 +1,3 @@
-use Rattle.std.proofs.Common.{sym}
 use Rattle.machine_model.specs.HostExits.{host_exit_answered}
 use Rattle.machine_model.specs.declared.exits.ExitAnswer.TheVariants.{Demotes}
 use Rattle.machine.proofs.Seated.{answers}

@@ -1,8 +1,16 @@
-use Rattle.std.proofs.Common.{List, inr, sym, ◌∙◌, ap, subst, rules}
-use Rattle.call_answers.specs.Known.{StartsOneOf}
+use Rattle.std.proofs.Common.{rules}
 use Rattle.machine_model.specs.HostExits.{served_load_turn}
-use Rattle.machine_model.specs.Machine.{Machine}
-use Rattle.machine_model.specs.Steps.{WithTables}
-use Rattle.machine.proofs.Given.{counts, given_of}
+use Rattle.machine.proofs.Given.{counts, decides}
 use Rattle.machine.specs.Parts.{machine_of_parts}
 use Rattle.machine.proofs.parts.Parts.serve_load_turn.Goals as goal
+
+pub returns-in-Some : goal.returns-in-Some
+returns-in-Some c =
+    decides c.self.inside c.args.which c.in-Some.answer c.load_turn.new.modules c.give.new.self c.args.self.now c.self.view_is c.in-Some.ensures.kept
+    (c.in-Some.ensures.decided (machine_of_parts c.self.inside) c.args.which c.self.inside.guard) c.give.ensures
+
+pub returns-in_default : goal.returns-in_default
+returns-in_default c =
+    counts c.self.inside (λ m. served_load_turn m c.args.which) c.load_turn.new.modules c.args.self.now c.self.view_is
+    (c.load_turn.ensures.counted (search rules) (machine_of_parts c.self.inside) c.args.which c.self.inside.guard)
+    c.self.invariant.theirs c.self.invariant.pages c.self.invariant.unbound
