@@ -7,7 +7,8 @@ use Rattle.sv_types.specs.declared.policy.Policy.{Policy}
 use Rattle.sv_types.specs.Kernel.{LoadedSegment, header_entry, kernel_refusal, text_of}
 use Rattle.sv_types.specs.Measure.{measure}
 use Rattle.sv_types.specs.Policies.{Rules, rules_of}
-use Rattle.sv_types.specs.Schedule.{Schedule, first_events, first_of_no_form, script_events}
+use Rattle.sv_types.specs.Schedule.{Schedule, first_events}
+use Rattle.script.specs.AutoScripts.{events_of_text, first_refused}
 use Rattle.policy.specs.Refusals.{Judged}
 use Rattle.policy.specs.Text.{rules_of_text}
 use Rattle.elf64_load.specs.Images.{segments_of}
@@ -185,43 +186,43 @@ auto_pass harts number script files is = record {
 }
 
 -- the plan behind a script's text
-abbrev text_next : (Schedule → Plan) → List ℕ → Plan
-text_next next bytes = Judge (part_judged Part.Script (next (Schedule.Listed (script_events bytes))) (first_of_no_form bytes))
+abbrev text_next : (harts : ℕ) → (Schedule → Plan) → List ℕ → Plan
+text_next harts next bytes = Judge (part_judged Part.Script (next (Schedule.Listed (events_of_text harts bytes))) (first_refused bytes))
 
-pub text_staged : (name bytes : List ℕ) (old new : FilesState) (result : Result Schedule Stop) → FoundAs old new name most_script_bytes (Held bytes) → IsScript bytes result →
-    Staged (text_part name) (λ (s : Schedule). s) old new result
+pub text_staged : (harts : ℕ) (name bytes : List ℕ) (old new : FilesState) (result : Result Schedule Stop) → FoundAs old new name most_script_bytes (Held bytes) → IsScript harts bytes result →
+    Staged (text_part harts name) (λ (s : Schedule). s) old new result
 unfolding text_part
-text_staged name bytes old new (Ok script) fact is = record {
+text_staged harts name bytes old new (Ok script) fact is = record {
   follows = λ next last reached follows.
-      read_follows Part.Script name most_script_bytes (text_next next) old new last bytes reached fact
-      (inr (subst (λ (r : Option ℕ). Follows (part_judged Part.Script (next (Schedule.Listed (script_events bytes))) r) new last reached) (sym is.1)
+      read_follows Part.Script name most_script_bytes (text_next harts next) old new last bytes reached fact
+      (inr (subst (λ (r : Option ℕ). Follows (part_judged Part.Script (next (Schedule.Listed (events_of_text harts bytes))) r) new last reached) (sym is.1)
       (subst (λ (s : Schedule). Follows (next s) new last reached) is.0 follows)));
   may = λ next may.
       subst (λ (s : Schedule). MayFollow (next s) new) (sym is.0)
-      (subst (λ (r : Option ℕ). MayFollow (part_judged Part.Script (next (Schedule.Listed (script_events bytes))) r) new) is.1
-      (read_may Part.Script name most_script_bytes (text_next next) old new bytes fact may));
+      (subst (λ (r : Option ℕ). MayFollow (part_judged Part.Script (next (Schedule.Listed (events_of_text harts bytes))) r) new) is.1
+      (read_may Part.Script name most_script_bytes (text_next harts next) old new bytes fact may));
   faults = read_faults name most_script_bytes old new bytes fact;
 }
-text_staged name bytes old new (Err (Refused refusal)) fact is = λ next.
-    read_ready Part.Script name most_script_bytes (text_next next) old new new bytes _ fact
-    (judge_ready _ new new _ (subst (λ (r : Option ℕ). Prepares (part_judged Part.Script (next (Schedule.Listed (script_events bytes))) r) new new (Err (Refused refusal))) (sym is.1)
+text_staged harts name bytes old new (Err (Refused refusal)) fact is = λ next.
+    read_ready Part.Script name most_script_bytes (text_next harts next) old new new bytes _ fact
+    (judge_ready _ new new _ (subst (λ (r : Option ℕ). Prepares (part_judged Part.Script (next (Schedule.Listed (events_of_text harts bytes))) r) new new (Err (Refused refusal))) (sym is.1)
     (end_ready (Refuse (File Part.Script is.0)) new _ is.2)))
-text_staged name bytes old new (Err Memory) fact is = λ next.
-    read_ready Part.Script name most_script_bytes (text_next next) old new new bytes _ fact (judge_wants _ new)
+text_staged harts name bytes old new (Err Memory) fact is = λ next.
+    read_ready Part.Script name most_script_bytes (text_next harts next) old new new bytes _ fact (judge_wants _ new)
 
-pub text_unread : (name : List ℕ) (old new : FilesState) (stop : Stop) → PartRead Part.Script name most_script_bytes old new (Err stop) →
-    (next : Schedule → Plan) → Prepares (text_part name next) old new (Err stop)
+pub text_unread : (harts : ℕ) (name : List ℕ) (old new : FilesState) (stop : Stop) → PartRead Part.Script name most_script_bytes old new (Err stop) →
+    (next : Schedule → Plan) → Prepares (text_part harts name next) old new (Err stop)
 unfolding text_part
-text_unread name old new stop it = λ next. stopped_ready _ _ _ _ old new stop it
+text_unread harts name old new stop it = λ next. stopped_ready _ _ _ _ old new stop it
 
 -- a text that is named by the words
-pub text_source : (harts : ℕ) (name : List ℕ) (old new : FilesState) (result : Result Schedule Stop) → Staged (text_part name) (λ (s : Schedule). s) old new result →
+pub text_source : (harts : ℕ) (name : List ℕ) (old new : FilesState) (result : Result Schedule Stop) → Staged (text_part harts name) (λ (s : Schedule). s) old new result →
     Staged (script_part harts (Text name)) (λ (s : Schedule). s) old new result
 unfolding script_part
 text_source harts name old new (Ok script) it = record { follows = it.follows; may = it.may; faults = it.faults }
 text_source harts name old new (Err stop) it = it
 
-pub text_may : (harts : ℕ) (name : List ℕ) (files : FilesState) → MayStage (script_part harts (Text name)) files → MayStage (text_part name) files
+pub text_may : (harts : ℕ) (name : List ℕ) (files : FilesState) → MayStage (script_part harts (Text name)) files → MayStage (text_part harts name) files
 unfolding script_part
 text_may harts name files it = record { next = it.next; may = it.may }
 

@@ -19,7 +19,8 @@ use Rattle.policy.specs.Text.{rules_of_text}
 use Rattle.reference.specs.Run.{run}
 use Rattle.machine_model.specs.Machine.{Machine}
 use Rattle.machine_model.specs.Reaches.{IsNew}
-use Rattle.sv_types.specs.Schedule.{Schedule, first_events, first_of_no_form, script_events}
+use Rattle.sv_types.specs.Schedule.{Schedule, first_events}
+use Rattle.script.specs.AutoScripts.{events_of_text, first_refused}
 use Rattle.outside.specs.Outside.{FilesState, SinkState, after_taking, TookPrefix, BreaksOff}
 use Rattle.outside.proofs.SinkLemmas.{prefix_none, prefix_whole}
 use Rattle.policy_making.specs.declared.refusal.MakingRefusal.{MakingRefusal}
@@ -434,7 +435,7 @@ unfolding script_part text_part found_plan
 script_found_faults harts Rounds next never = never _
 script_found_faults harts (Auto number) next never = never _
 script_found_faults harts (Text name) next never =
-    (λ e. cc e, λ bytes. part_found_faults Part.Script (next (Schedule.Listed (script_events bytes))) (first_of_no_form bytes) (never _))
+    (λ e. cc e, λ bytes. part_found_faults Part.Script (next (Schedule.Listed (events_of_text harts bytes))) (first_refused bytes) (never _))
 
 boot_found_faults : (words : RunWords) (rules : Rules) (file : List ℕ) → HasFoundFaults (boot_plan words rules file)
 unfolding boot_plan

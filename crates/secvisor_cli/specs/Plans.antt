@@ -20,7 +20,8 @@ use Rattle.sv_types.specs.Output.{run_status, line_feed, hexadecimal_bytes}
 use Rattle.reference.specs.Report.{output}
 use Rattle.reference.specs.States.{State, has_number}
 use Rattle.reference.specs.Run.{run}
-use Rattle.sv_types.specs.Schedule.{Schedule, first_events, first_of_no_form, script_events}
+use Rattle.sv_types.specs.Schedule.{Schedule, first_events}
+use Rattle.script.specs.AutoScripts.{events_of_text, first_refused}
 use Rattle.policy_making.specs.declared.refusal.MakingRefusal.{MakingRefusal}
 use Rattle.policy_making.specs.declared.refusal.MakingRefusal.TheVariants as making
 use Rattle.policy_making.specs.Refusals.{Judged as Made}
@@ -193,15 +194,15 @@ disk_part None next = next []
 disk_part (Some name) next =
     read_part Part.Disk name most_disk_bytes (λ bytes. part_judged Part.Disk (next bytes) (disk_refusal bytes))
 
-unfoldable pub text_part : (name : List ℕ) → (Schedule → Plan) → Plan
-text_part name next =
+unfoldable pub text_part : (harts : ℕ) (name : List ℕ) → (Schedule → Plan) → Plan
+text_part harts name next =
     read_part Part.Script name most_script_bytes
-    (λ bytes. Judge (part_judged Part.Script (next (Schedule.Listed (script_events bytes))) (first_of_no_form bytes)))
+    (λ bytes. Judge (part_judged Part.Script (next (Schedule.Listed (events_of_text harts bytes))) (first_refused bytes)))
 
 unfoldable pub script_part : (harts : ℕ) → Source → (Schedule → Plan) → Plan
 script_part harts Rounds next = next (Schedule.Rounds harts 0)
 script_part harts (Auto number) next = next (Schedule.Auto harts number)
-script_part harts (Text name) next = text_part name next
+script_part harts (Text name) next = text_part harts name next
 
 abbrev pub image_measure : List ℕ → List ℕ
 image_measure file = measure (text_of (kernel_segments file))

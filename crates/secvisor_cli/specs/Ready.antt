@@ -7,7 +7,8 @@ use Rattle.sv_types.specs.declared.event.Event.{Event}
 use Rattle.reference.specs.States.{State}
 use Rattle.machine_model.specs.Machine.{Machine}
 use Rattle.machine_model.specs.Reaches.{IsNew}
-use Rattle.sv_types.specs.Schedule.{Schedule, first_events, first_of_no_form, script_events}
+use Rattle.sv_types.specs.Schedule.{Schedule, first_events}
+use Rattle.script.specs.AutoScripts.{events_of_text, first_refused}
 use Rattle.sv_types.specs.Kernel.{kernel_refusal}
 use Rattle.sv_types.specs.Policies.{Rules, rules_of}
 use Rattle.sv_types.specs.declared.policy.Policy.{Policy}
@@ -156,8 +157,8 @@ IsKernel file ram_pages (Err (Refused refusal)) =
 IsKernel file ram_pages (Err Memory) = Unit {0}
 
 -- the events of a script's text, or the number of the line that refuses it
-abbrev pub IsScript : List ℕ → Result Schedule Stop → Type 0
-IsScript text (Ok script) = (script ≡ Schedule.Listed (script_events text)) × (first_of_no_form text ≡ None)
-IsScript text (Err (Refused refusal)) =
-    (line : ℕ) × (first_of_no_form text ≡ Some line) × (refusal ≡ File Part.Script line)
-IsScript text (Err Memory) = Unit {0}
+abbrev pub IsScript : (harts : ℕ) → List ℕ → Result Schedule Stop → Type 0
+IsScript harts text (Ok script) = (script ≡ Schedule.Listed (events_of_text harts text)) × (first_refused text ≡ None)
+IsScript harts text (Err (Refused refusal)) =
+    (line : ℕ) × (first_refused text ≡ Some line) × (refusal ≡ File Part.Script line)
+IsScript harts text (Err Memory) = Unit {0}

@@ -160,23 +160,32 @@ fn read_script<F: Files>(
     match source {
         Source::Rounds => Ok(rounds(harts)),
         Source::Auto(number) => Ok(auto(*number, harts)),
-        Source::Text(name) => read_text(alloc, name, files),
+        Source::Text(name) => read_text(alloc, name, harts, files),
     }
 }
 
-fn read_text<F: Files>(alloc: Global, name: &str, files: &mut F) -> Result<Script, Stop>
-    requires permitted { MayStage (text_part name.now) (F.state files.old) }
+fn read_text<F: Files>(
+    alloc: Global,
+    name: &str,
+    harts: u8,
+    files: &mut F,
+) -> Result<Script, Stop>
+    requires permitted { MayStage (text_part harts name.now) (F.state files.old) }
     requires reads { (F.state files.old).read_faults < 2 ^ 64 - 1 }
-    ensures { Staged (text_part name.now) (λ script. script) (F.state files.old) (F.state files.new) result }
+    requires some { 0 < harts }
+    requires few { harts ≤ 4 }
+    ensures { Staged (text_part harts name.now) (λ script. script) (F.state files.old) (F.state files.new) result }
 {
     let text = read_part(alloc, files, Part::Script, name, MOST_SCRIPT_BYTES)?;
-    judge_script(alloc, &text)
+    judge_script(alloc, &text, harts)
 }
 
-fn judge_script(alloc: Global, text: &[u8]) -> Result<Script, Stop>
-    ensures { IsScript text.now result }
+fn judge_script(alloc: Global, text: &[u8], harts: u8) -> Result<Script, Stop>
+    requires some { 0 < harts }
+    requires few { harts ≤ 4 }
+    ensures { IsScript harts text.now result }
 {
-    match script::read(alloc, text) {
+    match script::read(alloc, text, harts) {
         Ok(script) => Ok(script),
         Err(ScriptRefusal::Line { line }) => Err(Stop::Refused(Refusal::File {
             part: Part::Script,
