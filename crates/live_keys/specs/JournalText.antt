@@ -1,0 +1,29 @@
+-- The text of a journal, as a script: a line for each key, and one for each run of other events.
+use Rattle.std.specs.Prelude.{ℕ, zero, suc, ◌-◌, List, [], ◌∷◌, ◌++◌, flat_map, codes}
+use Rattle.std.specs.Fmt.{decimal}
+use Rattle.live_keys.specs.declared.live_key.LiveKey.{LiveKey}
+
+abbrev pub key_line : ℕ → List ℕ
+key_line byte = codes "key" ++ 32 ∷ decimal byte
+
+abbrev pub auto_line : ℕ → List ℕ
+auto_line count = codes "auto" ++ 32 ∷ decimal count
+
+-- one line for a run of events, none for no event
+abbrev pub auto_lines : ℕ → List (List ℕ)
+auto_lines zero = []
+auto_lines (suc count) = auto_line (suc count) ∷ []
+
+-- the lines from one number of other events up to another
+abbrev pub journal_lines : (first : ℕ) → List LiveKey → (last : ℕ) → List (List ℕ)
+journal_lines first [] last = auto_lines (last - first)
+journal_lines first (key ∷ keys) last = auto_lines (key.before - first) ++ key_line key.byte ∷ journal_lines key.before keys last
+
+abbrev pub ended_line : List ℕ → List ℕ
+ended_line line = line ++ 10 ∷ []
+
+abbrev pub text_of : List (List ℕ) → List ℕ
+text_of all = flat_map ended_line all
+
+unfoldable pub journal_text : List LiveKey → (last : ℕ) → List ℕ
+journal_text keys last = text_of (journal_lines 0 keys last)

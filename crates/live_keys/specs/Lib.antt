@@ -1,0 +1,7 @@
+pub mod Keys
+pub mod Line
+pub mod Placed
+pub mod Journal
+pub mod Memory
+pub mod JournalText
+pub mod Feeding
