@@ -1,5 +1,5 @@
 -- The text of a journal, read back.
-use Rattle.std.proofs.Common.{◌≡◌, ◌≤◌, ◌<◌, ◌+◌, ◌-◌, ◌*◌, ◌/◌, ◌%◌, ◌^◌, ◌==◌, ℕ, zero, suc, Bool, true, false, ◌&&◌, nat_le, if◌then◌else◌, List, [], ◌∷◌, ◌++◌, length, map, flat_map, replicate, drop, Option, Some, None, is_none, unwrap_or, option_map, codes, refl, sym, ◌∙◌, ap, subst, append_assoc, arith, rules, length-append, add-one, get_or, drop-cons}
+use Rattle.std.proofs.Common.{◌≡◌, ◌≤◌, ◌<◌, ◌+◌, ◌-◌, ◌*◌, ◌%◌, ◌^◌, ◌==◌, ℕ, zero, suc, Bool, true, false, ◌&&◌, nat_le, if◌then◌else◌, List, [], ◌∷◌, ◌++◌, length, map, flat_map, replicate, drop, Option, Some, None, is_none, unwrap_or, option_map, codes, refl, sym, ◌∙◌, ap, subst, append_assoc, arith, rules, length-append, add-one, get_or, drop-cons}
 use Rattle.std.proofs.Math.ListN.{drop_of_length-le}
 use Rattle.std.specs.Fmt.{decimal}
 use Rattle.std.specs.List.{All, list_all, position_from}

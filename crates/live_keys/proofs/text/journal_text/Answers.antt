@@ -1,6 +1,5 @@
-use Rattle.std.proofs.Common.{◌≡◌, ◌≤◌, ◌+◌, ◌*◌, ◌∙◌, ℕ, List, length, string_bytes, ap, sym, subst, arith}
+use Rattle.std.proofs.Common.{◌≤◌, ◌+◌, ◌*◌, ◌∙◌, ℕ, List, length, string_bytes, ap, sym, subst, arith}
 use Rattle.script.specs.AutoScripts.{events_of_text, first_refused}
-use Rattle.live_keys.specs.JournalText.{journal_text}
 use Rattle.live_keys.proofs.JournalLines.{journal_reads, journal_accepted, journal_size, text_whole}
 use Rattle.live_keys.proofs.text.journal_text.Goals as goal
 
