@@ -164,12 +164,7 @@ fn read_script<F: Files>(
     }
 }
 
-fn read_text<F: Files>(
-    alloc: Global,
-    name: &str,
-    harts: u8,
-    files: &mut F,
-) -> Result<Script, Stop>
+fn read_text<F: Files>(alloc: Global, name: &str, harts: u8, files: &mut F) -> Result<Script, Stop>
     requires permitted { MayStage (text_part harts name.now) (F.state files.old) }
     requires reads { (F.state files.old).read_faults < 2 ^ 64 - 1 }
     requires some { 0 < harts }
