@@ -18,6 +18,11 @@ pub(crate) const PRINTS_A_AND_SHUTS_DOWN: [u32; 5] = [
 
 const PRINTS_WITHOUT_END: [u32; 4] = [0x04100513, 0x00100893, 0x00000073, 0xFFDFF06F];
 
+// Prints A and a line feed, without end.
+const PRINTS_LINES: [u32; 6] = [
+    0x04100513, 0x00100893, 0x00000073, 0x00A00513, 0x00000073, 0xFEDFF06F,
+];
+
 const ROOM: usize = 10_000;
 
 /// A page that begins with these words, has others at its place 256, and else zeros.
@@ -629,16 +634,48 @@ fn breaks_off_at_a_write_that_fails(rt: HostRuntime) -> Result<(), Fail> {
     assert!(rt; whole.taken.starts_with(console.as_slice()));
     let cases = [(ROOM, 1, 0), (ROOM, 2, 4096), (ROOM, 3, 5000), (4, 3, 8)];
     for (piece, failing_write, taken) in cases {
-        let outside = Outside {
-            failing_write,
-            piece,
-            ..GOOD
-        };
-        let left = run_page(&rt, alloc, &row, outside)?;
-        assert_eq!(rt; left.status, Status::WriteFault, "{failing_write}");
-        assert_eq!(rt; left.taken.len(), taken, "{failing_write}");
-        assert!(rt; left.is_booted, "{failing_write}");
+        breaks_off(&rt, alloc, &row, piece, failing_write, taken)?;
     }
+    Ok(())
+}
+
+// Each write is a line, and the fourth is the report.
+#[test]
+fn writes_each_line(rt: HostRuntime) -> Result<(), Fail> {
+    let alloc = rt.alloc();
+    let row = Row {
+        words: &PRINTS_LINES,
+        events: "18",
+        ..ROW
+    };
+    let whole = run_page(&rt, alloc, &row, GOOD)?;
+    assert_eq!(rt; whole.status, Status::Ended);
+    assert!(rt; whole.taken.starts_with(b"A\nA\nA\n\n"));
+    let cases = [(1, 0), (2, 2), (3, 4), (4, 6)];
+    for (failing_write, taken) in cases {
+        breaks_off(&rt, alloc, &row, ROOM, failing_write, taken)?;
+    }
+    Ok(())
+}
+
+// The run of a page whose write of this number fails, behind so many bytes.
+fn breaks_off<R: Threads + Sync + Abort>(
+    rt: &R,
+    alloc: Global,
+    row: &Row,
+    piece: usize,
+    failing_write: u64,
+    taken: usize,
+) -> Result<(), AllocError> {
+    let outside = Outside {
+        failing_write,
+        piece,
+        ..GOOD
+    };
+    let left = run_page(rt, alloc, row, outside)?;
+    assert_eq!(rt; left.status, Status::WriteFault, "{failing_write}");
+    assert_eq!(rt; left.taken.len(), taken, "{failing_write}");
+    assert!(rt; left.is_booted, "{failing_write}");
     Ok(())
 }
 

@@ -1,5 +1,5 @@
 -- A run, its console and the sink.
-use Rattle.std.proofs.Common.{◌≡◌, ◌≢◌, ℕ, zero, suc, ◌+◌, ◌≤◌, ◌<◌, List, [], ◌∷◌, ◌++◌, length, refl, sym, ◌∙◌, ap, subst, append_assoc, arith, Option, Some, None}
+use Rattle.std.proofs.Common.{◌≡◌, ◌≢◌, ℕ, zero, suc, ◌+◌, ◌≤◌, ◌<◌, List, [], ◌∷◌, ◌++◌, length, refl, sym, ◌∙◌, ap, subst, append_assoc, arith, IsTrue, Option, Some, None}
 use Rattle.std.proofs.lemmas.List.{append-nil}
 use Rattle.sv_types.specs.declared.event.Event.{Event}
 use Rattle.sv_types.specs.declared.event.Counts.{Counts}
@@ -18,7 +18,7 @@ use Rattle.answer_laws.proofs.RunsReach.{clear_law}
 use Rattle.outside.specs.Outside.{SinkState, after_taking, BreaksOff}
 use Rattle.outside.proofs.SinkLemmas.{after_taking-append, after_taking-nil}
 use Rattle.secvisor_cli.specs.Standing.{Stands, HasState}
-use Rattle.secvisor_cli.specs.Console.{HasTaken, Flushed, HasRun, RunBroke}
+use Rattle.secvisor_cli.specs.Console.{is_due, HasTaken, Flushed, HasRun, RunBroke}
 use Rattle.secvisor_cli.proofs.Standing.{stands_new, stands_step, stands_away, stands_verdict, away_counts, cleared_none, event_ended, step_counts, step_room, verdict_is}
 
 -- an event of the machine, as the state that it stands for takes it
@@ -115,24 +115,25 @@ runs_more first start all left fewer script m next flushed event old now new one
 
 broke_next : (first : Machine) (start : State) (all : List Event) (left fewer : ℕ) (script : Schedule) (m next : Machine) (event : Event) (old now new : SinkState) →
     left ≡ suc fewer → RunsOn first start all left script m old now → next_event script ≡ Some event → Steps m event next →
-    length next.journal.printed ≡ 4096 → BreaksOff now new next.journal.printed → RunBroke first start all next old new
-broke_next first start all left fewer script m next event old now new one on comes steps full broke = record {
+    length next.journal.printed ≤ 4096 → IsTrue (is_due next.journal.printed) → BreaksOff now new next.journal.printed → RunBroke first start all next old new
+broke_next first start all left fewer script m next event old now new one on comes steps room due broke = record {
   done = on.done ++ event ∷ [];
   left = first_events fewer (after_event script);
   split = split_by all on.done left fewer script event one comes on.split;
   cleared = on.ran.cleared;
   stands = stands_next start m next on.done event on.ran.cleared on.ran.stands steps;
   chain = reaches_more first start on.done m next next event on.ran.chain steps.event (steps.stands (run start on.done) on.ran.stands.stands) (cleared_none next);
-  full = full;
+  room = room;
+  due = due;
   broke = subst (λ (k : SinkState). BreaksOff k new next.journal.printed) on.ran.taken broke;
 }
 
 pub runs_broke : (first : Machine) (start : State) (all : List Event) (left fewer : ℕ) (script : Schedule) (m next stays : Machine) (event : Event) (old now new : SinkState) →
     left ≡ suc fewer → RunsOn first start all left script m old now → next_event script ≡ Some event → Steps m event next →
-    stays ≡ next → length next.journal.printed ≡ 4096 → BreaksOff now new next.journal.printed → RunBroke first start all stays old new
-runs_broke first start all left fewer script m next stays event old now new one on comes steps same full broke =
+    stays ≡ next → length next.journal.printed ≤ 4096 → IsTrue (is_due next.journal.printed) → BreaksOff now new next.journal.printed → RunBroke first start all stays old new
+runs_broke first start all left fewer script m next stays event old now new one on comes steps same room due broke =
     subst (λ (x : Machine). RunBroke first start all x old new) (sym same)
-    (broke_next first start all left fewer script m next event old now new one on comes steps full broke)
+    (broke_next first start all left fewer script m next event old now new one on comes steps room due broke)
 
 -- ---- the end
 

@@ -1,5 +1,5 @@
 -- The end of a run: the rest of the console, and the report.
-use Rattle.std.proofs.Common.{◌≡◌, ℕ, List, [], ◌∷◌, ◌++◌, ◌<◌, length, refl, sym, ◌∙◌, ap, subst, append_assoc, inl, inr, Result, Ok, Err, IsErrOf, IsTrue}
+use Rattle.std.proofs.Common.{◌≡◌, ℕ, List, [], ◌∷◌, ◌++◌, ◌<◌, length, refl, sym, ◌∙◌, ap, subst, append_assoc, inl, inr, Result, Ok, Err, IsErrOf, IsTrue, IsFalse}
 use Rattle.std.proofs.lemmas.List.{append-nil}
 use Rattle.sv_types.specs.declared.event.Event.{Event}
 use Rattle.sv_types.specs.declared.event.Verdict.{Verdict}
@@ -16,7 +16,7 @@ use Rattle.outside.specs.Outside.{SinkState, after_taking, TookPrefix, BreaksOff
 use Rattle.outside.proofs.SinkLemmas.{after_taking-append, prefix_behind, prefix_of_front, prefix_same, breaks_behind}
 use Rattle.secvisor_cli.specs.declared.trouble.Trouble.{Trouble}
 use Rattle.secvisor_cli.specs.declared.trouble.Trouble.TheVariants.{Memory}
-use Rattle.secvisor_cli.specs.Console.{HasRun, RunBroke}
+use Rattle.secvisor_cli.specs.Console.{is_due, HasRun, RunBroke}
 use Rattle.secvisor_cli.specs.Answers.{Writes, RunsTo, is_answer}
 use Rattle.secvisor_cli.specs.Standing.{machine_output}
 use Rattle.secvisor_cli.proofs.Standing.{prints_behind, stands_printed, stands_verdict, stands_output}
@@ -83,16 +83,16 @@ broke_reaches wanting first start events m old new never is_new b = record {
   stands = b.stands;
   first = first;
   reaches = record { new = is_new; chain = b.chain };
-  rest = inr (b.full, b.broke);
+  rest = inr (b.room, b.due, b.broke);
   quiet = λ w. absurd (never w);
 }
 
 -- ---- a whole run
 
 pub ran_reaches : (first : Machine) (start : State) (events : List Event) (m : Machine) (old mid new : SinkState) (result : Result Status Trouble) → IsNew first start →
-    HasRun first start events m old mid → length m.journal.printed < 4096 → TookPrefix mid new (machine_output m) → (IsErrOf result Memory → new ≡ mid) →
+    HasRun first start events m old mid → length m.journal.printed < 4096 → IsFalse (is_due m.journal.printed) → TookPrefix mid new (machine_output m) → (IsErrOf result Memory → new ≡ mid) →
     RunsTo (IsErrOf result Memory) start events m old new
-ran_reaches first start events m old mid new result is_new ran room prefix quiet = record {
+ran_reaches first start events m old mid new result is_new ran room undue prefix quiet = record {
   done = events;
   left = [];
   split = append-nil events;
@@ -100,7 +100,7 @@ ran_reaches first start events m old mid new result is_new ran room prefix quiet
   stands = ran.stands;
   first = first;
   reaches = record { new = is_new; chain = ran.chain };
-  rest = inl (refl, room, subst (λ (k : SinkState). TookPrefix k new (machine_output m)) ran.taken prefix);
+  rest = inl (refl, room, undue, subst (λ (k : SinkState). TookPrefix k new (machine_output m)) ran.taken prefix);
   quiet = λ w. quiet w ∙ ran.taken;
 }
 

@@ -1,5 +1,5 @@
 -- What the program owes to what is asked of it.
-use Rattle.std.specs.Prelude.{◌≡◌, ◌≢◌, ◌<◌, ◌⊎◌, ℕ, List, [], ◌++◌, length, Bool, true, false, IsTrue, Option, Some, None, Result, Ok, Err, OnOk, IfOk, IsErrOf}
+use Rattle.std.specs.Prelude.{◌≡◌, ◌≢◌, ◌<◌, ◌≤◌, ◌⊎◌, ℕ, List, [], ◌++◌, length, Bool, true, false, IsTrue, IsFalse, Option, Some, None, Result, Ok, Err, OnOk, IfOk, IsErrOf}
 use Rattle.sv_types.specs.declared.event.Event.{Event}
 use Rattle.sv_types.specs.declared.status.Status.{Status}
 use Rattle.reference.specs.States.{State}
@@ -13,6 +13,7 @@ use Rattle.secvisor_cli.specs.declared.trouble.Trouble.{Trouble}
 use Rattle.secvisor_cli.specs.declared.trouble.Trouble.TheVariants.{Write, Memory}
 use Rattle.secvisor_cli.specs.Refusals.{refusal_line, takes_memory}
 use Rattle.secvisor_cli.specs.Plans.{Due, Refuse, RunFrom, Make, measured_line, Saving, saving, policy_saving, Plan, bytes_due, status_due, saves_due}
+use Rattle.secvisor_cli.specs.Console.{is_due}
 use Rattle.secvisor_cli.specs.Reading.{Follows, Saved, SaveBroke}
 use Rattle.secvisor_cli.specs.Standing.{Stands, machine_output}
 
@@ -27,9 +28,9 @@ outside files sink bench = record { files = files; sink = sink; bench = bench }
 
 -- ---- the run
 
--- The machine stands after all of the events, fewer than 4,096 bytes of its console weren't taken, and of these and the
--- report the sink took a prefix; or else a write of the console failed while 4,096 bytes stood there. By the events that it
--- made it came there from one that had just started.
+-- The machine stands after all of the events, fewer than 4,096 bytes of its console weren't taken, which don't end with a
+-- line feed, and of these and the report the sink took a prefix; or else a write of the console failed, of 4,096 bytes or of
+-- fewer that end with a line feed. By the events that it made it came there from one that had just started.
 pub record RunsTo (wanting : Type 0) (start : State) (events : List Event) (machine : Machine) (old new : SinkState) : Type 0 where
   pub done : List Event
   pub left : List Event
@@ -40,8 +41,10 @@ pub record RunsTo (wanting : Type 0) (start : State) (events : List Event) (mach
   pub first : Machine
   pub reaches : Reaches first start done machine
   pub rest :
-      ((left ≡ []) × (length machine.journal.printed < 4096) × TookPrefix (after_taking old cleared) new (machine_output machine))
-      ⊎ ((length machine.journal.printed ≡ 4096) × BreaksOff (after_taking old cleared) new machine.journal.printed)
+      ((left ≡ []) × (length machine.journal.printed < 4096) × IsFalse (is_due machine.journal.printed)
+      × TookPrefix (after_taking old cleared) new (machine_output machine))
+      ⊎ ((length machine.journal.printed ≤ 4096) × IsTrue (is_due machine.journal.printed)
+      × BreaksOff (after_taking old cleared) new machine.journal.printed)
   -- nothing is written where memory was wanting
   pub quiet : wanting → new ≡ after_taking old cleared
 

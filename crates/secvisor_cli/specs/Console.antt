@@ -1,5 +1,5 @@
 -- A run and its console, while it goes on.
-use Rattle.std.specs.Prelude.{◌≡◌, ℕ, List, ◌++◌, length}
+use Rattle.std.specs.Prelude.{◌≡◌, ◌≤◌, ℕ, List, ◌++◌, length, Bool, false, ◌||◌, ◌==◌, ◌-◌, IsTrue, Option, Some, None, slice_get}
 use Rattle.sv_types.specs.declared.event.Event.{Event}
 use Rattle.reference.specs.States.{State}
 use Rattle.reference.specs.Run.{run}
@@ -7,6 +7,18 @@ use Rattle.machine_model.specs.Machine.{Machine}
 use Rattle.machine_model.specs.Reaches.{IsNew, ReachesFrom}
 use Rattle.outside.specs.Outside.{SinkState, after_taking, BreaksOff}
 use Rattle.secvisor_cli.specs.Standing.{Stands, TakesAway}
+
+-- ---- when the console's bytes are written
+
+abbrev pub is_line_feed : Option ℕ → Bool
+is_line_feed None = false
+is_line_feed (Some byte) = byte == 10
+
+-- They are written where 4,096 of them stand, or where the last of them is a line feed.
+abbrev pub is_due : List ℕ → Bool
+is_due printed = length printed == 4096 || is_line_feed (slice_get printed (length printed - 1))
+
+-- ---- the run so far
 
 -- the sink took some bytes
 pub record HasTaken (old new : SinkState) : Type 0 where
@@ -27,7 +39,7 @@ pub record HasRun (first : Machine) (start : State) (done : List Event) (machine
   pub chain : ReachesFrom first start done machine
   pub taken : new ≡ after_taking old cleared
 
--- the machine stands where the run is after some of these events, and a write failed while 4,096 console bytes stood
+-- the machine stands where the run is after some of these events, and a write failed of console bytes that were due
 pub record RunBroke (first : Machine) (start : State) (events : List Event) (machine : Machine) (old new : SinkState) : Type 0 where
   pub done : List Event
   pub left : List Event
@@ -35,7 +47,8 @@ pub record RunBroke (first : Machine) (start : State) (events : List Event) (mac
   pub cleared : List ℕ
   pub stands : Stands machine cleared (run start done)
   pub chain : ReachesFrom first start done machine
-  pub full : length machine.journal.printed ≡ 4096
+  pub room : length machine.journal.printed ≤ 4096
+  pub due : IsTrue (is_due machine.journal.printed)
   pub broke : BreaksOff (after_taking old cleared) new machine.journal.printed
 
 -- from every start that the first machine is new for

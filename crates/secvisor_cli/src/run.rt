@@ -1,37 +1,48 @@
 // A machine's run, with its console.
-ghost use Rattle.std.specs.Prelude.{◌≡◌, ◌<◌, ◌≤◌, ◌-◌, ◌^◌, [], length, IsTrue, OnOk, OnErr};
+ghost use Rattle.std.specs.Prelude.{◌≡◌, ◌<◌, ◌≤◌, ◌-◌, ◌^◌, [], length, IsTrue, IsFalse, OnOk, OnErr};
 ghost use Rattle.reference.specs.Counting.{CountsAtMost};
 ghost use Rattle.sv_types.specs.Schedule.{first_events};
 ghost use Rattle.outside.specs.Outside.{BreaksOff};
 ghost use Rattle.secvisor_cli.specs.Standing.{HasState};
-ghost use Rattle.secvisor_cli.specs.Console.{Flushed, HasTaken, HasRunFromStart, RunBrokeFromStart};
+ghost use Rattle.secvisor_cli.specs.Console.{is_due, Flushed, HasTaken, HasRunFromStart, RunBrokeFromStart};
 
 use machine::{Machine, PRINTED_ROOM};
 use outside::{Failed, Sink, write_all};
 use script::Script;
 use sv_types::Verdict;
 
-/// Writes the console's bytes where 4,096 of them stand.
+/// Whether the console's bytes are to be written now: the last of them is a line feed, or 4,096 of them stand.
+fn is_due(printed: &[u8]) -> bool
+    ensures { result ≡ is_due printed.now }
+{
+    match printed.last() {
+        None => false,
+        Some(&last) => last == b'\n' || printed.len() == PRINTED_ROOM,
+    }
+}
+
+/// Writes the console's bytes where they are due.
 #[tactic(auto, using(crate::proofs::Standing::flushed_all, crate::proofs::Standing::flushed_none))]
-fn flush_full<O: Sink>(machine: &mut Machine, out: &mut O) -> Result<(), Failed>
+fn flush_due<O: Sink>(machine: &mut Machine, out: &mut O) -> Result<(), Failed>
     requires is_open { IsTrue (O.state out.old).is_open }
     requires count { (O.state out.old).faults < 2 ^ 64 - 1 }
     requires room { length machine.old.journal.printed ≤ 4096 }
     ensures flushed { OnOk result (Flushed machine.old machine.new (O.state out.old) (O.state out.new)) }
     ensures room { OnOk result (length machine.new.journal.printed < 4096) }
+    ensures rest { OnOk result (IsFalse (is_due machine.new.journal.printed)) }
     ensures machine { OnErr result (machine.new ≡ machine.old) }
-    ensures full { OnErr result (length machine.old.journal.printed ≡ 4096) }
+    ensures due { OnErr result (IsTrue (is_due machine.old.journal.printed)) }
     ensures failed { OnErr result (BreaksOff (O.state out.old) (O.state out.new) machine.old.journal.printed) }
 {
-    if machine.printed().len() == PRINTED_ROOM {
+    if is_due(machine.printed()) {
         write_all(out, machine.printed())?;
         machine.clear_printed();
     }
     Ok(())
 }
 
-/// Runs a fresh machine over the first events of a script, up to its verdict. Where a write fails it stands after some of
-/// them.
+/// Runs a fresh machine over the first events of a script, up to its verdict, and writes its console at each line feed and
+/// whenever 4,096 bytes stand. Where a write fails it stands after some of the events.
 pub fn run<O: Sink>(
     machine: &mut Machine,
     mut script: Script,
@@ -47,6 +58,7 @@ pub fn run<O: Sink>(
     ensures all { OnOk result (HasRunFromStart machine.old (first_events events script) machine.new (O.state out.old) (O.state out.new)) }
     ensures taken { OnOk result (HasTaken (O.state out.old) (O.state out.new)) }
     ensures room { OnOk result (length machine.new.journal.printed < 4096) }
+    ensures rest { OnOk result (IsFalse (is_due machine.new.journal.printed)) }
     ensures some { OnErr result (RunBrokeFromStart machine.old (first_events events script) machine.new (O.state out.old) (O.state out.new)) }
 {
     'events: for i in 0..events {
@@ -57,7 +69,7 @@ pub fn run<O: Sink>(
             return Ok(());
         };
         machine.step(event);
-        flush_full(machine, out)?;
+        flush_due(machine, out)?;
     }
     Ok(())
 }

@@ -1,10 +1,10 @@
-use Rattle.std.proofs.Common.{◌<◌, ◌-◌, length}
+use Rattle.std.proofs.Common.{◌<◌, ◌-◌, length, IsFalse}
 use Rattle.sv_types.specs.Schedule.{first_events}
 use Rattle.reference.specs.Counting.{CountsAtMost}
 use Rattle.reference.specs.States.{State}
 use Rattle.machine_model.specs.Reaches.{IsNew}
 use Rattle.secvisor_cli.specs.Standing.{HasState}
-use Rattle.secvisor_cli.specs.Console.{HasTaken}
+use Rattle.secvisor_cli.specs.Console.{is_due, HasTaken}
 use Rattle.secvisor_cli.proofs.ConsoleLemmas.{RunsOn}
 use Rattle.secvisor_cli.proofs.run.run.Given as goal
 
@@ -16,4 +16,5 @@ invariant-events g l = record {
   taken : HasTaken (g.O.Sink.state l.initial.out) (g.O.Sink.state l.out);
   counts : CountsAtMost l.i l.machine.journal.counts;
   room : length l.machine.journal.printed < 4096;
+  rest : IsFalse (is_due l.machine.journal.printed);
 }
