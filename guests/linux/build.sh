@@ -52,7 +52,8 @@ build_modules() {
     cp -r "$here"/modules/* "$source"/fs/autofs "$source"/fs/configfs "$modules"
     cp "$source"/fs/binfmt_script.c "$source"/lib/crypto/aes.c "$modules"
     (cd "$source/lib" && cp bch.c crc-itu-t.c crc7.c percpu_test.c test_hexdump.c test_uuid.c "$modules")
-    kernel_make M="$modules" CONFIG_AUTOFS_FS=m CONFIG_CONFIGFS_FS=m modules
+    # Warnings name their file, in data whose length stands in the text: without the folder's name.
+    kernel_make M="$modules" CONFIG_AUTOFS_FS=m CONFIG_CONFIGFS_FS=m KCFLAGS="-fmacro-prefix-map=$modules/=" modules
     cp "$modules"/*.ko "$modules"/*/*.ko "$out"
     "$here/change_module.py" "$out/hello.ko" byte "$out/hello_byte.ko"
     "$here/change_module.py" "$out/hello.ko" call "$out/hello_call.ko"
