@@ -1,6 +1,9 @@
 //! The program `secvisor`: its words, the files of the operating system and standard output.
 #![tactic(auto)]
 
+mod help;
+
+use help::help;
 use outside::{RealFiles, StdSink};
 use secvisor_cli::{Bench, Status, secvisor};
 use std::alloc::AllocError;
@@ -23,7 +26,15 @@ fn main(rt: HostRuntime) -> ExitCode {
     let mut out = StdSink::new(printing);
     let mut bench = Bench { machine: None };
     let status = secvisor(&rt, rt.alloc(), &words, &mut files, &mut out, &mut bench);
+    if status == Status::Usage {
+        explain(&rt);
+    }
     ExitCode::from(status.number())
+}
+
+// A failure of standard error changes nothing.
+fn explain(rt: &HostRuntime) {
+    let _written = eprint!(rt; "{}", help());
 }
 
 // The words behind the program's name. Where one is no UTF-8 text they are none, which are of no command. It is
