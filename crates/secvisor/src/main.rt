@@ -8,7 +8,7 @@ use outside::{RealFiles, StdSink};
 use secvisor_cli::{Bench, Status, secvisor};
 use std::alloc::AllocError;
 use std::env;
-use std::io::ErrorKind;
+use std::io::{ErrorKind, IsTerminal};
 use std::process::ExitCode;
 
 // Every end has its status, want of memory before the program is called too.
@@ -32,9 +32,11 @@ fn main(rt: HostRuntime) -> ExitCode {
     ExitCode::from(status.number())
 }
 
-// A failure of standard error changes nothing.
+// To a person at a terminal alone, so that other programs read of a refusal the one line. A failure changes nothing.
 fn explain(rt: &HostRuntime) {
-    let _written = eprint!(rt; "{}", help());
+    if rt.stderr().is_terminal() {
+        let _written = eprint!(rt; "{}", help());
+    }
 }
 
 // The words behind the program's name. Where one is no UTF-8 text they are none, which are of no command. It is
