@@ -11,7 +11,7 @@ use Rattle.sv_types.specs.Registers.{legal_status, status_bits, legal_satp, satp
 use Rattle.sv_types.specs.Traps.{trap_target, status_at_trap, status_at_return, is_kernel}
 use Rattle.sv_types.specs.HypervisorRegisters.{HypervisorRegisters, IsLegal, registers_at_boot, registers_at_trap, registers_at_return, registers_at_exit, with_alias, write_virtual, virtual_interrupt_bits, virtual_software_bit}
 use Rattle.sv_types.specs.declared.csr.Csr.{Csr}
-use Rattle.sv_types.specs.declared.wires.Exit.{Exit}
+use Rattle.sv_types.specs.declared.exit.Exit.{Exit}
 use Rattle.sv_types.specs.declared.wires.Mode.{Mode}
 
 -- ---- masks

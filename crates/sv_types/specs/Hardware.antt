@@ -8,9 +8,10 @@ use Rattle.sv_types.specs.Regions.{Region}
 use Rattle.sv_types.specs.Traps.{trap_target, interrupt_number}
 use Rattle.sv_types.specs.HypervisorRegisters.{HypervisorRegisters, virtual_number, registers_at_trap, registers_at_exit}
 use Rattle.sv_types.specs.declared.cause.Cause.{Cause}
+use Rattle.sv_types.specs.declared.exit.Exit.{Exit}
+use Rattle.sv_types.specs.declared.exit.ExitCause.{ExitCause}
 use Rattle.sv_types.specs.declared.outcome.Outcome.{Outcome}
 use Rattle.sv_types.specs.declared.outcome.Exception.{Exception}
-use Rattle.sv_types.specs.declared.wires.Exit.{Exit}
 use Rattle.sv_types.specs.declared.wires.HRegs.{HRegs}
 use Rattle.sv_types.specs.declared.wires.Interrupt.{Interrupt}
 use Rattle.sv_types.specs.declared.wires.Mode.TheVariants.{Kernel}
@@ -65,7 +66,7 @@ abbrev pub plain_exception : Cause → ℕ → Exception
 plain_exception cause tval = record { cause = cause; tval = tval; htval = 0; htinst = 0 }
 
 abbrev pub exit_of : Exception → ℕ → Exit
-exit_of e pc = record { interrupt = false; cause = cause_number e.cause; pc = pc; stval = e.tval; htval = e.htval; htinst = e.htinst }
+exit_of e pc = record { cause = ExitCause.Exception e.cause; pc = pc; stval = e.tval; htval = e.htval; htinst = e.htinst }
 
 unfoldable pub raise : Core → Exception → Step
 raise core e =
@@ -75,7 +76,7 @@ raise core e =
 -- ---- interrupts, by hideleg
 
 abbrev pub interrupt_exit : Interrupt → ℕ → Exit
-interrupt_exit interrupt pc = record { interrupt = true; cause = virtual_number interrupt; pc = pc; stval = 0; htval = 0; htinst = 0 }
+interrupt_exit interrupt pc = record { cause = ExitCause.Interrupt interrupt; pc = pc; stval = 0; htval = 0; htinst = 0 }
 
 -- the guest's interrupt stands one place higher in hideleg
 unfoldable pub after_interrupt : Core → Interrupt → Step

@@ -5,15 +5,17 @@
 use Rattle.std.specs.Prelude.{◌≡◌, ℕ, ◌+◌, ◌*◌, ◌/◌, ◌^◌, ◌<◌, Bool, true, false, not, ◌&&◌, ◌||◌, List, [], ◌∷◌, ◌==◌, if◌then◌else◌, bit_and, bit_or, Option, Some, None, Result, Ok, Err}
 use Rattle.std.specs.List.{list_any}
 use Rattle.sv_types.specs.Bits.{bit, flag, without}
+use Rattle.sv_types.specs.Causes.{cause_number}
 use Rattle.sv_types.specs.Registers.{csr_named, legal_status, uxl, interrupt_bits, legal_tvec, legal_counteren, legal_epc, legal_satp}
-use Rattle.sv_types.specs.Traps.{trap_cause, status_at_trap, status_at_return, takes_interrupts, interrupt_number, first_interrupt}
+use Rattle.sv_types.specs.Traps.{trap_cause, status_at_trap, status_at_return, takes_interrupts, interrupt_number, is_interrupt, first_interrupt}
 use Rattle.sv_types.specs.declared.csr.Csr.{Csr}
 use Rattle.sv_types.specs.declared.csr.CsrFault.{CsrFault}
 use Rattle.sv_types.specs.declared.wires.Mode.{Mode}
 use Rattle.sv_types.specs.declared.wires.Mode.TheVariants.{Kernel, User}
 use Rattle.sv_types.specs.declared.wires.HRegs.{HRegs}
 use Rattle.sv_types.specs.declared.wires.Lines.{Lines}
-use Rattle.sv_types.specs.declared.wires.Exit.{Exit}
+use Rattle.sv_types.specs.declared.exit.Exit.{Exit}
+use Rattle.sv_types.specs.declared.exit.ExitCause.{ExitCause}
 use Rattle.sv_types.specs.declared.wires.Interrupt.{Interrupt}
 
 -- the virtual supervisor registers, scounteren, the interrupts, and from sepc on what an exit writes
@@ -54,6 +56,10 @@ registers_at_boot = record {
 }
 
 -- ---- interrupts: 2, 6 and 10 of the hypervisor are the guest's 1, 5 and 9
+
+-- the place of a guest's interrupt in hip, hie and hideleg
+abbrev pub virtual_number : Interrupt → ℕ
+virtual_number interrupt = interrupt_number interrupt + 1
 
 abbrev pub virtual_interrupt_bits : ℕ
 virtual_interrupt_bits = 2 ^ 2 + 2 ^ 6 + 2 ^ 10
@@ -192,20 +198,21 @@ registers_at_trap c from pc interrupt cause tval = record c {
 unfoldable pub registers_at_return : HypervisorRegisters → HypervisorRegisters
 registers_at_return c = record c { vsstatus = status_at_return c.vsstatus }
 
+-- the number of a cause as an exit shows it
+abbrev pub exit_number : ExitCause → ℕ
+exit_number (ExitCause.Exception cause) = cause_number cause
+exit_number (ExitCause.Interrupt interrupt) = virtual_number interrupt
+
 unfoldable pub registers_at_exit : HypervisorRegisters → Exit → HypervisorRegisters
 registers_at_exit c exit = record c {
   sepc = exit.pc;
-  scause = trap_cause exit.interrupt exit.cause;
+  scause = trap_cause (is_interrupt exit.cause) (exit_number exit.cause);
   stval = exit.stval;
   htval = exit.htval;
   htinst = exit.htinst;
 }
 
 -- ---- the interrupt that is taken
-
--- the place of a guest's interrupt in hip, hie and hideleg
-abbrev pub virtual_number : Interrupt → ℕ
-virtual_number interrupt = interrupt_number interrupt + 1
 
 -- the interrupt's bits in hip and in hie are set; one that is delegated waits until the guest takes interrupts, and one
 -- that isn't is taken at once

@@ -4,7 +4,9 @@
 -- Instructions".
 use Rattle.std.specs.Prelude.{ℕ, ◌+◌, ◌*◌, ◌%◌, ◌^◌, Bool, true, false, ◌&&◌, if◌then◌else◌, bit_or, Option, Some, None}
 use Rattle.sv_types.specs.Bits.{bit, with_bits}
+use Rattle.sv_types.specs.Causes.{cause_number}
 use Rattle.sv_types.specs.Registers.{Supervisor, legal_epc, sip_value}
+use Rattle.sv_types.specs.declared.exit.ExitCause.{ExitCause}
 use Rattle.sv_types.specs.declared.wires.Mode.{Mode}
 use Rattle.sv_types.specs.declared.wires.Mode.TheVariants.{Kernel, User}
 use Rattle.sv_types.specs.declared.wires.Lines.{Lines}
@@ -14,6 +16,22 @@ use Rattle.sv_types.specs.declared.wires.Interrupt.TheVariants.{External, Softwa
 abbrev pub is_kernel : Mode → Bool
 is_kernel Kernel = true
 is_kernel User = false
+
+-- ---- the cause of a trap
+
+abbrev pub interrupt_number : Interrupt → ℕ
+interrupt_number External = 9
+interrupt_number Software = 1
+interrupt_number Timer = 5
+
+abbrev pub is_interrupt : ExitCause → Bool
+is_interrupt (ExitCause.Exception cause) = false
+is_interrupt (ExitCause.Interrupt interrupt) = true
+
+-- its number as the guest has it, without scause's bit 63
+abbrev pub guest_number : ExitCause → ℕ
+guest_number (ExitCause.Exception cause) = cause_number cause
+guest_number (ExitCause.Interrupt interrupt) = interrupt_number interrupt
 
 -- ---- a trap
 
@@ -52,11 +70,6 @@ unfoldable pub supervisor_at_return : Supervisor → Supervisor
 supervisor_at_return s = record s { sstatus = status_at_return s.sstatus }
 
 -- ---- interrupts
-
-abbrev pub interrupt_number : Interrupt → ℕ
-interrupt_number External = 9
-interrupt_number Software = 1
-interrupt_number Timer = 5
 
 -- the first of the interrupts that a test lets through
 abbrev pub first_interrupt : (Interrupt → Bool) → Option Interrupt

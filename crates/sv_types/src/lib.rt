@@ -7,6 +7,7 @@ mod cause;
 mod csr;
 mod effect;
 mod event;
+mod exit;
 mod failed;
 mod instruction;
 mod kernel;
@@ -31,6 +32,7 @@ pub use cause::Cause;
 pub use csr::{Csr, CsrFault};
 pub use effect::Effect;
 pub use event::{Counts, Event, Note, Rule, Verdict};
+pub use exit::{Exit, ExitCause};
 pub use failed::Failed;
 pub use instruction::{
     AmoOp, BranchOp, CsrOp, HyperOp, Instr, LoadOp, Op32Op, OpImm32Op, OpImmOp, OpOp, StoreOp,
@@ -49,4 +51,4 @@ pub use status::Status;
 pub use steps::Steps;
 pub use translation::{Fault, GuestFault, Place};
 pub use view_laws::{law_two_stages, law_walks_apart, law_walks_inside};
-pub use wires::{Access, Exit, HRegs, Interrupt, Lines, Mode, Protection, View};
+pub use wires::{Access, HRegs, Interrupt, Lines, Mode, Protection, View};

@@ -1,7 +1,7 @@
 // What an attempt of an instruction comes to.
 
 use crate::cause::Cause;
-use crate::wires::Exit;
+use crate::exit::Exit;
 
 /// The bytes that an attempt wrote: `width` of them from a host place on.
 #[derive(Clone, Copy, Debug, PartialEq, Eq, Drop)]

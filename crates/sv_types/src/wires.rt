@@ -73,14 +73,3 @@ pub struct Lines {
     pub external: bool,
     pub timer: bool,
 }
-
-/// What an attempt hands to SecVisor.
-#[derive(Clone, Copy, Debug, PartialEq, Eq, Drop)]
-pub struct Exit {
-    pub interrupt: bool,
-    pub cause: u64,
-    pub pc: u64,
-    pub stval: u64,
-    pub htval: u64,
-    pub htinst: u32,
-}
