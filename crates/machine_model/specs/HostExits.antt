@@ -4,8 +4,9 @@ use Rattle.std.specs.Str.{bytes_eq}
 use Rattle.sv_types.specs.Bytes.{page_size, page_of, page_bytes}
 use Rattle.sv_types.specs.Measure.{page_digest, joined_digests}
 use Rattle.sv_types.specs.Policies.{Rules, ModuleRule}
+use Rattle.sv_types.specs.Traps.{is_interrupt, guest_number}
 use Rattle.sv_types.specs.declared.module.Site.{Site}
-use Rattle.sv_types.specs.declared.wires.Exit.{Exit}
+use Rattle.sv_types.specs.declared.exit.Exit.{Exit}
 use Rattle.sv_types.specs.declared.wires.Mode.{Mode}
 use Rattle.machine_model.specs.HostHarts.{with_host, host_outside, host_seen, host_trap, host_return, host_demote, host_write_stopped, host_device_load, host_device_store}
 use Rattle.machine_model.specs.Served.{exit_answer}
@@ -21,7 +22,7 @@ use Rattle.reference.specs.Relocations.{masked, fields_right}
 -- ---- exits; `mode` is the one that the hart is in
 
 unfoldable pub host_exit_answered : Machine → ℕ → HostHart → Mode → ExitAnswer → Machine
-host_exit_answered m h host mode (Traps interrupt cause tval) = host_trap m h host mode interrupt cause tval
+host_exit_answered m h host mode (Traps cause tval) = host_trap m h host mode (is_interrupt cause) (guest_number cause) tval
 host_exit_answered m h host mode Returns = host_return m h host
 host_exit_answered m h host mode (Demotes gpa) = host_demote m h host gpa
 host_exit_answered m h host mode LeavesEntry = with_host m h host_outside

@@ -1,21 +1,21 @@
 -- What an exit is answered, by what it tells and by the hart's mode, and what such an answer makes of a state. RISC-V Privileged
 -- manual, H extension, "Trap Cause Codes" and "Transformed Instruction or Pseudoinstruction for mtinst or htinst", for what an
 -- exit tells; the answers are this project's own.
-use Rattle.std.specs.Prelude.{ℕ, ◌+◌, ◌-◌, ◌*◌, ◌%◌, ◌^◌, min, Bool, true, false, not, ◌&&◌, ◌||◌, List, ◌==◌, if◌then◌else◌, Option, Some, None, option_map}
+use Rattle.std.specs.Prelude.{ℕ, ◌+◌, ◌-◌, ◌*◌, ◌%◌, ◌^◌, min, Bool, true, false, ◌||◌, List, ◌==◌, if◌then◌else◌, Option, Some, None, option_map}
 use Rattle.sv_types.specs.Bytes.{in_ram}
-use Rattle.sv_types.specs.Causes.{cause_number}
 use Rattle.sv_types.specs.Effects.{effect_of}
 use Rattle.sv_types.specs.Instructions.{instruction_of}
 use Rattle.sv_types.specs.HardwareMemory.{implicit_read}
 use Rattle.sv_types.specs.declared.cause.Cause.{Cause}
 use Rattle.sv_types.specs.declared.effect.Effect.{Effect}
 use Rattle.sv_types.specs.declared.instruction.Instr.{Instr}
-use Rattle.sv_types.specs.declared.wires.Exit.{Exit}
+use Rattle.sv_types.specs.declared.exit.Exit.{Exit}
+use Rattle.sv_types.specs.declared.exit.ExitCause.{ExitCause}
 use Rattle.sv_types.specs.declared.wires.Mode.{Mode}
 use Rattle.sv_types.specs.declared.wires.Mode.TheVariants.{Kernel, User}
 use Rattle.reference.specs.States.{State, Hart, Binding}
 use Rattle.reference.specs.Devices.{device_load, device_store}
-use Rattle.reference.specs.Trapping.{trap_from, returned_from_trap}
+use Rattle.reference.specs.Trapping.{trap, returned_from_trap}
 use Rattle.reference.specs.Requests.{carry_out_device_load, carry_out_device_store, write_stopped}
 use Rattle.reference.specs.Answers.{call}
 use Rattle.reference.specs.Turn.{demote, bound_entry, leave_entry, turn}
@@ -43,7 +43,7 @@ transformed htinst registers pc = option_map (λ instr. effect_of instr register
 -- ---- the fetch
 
 abbrev pub raises : Cause → (tval : ℕ) → ExitAnswer
-raises cause tval = Traps false (cause_number cause) tval
+raises cause tval = Traps (ExitCause.Exception cause) tval
 
 -- kernel mode leaves for user mode where the page isn't approved
 unfoldable pub fetch_answer : List ℕ → Mode → Exit → ExitAnswer
@@ -106,28 +106,40 @@ seen_of r hart exit = record {
   effect = transformed exit.htinst hart.registers hart.pc;
 }
 
--- ---- outside of an entry; an interrupt stands one place higher than the guest's
+-- ---- outside of an entry
+
+-- the guest takes its interrupts, and those exceptions that have no answer of their own
+abbrev pub answer_by : ExitCause → Seen → Exit → ExitAnswer
+answer_by (ExitCause.Interrupt interrupt) seen exit = Traps (ExitCause.Interrupt interrupt) 0
+answer_by (ExitCause.Exception Cause.GuestCall) seen exit = Calls
+answer_by (ExitCause.Exception Cause.GuestFetch) seen exit = fetch_answer seen.ram seen.mode exit
+answer_by (ExitCause.Exception Cause.GuestLoad) seen exit = load_answer exit seen.effect
+answer_by (ExitCause.Exception Cause.Virtual) seen exit = virtual_answer seen.mode exit
+answer_by (ExitCause.Exception Cause.GuestStore) seen exit = write_answer seen.ram exit seen.effect
+answer_by (ExitCause.Exception cause) seen exit = raises cause exit.stval
 
 unfoldable pub plain_answer : Seen → Exit → ExitAnswer
-plain_answer seen exit =
-    if exit.interrupt then Traps true (exit.cause - 1) 0
-    else if exit.cause == 10 then Calls
-    else if exit.cause == 20 then fetch_answer seen.ram seen.mode exit
-    else if exit.cause == 21 then load_answer exit seen.effect
-    else if exit.cause == 22 then virtual_answer seen.mode exit
-    else if exit.cause == 23 then write_answer seen.ram exit seen.effect
-    else Traps false exit.cause exit.stval
+plain_answer seen exit = answer_by exit.cause seen exit
 
 -- ---- the fetch in an entry
 
--- a fetch faulted in the first stage, or in the second
+-- a fetch faulted in the first stage
+abbrev pub is_fetch_fault : ExitCause → Bool
+is_fetch_fault (ExitCause.Exception Cause.InstrPage) = true
+is_fetch_fault _ = false
+
+-- a fetch faulted in the second
+abbrev pub is_guest_fetch_fault : ExitCause → Bool
+is_guest_fetch_fault (ExitCause.Exception Cause.GuestFetch) = true
+is_guest_fetch_fault _ = false
+
 abbrev pub is_fetch_exit : Exit → Bool
-is_fetch_exit exit = not exit.interrupt && (exit.cause == 12 || exit.cause == 20)
+is_fetch_exit exit = is_fetch_fault exit.cause || is_guest_fetch_fault exit.cause
 
 -- the address in RAM that a refused fetch led to, 0 where it led to none
 unfoldable pub exit_ram_gpa : List ℕ → Exit → ℕ
 exit_ram_gpa ram exit =
-    if exit.cause == 12 then 0
+    if is_fetch_fault exit.cause then 0
     else if is_implicit exit then 0
     else if in_ram ram (exit_gpa exit) 4 then exit_gpa exit
     else 0
@@ -154,7 +166,7 @@ is_again _ = false
 
 -- with the entry left, the turn is that of the state where it was left before
 unfoldable pub exit_answered : State → ℕ → Hart → ExitAnswer → State
-exit_answered r h hart (Traps interrupt cause tval) = trap_from r h hart hart.mode interrupt cause tval
+exit_answered r h hart (Traps cause tval) = trap r h hart cause tval
 exit_answered r h hart Returns = returned_from_trap r h hart
 exit_answered r h hart (Demotes gpa) = demote r h hart gpa
 exit_answered r h hart LeavesEntry = turn (leave_entry r h hart) h

@@ -1,12 +1,13 @@
 // What an exit of a hart is answered.
 
+use sv_types::ExitCause;
+
 /// The answer to an exit.
 #[derive(Clone, Copy, Debug, PartialEq, Eq, Drop)]
 pub enum ExitAnswer {
-    /// The hart traps, by the numbers of the trap.
+    /// The hart traps, with the value that `stval` takes.
     Traps {
-        interrupt: bool,
-        cause: u64,
+        cause: ExitCause,
         tval: u64,
     },
     /// It returns from its trap.

@@ -1,35 +1,17 @@
 -- Traps of the reference machine, and their return. RISC-V Privileged manual, "Supervisor Trap Vector Base Address
 -- Register" and "Trap-Return Instructions"; that user mode enters the kernel at permitted addresses alone is this project's
 -- own.
-use Rattle.std.specs.Prelude.{ℕ, Bool, true, false, if◌then◌else◌, Option, None}
-use Rattle.sv_types.specs.Causes.{cause_number}
+use Rattle.std.specs.Prelude.{ℕ, Bool, true, if◌then◌else◌, Option, None}
 use Rattle.sv_types.specs.Policies.{Rules}
-use Rattle.sv_types.specs.Traps.{interrupt_number, trap_target, supervisor_at_trap, supervisor_at_return, mode_at_return}
+use Rattle.sv_types.specs.Traps.{is_interrupt, guest_number, trap_target, supervisor_at_trap, supervisor_at_return, mode_at_return}
 use Rattle.sv_types.specs.declared.cause.Cause.{Cause}
+use Rattle.sv_types.specs.declared.exit.ExitCause.{ExitCause}
 use Rattle.sv_types.specs.declared.wires.Interrupt.{Interrupt}
 use Rattle.sv_types.specs.declared.wires.Mode.{Mode}
 use Rattle.sv_types.specs.declared.wires.Mode.TheVariants.{Kernel, User}
 use Rattle.sv_types.specs.declared.event.Rule.TheVariants.{Entry}
 use Rattle.reference.specs.States.{State, Hart, has_number, place_of_entry, with_hart}
 use Rattle.reference.specs.Counting.{count, count_trap, count_return, stopped_by}
-
--- why a hart traps: an interrupt, or an exception with the value that stval takes
-pub data Reason : Type 0 where
-  Interrupted : (interrupt : Interrupt) → Reason
-  Raised : (cause : Cause) → (tval : ℕ) → Reason
-
-abbrev pub is_interrupt : Reason → Bool
-is_interrupt (Interrupted interrupt) = true
-is_interrupt (Raised cause tval) = false
-
--- the cause as scause has it, without its bit 63
-abbrev pub cause_of : Reason → ℕ
-cause_of (Interrupted interrupt) = interrupt_number interrupt
-cause_of (Raised cause tval) = cause_number cause
-
-abbrev pub tval_of : Reason → ℕ
-tval_of (Interrupted interrupt) = 0
-tval_of (Raised cause tval) = tval
 
 -- the entry that a hart is in after a trap: from user mode the target's, where it is bound, and from kernel mode the same as
 -- before
@@ -63,11 +45,15 @@ trap_from r h hart from interrupt cause tval =
     then trap_entered r h hart from interrupt cause tval
     else stopped_by r h (Entry (trap_target hart.supervisor.stvec interrupt cause))
 
-abbrev pub trap : State → ℕ → Hart → Reason → State
-trap r h hart reason = trap_from r h hart hart.mode (is_interrupt reason) (cause_of reason) (tval_of reason)
+-- a trap by its cause, and the value that stval takes
+abbrev pub trap : State → ℕ → Hart → ExitCause → (tval : ℕ) → State
+trap r h hart cause tval = trap_from r h hart hart.mode (is_interrupt cause) (guest_number cause) tval
 
-abbrev pub exception : State → ℕ → Hart → Cause → ℕ → State
-exception r h hart cause tval = trap r h hart (Raised cause tval)
+abbrev pub exception : State → ℕ → Hart → Cause → (tval : ℕ) → State
+exception r h hart cause tval = trap r h hart (ExitCause.Exception cause) tval
+
+abbrev pub take_interrupt : State → ℕ → Hart → Interrupt → State
+take_interrupt r h hart interrupt = trap r h hart (ExitCause.Interrupt interrupt) 0
 
 -- ---- the return
 

@@ -20,7 +20,7 @@ use Rattle.sv_types.specs.declared.event.Note.TheVariants.{Demote}
 use Rattle.reference.specs.States.{State, Hart, Loading, Binding, binding_at, is_approved_in, with_hart}
 use Rattle.reference.specs.Counting.{count, note, count_demote}
 use Rattle.reference.specs.Devices.{lines_at}
-use Rattle.reference.specs.Trapping.{Interrupted, trap, exception, returned_from_trap}
+use Rattle.reference.specs.Trapping.{exception, take_interrupt, returned_from_trap}
 use Rattle.reference.specs.Requests.{stepped, carried_out, source_of, target_of, settings_of, csr_asked, carry_out_load, carry_out_store, carry_out_load_reserved, carry_out_store_conditional, carry_out_amo, carry_out_csr}
 use Rattle.reference.specs.Answers.{call}
 use Rattle.reference.specs.Loads.{load_step}
@@ -161,7 +161,7 @@ bound_entry rules (Some i) = binding_at rules i
 
 -- an interrupt, or else a fetch
 unfoldable pub act_on_pending : State → ℕ → Hart → Option Interrupt → State
-act_on_pending r h hart (Some interrupt) = trap r h hart (Interrupted interrupt)
+act_on_pending r h hart (Some interrupt) = take_interrupt r h hart interrupt
 act_on_pending r h hart None = fetch_in_entry r h hart (bound_entry r.rules hart.entry)
 
 unfoldable pub act : State → ℕ → Hart → State
