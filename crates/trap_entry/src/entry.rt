@@ -2,10 +2,10 @@
 
 ghost use Rattle.std.specs.Prelude.{◌≡◌, ◌%◌};
 ghost use Rattle.sv_types.specs.HypervisorRegisters.{registers_at_trap, registers_at_return, registers_at_exit};
-ghost use Rattle.sv_types.specs.Traps.{trap_target, trap_cause, status_at_trap, status_at_return, mode_at_return};
+ghost use Rattle.sv_types.specs.Traps.{is_interrupt, guest_number, trap_target, trap_cause, status_at_trap, status_at_return, mode_at_return};
 
 use csr_file::Csrs;
-use sv_types::{Exit, Mode, has_bit, with_bits};
+use sv_types::{Exit, ExitCause, Mode, has_bit, with_bits};
 
 /// SIE of a status: kernel mode takes interrupts.
 const SIE: u64 = 1 << 1;
@@ -61,13 +61,13 @@ fn mode_at_return(status: u64) -> Mode
 /// Where a guest's trap goes: to the base of `vstvec`, or for an interrupt, where its bit 0 is set, to the place of the
 /// cause behind it, modulo 2^64.
 #[tactic(auto, using(sv_types::proofs::RegisterBits::target_aligned), unfolding(sv_types::specs::Traps::trap_target))]
-pub fn target(csrs: &Csrs, interrupt: bool, cause: u64) -> u64
-    ensures value { result ≡ trap_target csrs.now.vstvec interrupt cause }
+pub fn target(csrs: &Csrs, cause: ExitCause) -> u64
+    ensures value { result ≡ trap_target csrs.now.vstvec (is_interrupt cause) (guest_number cause) }
     ensures aligned { result % 4 ≡ 0 }
 {
     let base = csrs.vstvec & !VECTOR_MODE;
-    if interrupt && has_bit(csrs.vstvec, 0) {
-        base.wrapping_add(cause.wrapping_mul(4))
+    if cause.is_interrupt() && has_bit(csrs.vstvec, 0) {
+        base.wrapping_add(cause.guest_number().wrapping_mul(4))
     } else {
         base
     }
@@ -75,24 +75,17 @@ pub fn target(csrs: &Csrs, interrupt: bool, cause: u64) -> u64
 
 /// Enters the guest's kernel from a mode by a trap at a pc. Gives where it goes on, in kernel mode.
 #[tactic(auto, unfolding(sv_types::specs::HypervisorRegisters::registers_at_trap))]
-pub fn into_guest(
-    csrs: &mut Csrs,
-    from: Mode,
-    interrupt: bool,
-    cause: u64,
-    tval: u64,
-    pc: u64,
-) -> u64
+pub fn into_guest(csrs: &mut Csrs, from: Mode, cause: ExitCause, tval: u64, pc: u64) -> u64
     requires { pc % 4 ≡ 0 }
-    ensures target { result ≡ trap_target csrs.old.vstvec interrupt cause }
+    ensures target { result ≡ trap_target csrs.old.vstvec (is_interrupt cause) (guest_number cause) }
     ensures aligned { result % 4 ≡ 0 }
-    ensures registers { csrs.new ≡ registers_at_trap csrs.old from pc interrupt cause tval }
+    ensures registers { csrs.new ≡ registers_at_trap csrs.old from pc (is_interrupt cause) (guest_number cause) tval }
 {
     csrs.vsstatus = status_at_trap(csrs.vsstatus, from);
     csrs.vsepc = pc;
-    csrs.vscause = shown_cause(interrupt, cause);
+    csrs.vscause = shown_cause(cause.is_interrupt(), cause.guest_number());
     csrs.vstval = tval;
-    target(csrs, interrupt, cause)
+    target(csrs, cause)
 }
 
 /// Leaves the fields of an exit for the hypervisor, and gives the exit. The guest's registers stay.
@@ -103,7 +96,7 @@ pub fn into_hypervisor(csrs: &mut Csrs, exit: Exit) -> Exit
     ensures registers { csrs.new ≡ registers_at_exit csrs.old exit }
 {
     csrs.sepc = exit.pc;
-    csrs.scause = shown_cause(exit.interrupt, exit.cause);
+    csrs.scause = shown_cause(exit.cause.is_interrupt(), exit.cause.exit_number());
     csrs.stval = exit.stval;
     csrs.htval = exit.htval;
     csrs.htinst = exit.htinst as u64;

@@ -2,7 +2,7 @@
 
 use super::{into_guest, into_hypervisor, pending, return_to_guest, target};
 use csr_file::Csrs;
-use sv_types::{Exit, HRegs, Interrupt, Lines, Mode};
+use sv_types::{Cause, Exit, ExitCause, HRegs, Interrupt, Lines, Mode};
 
 const KERNEL: HRegs = HRegs {
     mode: Mode::Kernel,
@@ -56,9 +56,13 @@ fn enters_and_returns(rt: HostRuntime) {
     let mut csrs = Csrs::at_boot();
     assert_eq!(rt; csrs.write(&KERNEL, 0x100, 0xC0002), Ok(()));
     assert_eq!(rt; csrs.write(&KERNEL, 0x105, 0x80001101), Ok(()));
-    assert_eq!(rt; target(&csrs, false, 8), 0x80001100);
     assert_eq!(rt;
-        into_guest(&mut csrs, Mode::Kernel, true, 5, 7, 0x80001000),
+        target(&csrs, ExitCause::Exception(Cause::UserCall)),
+        0x80001100
+    );
+    let timer = ExitCause::Interrupt(Interrupt::Timer);
+    assert_eq!(rt;
+        into_guest(&mut csrs, Mode::Kernel, timer, 7, 0x80001000),
         0x80001114
     );
     assert_eq!(rt; (csrs.vsstatus, csrs.vsepc), (0xC0120, 0x80001000));
@@ -66,8 +70,7 @@ fn enters_and_returns(rt: HostRuntime) {
     assert_eq!(rt; return_to_guest(&mut csrs), (0x80001000, Mode::Kernel));
     assert_eq!(rt; csrs.vsstatus, 0xC0022);
     let exit = Exit {
-        interrupt: false,
-        cause: 23,
+        cause: ExitCause::Exception(Cause::GuestStore),
         pc: 0x80001004,
         stval: 0x80002003,
         htval: 0x20000800,

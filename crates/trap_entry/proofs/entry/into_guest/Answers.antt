@@ -8,4 +8,4 @@ use Rattle.trap_entry.proofs.entry.into_guest.Goals as goal
 pub invariant_of-csrs : goal.invariant_of-csrs
 unfolding registers_at_trap
 invariant_of-csrs c = rw (c.status_at_trap-csrs-inside.ensures, c.shown_cause-csrs-inside.ensures)
-    (trap_is_legal (registers_of c.csrs.inside) c.args.from c.args.pc c.args.interrupt c.args.cause c.args.tval c.csrs.invariant c.requires (omega arith))
+    (trap_is_legal (registers_of c.csrs.inside) c.args.from c.args.pc c.is_interrupt.result c.guest_number.result c.args.tval c.csrs.invariant c.requires (omega arith))
