@@ -10,6 +10,7 @@ use Rattle.sv_types.specs.Regions.{IsWidth, host_word, write_host}
 use Rattle.sv_types.specs.Requests.{loaded_value, reserved_at, covers, after_write}
 use Rattle.sv_types.specs.SecondStage.{with_ram}
 use Rattle.sv_types.specs.declared.cause.Cause.{Cause}
+use Rattle.sv_types.specs.declared.exit.ExitCause.{ExitCause}
 use Rattle.sv_types.specs.declared.effect.Effect.{Effect}
 use Rattle.sv_types.specs.declared.instruction.AmoOp.{AmoOp}
 use Rattle.sv_types.specs.declared.outcome.Outcome.{Outcome}
@@ -48,7 +49,7 @@ pub record IsAtomicWord (htinst : ℕ) (hart : Hart) : Type 0 where
 
 load_exit_by : (r : State) (h : ℕ) (hart : Hart) (address htval htinst pc : ℕ) (e : Effect) → IsAtomic e
     → exception r h hart Cause.LoadAccess address
-    ≡ exit_answered r h hart (load_answer (record { interrupt = false; cause = 21; pc = pc; stval = address; htval = htval; htinst = htinst }) (Some e))
+    ≡ exit_answered r h hart (load_answer (record { cause = ExitCause.Exception Cause.GuestLoad; pc = pc; stval = address; htval = htval; htinst = htinst }) (Some e))
 unfolding exit_answered load_answer
 load_exit_by r h hart address htval htinst pc (Effect.LoadReserved rd a w) atomic = refl
 load_exit_by r h hart address htval htinst pc (Effect.StoreConditional rd a w v) atomic = refl
@@ -57,7 +58,7 @@ load_exit_by r h hart address htval htinst pc e atomic = absurd atomic
 
 load_exit : (r : State) (h : ℕ) (hart : Hart) (address htval htinst pc : ℕ) → IsAtomicWord htinst hart
     → exception r h hart Cause.LoadAccess address
-    ≡ serve_plain r h hart (record { interrupt = false; cause = 21; pc = pc; stval = address; htval = htval; htinst = htinst })
+    ≡ serve_plain r h hart (record { cause = ExitCause.Exception Cause.GuestLoad; pc = pc; stval = address; htval = htval; htinst = htinst })
 unfolding serve_plain plain_answer
 load_exit r h hart address htval htinst pc word = rw word.same (load_exit_by r h hart address htval htinst pc word.effect word.atomic)
 
@@ -102,7 +103,7 @@ lr_agrees o r h hart c rd address width htinst at word whole =
 
 store_exit_by : (r : State) (h : ℕ) (hart : Hart) (address htval htinst pc : ℕ) (e : Effect) → IsAtomic e
     → exception r h hart Cause.StoreAccess address
-    ≡ exit_answered r h hart (store_answer (record { interrupt = false; cause = 23; pc = pc; stval = address; htval = htval; htinst = htinst }) (Some e))
+    ≡ exit_answered r h hart (store_answer (record { cause = ExitCause.Exception Cause.GuestStore; pc = pc; stval = address; htval = htval; htinst = htinst }) (Some e))
 unfolding exit_answered store_answer
 store_exit_by r h hart address htval htinst pc (Effect.LoadReserved rd a w) atomic = refl
 store_exit_by r h hart address htval htinst pc (Effect.StoreConditional rd a w v) atomic = refl
@@ -111,14 +112,14 @@ store_exit_by r h hart address htval htinst pc e atomic = absurd atomic
 
 store_exit : (r : State) (h : ℕ) (hart : Hart) (address gpa htinst pc : ℕ) → IsAtomicWord htinst hart → gpa % 4096 ≡ address % 4096 → in_ram r.ram gpa 1 ≡ false
     → exception r h hart Cause.StoreAccess address
-    ≡ serve_plain r h hart (record { interrupt = false; cause = 23; pc = pc; stval = address; htval = gpa / 4; htinst = htinst })
+    ≡ serve_plain r h hart (record { cause = ExitCause.Exception Cause.GuestStore; pc = pc; stval = address; htval = gpa / 4; htinst = htinst })
 unfolding serve_plain plain_answer write_answer
 store_exit r h hart address gpa htinst pc word same outside =
     rw (word.explicit, gpa_back gpa address same, outside, word.same) (store_exit_by r h hart address (gpa / 4) htinst pc word.effect word.atomic)
 
 guarded_exit : (r : State) (h : ℕ) (hart : Hart) (address gpa htinst pc : ℕ) → IsAtomicWord htinst hart → gpa % 4096 ≡ address % 4096 → in_ram r.ram gpa 1 ≡ true
     → write_stopped r h hart gpa
-    ≡ serve_plain r h hart (record { interrupt = false; cause = 23; pc = pc; stval = address; htval = gpa / 4; htinst = htinst })
+    ≡ serve_plain r h hart (record { cause = ExitCause.Exception Cause.GuestStore; pc = pc; stval = address; htval = gpa / 4; htinst = htinst })
 unfolding serve_plain plain_answer write_answer exit_answered
 guarded_exit r h hart address gpa htinst pc word same inside = rw (word.explicit, gpa_back gpa address same, inside) refl
 

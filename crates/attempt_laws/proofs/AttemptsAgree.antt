@@ -18,7 +18,7 @@ use Rattle.sv_types.specs.declared.wires.Mode.TheVariants.{Kernel, User}
 use Rattle.sv_types.proofs.GuestViews.{guest_pending}
 use Rattle.reference.specs.States.{State, Hart, Loading}
 use Rattle.reference.specs.Devices.{lines_at}
-use Rattle.reference.specs.Trapping.{Interrupted, trap}
+use Rattle.reference.specs.Trapping.{take_interrupt}
 use Rattle.reference.specs.Turn.{fetch_and_act, fetch_in_entry, bound_entry, outside, leave_entry, turn, turn_of, turn_of_started, carry_out_instruction, carry_out_word, act_on_pending, act}
 use Rattle.machine_model.specs.Served.{plain_answer, exit_answered}
 use Rattle.attempt_laws.proofs.Plain.{serve_plain}
@@ -52,7 +52,7 @@ words_agree o r h hart c at kept told w = instruction_agrees o r h hart c w (ins
 -- ---- interrupts
 
 interrupt_served : (r : State) (h : ℕ) (hart : Hart) (interrupt : Interrupt) (pc : ℕ)
-    → trap r h hart (Interrupted interrupt) ≡ serve_plain r h hart (interrupt_exit interrupt pc)
+    → take_interrupt r h hart interrupt ≡ serve_plain r h hart (interrupt_exit interrupt pc)
 unfolding serve_plain plain_answer exit_answered
 interrupt_served r h hart External pc = refl
 interrupt_served r h hart Software pc = refl
@@ -79,13 +79,13 @@ unfolding after_interrupt
 user_interrupts t c hart interrupt user = rw (user, undelegated_in interrupt) refl
 
 interrupt_agrees : (o : Unseen) (r : State) (h : ℕ) (hart : Hart) (c : HypervisorRegisters) (interrupt : Interrupt) (mode : Mode) → IsAt o r h hart c → hart.mode ≡ mode
-    → Agrees o r h hart c (with_region (region_at o r) (after_interrupt (core_at o c hart) interrupt)) (trap r h hart (Interrupted interrupt))
+    → Agrees o r h hart c (with_region (region_at o r) (after_interrupt (core_at o c hart) interrupt)) (take_interrupt r h hart interrupt)
 interrupt_agrees o r h hart c interrupt Kernel at kernel =
-    subst (λ (s : Step). Agrees o r h hart c (with_region (region_at o r) s) (trap r h hart (Interrupted interrupt)))
+    subst (λ (s : Step). Agrees o r h hart c (with_region (region_at o r) s) (take_interrupt r h hart interrupt))
     (sym (kernel_interrupts (length o.tables) c hart interrupt kernel))
     (kernel_trap_agrees o r h hart c true (interrupt_number interrupt) 0 at kernel)
 interrupt_agrees o r h hart c interrupt User at user =
-    leaves_agrees o r h hart c (after_interrupt (core_at o c hart) interrupt) (interrupt_exit interrupt hart.pc) (trap r h hart (Interrupted interrupt))
+    leaves_agrees o r h hart c (after_interrupt (core_at o c hart) interrupt) (interrupt_exit interrupt hart.pc) (take_interrupt r h hart interrupt)
     (user_interrupts (length o.tables) c hart interrupt user)
     (interrupt_served r h hart interrupt hart.pc ∙ sym (other_exit r h hart (interrupt_exit interrupt hart.pc) refl))
 

@@ -10,7 +10,7 @@ use Rattle.sv_types.specs.Traps.{supervisor_at_trap}
 use Rattle.sv_types.specs.declared.cause.Cause.{Cause}
 use Rattle.sv_types.specs.declared.outcome.Exception.{Exception}
 use Rattle.sv_types.specs.declared.outcome.Outcome.{Outcome}
-use Rattle.sv_types.specs.declared.wires.Exit.{Exit}
+use Rattle.sv_types.specs.declared.exit.Exit.{Exit}
 use Rattle.sv_types.specs.declared.wires.Mode.{Mode}
 use Rattle.sv_types.specs.declared.wires.Mode.TheVariants.{Kernel, User}
 use Rattle.reference.specs.States.{State, Hart, Binding, with_hart}

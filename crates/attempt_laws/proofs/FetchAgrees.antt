@@ -12,9 +12,10 @@ use Rattle.sv_types.specs.Regions.{host_word}
 use Rattle.sv_types.specs.SecondStage.{Sight, OfEntry, place_through, view_answer}
 use Rattle.sv_types.specs.Translation.{Destination, At, PageFault, Unreadable, place, entry_in_ram}
 use Rattle.sv_types.specs.declared.cause.Cause.{Cause}
+use Rattle.sv_types.specs.declared.exit.ExitCause.{ExitCause}
 use Rattle.sv_types.specs.declared.translation.Fault.{Fault}
 use Rattle.sv_types.specs.declared.wires.Access.TheVariants as Access
-use Rattle.sv_types.specs.declared.wires.Exit.{Exit}
+use Rattle.sv_types.specs.declared.exit.Exit.{Exit}
 use Rattle.sv_types.specs.declared.wires.Mode.{Mode}
 use Rattle.sv_types.specs.declared.wires.Mode.TheVariants.{Kernel, User}
 use Rattle.sv_types.proofs.ByteLemmas.{word_in_page_bytes}
@@ -42,7 +43,7 @@ WordsAgree o r h hart c =
 
 -- the exit of a fetch
 abbrev pub fetch_exit : (pc htval htinst : ℕ) → Exit
-fetch_exit pc htval htinst = record { interrupt = false; cause = 20; pc = pc; stval = pc; htval = htval; htinst = htinst }
+fetch_exit pc htval htinst = record { cause = ExitCause.Exception Cause.GuestFetch; pc = pc; stval = pc; htval = htval; htinst = htinst }
 
 abbrev fetch_served : State → ℕ → Hart → Mode → Exit → State
 fetch_served r h hart mode exit = exit_answered r h hart (fetch_answer r.ram mode exit)

@@ -12,6 +12,7 @@ use Rattle.sv_types.specs.Requests.{loaded_value}
 use Rattle.sv_types.specs.SecondStage.{page_in_ram, place_through, view_answer}
 use Rattle.sv_types.specs.Translation.{Destination, At, PageFault, Unreadable, place, entry_in_ram}
 use Rattle.sv_types.specs.declared.cause.Cause.{Cause}
+use Rattle.sv_types.specs.declared.exit.ExitCause.{ExitCause}
 use Rattle.sv_types.specs.declared.effect.Effect.{Effect}
 use Rattle.sv_types.specs.declared.translation.Fault.{Fault}
 use Rattle.sv_types.specs.declared.wires.Access.TheVariants as Access
@@ -43,7 +44,7 @@ gpa_back gpa va same = let low : va % 4 ≡ gpa % 4 = grind arith in rw low (gri
 -- an entry of the first stage can't be read
 pub unreadable_load : (r : State) (h : ℕ) (hart : Hart) (address htval pc : ℕ)
     → exception r h hart Cause.LoadAccess address
-    ≡ serve_plain r h hart (record { interrupt = false; cause = 21; pc = pc; stval = address; htval = htval; htinst = implicit_read })
+    ≡ serve_plain r h hart (record { cause = ExitCause.Exception Cause.GuestLoad; pc = pc; stval = address; htval = htval; htinst = implicit_read })
 unfolding serve_plain plain_answer exit_answered load_answer transformed instruction_of rows
 unreadable_load r h hart address htval pc = refl
 
@@ -51,7 +52,7 @@ unreadable_load r h hart address htval pc = refl
 device_served : (r : State) (h : ℕ) (hart : Hart) (rd address width : ℕ) (signed : Bool) (gpa htinst pc : ℕ)
     → IsLoad htinst hart rd width signed → gpa % 4096 ≡ address % 4096
     → carry_out_device_load r h hart rd address width signed (device_load r.devices gpa width)
-    ≡ serve_plain r h hart (record { interrupt = false; cause = 21; pc = pc; stval = address; htval = gpa / 4; htinst = htinst })
+    ≡ serve_plain r h hart (record { cause = ExitCause.Exception Cause.GuestLoad; pc = pc; stval = address; htval = gpa / 4; htinst = htinst })
 unfolding serve_plain plain_answer exit_answered load_answer
 device_served r h hart rd address width signed gpa htinst pc load same =
     rw (load.effect, load.explicit, gpa_back gpa address same, load_beyond r.devices gpa width) refl

@@ -9,6 +9,7 @@ use Rattle.sv_types.specs.Regions.{IsWidth, write_host}
 use Rattle.sv_types.specs.SecondStage.{page_in_ram, place_through, view_answer, with_ram}
 use Rattle.sv_types.specs.Translation.{Destination, At, PageFault, Unreadable, place, entry_in_ram}
 use Rattle.sv_types.specs.declared.cause.Cause.{Cause}
+use Rattle.sv_types.specs.declared.exit.ExitCause.{ExitCause}
 use Rattle.sv_types.specs.declared.effect.Effect.{Effect}
 use Rattle.sv_types.specs.declared.outcome.Outcome.{Outcome}
 use Rattle.sv_types.specs.declared.translation.Fault.{Fault}
@@ -38,14 +39,14 @@ pub record IsStore (htinst : ℕ) (hart : Hart) (width value : ℕ) : Type 0 whe
 
 pub unreadable_store : (r : State) (h : ℕ) (hart : Hart) (address htval pc : ℕ)
     → exception r h hart Cause.StoreAccess address
-    ≡ serve_plain r h hart (record { interrupt = false; cause = 23; pc = pc; stval = address; htval = htval; htinst = implicit_read })
+    ≡ serve_plain r h hart (record { cause = ExitCause.Exception Cause.GuestStore; pc = pc; stval = address; htval = htval; htinst = implicit_read })
 unfolding serve_plain plain_answer exit_answered write_answer
 unreadable_store r h hart address htval pc = refl
 
 device_served : (r : State) (h : ℕ) (hart : Hart) (address width value gpa htinst pc : ℕ)
     → IsStore htinst hart width value → gpa % 4096 ≡ address % 4096 → in_ram r.ram gpa 1 ≡ false
     → carry_out_device_store r h hart address (device_store r.devices r.journal gpa width value)
-    ≡ serve_plain r h hart (record { interrupt = false; cause = 23; pc = pc; stval = address; htval = gpa / 4; htinst = htinst })
+    ≡ serve_plain r h hart (record { cause = ExitCause.Exception Cause.GuestStore; pc = pc; stval = address; htval = gpa / 4; htinst = htinst })
 unfolding serve_plain plain_answer exit_answered write_answer store_answer
 device_served r h hart address width value gpa htinst pc store same outside =
     rw (store.explicit, gpa_back gpa address same, outside, store.effect, store.explicit, gpa_back gpa address same, store_beyond r.devices r.journal gpa width value) refl
@@ -53,7 +54,7 @@ device_served r h hart address width value gpa htinst pc store same outside =
 guarded_served : (r : State) (h : ℕ) (hart : Hart) (address width value gpa htinst pc : ℕ)
     → IsStore htinst hart width value → gpa % 4096 ≡ address % 4096 → in_ram r.ram gpa 1 ≡ true
     → write_stopped r h hart gpa
-    ≡ serve_plain r h hart (record { interrupt = false; cause = 23; pc = pc; stval = address; htval = gpa / 4; htinst = htinst })
+    ≡ serve_plain r h hart (record { cause = ExitCause.Exception Cause.GuestStore; pc = pc; stval = address; htval = gpa / 4; htinst = htinst })
 unfolding serve_plain plain_answer exit_answered write_answer
 guarded_served r h hart address width value gpa htinst pc store same inside =
     rw (store.explicit, gpa_back gpa address same, inside) refl
