@@ -63,10 +63,6 @@ choose_rests : (z : Watched) (r : State) (b : Bool) (x y : State) → Leaves z r
 choose_rests z r true x y s t = s
 choose_rests z r false x y s t = t
 
-decide_rests : (z : Watched) (r : State) (b : Bool) (x y : State) → (b ≡ true → Leaves z r x) → (b ≡ false → Leaves z r y) → Leaves z r (if b then x else y)
-decide_rests z r true x y s t = s refl
-decide_rests z r false x y s t = t refl
-
 then_rests : (z : Watched) (r mid next : State) → Leaves z r mid → Leaves z mid next → Leaves z r next
 then_rests z r mid next s t w = t (s w)
 
