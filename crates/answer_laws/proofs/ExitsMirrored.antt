@@ -5,7 +5,8 @@ use Rattle.sv_types.specs.HypervisorRegisters.{HypervisorRegisters}
 use Rattle.sv_types.specs.Policies.{Rules}
 use Rattle.sv_types.specs.Regions.{IsRegion}
 use Rattle.sv_types.specs.SecondStage.{AreViews, with_ram}
-use Rattle.sv_types.specs.declared.wires.Exit.{Exit}
+use Rattle.sv_types.specs.Traps.{is_interrupt, guest_number}
+use Rattle.sv_types.specs.declared.exit.Exit.{Exit}
 use Rattle.sv_types.specs.declared.wires.Mode.{Mode}
 use Rattle.sv_types.specs.declared.wires.Protection.{Protection}
 use Rattle.attempt_laws.specs.Agree.{IsAt}
@@ -40,7 +41,7 @@ use Rattle.attempt_laws.proofs.Under.{same_mode}
 exit_mirrors : (o : Unseen) (r : State) (h : ℕ) (hart : Hart) (c : HypervisorRegisters) (a : ExitAnswer) → IsAt o r h hart c → is_again a ≡ false
     → Mirrors o r h (host_exit_answered (machine_of o r) h (host_in o c hart) hart.mode a) (exit_answered r h hart a)
 unfolding machine_of host_exit_answered exit_answered is_again
-exit_mirrors o r h hart c (Traps interrupt cause tval) at once = trap_mirrors o r h hart c interrupt cause tval at
+exit_mirrors o r h hart c (Traps cause tval) at once = trap_mirrors o r h hart c (is_interrupt cause) (guest_number cause) tval at
 exit_mirrors o r h hart c Returns at once = return_mirrors o r h hart c at
 exit_mirrors o r h hart c (Demotes gpa) at once = demote_mirrors o r h hart c gpa at
 exit_mirrors o r h hart c LeavesEntry at once = absurd (cc)

@@ -4,7 +4,7 @@ use Rattle.std.specs.Prelude.{Option, Some, None, ◌==◌}
 use Rattle.sv_types.specs.Hardware.{Attempted, leave, with_region}
 use Rattle.sv_types.specs.HypervisorRegisters.{HypervisorRegisters, registers_at_exit}
 use Rattle.sv_types.specs.declared.outcome.Outcome.{Outcome}
-use Rattle.sv_types.specs.declared.wires.Exit.{Exit}
+use Rattle.sv_types.specs.declared.exit.Exit.{Exit}
 use Rattle.reference.specs.States.{State, Hart, Loading}
 use Rattle.machine_model.specs.Machine.{Machine, HostHart, raised, after_attempt, after_quiet_attempt, all_forget, with_core}
 use Rattle.machine_model.specs.HostHarts.{with_host, host_outside, host_seen}
@@ -179,7 +179,7 @@ asked_same m r h host hart exit makes =
 
 again_by : (r : State) (h : ℕ) (hart : Hart) (a : ExitAnswer) → is_again a ≡ true → exit_answered r h hart a ≡ turn (leave_entry r h hart) h
 unfolding is_again exit_answered
-again_by r h hart (Traps interrupt cause tval) again = absurd (cc)
+again_by r h hart (Traps cause tval) again = absurd (cc)
 again_by r h hart Returns again = absurd (cc)
 again_by r h hart (Demotes gpa) again = absurd (cc)
 again_by r h hart LeavesEntry again = refl

@@ -12,4 +12,3 @@ pub mod LoadsMirrored
 pub mod ExitsMirrored
 pub mod TurnsServed
 pub mod RunsReach
-pub mod FreedOneByOne

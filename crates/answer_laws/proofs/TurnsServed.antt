@@ -1,6 +1,8 @@
 -- The whole turn of a machine: it stands for the state after the turn, and no more was changed than a turn may change.
 use Rattle.sv_types.specs.Policies.{Rules}
-use Rattle.sv_types.specs.declared.wires.Exit.{Exit}
+use Rattle.sv_types.specs.declared.cause.Cause.{Cause}
+use Rattle.sv_types.specs.declared.exit.Exit.{Exit}
+use Rattle.sv_types.specs.declared.exit.ExitCause.{ExitCause}
 use Rattle.std.proofs.Common.{◌≡◌, ℕ, zero, suc, List, [], ◌∷◌, slice_set, length, refl, sym, ◌∙◌, ap, subst, Bool, true, false, slice_get}
 use Rattle.std.specs.Prelude.{Option, Some, None, option_map, if◌then◌else◌, ◌==◌}
 use Rattle.sv_types.specs.declared.event.Event.{Event}
@@ -16,7 +18,7 @@ use Rattle.answer_laws.specs.Laws.{MakesAttempt, IsQuiet}
 use Rattle.machine_model.specs.HardwareEvent.{attempted}
 use Rattle.machine_model.specs.Machine.{Machine, HostHart, HostLoad, update, all_forget, with_core, after_attempt, after_quiet_attempt, raised}
 use Rattle.machine_model.specs.HostHarts.{host_outside, host_seen, asks_again}
-use Rattle.machine_model.specs.Served.{Seen, is_implicit, exit_gpa, is_sret_word, fetch_answer, load_answer, store_answer, write_answer, virtual_answer, plain_answer, answer_in, exit_answer, is_again}
+use Rattle.machine_model.specs.Served.{Seen, is_implicit, exit_gpa, is_sret_word, fetch_answer, load_answer, store_answer, write_answer, virtual_answer, answer_by, plain_answer, answer_in, exit_answer, is_again}
 use Rattle.machine_model.specs.declared.exits.ExitAnswer.{ExitAnswer}
 use Rattle.sv_types.specs.Bytes.{in_ram}
 use Rattle.sv_types.specs.declared.effect.Effect.{Effect}
@@ -155,15 +157,18 @@ unfolding virtual_answer is_again
 virtual_once Kernel exit = choose_once (is_sret_word exit.stval) _ _ refl refl
 virtual_once User exit = refl
 
+answer_once : (cause : ExitCause) (seen : Seen) (exit : Exit) → is_again (answer_by cause seen exit) ≡ false
+unfolding is_again
+answer_once (ExitCause.Interrupt interrupt) seen exit = refl
+answer_once (ExitCause.Exception Cause.GuestFetch) seen exit = fetch_once seen.ram seen.mode exit
+answer_once (ExitCause.Exception Cause.GuestLoad) seen exit = load_once exit seen.effect
+answer_once (ExitCause.Exception Cause.Virtual) seen exit = virtual_once seen.mode exit
+answer_once (ExitCause.Exception Cause.GuestStore) seen exit = write_once seen.ram exit seen.effect
+answer_once (ExitCause.Exception cause) seen exit = refl
+
 plain_once : (seen : Seen) (exit : Exit) → is_again (plain_answer seen exit) ≡ false
-unfolding plain_answer is_again
-plain_once seen exit =
-    choose_once exit.interrupt _ _ refl
-    (choose_once (exit.cause == 10) _ _ refl
-    (choose_once (exit.cause == 20) _ _ (fetch_once seen.ram seen.mode exit)
-    (choose_once (exit.cause == 21) _ _ (load_once exit seen.effect)
-    (choose_once (exit.cause == 22) _ _ (virtual_once seen.mode exit)
-    (choose_once (exit.cause == 23) _ _ (write_once seen.ram exit seen.effect) refl)))))
+unfolding plain_answer
+plain_once seen exit = answer_once exit.cause seen exit
 
 once_in : (seen : Seen) (exit : Exit) (x : Option Binding) → x ≡ None → is_again (answer_in seen exit x) ≡ false
 unfolding answer_in

@@ -4,7 +4,7 @@ use Rattle.sv_types.specs.declared.event.Event.{Event}
 use Rattle.sv_types.specs.declared.event.Event.TheVariants.{Turn}
 use Rattle.sv_types.specs.declared.event.Verdict.TheVariants.{Running}
 use Rattle.sv_types.specs.declared.outcome.Outcome.{Outcome}
-use Rattle.sv_types.specs.declared.wires.Exit.{Exit}
+use Rattle.sv_types.specs.declared.exit.Exit.{Exit}
 use Rattle.reference.specs.States.{State, Hart, Loading}
 use Rattle.reference.specs.Counting.{count, count_turn}
 use Rattle.reference.specs.Run.{step, run}
