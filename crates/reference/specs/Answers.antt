@@ -1,6 +1,6 @@
 -- What an answer to a call does: to the hart that called, to devices and journal, to pages and modules, to other harts.
 -- This project's own.
-use Rattle.std.specs.Prelude.{ℕ, List, [], ◌++◌, filter, slice_set, Some, None, true, false, ℤ, pos, negsuc}
+use Rattle.std.specs.Prelude.{ℕ, List, [], ◌++◌, filter, slice_set, Some, None, true, false}
 use Rattle.sv_types.specs.ApprovedPages.{numbers_from, approved_pages}
 use Rattle.sv_types.specs.Clock.{with_timer, latest}
 use Rattle.sv_types.specs.Console.{without_first}
@@ -9,10 +9,12 @@ use Rattle.sv_types.specs.declared.event.Counts.{Counts}
 use Rattle.sv_types.specs.declared.event.Note.TheVariants.{Load, Unload, Retire}
 use Rattle.sv_types.specs.declared.event.Verdict.TheVariants.{Shutdown}
 use Rattle.sv_types.specs.declared.module.Span.{Span}
+use Rattle.sv_types.specs.declared.sbi.SbiCode.{SbiCode}
+use Rattle.sv_types.specs.declared.sbi.SbiCode.TheVariants.{Success, RefusedByMeasure}
 use Rattle.reference.specs.States.{State, Hart, Devices, Journal, has_number, module_pages, with_module, without_module, without_pages, without_reservation}
 use Rattle.reference.specs.Counting.{counted, noted, printed_low, machine_ended, count_load, count_unload, count_refused}
-use Rattle.reference.specs.Calls.{facts_of, asked_by, success, started_hart, interrupted, mask_names}
-use Rattle.reference.specs.ModuleCalls.{answer_of, refused_by_measure}
+use Rattle.reference.specs.Calls.{facts_of, asked_by, started_hart, interrupted, mask_names}
+use Rattle.reference.specs.ModuleCalls.{answer_of}
 use Rattle.reference.specs.declared.answers.Answer.{Answer}
 use Rattle.reference.specs.declared.answers.Beside.{Beside}
 use Rattle.reference.specs.declared.answers.Beside.TheVariants.{SetsTimer, Prints, TakesInput, ShutsDown, SendsInterrupts, StartsHart, BeginsLoad, RefusesLoad, ApprovesModule, ReleasesModule, UnloadsModule, RefusesUnload, RetiresInit, RefusesRetire}
@@ -46,21 +48,21 @@ devices_beside TakesInput h d = record d { console = without_first d.console }
 devices_beside _ h d = d
 
 -- a code other than success counts as refused
-abbrev pub count_answer : ℤ → Counts → Counts
-count_answer (pos n) c = c
-count_answer (negsuc n) c = count_refused c
+abbrev pub count_answer : SbiCode → Counts → Counts
+count_answer Success c = c
+count_answer _ c = count_refused c
 
 -- what the end of a load, an unload or a retirement is noted with, by its hart and the count of turns
 unfoldable pub journal_beside : Beside → ℕ → Journal → Journal
 journal_beside (Prints byte) h j = printed_low byte j
 journal_beside ShutsDown h j = machine_ended Shutdown j
-journal_beside (RefusesLoad id number) h j = noted (Load h j.counts.turns id number) (counted (count_answer number) j)
-journal_beside (ApprovesModule m) h j = noted (Load h j.counts.turns m.id success) (counted count_load j)
-journal_beside (ReleasesModule m) h j = noted (Load h j.counts.turns m.id refused_by_measure) (counted count_refused j)
-journal_beside (UnloadsModule m) h j = noted (Unload h j.counts.turns m.id success) (counted count_unload j)
-journal_beside (RefusesUnload id number) h j = noted (Unload h j.counts.turns id number) (counted (count_answer number) j)
-journal_beside (RetiresInit span) h j = noted (Retire h j.counts.turns success) j
-journal_beside (RefusesRetire number) h j = noted (Retire h j.counts.turns number) (counted (count_answer number) j)
+journal_beside (RefusesLoad id how) h j = noted (Load h j.counts.turns id how) (counted (count_answer how) j)
+journal_beside (ApprovesModule m) h j = noted (Load h j.counts.turns m.id Success) (counted count_load j)
+journal_beside (ReleasesModule m) h j = noted (Load h j.counts.turns m.id RefusedByMeasure) (counted count_refused j)
+journal_beside (UnloadsModule m) h j = noted (Unload h j.counts.turns m.id Success) (counted count_unload j)
+journal_beside (RefusesUnload id how) h j = noted (Unload h j.counts.turns id how) (counted (count_answer how) j)
+journal_beside (RetiresInit span) h j = noted (Retire h j.counts.turns Success) j
+journal_beside (RefusesRetire how) h j = noted (Retire h j.counts.turns how) (counted (count_answer how) j)
 journal_beside _ h j = j
 
 -- ---- to pages and modules

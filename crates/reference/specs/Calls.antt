@@ -1,8 +1,7 @@
 -- Calls from kernel mode, but for those about modules. Each call has one line, which says its answer.
 -- RISC-V SBI, "Base Extension", "Legacy Extensions", "Timer Extension", "IPI Extension", "RFENCE Extension",
 -- "Hart State Management Extension", "System Reset Extension". The extension 08534543 is this project's own.
-use Rattle.std.specs.Prelude.{ℕ, ◌+◌, ◌-◌, ◌^◌, Bool, true, false, not, ◌&&◌, ◌||◌, List, [], ◌∷◌, map, length, replicate, slice_index, ◌==◌, if◌then◌else◌, nat_le, nat_lt, Option, Some, None, slice_get, is_some, ℤ, pos, negsuc}
-use Rattle.std.specs.Int.{w64, cast_unsigned}
+use Rattle.std.specs.Prelude.{ℕ, ◌+◌, ◌-◌, ◌^◌, Bool, true, false, not, ◌&&◌, ◌||◌, List, [], ◌∷◌, map, length, replicate, slice_index, ◌==◌, if◌then◌else◌, nat_le, nat_lt, Option, Some, None, slice_get, is_some}
 use Rattle.std.specs.List.{list_all}
 use Rattle.sv_types.specs.Bits.{bit}
 use Rattle.sv_types.specs.Console.{console_line}
@@ -10,7 +9,10 @@ use Rattle.sv_types.specs.Effects.{register, set_register}
 use Rattle.sv_types.specs.ApprovedPages.{numbers_from}
 use Rattle.sv_types.specs.Policies.{Rules}
 use Rattle.sv_types.specs.Registers.{Supervisor}
+use Rattle.sv_types.specs.SbiCodes.{code_word}
 use Rattle.sv_types.specs.declared.saved.SavedModule.{SavedModule}
+use Rattle.sv_types.specs.declared.sbi.SbiCode.{SbiCode}
+use Rattle.sv_types.specs.declared.sbi.SbiCode.TheVariants.{Success, NoInput, NotSupported, InvalidParameter, InvalidAddress, Already}
 use Rattle.sv_types.specs.declared.wires.Mode.TheVariants.{Kernel}
 use Rattle.reference.specs.States.{State, Hart, has_number, is_protected}
 use Rattle.reference.specs.declared.answers.Answer.{Answer}
@@ -18,29 +20,6 @@ use Rattle.reference.specs.declared.answers.Beside.TheVariants.{Nothing, SetsTim
 use Rattle.reference.specs.declared.answers.Extension.{Extension}
 use Rattle.reference.specs.declared.answers.Reply.{Reply}
 use Rattle.reference.specs.declared.answers.Reply.TheVariants.{Gives, Replies, Stays, Stops}
-
--- ---- codes
-
-abbrev pub success : ℤ
-success = pos 0
-
-abbrev pub no_input : ℤ
-no_input = negsuc 0
-
-abbrev pub not_supported : ℤ
-not_supported = negsuc 1
-
-abbrev pub invalid_parameter : ℤ
-invalid_parameter = negsuc 2
-
-abbrev pub invalid_address : ℤ
-invalid_address = negsuc 4
-
-abbrev pub already : ℤ
-already = negsuc 5
-
-abbrev pub code_word : ℤ → ℕ
-code_word code = cast_unsigned w64 code
 
 -- ---- what a call asks: a7 is register 17, a6 register 16, a0 to a3 are registers 10 to 13
 
@@ -91,14 +70,14 @@ facts_of r = record {
 
 -- ---- answers
 
-abbrev pub code : ℤ → Reply
-code number = Replies (code_word number) 0
+abbrev pub code : SbiCode → Reply
+code how = Replies (code_word how) 0
 
 abbrev pub value : ℕ → Reply
 value number = Replies 0 number
 
 abbrev pub refused : Reply
-refused = code not_supported
+refused = code NotSupported
 
 abbrev pub plain : Reply → Answer
 plain reply = record { reply = reply; beside = Nothing }
@@ -112,7 +91,7 @@ abbrev pub put_char : ℕ → Answer
 put_char byte = record { reply = Gives 0; beside = Prints byte }
 
 abbrev pub first_input : List ℕ → ℕ
-first_input queue = if console_line queue then slice_index queue 0 else code_word no_input
+first_input queue = if console_line queue then slice_index queue 0 else code_word NoInput
 
 abbrev pub get_char : Facts → Answer
 get_char f = record { reply = Gives (first_input f.input); beside = TakesInput }
@@ -121,9 +100,6 @@ abbrev pub shut_down : Answer
 shut_down = record { reply = Stays; beside = ShutsDown }
 
 -- ---- base, timer, IPI, remote fences
-
-abbrev pub modules_number : ℕ
-modules_number = 0x08534543
 
 unfoldable pub extension_of : ℕ → Option Extension
 extension_of number =
@@ -137,7 +113,7 @@ extension_of number =
     else if number == 0x52464E43 then Some Extension.Fence
     else if number == 0x48534D then Some Extension.HartState
     else if number == 0x53525354 then Some Extension.Reset
-    else if number == modules_number then Some Extension.Modules
+    else if number == 0x08534543 then Some Extension.Modules
     else None
 
 unfoldable pub base_call : Asked → Reply
@@ -150,7 +126,7 @@ base_call ask =
     else refused
 
 unfoldable pub timer_call : Asked → Answer
-timer_call ask = if ask.function == 0 then record { reply = code success; beside = SetsTimer ask.a0 } else plain refused
+timer_call ask = if ask.function == 0 then record { reply = code Success; beside = SetsTimer ask.a0 } else plain refused
 
 abbrev pub all_harts : ℕ
 all_harts = 2 ^ 64 - 1
@@ -162,26 +138,26 @@ mask_exists harts mask base = base == all_harts || list_all (λ i. not (bit mask
 unfoldable pub ipi_call : Facts → Asked → Answer
 ipi_call f ask =
     if not (ask.function == 0) then plain refused
-    else if mask_exists (length f.started) ask.a0 ask.a1 then record { reply = code success; beside = SendsInterrupts ask.a0 ask.a1 }
-    else plain (code invalid_parameter)
+    else if mask_exists (length f.started) ask.a0 ask.a1 then record { reply = code Success; beside = SendsInterrupts ask.a0 ask.a1 }
+    else plain (code InvalidParameter)
 
 unfoldable pub fence_call : Facts → Asked → Reply
 fence_call f ask =
     if not (nat_le ask.function 2) then refused
-    else if mask_exists (length f.started) ask.a0 ask.a1 then code success
-    else code invalid_parameter
+    else if mask_exists (length f.started) ask.a0 ask.a1 then code Success
+    else code InvalidParameter
 
 -- ---- hart state and reset
 
 -- another hart begins, at a permitted entry
 unfoldable pub start_other : Facts → Asked → Option Bool → Answer
-start_other f ask None = plain (code invalid_parameter)
-start_other f ask (Some true) = plain (code already)
+start_other f ask None = plain (code InvalidParameter)
+start_other f ask (Some true) = plain (code Already)
 start_other f ask (Some false) =
-    if has_number f.rules.entries ask.a1 then record { reply = code success; beside = StartsHart ask.a0 ask.a1 ask.a2 } else plain (code invalid_address)
+    if has_number f.rules.entries ask.a1 then record { reply = code Success; beside = StartsHart ask.a0 ask.a1 ask.a2 } else plain (code InvalidAddress)
 
 abbrev pub status_of_hart : Option Bool → Reply
-status_of_hart None = code invalid_parameter
+status_of_hart None = code InvalidParameter
 status_of_hart (Some started) = value (if started then 0 else 1)
 
 unfoldable pub hart_call : Facts → Asked → Answer
@@ -196,7 +172,7 @@ reset_call ask =
     if not (ask.function == 0) then plain refused
     else if ask.a0 == 0 then shut_down
     else if nat_le ask.a0 2 then plain refused
-    else plain (code invalid_parameter)
+    else plain (code InvalidParameter)
 
 -- ---- harts that begin
 

@@ -1,29 +1,25 @@
 -- The calls that load and unload modules and free the kernel's init text, the decision of a load, and the choice among all
 -- calls. This project's own; the choice is RISC-V SBI's, "Binary Encoding".
-use Rattle.std.specs.Prelude.{ℕ, ◌*◌, ◌%◌, Bool, not, ◌&&◌, ◌==◌, if◌then◌else◌, Option, Some, None, slice_get, is_some, ℤ, negsuc}
+use Rattle.std.specs.Prelude.{ℕ, ◌*◌, ◌%◌, Bool, not, ◌&&◌, ◌==◌, if◌then◌else◌, Option, Some, None, slice_get, is_some}
 use Rattle.std.specs.List.{list_any}
 use Rattle.sv_types.specs.Bytes.{page_size, page_of, in_ram}
 use Rattle.sv_types.specs.Policies.{ModuleRule}
 use Rattle.sv_types.specs.ApprovedPages.{numbers_from}
 use Rattle.sv_types.specs.declared.module.Span.{Span}
 use Rattle.sv_types.specs.declared.saved.SavedModule.{SavedModule}
+use Rattle.sv_types.specs.declared.sbi.SbiCode.{SbiCode}
+use Rattle.sv_types.specs.declared.sbi.SbiCode.TheVariants.{Success, InvalidParameter, RefusedByMeasure, InvalidAddress, Already, UnderWay}
 use Rattle.reference.specs.States.{find_module}
-use Rattle.reference.specs.Calls.{Asked, Facts, success, invalid_parameter, invalid_address, already, code, plain, refused, extension_of, set_timer, put_char, get_char, shut_down, base_call, timer_call, ipi_call, fence_call, hart_call, reset_call}
+use Rattle.reference.specs.Calls.{Asked, Facts, code, plain, refused, extension_of, set_timer, put_char, get_char, shut_down, base_call, timer_call, ipi_call, fence_call, hart_call, reset_call}
 use Rattle.reference.specs.declared.answers.Answer.{Answer}
 use Rattle.reference.specs.declared.answers.Beside.TheVariants.{BeginsLoad, RefusesLoad, ApprovesModule, ReleasesModule, UnloadsModule, RefusesUnload, RetiresInit, RefusesRetire}
 use Rattle.reference.specs.declared.answers.Extension.{Extension}
 use Rattle.reference.specs.declared.answers.Reply.TheVariants.{Stays}
 
-abbrev pub refused_by_measure : ℤ
-refused_by_measure = negsuc 3
-
-abbrev pub under_way : ℤ
-under_way = negsuc 6
-
 -- ---- load
 
-abbrev pub load_refused : (id : ℕ) → ℤ → Answer
-load_refused id number = record { reply = code number; beside = RefusesLoad id number }
+abbrev pub load_refused : (id : ℕ) → SbiCode → Answer
+load_refused id how = record { reply = code how; beside = RefusesLoad id how }
 
 -- gpa and va are multiples of a page's size, and the pages are in RAM and free
 unfoldable pub good_address : Facts → (gpa va pages : ℕ) → Bool
@@ -36,35 +32,35 @@ module_asked ask = record { id = ask.a0; gpa = ask.a1; va = ask.a2; data_va = as
 
 -- the first check that fails gives the answer; the hart of a load that begins stays at its call
 unfoldable pub load_call : Facts → Asked → Option ModuleRule → Answer
-load_call f ask None = load_refused ask.a0 invalid_parameter
+load_call f ask None = load_refused ask.a0 InvalidParameter
 load_call f ask (Some rule) =
-    if f.loads then load_refused ask.a0 under_way
-    else if is_some (find_module f.loaded ask.a0) then load_refused ask.a0 already
+    if f.loads then load_refused ask.a0 UnderWay
+    else if is_some (find_module f.loaded ask.a0) then load_refused ask.a0 Already
     else if good_address f ask.a1 ask.a2 rule.pages then record { reply = Stays; beside = BeginsLoad (module_asked ask) rule.pages }
-    else load_refused ask.a0 invalid_address
+    else load_refused ask.a0 InvalidAddress
 
 -- the end of a load, by whether the text in RAM is good
 abbrev pub load_decision : Bool → SavedModule → Answer
 load_decision good m =
-    if good then record { reply = code success; beside = ApprovesModule m } else record { reply = code refused_by_measure; beside = ReleasesModule m }
+    if good then record { reply = code Success; beside = ApprovesModule m } else record { reply = code RefusedByMeasure; beside = ReleasesModule m }
 
 -- ---- unload
 
-abbrev pub unload_refused : (id : ℕ) → ℤ → Answer
-unload_refused id number = record { reply = code number; beside = RefusesUnload id number }
+abbrev pub unload_refused : (id : ℕ) → SbiCode → Answer
+unload_refused id how = record { reply = code how; beside = RefusesUnload id how }
 
 unfoldable pub unload_call : Facts → ℕ → Option SavedModule → Answer
-unload_call f id None = unload_refused id invalid_parameter
-unload_call f id (Some m) = if f.loads then unload_refused id under_way else record { reply = code success; beside = UnloadsModule m }
+unload_call f id None = unload_refused id InvalidParameter
+unload_call f id (Some m) = if f.loads then unload_refused id UnderWay else record { reply = code Success; beside = UnloadsModule m }
 
 -- ---- retire
 
-abbrev pub retire_refused : ℤ → Answer
-retire_refused number = record { reply = code number; beside = RefusesRetire number }
+abbrev pub retire_refused : SbiCode → Answer
+retire_refused how = record { reply = code how; beside = RefusesRetire how }
 
 unfoldable pub retire_call : Facts → Option Span → Answer
-retire_call f None = retire_refused invalid_parameter
-retire_call f (Some span) = if f.retired then retire_refused already else record { reply = code success; beside = RetiresInit span }
+retire_call f None = retire_refused InvalidParameter
+retire_call f (Some span) = if f.retired then retire_refused Already else record { reply = code Success; beside = RetiresInit span }
 
 unfoldable pub module_call : Facts → Asked → Answer
 module_call f ask =

@@ -3,6 +3,7 @@
 use Rattle.std.specs.Prelude.{List, [], ◌∷◌, ◌++◌, ℕ, codes}
 use Rattle.std.specs.Fmt.{decimal, signed_decimal}
 use Rattle.sv_types.specs.Output.{line_feed, address_text, report_lines}
+use Rattle.sv_types.specs.SbiCodes.{code_number}
 use Rattle.sv_types.specs.declared.event.Note.{Note}
 use Rattle.sv_types.specs.declared.event.Note.TheVariants.{Demote, Denied, Load, Unload, Retire}
 use Rattle.reference.specs.States.{State, Journal}
@@ -14,12 +15,12 @@ note_line (Demote hart turn pc gpa) =
 note_line (Denied gpa) = codes "denied gpa " ++ (address_text gpa ++ line_feed)
 note_line (Load hart turn id code) =
     codes "load hart " ++ (decimal hart ++ (codes " turn " ++ (decimal turn ++ (codes " id " ++ (decimal id ++
-    (codes " code " ++ (signed_decimal code ++ line_feed)))))))
+    (codes " code " ++ (signed_decimal (code_number code) ++ line_feed)))))))
 note_line (Unload hart turn id code) =
     codes "unload hart " ++ (decimal hart ++ (codes " turn " ++ (decimal turn ++ (codes " id " ++ (decimal id ++
-    (codes " code " ++ (signed_decimal code ++ line_feed)))))))
+    (codes " code " ++ (signed_decimal (code_number code) ++ line_feed)))))))
 note_line (Retire hart turn code) =
-    codes "retire hart " ++ (decimal hart ++ (codes " turn " ++ (decimal turn ++ (codes " code " ++ (signed_decimal code ++ line_feed)))))
+    codes "retire hart " ++ (decimal hart ++ (codes " turn " ++ (decimal turn ++ (codes " code " ++ (signed_decimal (code_number code) ++ line_feed)))))
 
 abbrev pub note_lines : List Note → List ℕ
 note_lines [] = []

@@ -1,6 +1,9 @@
 // What a call from kernel mode is answered: what becomes of the hart that called, and what happens beside.
 
-use sv_types::{SavedModule, Span};
+ghost use Rattle.std.specs.Prelude.{◌≡◌};
+ghost use Rattle.reference.specs.Calls.{code, value, plain, extension_of};
+
+use sv_types::{SavedModule, SbiCode, Span};
 
 /// An extension of SBI. The first four are legacy calls.
 #[derive(Clone, Copy, Debug, PartialEq, Eq, Drop)]
@@ -18,6 +21,29 @@ pub enum Extension {
     Modules,
 }
 
+impl Extension {
+    /// The extension of a number.
+    #[tactic(auto, unfolding(crate::specs::Calls::extension_of))]
+    pub fn from_number(number: u64) -> Option<Extension>
+        ensures { result ≡ extension_of number }
+    {
+        match number {
+            0 => Some(Extension::SetTimer),
+            1 => Some(Extension::PutChar),
+            2 => Some(Extension::GetChar),
+            8 => Some(Extension::ShutDown),
+            0x10 => Some(Extension::Base),
+            0x5449_4D45 => Some(Extension::Timer),
+            0x0073_5049 => Some(Extension::Interrupt),
+            0x5246_4E43 => Some(Extension::Fence),
+            0x0048_534D => Some(Extension::HartState),
+            0x5352_5354 => Some(Extension::Reset),
+            0x0853_4543 => Some(Extension::Modules),
+            _ => None,
+        }
+    }
+}
+
 /// What becomes of the hart that called.
 #[derive(Clone, Copy, Debug, PartialEq, Eq, Drop)]
 pub enum Reply {
@@ -29,6 +55,25 @@ pub enum Reply {
     Stays,
     /// It stays at its call, and is stopped.
     Stops,
+}
+
+impl Reply {
+    /// A code without a value.
+    pub fn of_code(how: SbiCode) -> Reply
+        ensures { result ≡ code how }
+    {
+        Reply::Replies {
+            a0: how.word(),
+            a1: 0,
+        }
+    }
+
+    /// Success with a value.
+    pub fn of_value(number: u64) -> Reply
+        ensures { result ≡ value number }
+    {
+        Reply::Replies { a0: 0, a1: number }
+    }
 }
 
 /// What happens beside.
@@ -50,7 +95,7 @@ pub enum Beside {
     /// A load begins: the module's pages are held.
     BeginsLoad { about: SavedModule, pages: u64 },
     /// A load is refused by a code.
-    RefusesLoad { id: u64, code: i64 },
+    RefusesLoad { id: u64, code: SbiCode },
     /// The load under way ends with the module's pages approved.
     ApprovesModule { about: SavedModule },
     /// It ends with them free again.
@@ -58,11 +103,11 @@ pub enum Beside {
     /// A module's pages become free.
     UnloadsModule { about: SavedModule },
     /// An unload is refused by a code.
-    RefusesUnload { id: u64, code: i64 },
+    RefusesUnload { id: u64, code: SbiCode },
     /// The kernel's init text becomes free.
     RetiresInit { span: Span },
     /// That is refused by a code.
-    RefusesRetire { code: i64 },
+    RefusesRetire { code: SbiCode },
 }
 
 /// An answer.
@@ -70,4 +115,16 @@ pub enum Beside {
 pub struct Answer {
     pub reply: Reply,
     pub beside: Beside,
+}
+
+impl Answer {
+    /// A reply with nothing beside.
+    pub fn plain(reply: Reply) -> Answer
+        ensures { result ≡ plain reply }
+    {
+        Answer {
+            reply,
+            beside: Beside::Nothing,
+        }
+    }
 }

@@ -27,3 +27,4 @@ pub mod HardwareMemory
 pub mod HardwareAttempt
 pub mod Kernel
 pub mod Policies
+pub mod SbiCodes

@@ -1,5 +1,7 @@
 // What happens to the machine, and what it records.
 
+use crate::sbi::SbiCode;
+
 /// The rule by which a machine stops.
 #[derive(Clone, Copy, Debug, PartialEq, Eq, Drop)]
 pub enum Rule {
@@ -45,20 +47,20 @@ pub enum Note {
         hart: u8,
         turn: u64,
         id: u64,
-        code: i64,
+        code: SbiCode,
     },
     /// The answer to a call that unloads a module.
     Unload {
         hart: u8,
         turn: u64,
         id: u64,
-        code: i64,
+        code: SbiCode,
     },
     /// The answer to a call that frees the kernel's init text.
     Retire {
         hart: u8,
         turn: u64,
-        code: i64,
+        code: SbiCode,
     },
 }
 
