@@ -16,10 +16,9 @@ use Rattle.reference.specs.Devices.{hart_after_write}
 use Rattle.reference.specs.Soundness.{IsSound, IsSoundEntry}
 use Rattle.reference.specs.States.{State, Hart, has_number, is_approved_in, is_protected}
 use Rattle.reference.specs.Trapping.{hart_at_trap, hart_at_return, entry_in}
-use Rattle.reference.specs.Turn.{demote, demoted, leave_entry, outside}
+use Rattle.reference.specs.Turn.{after_going, demote, demoted, leave_entry, outside}
 use Rattle.run_laws.proofs.Lookups.{both}
 use Rattle.run_laws.proofs.Sounds.{InFreePage}
-use Rattle.guarantee.specs.Guarantee.{after_going}
 
 -- ---- the four things
 

@@ -9,7 +9,8 @@ use Rattle.sv_types.specs.Console.{has_room}
 use Rattle.sv_types.specs.Effects.{effect_of}
 use Rattle.sv_types.specs.Instructions.{instruction_of}
 use Rattle.sv_types.specs.Translation.{Destination, At, PageFault, Unreadable}
-use Rattle.sv_types.specs.Traps.{trap_target, interrupt_number, deliverable}
+use Rattle.sv_types.specs.Requests.{Writes}
+use Rattle.sv_types.specs.Traps.{is_kernel, trap_target, interrupt_number, deliverable}
 use Rattle.sv_types.specs.declared.cause.Cause.{Cause}
 use Rattle.sv_types.specs.declared.effect.Effect.{Effect}
 use Rattle.sv_types.specs.declared.event.Event.{Event}
@@ -30,13 +31,13 @@ use Rattle.reference.specs.Requests.{Guarded, target_of, carry_out_store, carry_
 use Rattle.reference.specs.Run.{run, step, happen, happen_under}
 use Rattle.reference.specs.Soundness.{IsSound}
 use Rattle.reference.specs.Start.{IsStart}
-use Rattle.reference.specs.States.{State, Hart, Disk, Binding, Loading, has_number, is_approved_in, is_protected}
+use Rattle.reference.specs.States.{State, Hart, Disk, Binding, Loading, has_number, in_kernel, is_approved_in, is_protected}
 use Rattle.reference.specs.Trapping.{trap_from, hart_at_trap, hart_at_return}
-use Rattle.reference.specs.Turn.{Fetched, NoWord, Stray, Word, fetched_in, fetched_at, fetch, fetch_of, place_of_pc, leads_into, noted_gpa, fetch_in_entry, bound_entry, demote, act_on_fetch, act_on_pending, act, turn_of_started, turn_of, turn, carry_out_word, carry_out_instruction, carry_out_effect}
+use Rattle.reference.specs.Turn.{going, after_going, Fetched, NoWord, Stray, Word, fetched_in, fetched_at, fetch, fetch_of, place_of_pc, leads_into, noted_gpa, fetch_in_entry, bound_entry, demote, act_on_fetch, act_on_pending, act, turn_of_started, turn_of, turn, carry_out_word, carry_out_instruction, carry_out_effect}
 use Rattle.run_laws.proofs.Lookups.{both, is_there}
 use Rattle.run_laws.proofs.StateLawsHold.{reached_sound, bytes_law, modules_law}
 use Rattle.run_laws.proofs.StepsSound.{FreeMove, beat_page, beat_sound, counted_sound}
-use Rattle.guarantee.specs.Guarantee.{is_kernel, in_kernel, going, after_going, IsMeasuredWord, KernelTurn, Loads, Traps, Demotes, Executes, KernelWordsLaw, Enters, ByTrap, ByStart, EntriesLaw, Leaves, ByReturn, ByDemotion, ByStop, ExitsLaw, ProtectedBytesLaw, Writes, WritesGuarded, Stops, AtEntry, AtWrite, StopsRight, StopsLaw}
+use Rattle.guarantee.specs.Guarantee.{IsMeasuredWord, KernelTurn, Loads, Traps, Demotes, Executes, KernelWordsLaw, Enters, ByTrap, ByStart, EntriesLaw, Leaves, ByReturn, ByDemotion, ByStop, ExitsLaw, ProtectedBytesLaw, WritesGuarded, Stops, AtEntry, AtWrite, StopsRight, StopsLaw}
 use Rattle.guarantee.proofs.Does.{IsMoving, Own, Same, Entered, Returned, Demoted, Halted, Other, Rests, Begins, IsNoStop, Ends, GoesOn, StopsAtEntry, StopsAtWrite, get_mapped, same_one, page_kept, demote_left}
 use Rattle.guarantee.proofs.Turns.{FetchedWrites, FetchedReturns, turn_does}
 

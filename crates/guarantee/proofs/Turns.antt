@@ -8,7 +8,7 @@ use Rattle.sv_types.specs.Console.{stored}
 use Rattle.sv_types.specs.Effects.{effect_of}
 use Rattle.sv_types.specs.Instructions.{instruction_of}
 use Rattle.sv_types.specs.Regions.{IsWidth}
-use Rattle.sv_types.specs.Requests.{covers}
+use Rattle.sv_types.specs.Requests.{covers, Writes}
 use Rattle.sv_types.specs.Traps.{trap_target, interrupt_number, deliverable, mode_at_return}
 use Rattle.sv_types.specs.declared.cause.Cause.{Cause}
 use Rattle.sv_types.specs.declared.csr.Csr.{Csr}
@@ -31,7 +31,7 @@ use Rattle.reference.specs.Requests.{carried_out, carried_out_writing, Source, N
 use Rattle.reference.specs.Soundness.{IsSoundLoad}
 use Rattle.reference.specs.States.{State, Hart, Binding, Devices, Disk, Journal, Loading, has_number, is_protected}
 use Rattle.reference.specs.Trapping.{trap_from, exception, returned_from_trap, hart_at_trap, hart_at_return}
-use Rattle.reference.specs.Turn.{fetch_and_act, place_of_pc, leads_into, noted_gpa, outside, leave_entry, fetch_in_entry, bound_entry, carry_out_kernel_only, carry_out_ecall, carry_out_sret, carry_out_effect, carry_out_instruction, carry_out_word, Fetched, NoWord, Stray, Word, fetch_of, demote, act_on_fetch, act_on_pending, act, turn_of_started, turn_of, turn}
+use Rattle.reference.specs.Turn.{fetch_and_act, place_of_pc, leads_into, noted_gpa, outside, leave_entry, fetch_in_entry, bound_entry, carry_out_kernel_only, carry_out_ecall, carry_out_sret, carry_out_effect, carry_out_instruction, carry_out_word, effect_of_word, Fetched, NoWord, Stray, Word, fetch_of, demote, act_on_fetch, act_on_pending, act, turn_of_started, turn_of, turn}
 use Rattle.reference.specs.declared.answers.Answer.{Answer}
 use Rattle.reference.specs.declared.answers.Beside.{Beside}
 use Rattle.reference.specs.declared.answers.Beside.TheVariants.{ShutsDown, SendsInterrupts, StartsHart, BeginsLoad}
@@ -45,7 +45,7 @@ use Rattle.run_laws.proofs.OthersRest.{sent, get_sent, was_stopped}
 use Rattle.run_laws.proofs.RequestsSound.{FreeTarget, IsFreePlace, target_free, free_page}
 use Rattle.run_laws.proofs.Sounds.{InFreePage}
 use Rattle.run_laws.proofs.StepsSound.{leave_goes}
-use Rattle.guarantee.specs.Guarantee.{effect_of_word, Writes, WritesGuarded}
+use Rattle.guarantee.specs.Guarantee.{WritesGuarded}
 use Rattle.guarantee.proofs.Does.{IsMoving, Own, Same, Entered, Returned, Demoted, Halted, Other, Rests, Begins, IsNoStop, GoesOn, StopsAtEntry, StopsAtWrite, Does, set_own, set_other, same_one, rests_other, does_nothing, does_set, does_write, choose_does, decide_does, does_for, does_left}
 
 -- ---- traps

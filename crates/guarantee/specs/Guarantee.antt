@@ -1,20 +1,16 @@
 -- What a guest can't do, whatever it and its devices try: in each law `r` is a state that a run reaches from a start `s`.
 -- This project's own.
-use Rattle.std.specs.Prelude.{◌≡◌, ℕ, Bool, true, false, ◌&&◌, List, Option, Some, option_map, slice_get}
+use Rattle.std.specs.Prelude.{◌≡◌, ℕ, Bool, true, false, List, Option, Some, slice_get}
 use Rattle.sv_types.specs.ApprovedPages.{approved_bytes}
 use Rattle.sv_types.specs.Bytes.{word, page_bytes, page_of, place_in_page}
-use Rattle.sv_types.specs.Effects.{effect_of}
-use Rattle.sv_types.specs.Instructions.{instruction_of}
 use Rattle.sv_types.specs.Translation.{At}
+use Rattle.sv_types.specs.Requests.{Writes}
 use Rattle.sv_types.specs.Traps.{trap_target, mode_at_return}
 use Rattle.sv_types.specs.declared.effect.Effect.{Effect}
 use Rattle.sv_types.specs.declared.event.Event.{Event}
-use Rattle.sv_types.specs.declared.event.Event.TheVariants.{Turn, Beat}
 use Rattle.sv_types.specs.declared.event.Rule.{Rule}
-use Rattle.sv_types.specs.declared.event.Rule.TheVariants.{Entry, Write}
-use Rattle.sv_types.specs.declared.event.Verdict.TheVariants.{Running, Stopped}
+use Rattle.sv_types.specs.declared.event.Verdict.{Verdict}
 use Rattle.sv_types.specs.declared.wires.Mode.{Mode}
-use Rattle.sv_types.specs.declared.wires.Mode.TheVariants.{Kernel, User}
 use Rattle.reference.specs.Calls.{started_hart}
 use Rattle.reference.specs.Counting.{count, count_turn, stopped_by}
 use Rattle.reference.specs.Disk.{beat_gpa}
@@ -22,33 +18,10 @@ use Rattle.reference.specs.Loads.{load_step}
 use Rattle.reference.specs.Requests.{Guarded, target_of}
 use Rattle.reference.specs.Run.{run, step}
 use Rattle.reference.specs.Start.{IsStart}
-use Rattle.reference.specs.States.{State, Hart, Loading, has_number, is_protected}
+use Rattle.reference.specs.States.{State, Hart, Loading, has_number, in_kernel, is_protected}
 use Rattle.reference.specs.Trapping.{hart_at_trap, hart_at_return, trap_from}
-use Rattle.reference.specs.Turn.{Word, carry_out_word, demote, fetch_of, leave_entry, outside, place_of_pc}
+use Rattle.reference.specs.Turn.{Word, after_going, carry_out_word, demote, effect_of_word, fetch_of, going, place_of_pc}
 use Rattle.run_laws.specs.StateLaws.{HasOrigin}
-
-abbrev pub is_kernel : Mode → Bool
-is_kernel Kernel = true
-is_kernel User = false
-
--- a hart that is stopped runs in no mode
-abbrev pub in_kernel : Hart → Bool
-in_kernel hart = hart.started && is_kernel hart.mode
-
--- where the policy binds entries, a hart that goes on elsewhere has left its entry, and nothing else is changed
-abbrev pub going : (left : Bool) → Hart → Hart
-going false hart = hart
-going true hart = outside hart
-
-abbrev pub after_going : (left : Bool) → State → ℕ → Hart → State
-after_going false r h hart = r
-after_going true r h hart = leave_entry r h hart
-
--- what the word does, none where it is no instruction
-abbrev pub effect_of_word : ℕ → Hart → Option Effect
-effect_of_word w hart = option_map (λ i. effect_of i hart.registers hart.pc) (instruction_of w)
-
--- ---- words: what a turn in kernel mode is
 
 -- the word at the hart's pc lies in an approved page, as it was approved, and as RAM has it. The page is the kernel's text as it
 -- was at the start, or a part of a loaded module's that measures to the policy's digest with each field right
@@ -67,22 +40,21 @@ pub data KernelTurn (s r q : State) (h : ℕ) (hart : Hart) (next : State) : Typ
   Loads : (load : Loading) → r.loading ≡ Some load → load.hart ≡ h → next ≡ load_step q h hart load → KernelTurn s r q h hart next
   -- an interrupt, or a fetch that faults
   Traps : (left interrupt : Bool) (cause tval : ℕ) →
-      next ≡ trap_from (after_going left q h hart) h (going left hart) Kernel interrupt cause tval → KernelTurn s r q h hart next
+      next ≡ trap_from (after_going left q h hart) h (going left hart) Mode.Kernel interrupt cause tval → KernelTurn s r q h hart next
   -- it leaves for user mode, and executes nothing
   Demotes : (gpa : ℕ) → next ≡ demote q h hart gpa → KernelTurn s r q h hart next
   Executes : (left : Bool) (w : ℕ) → IsMeasuredWord s r hart w → next ≡ carry_out_word (after_going left q h hart) h (going left hart) w →
       KernelTurn s r q h hart next
 
 abbrev pub KernelWordsLaw : Type 0
-KernelWordsLaw = (s : State) (events : List Event) (h : ℕ) (hart : Hart) → IsStart s → (run s events).journal.verdict ≡ Running →
+KernelWordsLaw = (s : State) (events : List Event) (h : ℕ) (hart : Hart) → IsStart s → (run s events).journal.verdict ≡ Verdict.Running →
     slice_get (run s events).harts h ≡ Some hart → in_kernel hart ≡ true →
-    KernelTurn s (run s events) (count (run s events) count_turn) h hart (step (run s events) (Turn h))
+    KernelTurn s (run s events) (count (run s events) count_turn) h hart (step (run s events) (Event.Turn h))
 
--- ---- entries and exits: how a hart comes to kernel mode, and how it leaves it
-
+-- how a hart comes to kernel mode, and below how it leaves it
 pub data Enters (r : State) (e : Event) (h : ℕ) (before after : Hart) : Type 0 where
-  ByTrap : (interrupt : Bool) (cause tval : ℕ) → e ≡ Turn h → before.mode ≡ User → after ≡ hart_at_trap r.rules before User interrupt cause tval →
-      Enters r e h before after
+  ByTrap : (interrupt : Bool) (cause tval : ℕ) → e ≡ Event.Turn h → before.mode ≡ Mode.User →
+      after ≡ hart_at_trap r.rules before Mode.User interrupt cause tval → Enters r e h before after
   -- another hart starts it
   ByStart : (opaque : ℕ) → before.started ≡ false → after ≡ started_hart h after.pc opaque → Enters r e h before after
 
@@ -93,34 +65,25 @@ EntriesLaw = (s : State) (events : List Event) (e : Event) (h : ℕ) (before aft
     Enters (run s events) e h before after × (has_number (run s events).rules.entries after.pc ≡ true)
 
 pub data Leaves (r next : State) (h : ℕ) (before after : Hart) : Type 0 where
-  ByReturn : (w : ℕ) → fetch_of r before ≡ Word w → effect_of_word w before ≡ Some Effect.Sret → mode_at_return before.supervisor.sstatus ≡ User →
-      after ≡ hart_at_return before → Leaves r next h before after
+  ByReturn : (w : ℕ) → fetch_of r before ≡ Word w → effect_of_word w before ≡ Some Effect.Sret →
+      mode_at_return before.supervisor.sstatus ≡ Mode.User → after ≡ hart_at_return before → Leaves r next h before after
   ByDemotion : (gpa : ℕ) → next ≡ demote (count r count_turn) h before gpa → Leaves r next h before after
   ByStop : after.started ≡ false → Leaves r next h before after
 
 abbrev pub ExitsLaw : Type 0
 ExitsLaw = (s : State) (events : List Event) (e : Event) (h : ℕ) (before after : Hart) → IsStart s →
     slice_get (run s events).harts h ≡ Some before → slice_get (step (run s events) e).harts h ≡ Some after →
-    in_kernel before ≡ true → in_kernel after ≡ false → Leaves (run s events) (step (run s events) e) h before after × (e ≡ Turn h)
+    in_kernel before ≡ true → in_kernel after ≡ false → Leaves (run s events) (step (run s events) e) h before after × (e ≡ Event.Turn h)
 
--- ---- pages that are held or approved
-
+-- pages that are held or approved
 pub record KeepsPages (r : State) (e : Event) : Type 0 where
   pub bytes : (page : ℕ) → is_protected r page ≡ true → page_bytes (step r e).ram page ≡ page_bytes r.ram page
   -- a device's move to one changes no byte and no hart
-  pub moves : is_protected r (page_of (beat_gpa r.devices.disk.block)) ≡ true → ((step r Beat).ram ≡ r.ram) × ((step r Beat).harts ≡ r.harts)
+  pub moves : is_protected r (page_of (beat_gpa r.devices.disk.block)) ≡ true →
+      ((step r Event.Beat).ram ≡ r.ram) × ((step r Event.Beat).harts ≡ r.harts)
 
 abbrev pub ProtectedBytesLaw : Type 0
 ProtectedBytesLaw = (s : State) (events : List Event) (e : Event) → IsStart s → KeepsPages (run s events) e
-
--- ---- stops
-
--- an effect writes so many bytes at an address
-abbrev pub Writes : Effect → (address width : ℕ) → Type 0
-Writes (Effect.Store at bytes value) address width = (at ≡ address) × (bytes ≡ width)
-Writes (Effect.StoreConditional rd at bytes value) address width = (at ≡ address) × (bytes ≡ width)
-Writes (Effect.Amo rd at bytes op value) address width = (at ≡ address) × (bytes ≡ width)
-Writes _ address width = ⊥
 
 -- a word writes into a protected page
 pub record WritesGuarded (r : State) (hart : Hart) (w gpa : ℕ) : Type 0 where
@@ -133,22 +96,25 @@ pub record WritesGuarded (r : State) (hart : Hart) (w gpa : ℕ) : Type 0 where
 
 -- nothing changes but the count of turns and the verdict, which names the hart, the turn, and the target or the pc and the address
 pub data Stops (q : State) (h : ℕ) (hart : Hart) (next : State) : Type 0 where
-  AtEntry : (interrupt : Bool) (cause : ℕ) → hart.mode ≡ User → has_number q.rules.entries (trap_target hart.supervisor.stvec interrupt cause) ≡ false →
-      next ≡ stopped_by q h (Entry (trap_target hart.supervisor.stvec interrupt cause)) → Stops q h hart next
+  AtEntry : (interrupt : Bool) (cause : ℕ) → hart.mode ≡ Mode.User →
+      has_number q.rules.entries (trap_target hart.supervisor.stvec interrupt cause) ≡ false →
+      next ≡ stopped_by q h (Rule.Entry (trap_target hart.supervisor.stvec interrupt cause)) → Stops q h hart next
   AtWrite : (left : Bool) (w gpa : ℕ) → fetch_of q hart ≡ Word w → WritesGuarded q hart w gpa →
-      next ≡ stopped_by (after_going left q h hart) h (Write hart.pc gpa) → Stops q h hart next
+      next ≡ stopped_by (after_going left q h hart) h (Rule.Write hart.pc gpa) → Stops q h hart next
 
 pub record StopsRight (r : State) (e : Event) (h : ℕ) : Type 0 where
   pub hart : Hart
   pub found : slice_get r.harts h ≡ Some hart
-  pub turn : e ≡ Turn h
+  pub turn : e ≡ Event.Turn h
   pub stops : Stops (count r count_turn) h hart (step r e)
 
 -- every trap from user mode to another target stops, and every word that writes into a protected page
 pub record StopsLaw : Type 0 where
-  pub only : (s : State) (events : List Event) (e : Event) (rule : Rule) (h at : ℕ) → IsStart s → (run s events).journal.verdict ≡ Running →
-      (step (run s events) e).journal.verdict ≡ Stopped rule h at → StopsRight (run s events) e h
+  pub only : (s : State) (events : List Event) (e : Event) (rule : Rule) (h at : ℕ) → IsStart s →
+      (run s events).journal.verdict ≡ Verdict.Running →
+      (step (run s events) e).journal.verdict ≡ Verdict.Stopped rule h at → StopsRight (run s events) e h
   pub traps : (q : State) (h : ℕ) (hart : Hart) (interrupt : Bool) (cause tval : ℕ) →
       has_number q.rules.entries (trap_target hart.supervisor.stvec interrupt cause) ≡ false →
-      trap_from q h hart User interrupt cause tval ≡ stopped_by q h (Entry (trap_target hart.supervisor.stvec interrupt cause))
-  pub writes : (q : State) (h : ℕ) (hart : Hart) (w gpa : ℕ) → WritesGuarded q hart w gpa → carry_out_word q h hart w ≡ stopped_by q h (Write hart.pc gpa)
+      trap_from q h hart Mode.User interrupt cause tval ≡ stopped_by q h (Rule.Entry (trap_target hart.supervisor.stvec interrupt cause))
+  pub writes : (q : State) (h : ℕ) (hart : Hart) (w gpa : ℕ) → WritesGuarded q hart w gpa →
+      carry_out_word q h hart w ≡ stopped_by q h (Rule.Write hart.pc gpa)

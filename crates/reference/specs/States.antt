@@ -1,12 +1,13 @@
 -- The state of the reference machine, as plain data: what a RISC-V hart has in S and U mode (Unprivileged manual,
 -- "Programmers' Model for Base Integer ISA"; Privileged manual, "Supervisor CSRs"), memory, modules, devices and records.
-use Rattle.std.specs.Prelude.{ℕ, suc, Bool, true, false, ◌||◌, not, List, [], ◌∷◌, filter, ◌==◌, nat_lt, if◌then◌else◌, Option, Some, None, option_map, slice_get, slice_set, is_some}
+use Rattle.std.specs.Prelude.{ℕ, suc, Bool, true, false, ◌&&◌, ◌||◌, not, List, [], ◌∷◌, filter, ◌==◌, nat_lt, if◌then◌else◌, Option, Some, None, option_map, slice_get, slice_set, is_some}
 use Rattle.std.specs.List.{list_any}
 use Rattle.sv_types.specs.Bytes.{page_of}
 use Rattle.sv_types.specs.ApprovedPages.{ApprovedPage, numbers_from, approved_bytes}
 use Rattle.sv_types.specs.Clock.{Clock}
 use Rattle.sv_types.specs.Policies.{Rules, ModuleRule}
 use Rattle.sv_types.specs.Registers.{Supervisor}
+use Rattle.sv_types.specs.Traps.{is_kernel}
 use Rattle.sv_types.specs.declared.event.Counts.{Counts}
 use Rattle.sv_types.specs.declared.wires.Mode.{Mode}
 use Rattle.sv_types.specs.declared.wires.Protection.{Protection}
@@ -26,6 +27,10 @@ pub record Hart : Type 0 where
   pub reservation : Option ℕ
   -- the entry that it came in by, by its place in the policy's list, for as long as it is in it; none where none is bound
   pub entry : Option ℕ
+
+-- a hart that is stopped runs in no mode
+abbrev pub in_kernel : Hart → Bool
+in_kernel hart = hart.started && is_kernel hart.mode
 
 -- a load under way, with the page turns that are left
 pub record Loading : Type 0 where

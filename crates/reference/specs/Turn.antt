@@ -1,7 +1,7 @@
 -- One turn of a hart: an interrupt, a fetch, an instruction. The first case that applies is done.
 -- RISC-V Unprivileged manual, "RV32I", "A", "Zicsr"; Privileged manual, "Supervisor Instructions", "Supervisor Cause
 -- Register" (the priority of exceptions). Demotion is this project's own.
-use Rattle.std.specs.Prelude.{ℕ, Bool, false, ◌&&◌, List, ◌==◌, if◌then◌else◌, Option, Some, None, slice_get}
+use Rattle.std.specs.Prelude.{ℕ, Bool, true, false, ◌&&◌, List, ◌==◌, if◌then◌else◌, Option, Some, None, option_map, slice_get}
 use Rattle.sv_types.specs.Bytes.{word, in_ram, ram_place, page_of, place_in_page}
 use Rattle.sv_types.specs.Effects.{effect_of, set_register}
 use Rattle.sv_types.specs.Instructions.{instruction_of}
@@ -77,6 +77,10 @@ carry_out_instruction r h hart w (Some instr) = carry_out_effect r h hart w (eff
 unfoldable pub carry_out_word : State → ℕ → Hart → ℕ → State
 carry_out_word r h hart w = carry_out_instruction r h hart w (instruction_of w)
 
+-- what a word does, none where it is no instruction
+abbrev pub effect_of_word : ℕ → Hart → Option Effect
+effect_of_word w hart = option_map (λ i. effect_of i hart.registers hart.pc) (instruction_of w)
+
 -- ---- the fetch
 
 pub data Fetched : Type 0 where
@@ -143,6 +147,15 @@ outside hart = record hart { entry = None }
 
 abbrev pub leave_entry : State → ℕ → Hart → State
 leave_entry r h hart = with_hart r h (outside hart)
+
+-- a hart that goes on, and the machine then, by whether the hart left its entry
+abbrev pub going : (left : Bool) → Hart → Hart
+going false hart = hart
+going true hart = outside hart
+
+abbrev pub after_going : (left : Bool) → State → ℕ → Hart → State
+after_going false r h hart = r
+after_going true r h hart = leave_entry r h hart
 
 -- in an entry, a hart whose pc leads into the page that the entry is bound to goes on there. If it doesn't, then at the entry's
 -- own address the hart is demoted, and at any other it leaves the entry and fetches as the kernel does, in this same turn

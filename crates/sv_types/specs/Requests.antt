@@ -65,3 +65,10 @@ IsRequest (Effect.StoreConditional rd address width value) = (rd < 32) × IsWidt
 IsRequest (Effect.Amo rd address width op value) = (rd < 32) × (((width ≡ 4) ⊎ (width ≡ 8)) × IsWidth width)
 IsRequest (Effect.Csr rd number op operand writes) = rd < 32
 IsRequest _ = Unit {0}
+
+-- it writes so many bytes at an address
+abbrev pub Writes : Effect → (address width : ℕ) → Type 0
+Writes (Effect.Store at bytes value) address width = (at ≡ address) × (bytes ≡ width)
+Writes (Effect.StoreConditional rd at bytes value) address width = (at ≡ address) × (bytes ≡ width)
+Writes (Effect.Amo rd at bytes op value) address width = (at ≡ address) × (bytes ≡ width)
+Writes _ address width = ⊥
