@@ -751,7 +751,7 @@ fn refuses_a_file_without_end(rt: HostRuntime) -> Result<(), Fail> {
     let alloc = rt.alloc();
     for endless in &ENDLESS {
         let want = endless.line;
-        let mut files = RealFiles::new(rt.clone()?);
+        let mut files = RealFiles::new(rt.clone()?, false);
         let left = call_on(&rt, alloc, &mut files, endless.words)?;
         assert_eq!(rt; left.status, Status::Refused, "{want}");
         assert!(rt; left.taken.as_slice() == want.as_bytes(), "{want}");

@@ -6,7 +6,7 @@ use std::test::Fail;
 
 #[test]
 fn real_files_keep_what_was_saved(rt: HostRuntime) -> Result<(), Fail> {
-    let mut files = RealFiles::new(rt.clone()?);
+    let mut files = RealFiles::new(rt.clone()?, false);
     assert!(rt; files.save("saved_bytes", b"saved").is_ok());
     match files.read(rt.alloc(), "saved_bytes", 5) {
         Ok(bytes) => assert!(rt; bytes.as_slice() == b"saved".as_slice()),

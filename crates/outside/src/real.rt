@@ -11,28 +11,46 @@ use std::{fs, io};
 /// The files of the operating system. A file that is missing is a fault; of one that is too long, or never ends, one byte
 /// more than the limit is read.
 #[derive(Drop)]
-pub struct RealFiles<R: std::rt::Files + AllocGlobal + Drop> {
+pub struct RealFiles<R: std::rt::Files + AllocGlobal + Eprint + Drop> {
     rt: R,
+    remarks: bool,
     read_faults: u64,
     save_faults: u64,
 }
 
-impl<R: std::rt::Files + AllocGlobal + Drop> RealFiles<R> {
-    pub fn new(rt: R) -> RealFiles<R>
+impl<R: std::rt::Files + AllocGlobal + Eprint + Drop> RealFiles<R> {
+    /// No call has failed yet. With `remarks` standard error says which file is read or saved, and of a fault the system's
+    /// error.
+    pub fn new(rt: R, remarks: bool) -> RealFiles<R>
         ensures { real_state result.read_faults result.save_faults ≡ real_state 0 0 }
     {
         RealFiles {
             rt,
+            remarks,
             read_faults: 0,
             save_faults: 0,
         }
     }
+
+    // A failure changes nothing.
+    fn remark(&self, work: &str, name: &str) {
+        if self.remarks {
+            let _written = eprintln!(self.rt; "secvisor: {work} {name}");
+        }
+    }
+
+    fn remark_fault(&self, name: &str, error: &io::Error) {
+        if self.remarks {
+            let _written = eprintln!(self.rt; "secvisor: {name}: {error}");
+        }
+    }
 }
 
-impl<R: std::rt::Files + AllocGlobal + Drop> Files for RealFiles<R> {
+impl<R: std::rt::Files + AllocGlobal + Eprint + Drop> Files for RealFiles<R> {
     ghost state = { λ f. real_state f.read_faults f.save_faults };
 
     fn read(&mut self, alloc: Global, name: &str, limit: usize) -> Result<Vec<u8>, FileRefusal> {
+        self.remark("reads", name);
         match first_bytes(&self.rt, alloc, name, limit) {
             Ok(bytes) => {
                 if bytes.len() > limit {
@@ -45,6 +63,7 @@ impl<R: std::rt::Files + AllocGlobal + Drop> Files for RealFiles<R> {
                 if error.kind() == ErrorKind::OutOfMemory {
                     Err(FileRefusal::Memory)
                 } else {
+                    self.remark_fault(name, &error);
                     self.read_faults += 1;
                     Err(FileRefusal::Failed)
                 }
@@ -53,9 +72,11 @@ impl<R: std::rt::Files + AllocGlobal + Drop> Files for RealFiles<R> {
     }
 
     fn save(&mut self, name: &str, bytes: &[u8]) -> Result<(), SaveFailed> {
+        self.remark("saves", name);
         match fs::write(&self.rt, name, bytes) {
             Ok(()) => Ok(()),
-            Err(_) => {
+            Err(error) => {
+                self.remark_fault(name, &error);
                 self.save_faults += 1;
                 Err(SaveFailed)
             }
@@ -84,6 +105,7 @@ pub struct StdSink<R: Print + Drop> {
 }
 
 impl<R: Print + Drop> StdSink<R> {
+    /// No write has failed yet.
     pub fn new(rt: R) -> StdSink<R>
         ensures { real_sink result.faults ≡ real_sink 0 }
     {

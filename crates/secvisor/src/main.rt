@@ -22,7 +22,7 @@ fn main(rt: HostRuntime) -> ExitCode {
     let Ok(printing) = rt.clone() else {
         return ExitCode::from(Status::Memory.number());
     };
-    let mut files = RealFiles::new(reading);
+    let mut files = RealFiles::new(reading, rt.stderr().is_terminal());
     let mut out = StdSink::new(printing);
     let mut bench = Bench { machine: None };
     let status = secvisor(&rt, rt.alloc(), &words, &mut files, &mut out, &mut bench);
