@@ -83,12 +83,14 @@ impl Journal {
         &self.notes
     }
 
+    /// The counts, which start at 0.
     pub fn counts(&self) -> Counts
         ensures { result ≡ self.now.counts }
     {
         self.counts
     }
 
+    /// How the run stands.
     pub fn verdict(&self) -> Verdict
         ensures { result ≡ self.now.verdict }
     {
@@ -121,6 +123,7 @@ impl Journal {
         };
     }
 
+    /// A hart has its turn.
     pub fn count_turn(&mut self)
         requires { self.old.counts.turns < 2 ^ 64 - 1 }
         ensures { self.new ≡ counted count_turn self.old }
@@ -128,6 +131,7 @@ impl Journal {
         self.counts.turns += 1;
     }
 
+    /// The disk does the next part of its work.
     pub fn count_beat(&mut self)
         requires { self.old.counts.beats < 2 ^ 64 - 1 }
         ensures { self.new ≡ counted count_beat self.old }
@@ -135,6 +139,7 @@ impl Journal {
         self.counts.beats += 1;
     }
 
+    /// A key is typed.
     pub fn count_key(&mut self)
         requires { self.old.counts.keys < 2 ^ 64 - 1 }
         ensures { self.new ≡ counted count_key self.old }
@@ -142,6 +147,7 @@ impl Journal {
         self.counts.keys += 1;
     }
 
+    /// Time goes on by one.
     pub fn count_tick(&mut self)
         requires { self.old.counts.ticks < 2 ^ 64 - 1 }
         ensures { self.new ≡ counted count_tick self.old }

@@ -42,12 +42,14 @@ impl Machine {
         self.parts.step(event);
     }
 
+    /// How the run stands: running, shut down by the guest, or stopped by a broken rule.
     pub fn verdict(&self) -> Verdict
         ensures { result ≡ self.now.journal.verdict }
     {
         self.parts.verdict()
     }
 
+    /// What happened so far, counted: events, instructions, traps, loads and notes.
     pub fn counts(&self) -> Counts
         ensures { result ≡ self.now.journal.counts }
     {

@@ -87,6 +87,7 @@ impl Word {
 }
 
 impl Refusal {
+    /// The status that the program ends with.
     pub fn status(&self) -> Status
         ensures { result ≡ refusal_status self.now }
     {

@@ -60,6 +60,7 @@ impl Name {
         })
     }
 
+    /// The name's characters: 1 to 64 bytes.
     pub fn text(&self) -> &str
         ensures text { result.now ≡ self.now }
         ensures some { 0 < length result.now }
