@@ -73,10 +73,6 @@ turn_bytes q h page s on e = elim (moves q h s on) [
   | inr m ↦ (turn_does q h m.0 m.1).bytes page e
 ]
 
-same_guard : (q : State) (disk : Disk) (page : ℕ) → is_protected (with_disk q disk) page ≡ is_protected q page
-unfolding is_protected
-same_guard q disk page = refl
-
 move_bytes : (q : State) (disk : Disk) (x : Move) (page : ℕ) → FreeMove q x → is_protected q page ≡ true
     → page_bytes (after_move (with_disk q disk) x).ram page ≡ page_bytes q.ram page
 unfolding after_move with_bytes
