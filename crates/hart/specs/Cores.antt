@@ -1,23 +1,23 @@
--- A hart and its hypervisor registers, as the hardware's attempt sees them. This project's own.
+-- What a hart keeps and its hypervisor registers, as the hardware's attempt sees them. This project's own.
 use Rattle.sv_types.specs.Regions.{Region}
 use Rattle.sv_types.specs.Hardware.{Core, Step, Attempted}
 use Rattle.sv_types.specs.declared.outcome.Outcome.{Outcome}
 use Rattle.sv_types.specs.declared.wires.HRegs.{HRegs}
-use Rattle.hart.specs.declared.hart.Hart.{Hart}
+use Rattle.hart.specs.declared.hart.Core.{Core as Kept}
 
-abbrev pub core_of : Hart → HRegs → Core
-core_of hart regs = record {
-  registers = hart.regs;
-  pc = hart.pc;
-  csrs = hart.csrs;
+abbrev pub core_of : Kept → HRegs → Core
+core_of core regs = record {
+  registers = core.regs;
+  pc = core.pc;
+  csrs = core.csrs;
   hregs = regs;
-  reservation = hart.reservation;
+  reservation = core.reservation;
 }
 
--- a hart after a call, and what it answered
-abbrev pub step_of : Hart → HRegs → Outcome → Step
-step_of hart regs outcome = record { core = core_of hart regs; outcome = outcome }
+-- a core after a call, and what it answered
+abbrev pub step_of : Kept → HRegs → Outcome → Step
+step_of core regs outcome = record { core = core_of core regs; outcome = outcome }
 
 -- the same with the region's bytes
-abbrev pub attempted_of : Region → Hart → HRegs → Outcome → Attempted
-attempted_of r hart regs outcome = record { region = r; core = core_of hart regs; outcome = outcome }
+abbrev pub attempted_of : Region → Kept → HRegs → Outcome → Attempted
+attempted_of r core regs outcome = record { region = r; core = core_of core regs; outcome = outcome }

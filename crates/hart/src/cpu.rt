@@ -9,7 +9,7 @@ ghost use Rattle.hart.specs.Conditions.{KeepsMode};
 
 use crate::decoder::Decoder;
 use crate::execution::attempt;
-use crate::hart::Hart;
+use crate::hart::Core;
 use crate::wires::Wires;
 use gstage_cache::Cache;
 use host_mem::HostMem;
@@ -55,28 +55,27 @@ impl Cpu {
     /// agrees with the tables.
     pub fn attempt<W: Wires>(
         &mut self,
-        hart: &mut Hart,
+        core: &mut Core,
         regs: &HRegs,
         cache: &mut Cache,
         mem: &mut HostMem,
         wires: &W,
     ) -> Outcome
         requires count { self.old < 2 ^ 64 - 1 }
-        requires aligned { hart.old.pc % 4 ≡ 0 }
+        requires aligned { core.old.pc % 4 ≡ 0 }
         requires mode { KeepsMode regs.now }
         requires second { regs.now.hgatp / 2 ^ 60 ≡ 8 }
         requires apart { WalksApart mem.old regs.now.hgatp }
         requires agrees { CacheAgrees mem.old.tables cache.old }
         ensures counted { self.new ≡ self.old + 1 }
-        ensures attempted { attempted_of mem.new hart.new regs.now result ≡ attempt mem.old (core_of hart.old regs.now) (W.seen wires.now) }
-        ensures started { hart.new.started ≡ hart.old.started }
-        ensures pc { hart.new.pc % 4 ≡ 0 }
+        ensures attempted { attempted_of mem.new core.new regs.now result ≡ attempt mem.old (core_of core.old regs.now) (W.seen wires.now) }
+        ensures pc { core.new.pc % 4 ≡ 0 }
         ensures tables { mem.new.tables ≡ mem.old.tables }
         ensures filled { FilledUnder mem.old.tables regs.now.hgatp cache.old cache.new }
         ensures agrees { CacheAgrees mem.new.tables cache.new }
         ensures written { OnlyWrites mem.old mem.new result }
     {
         self.count += 1;
-        attempt(&mut self.decoder, hart, regs, cache, mem, wires)
+        attempt(&mut self.decoder, core, regs, cache, mem, wires)
     }
 }

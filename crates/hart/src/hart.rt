@@ -7,27 +7,26 @@ ghost use Rattle.sv_types.specs.Requests.{touches, after_write};
 use csr_file::Csrs;
 use rv64_exec::Regs;
 
-/// A hart. Its reservation is the host place of the 8 aligned bytes; its mode is that of its hypervisor registers.
+/// What an attempt sees and changes of a hart. Its reservation is the host place of the 8 aligned bytes; its mode is that of
+/// its hypervisor registers.
 #[derive(Drop)]
-pub struct Hart {
+pub struct Core {
     pub regs: Regs,
     pub pc: u64,
     pub csrs: Csrs,
     pub reservation: Option<u64>,
-    pub started: bool,
 }
 
-impl Hart {
-    /// A stopped hart whose registers and pc are 0, without a reservation.
-    pub fn at_boot() -> Hart
-        ensures { result ≡ record { regs = replicate 32 0; pc = 0; csrs = registers_at_boot; reservation = None; started = false } }
+impl Core {
+    /// A core whose registers and pc are 0, without a reservation.
+    pub fn at_boot() -> Core
+        ensures { result ≡ record { regs = replicate 32 0; pc = 0; csrs = registers_at_boot; reservation = None } }
     {
-        Hart {
+        Core {
             regs: Regs::new(),
             pc: 0,
             csrs: Csrs::at_boot(),
             reservation: None,
-            started: false,
         }
     }
 
@@ -40,6 +39,25 @@ impl Hart {
             if touches(reserved, hpa, width) {
                 self.reservation = None;
             }
+        }
+    }
+}
+
+/// A hart: what an attempt sees of it, and whether it makes any.
+#[derive(Drop)]
+pub struct Hart {
+    pub core: Core,
+    pub started: bool,
+}
+
+impl Hart {
+    /// A stopped hart whose registers and pc are 0, without a reservation.
+    pub fn at_boot() -> Hart
+        ensures { result ≡ record { core = record { regs = replicate 32 0; pc = 0; csrs = registers_at_boot; reservation = None }; started = false } }
+    {
+        Hart {
+            core: Core::at_boot(),
+            started: false,
         }
     }
 }

@@ -12,6 +12,6 @@ mod trap;
 mod wires;
 
 pub use cpu::Cpu;
-pub use hart::Hart;
+pub use hart::{Core, Hart};
 pub use sv_types::{Outcome, Wrote};
 pub use wires::Wires;

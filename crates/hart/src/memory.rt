@@ -8,7 +8,7 @@ ghost use Rattle.sv_types.specs.HardwareMemory.{misaligned, page_fault, guest_pa
 ghost use Rattle.hart.specs.Cores.{core_of};
 ghost use Rattle.sv39_walk.specs.Regimes.{settings_of};
 
-use crate::hart::Hart;
+use crate::hart::Core;
 use crate::trap::plain_exception;
 use gstage_cache::Cache;
 use host_mem::HostMem;
@@ -64,16 +64,16 @@ fn fault_exception(access: Access, va: u64, htinst: u32, fault: Fault) -> Except
 }
 
 // What the hart's translation goes by.
-fn regime(hart: &Hart, regs: &HRegs) -> Regime
+fn regime(core: &Core, regs: &HRegs) -> Regime
     ensures hgatp { result.hgatp ≡ regs.now.hgatp }
     ensures mode { result.mode ≡ regs.now.mode }
-    ensures settings { settings_of result ≡ settings_at (core_of hart.now regs.now) }
+    ensures settings { settings_of result ≡ settings_at (core_of core.now regs.now) }
     ensures first { (result.vsatp / 2 ^ 60 ≡ 0) ⊎ (result.vsatp / 2 ^ 60 ≡ 8) }
 {
-    let status = hart.csrs.vsstatus;
+    let status = core.csrs.vsstatus;
     Regime {
         hgatp: regs.hgatp,
-        vsatp: hart.csrs.vsatp,
+        vsatp: core.csrs.vsatp,
         mode: regs.mode,
         sum: has_bit(status, 18),
         mxr: has_bit(status, 19),
@@ -84,7 +84,7 @@ fn regime(hart: &Hart, regs: &HRegs) -> Regime
 #[tactic(auto, unfolding(sv_types::specs::HardwareMemory::translated))]
 #[inline(never)]
 fn walked(
-    hart: &Hart,
+    core: &Core,
     regs: &HRegs,
     cache: &mut Cache,
     mem: &HostMem,
@@ -95,14 +95,14 @@ fn walked(
     requires second { regs.now.hgatp / 2 ^ 60 ≡ 8 }
     requires apart { WalksApart mem.now regs.now.hgatp }
     requires agrees { CacheAgrees mem.now.tables cache.old }
-    ensures value { result ≡ translated mem.now (core_of hart.now regs.now) access va htinst }
+    ensures value { result ≡ translated mem.now (core_of core.now regs.now) access va htinst }
     ensures place { (width : ℕ) → IsWidth width → va % width ≡ 0 → IfOk result (λ hpa. IsHostPlace mem.now hpa width) }
     ensures ram { IfOk result (λ hpa. length mem.now.tables ≤ hpa) }
     ensures agrees { CacheAgrees mem.now.tables cache.new }
     ensures filled { FilledUnder mem.now.tables regs.now.hgatp cache.old cache.new }
 {
     let _table_bytes = mem.table_bytes();
-    match translate_through(cache, mem, &regime(hart, regs), va, access) {
+    match translate_through(cache, mem, &regime(core, regs), va, access) {
         Ok(place) => Ok(place.hpa),
         Err(fault) => Err(fault_exception(access, va, htinst, fault)),
     }
@@ -111,7 +111,7 @@ fn walked(
 // The host place of a virtual address that is a guest-physical one, where its translation is held.
 #[inline(always)]
 fn held_place(
-    hart: &Hart,
+    core: &Core,
     regs: &HRegs,
     cache: &Cache,
     mem: &HostMem,
@@ -120,12 +120,12 @@ fn held_place(
 ) -> Option<u64>
     requires apart { WalksApart mem.now regs.now.hgatp }
     requires agrees { CacheAgrees mem.now.tables cache.now }
-    ensures value { IfSome result (λ hpa. (htinst : ℕ) → translated mem.now (core_of hart.now regs.now) access va htinst ≡ Ok hpa) }
+    ensures value { IfSome result (λ hpa. (htinst : ℕ) → translated mem.now (core_of core.now regs.now) access va htinst ≡ Ok hpa) }
     ensures place { IfSome result (λ hpa. (width : ℕ) → IsWidth width → va % width ≡ 0 → IsHostPlace mem.now hpa width) }
     ensures ram { IfSome result (λ hpa. length mem.now.tables ≤ hpa) }
 {
     let _table_bytes = mem.table_bytes();
-    if hart.csrs.vsatp >> 60 == 0 {
+    if core.csrs.vsatp >> 60 == 0 {
         cache.held_place(mem, regs.hgatp, va, access)
     } else {
         None
@@ -136,7 +136,7 @@ fn held_place(
 #[tactic(auto, unfolding(sv_types::specs::HardwareMemory::translated))]
 #[inline(always)]
 pub(crate) fn translated(
-    hart: &Hart,
+    core: &Core,
     regs: &HRegs,
     cache: &mut Cache,
     mem: &HostMem,
@@ -147,15 +147,15 @@ pub(crate) fn translated(
     requires second { regs.now.hgatp / 2 ^ 60 ≡ 8 }
     requires apart { WalksApart mem.now regs.now.hgatp }
     requires agrees { CacheAgrees mem.now.tables cache.old }
-    ensures value { result ≡ translated mem.now (core_of hart.now regs.now) access va htinst }
+    ensures value { result ≡ translated mem.now (core_of core.now regs.now) access va htinst }
     ensures place { (width : ℕ) → IsWidth width → va % width ≡ 0 → IfOk result (λ hpa. IsHostPlace mem.now hpa width) }
     ensures ram { IfOk result (λ hpa. length mem.now.tables ≤ hpa) }
     ensures agrees { CacheAgrees mem.now.tables cache.new }
     ensures filled { FilledUnder mem.now.tables regs.now.hgatp cache.old cache.new }
 {
-    match held_place(hart, regs, cache, mem, access, va) {
+    match held_place(core, regs, cache, mem, access, va) {
         Some(hpa) => Ok(hpa),
-        None => walked(hart, regs, cache, mem, access, va, htinst),
+        None => walked(core, regs, cache, mem, access, va, htinst),
     }
 }
 
@@ -163,7 +163,7 @@ pub(crate) fn translated(
 /// the width, then those of its translation.
 #[tactic(auto, unfolding(sv_types::specs::HardwareMemory::reached))]
 pub(crate) fn reached(
-    hart: &Hart,
+    core: &Core,
     regs: &HRegs,
     cache: &mut Cache,
     mem: &HostMem,
@@ -176,14 +176,14 @@ pub(crate) fn reached(
     requires apart { WalksApart mem.now regs.now.hgatp }
     requires agrees { CacheAgrees mem.now.tables cache.old }
     requires width { IsWidth width }
-    ensures value { result ≡ reached mem.now (core_of hart.now regs.now) access address width htinst }
+    ensures value { result ≡ reached mem.now (core_of core.now regs.now) access address width htinst }
     ensures place { IfOk result (λ hpa. IsHostPlace mem.now hpa width) }
     ensures ram { IfOk result (λ hpa. length mem.now.tables ≤ hpa) }
     ensures agrees { CacheAgrees mem.now.tables cache.new }
     ensures filled { FilledUnder mem.now.tables regs.now.hgatp cache.old cache.new }
 {
     if address.is_multiple_of(u64::from(width)) {
-        translated(hart, regs, cache, mem, access, address, htinst)
+        translated(core, regs, cache, mem, access, address, htinst)
     } else {
         Err(plain_exception(misaligned(access), address))
     }

@@ -9,29 +9,29 @@ ghost use Rattle.sv_types.specs.HardwareMemory.{retire, retire_with, after_load,
 ghost use Rattle.hart.specs.Cores.{core_of, step_of, attempted_of};
 ghost use Rattle.hart.specs.Conditions.{KeepsMode};
 
-use crate::hart::Hart;
+use crate::hart::Core;
 use crate::trap::raise;
 use host_mem::HostMem;
 use rv64_exec::amo;
 use sv_types::{AmoOp, Exception, HRegs, Outcome, Wrote};
 
 /// The hart goes on behind an instruction that is done.
-pub(crate) fn retire(hart: &mut Hart, wrote: Option<Wrote>) -> Outcome
-    ensures hart { hart.new ≡ record hart.old { pc = next_pc hart.old.pc } }
+pub(crate) fn retire(core: &mut Core, wrote: Option<Wrote>) -> Outcome
+    ensures core { core.new ≡ record core.old { pc = next_pc core.old.pc } }
     ensures outcome { result ≡ Outcome.Retired wrote }
 {
-    hart.pc = hart.pc.wrapping_add(4);
+    core.pc = core.pc.wrapping_add(4);
     Outcome::Retired { wrote }
 }
 
 /// The same with a register set.
-pub(crate) fn retire_with(hart: &mut Hart, rd: u8, value: u64, wrote: Option<Wrote>) -> Outcome
+pub(crate) fn retire_with(core: &mut Core, rd: u8, value: u64, wrote: Option<Wrote>) -> Outcome
     requires { rd < 32 }
-    ensures hart { hart.new ≡ record hart.old { regs = set_register hart.old.regs rd value; pc = next_pc hart.old.pc } }
+    ensures core { core.new ≡ record core.old { regs = set_register core.old.regs rd value; pc = next_pc core.old.pc } }
     ensures outcome { result ≡ Outcome.Retired wrote }
 {
-    hart.regs.set(rd, value);
-    retire(hart, wrote)
+    core.regs.set(rd, value);
+    retire(core, wrote)
 }
 
 // A word of `width` bytes as a register takes it.
@@ -55,7 +55,7 @@ fn loaded_value(signed: bool, width: u8, word: u64) -> u64
 /// A load.
 #[tactic(auto, unfolding(sv_types::specs::HardwareMemory::after_load))]
 pub(crate) fn load(
-    hart: &mut Hart,
+    core: &mut Core,
     regs: &HRegs,
     mem: &HostMem,
     rd: u8,
@@ -63,79 +63,76 @@ pub(crate) fn load(
     signed: bool,
     place: Result<u64, Exception>,
 ) -> Outcome
-    requires aligned { hart.old.pc % 4 ≡ 0 }
+    requires aligned { core.old.pc % 4 ≡ 0 }
     requires mode { KeepsMode regs.now }
     requires register { rd < 32 }
     requires width { IsWidth width }
     requires place { IfOk place (λ hpa. IsHostPlace mem.now hpa width) }
-    ensures step { step_of hart.new regs.now result ≡ after_load mem.now (core_of hart.old regs.now) rd width signed place }
-    ensures started { hart.new.started ≡ hart.old.started }
-    ensures pc { hart.new.pc % 4 ≡ 0 }
+    ensures step { step_of core.new regs.now result ≡ after_load mem.now (core_of core.old regs.now) rd width signed place }
+    ensures pc { core.new.pc % 4 ≡ 0 }
 {
     match place {
         Ok(hpa) => {
             let word = mem.read(hpa as usize, width);
-            retire_with(hart, rd, loaded_value(signed, width, word), None)
+            retire_with(core, rd, loaded_value(signed, width, word), None)
         }
-        Err(exception) => raise(hart, regs, exception),
+        Err(exception) => raise(core, regs, exception),
     }
 }
 
 /// A load that reserves its place.
 #[tactic(auto, unfolding(sv_types::specs::HardwareMemory::after_load_reserved))]
 pub(crate) fn load_reserved(
-    hart: &mut Hart,
+    core: &mut Core,
     regs: &HRegs,
     mem: &HostMem,
     rd: u8,
     width: u8,
     place: Result<u64, Exception>,
 ) -> Outcome
-    requires aligned { hart.old.pc % 4 ≡ 0 }
+    requires aligned { core.old.pc % 4 ≡ 0 }
     requires mode { KeepsMode regs.now }
     requires register { rd < 32 }
     requires width { IsWidth width }
     requires place { IfOk place (λ hpa. IsHostPlace mem.now hpa width) }
-    ensures step { step_of hart.new regs.now result ≡ after_load_reserved mem.now (core_of hart.old regs.now) rd width place }
-    ensures started { hart.new.started ≡ hart.old.started }
-    ensures pc { hart.new.pc % 4 ≡ 0 }
+    ensures step { step_of core.new regs.now result ≡ after_load_reserved mem.now (core_of core.old regs.now) rd width place }
+    ensures pc { core.new.pc % 4 ≡ 0 }
 {
     match place {
         Ok(hpa) => {
             let word = mem.read(hpa as usize, width);
-            hart.reservation = Some(hpa - hpa % 8);
-            retire_with(hart, rd, loaded_value(true, width, word), None)
+            core.reservation = Some(hpa - hpa % 8);
+            retire_with(core, rd, loaded_value(true, width, word), None)
         }
-        Err(exception) => raise(hart, regs, exception),
+        Err(exception) => raise(core, regs, exception),
     }
 }
 
 /// A store of the `width` lowest bytes of a value.
 #[tactic(auto, using(gstage_cache::proofs::WritesAndWalks::write_behind), unfolding(sv_types::specs::HardwareMemory::after_store))]
 pub(crate) fn store(
-    hart: &mut Hart,
+    core: &mut Core,
     regs: &HRegs,
     mem: &mut HostMem,
     width: u8,
     value: u64,
     place: Result<u64, Exception>,
 ) -> Outcome
-    requires aligned { hart.old.pc % 4 ≡ 0 }
+    requires aligned { core.old.pc % 4 ≡ 0 }
     requires mode { KeepsMode regs.now }
     requires place { IfOk place (λ hpa. IsHostPlace mem.old hpa width) }
     requires ram { IfOk place (λ hpa. length mem.old.tables ≤ hpa) }
-    ensures attempted { attempted_of mem.new hart.new regs.now result ≡ after_store mem.old (core_of hart.old regs.now) width value place }
+    ensures attempted { attempted_of mem.new core.new regs.now result ≡ after_store mem.old (core_of core.old regs.now) width value place }
     ensures tables { mem.new.tables ≡ mem.old.tables }
-    ensures started { hart.new.started ≡ hart.old.started }
-    ensures pc { hart.new.pc % 4 ≡ 0 }
+    ensures pc { core.new.pc % 4 ≡ 0 }
 {
     match place {
         Ok(hpa) => {
             mem.write(hpa as usize, width, value);
-            hart.forget(hpa, width);
-            retire(hart, Some(Wrote { hpa, width }))
+            core.forget(hpa, width);
+            retire(core, Some(Wrote { hpa, width }))
         }
-        Err(exception) => raise(hart, regs, exception),
+        Err(exception) => raise(core, regs, exception),
     }
 }
 
@@ -152,7 +149,7 @@ fn covers(reservation: Option<u64>, hpa: u64, width: u8) -> bool
 /// A store that is carried out where its bytes lie in the hart's reservation, which goes in both cases.
 #[tactic(auto, using(gstage_cache::proofs::WritesAndWalks::write_behind), unfolding(sv_types::specs::HardwareMemory::after_store_conditional))]
 pub(crate) fn store_conditional(
-    hart: &mut Hart,
+    core: &mut Core,
     regs: &HRegs,
     mem: &mut HostMem,
     rd: u8,
@@ -160,28 +157,27 @@ pub(crate) fn store_conditional(
     value: u64,
     place: Result<u64, Exception>,
 ) -> Outcome
-    requires aligned { hart.old.pc % 4 ≡ 0 }
+    requires aligned { core.old.pc % 4 ≡ 0 }
     requires mode { KeepsMode regs.now }
     requires register { rd < 32 }
     requires place { IfOk place (λ hpa. IsHostPlace mem.old hpa width) }
     requires ram { IfOk place (λ hpa. length mem.old.tables ≤ hpa) }
-    ensures attempted { attempted_of mem.new hart.new regs.now result ≡ after_store_conditional mem.old (core_of hart.old regs.now) rd width value place }
+    ensures attempted { attempted_of mem.new core.new regs.now result ≡ after_store_conditional mem.old (core_of core.old regs.now) rd width value place }
     ensures tables { mem.new.tables ≡ mem.old.tables }
-    ensures started { hart.new.started ≡ hart.old.started }
-    ensures pc { hart.new.pc % 4 ≡ 0 }
+    ensures pc { core.new.pc % 4 ≡ 0 }
 {
     match place {
         Ok(hpa) => {
-            let holds = covers(hart.reservation, hpa, width);
-            hart.reservation = None;
+            let holds = covers(core.reservation, hpa, width);
+            core.reservation = None;
             if holds {
                 mem.write(hpa as usize, width, value);
-                retire_with(hart, rd, 0, Some(Wrote { hpa, width }))
+                retire_with(core, rd, 0, Some(Wrote { hpa, width }))
             } else {
-                retire_with(hart, rd, 1, None)
+                retire_with(core, rd, 1, None)
             }
         }
-        Err(exception) => raise(hart, regs, exception),
+        Err(exception) => raise(core, regs, exception),
     }
 }
 
@@ -195,7 +191,7 @@ pub(crate) struct Operation {
 /// An atomic instruction: a load, and a store of what the operation makes of the loaded word.
 #[tactic(auto, using(gstage_cache::proofs::WritesAndWalks::write_behind), unfolding(sv_types::specs::HardwareMemory::after_amo))]
 pub(crate) fn atomic(
-    hart: &mut Hart,
+    core: &mut Core,
     regs: &HRegs,
     mem: &mut HostMem,
     rd: u8,
@@ -203,16 +199,15 @@ pub(crate) fn atomic(
     operation: Operation,
     place: Result<u64, Exception>,
 ) -> Outcome
-    requires aligned { hart.old.pc % 4 ≡ 0 }
+    requires aligned { core.old.pc % 4 ≡ 0 }
     requires mode { KeepsMode regs.now }
     requires register { rd < 32 }
     requires width { (width ≡ 4) ⊎ (width ≡ 8) }
     requires place { IfOk place (λ hpa. IsHostPlace mem.old hpa width) }
     requires ram { IfOk place (λ hpa. length mem.old.tables ≤ hpa) }
-    ensures attempted { attempted_of mem.new hart.new regs.now result ≡ after_amo mem.old (core_of hart.old regs.now) rd width operation.op operation.value place }
+    ensures attempted { attempted_of mem.new core.new regs.now result ≡ after_amo mem.old (core_of core.old regs.now) rd width operation.op operation.value place }
     ensures tables { mem.new.tables ≡ mem.old.tables }
-    ensures started { hart.new.started ≡ hart.old.started }
-    ensures pc { hart.new.pc % 4 ≡ 0 }
+    ensures pc { core.new.pc % 4 ≡ 0 }
 {
     match place {
         Ok(hpa) => {
@@ -222,14 +217,14 @@ pub(crate) fn atomic(
                 width,
                 amo(operation.op, width, word, operation.value),
             );
-            hart.forget(hpa, width);
+            core.forget(hpa, width);
             retire_with(
-                hart,
+                core,
                 rd,
                 loaded_value(true, width, word),
                 Some(Wrote { hpa, width }),
             )
         }
-        Err(exception) => raise(hart, regs, exception),
+        Err(exception) => raise(core, regs, exception),
     }
 }

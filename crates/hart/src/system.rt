@@ -7,7 +7,7 @@ ghost use Rattle.sv_types.specs.HardwareAttempt.{illegal, virtual_instruction, c
 ghost use Rattle.hart.specs.Cores.{core_of, step_of};
 ghost use Rattle.hart.specs.Conditions.{KeepsMode};
 
-use crate::hart::Hart;
+use crate::hart::Core;
 use crate::requests::{retire, retire_with};
 use crate::trap::{plain_exception, raise};
 use sv_types::{Cause, Csr, CsrFault, CsrOp, Exception, HRegs, Lines, Mode, Outcome};
@@ -38,15 +38,15 @@ fn csr_exception(word: u32, fault: CsrFault) -> Exception
 /// The register that an access reaches, or the exception. An access that also writes is judged as a write.
 #[tactic(auto, unfolding(sv_types::specs::HardwareAttempt::csr_reached))]
 pub(crate) fn csr_reached(
-    hart: &Hart,
+    core: &Core,
     regs: &HRegs,
     word: u32,
     number: u16,
     writes: bool,
 ) -> Result<Csr, Exception>
-    ensures { result ≡ csr_reached (core_of hart.now regs.now) word number writes }
+    ensures { result ≡ csr_reached (core_of core.now regs.now) word number writes }
 {
-    match hart.csrs.access(regs.mode, number, writes) {
+    match core.csrs.access(regs.mode, number, writes) {
         Ok(csr) => Ok(csr),
         Err(fault) => Err(csr_exception(word, fault)),
     }
@@ -73,14 +73,13 @@ pub(crate) struct CsrAccess {
 }
 
 // Writes the register, where the access writes, and gives its old value.
-fn exchange(hart: &mut Hart, regs: &HRegs, lines: &Lines, access: CsrAccess, csr: Csr) -> u64
-    ensures value { result ≡ csr_read (core_of hart.old regs.now) lines.now csr }
-    ensures hart { core_of hart.new regs.now ≡ (if access.writes then with_csr (core_of hart.old regs.now) csr (csr_value access.op (csr_read (core_of hart.old regs.now) lines.now csr) access.value) else core_of hart.old regs.now) }
-    ensures started { hart.new.started ≡ hart.old.started }
+fn exchange(core: &mut Core, regs: &HRegs, lines: &Lines, access: CsrAccess, csr: Csr) -> u64
+    ensures value { result ≡ csr_read (core_of core.old regs.now) lines.now csr }
+    ensures core { core_of core.new regs.now ≡ (if access.writes then with_csr (core_of core.old regs.now) csr (csr_value access.op (csr_read (core_of core.old regs.now) lines.now csr) access.value) else core_of core.old regs.now) }
 {
-    let old = hart.csrs.value(regs.hideleg, lines, csr);
+    let old = core.csrs.value(regs.hideleg, lines, csr);
     if access.writes {
-        hart.csrs
+        core.csrs
             .set(regs.hideleg, csr, csr_value(access.op, old, access.value));
     }
     old
@@ -89,67 +88,63 @@ fn exchange(hart: &mut Hart, regs: &HRegs, lines: &Lines, access: CsrAccess, csr
 /// An access to a register.
 #[tactic(auto, unfolding(sv_types::specs::HardwareAttempt::after_csr))]
 pub(crate) fn csr(
-    hart: &mut Hart,
+    core: &mut Core,
     regs: &HRegs,
     lines: &Lines,
     rd: u8,
     access: CsrAccess,
     reached: Result<Csr, Exception>,
 ) -> Outcome
-    requires aligned { hart.old.pc % 4 ≡ 0 }
+    requires aligned { core.old.pc % 4 ≡ 0 }
     requires mode { KeepsMode regs.now }
     requires register { rd < 32 }
-    ensures step { step_of hart.new regs.now result ≡ after_csr (core_of hart.old regs.now) lines.now rd access.op access.value access.writes reached }
-    ensures started { hart.new.started ≡ hart.old.started }
-    ensures pc { hart.new.pc % 4 ≡ 0 }
+    ensures step { step_of core.new regs.now result ≡ after_csr (core_of core.old regs.now) lines.now rd access.op access.value access.writes reached }
+    ensures pc { core.new.pc % 4 ≡ 0 }
 {
     match reached {
         Ok(csr) => {
-            let old = exchange(hart, regs, lines, access, csr);
-            retire_with(hart, rd, old, None)
+            let old = exchange(core, regs, lines, access, csr);
+            retire_with(core, rd, old, None)
         }
-        Err(exception) => raise(hart, regs, exception),
+        Err(exception) => raise(core, regs, exception),
     }
 }
 
 /// An instruction of supervisor mode that changes the pc alone.
 #[tactic(auto, unfolding(sv_types::specs::HardwareAttempt::after_supervisor_only))]
-pub(crate) fn supervisor_only(hart: &mut Hart, regs: &HRegs, word: u32) -> Outcome
-    requires aligned { hart.old.pc % 4 ≡ 0 }
+pub(crate) fn supervisor_only(core: &mut Core, regs: &HRegs, word: u32) -> Outcome
+    requires aligned { core.old.pc % 4 ≡ 0 }
     requires mode { KeepsMode regs.now }
-    ensures step { step_of hart.new regs.now result ≡ after_supervisor_only (core_of hart.old regs.now) word regs.now.mode }
-    ensures started { hart.new.started ≡ hart.old.started }
-    ensures pc { hart.new.pc % 4 ≡ 0 }
+    ensures step { step_of core.new regs.now result ≡ after_supervisor_only (core_of core.old regs.now) word regs.now.mode }
+    ensures pc { core.new.pc % 4 ≡ 0 }
 {
     match regs.mode {
-        Mode::Kernel => retire(hart, None),
-        Mode::User => raise(hart, regs, virtual_instruction(word)),
+        Mode::Kernel => retire(core, None),
+        Mode::User => raise(core, regs, virtual_instruction(word)),
     }
 }
 
 /// SRET, which the hypervisor carries out: VTSR is set.
 #[tactic(auto, using(crate::proofs::Returns::sret_raises))]
-pub(crate) fn sret(hart: &mut Hart, regs: &HRegs, word: u32) -> Outcome
-    requires aligned { hart.old.pc % 4 ≡ 0 }
+pub(crate) fn sret(core: &mut Core, regs: &HRegs, word: u32) -> Outcome
+    requires aligned { core.old.pc % 4 ≡ 0 }
     requires mode { KeepsMode regs.now }
-    ensures step { step_of hart.new regs.now result ≡ after_sret (core_of hart.old regs.now) word regs.now.mode }
-    ensures started { hart.new.started ≡ hart.old.started }
-    ensures pc { hart.new.pc % 4 ≡ 0 }
+    ensures step { step_of core.new regs.now result ≡ after_sret (core_of core.old regs.now) word regs.now.mode }
+    ensures pc { core.new.pc % 4 ≡ 0 }
 {
-    raise(hart, regs, virtual_instruction(word))
+    raise(core, regs, virtual_instruction(word))
 }
 
 /// ECALL.
-pub(crate) fn call(hart: &mut Hart, regs: &HRegs) -> Outcome
-    requires aligned { hart.old.pc % 4 ≡ 0 }
+pub(crate) fn call(core: &mut Core, regs: &HRegs) -> Outcome
+    requires aligned { core.old.pc % 4 ≡ 0 }
     requires mode { KeepsMode regs.now }
-    ensures step { step_of hart.new regs.now result ≡ raise (core_of hart.old regs.now) (plain_exception (call_cause regs.now.mode) 0) }
-    ensures started { hart.new.started ≡ hart.old.started }
-    ensures pc { hart.new.pc % 4 ≡ 0 }
+    ensures step { step_of core.new regs.now result ≡ raise (core_of core.old regs.now) (plain_exception (call_cause regs.now.mode) 0) }
+    ensures pc { core.new.pc % 4 ≡ 0 }
 {
     let cause = match regs.mode {
         Mode::Kernel => Cause::GuestCall,
         Mode::User => Cause::UserCall,
     };
-    raise(hart, regs, plain_exception(cause, 0))
+    raise(core, regs, plain_exception(cause, 0))
 }

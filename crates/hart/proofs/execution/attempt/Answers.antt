@@ -6,9 +6,9 @@ use Rattle.hart.proofs.execution.attempt.Goals as goal
 
 pub returns-in-Some-clause-written : goal.returns-in-Some-clause-written
 returns-in-Some-clause-written g c =
-    rw (ap (λ (s : Step). s.outcome) c.interrupt.ensures.step) (interrupt_writes c.args.mem.now (core_of c.args.hart.now c.args.regs.now) c.in-Some.taken)
+    rw (ap (λ (s : Step). s.outcome) c.interrupt.ensures.step) (interrupt_writes c.args.mem.now (core_of c.args.core.now c.args.regs.now) c.in-Some.taken)
 
 pub returns-in-None-clause-written : goal.returns-in-None-clause-written
 returns-in-None-clause-written g c =
     rw (ap (λ (a : Attempted). a.region) c.fetch.ensures.attempted, ap (λ (a : Attempted). a.outcome) c.fetch.ensures.attempted)
-    (fetch_writes c.args.mem.now (core_of c.args.hart.now c.args.regs.now) (g.W.Wires.seen c.args.wires.now) c.translated-place.result)
+    (fetch_writes c.args.mem.now (core_of c.args.core.now c.args.regs.now) (g.W.Wires.seen c.args.wires.now) c.translated-place.result)
