@@ -5,6 +5,7 @@ pub mod HardwareEvent
 pub mod HostHarts
 pub mod HostCalls
 pub mod HostExits
+pub mod GivenAnswers
 pub mod HostEvents
 pub mod Steps
 pub mod Reaches
