@@ -4,22 +4,16 @@ ghost use Rattle.std.specs.Prelude.{◌≡◌, ◌<◌, ◌-◌, ◌^◌, [], le
 ghost use Rattle.sv_types.specs.Boot.{no_counts};
 ghost use Rattle.sv_types.specs.declared.event.Note.TheVariants.{Demote, Denied, Load, Unload, Retire};
 ghost use Rattle.sv_types.specs.declared.event.Verdict.TheVariants.{Running, Shutdown, Stopped};
+ghost use Rattle.sv_types.specs.declared.sbi.SbiCode.TheVariants.{Success};
 ghost use Rattle.reference.specs.Counting.{counted, count_turn, count_beat, count_key, count_tick, count_retired, count_trap, count_return, count_demote, count_denied, count_dropped, count_load, count_unload, MayCount, noted, printed_low, machine_ended};
-ghost use Rattle.reference.specs.Calls.{success};
 ghost use Rattle.reference.specs.Answers.{count_answer, journal_beside};
 
 use reference::Beside;
 use std::alloc::{AllocError, Global};
 use std::marker::Model;
-use sv_types::{Counts, Mode, Note, Rule, Verdict};
+use sv_types::{Counts, Mode, Note, Rule, SbiCode, Verdict};
 
 const MOST_NOTES: usize = 4096;
-
-/// The code of a call that went well.
-const SUCCESS: i64 = 0;
-
-/// The code of a load whose text isn't the permitted one.
-const REFUSED_BY_MEASURE: i64 = -4;
 
 /// The printed bytes for which there is room.
 pub const PRINTED_ROOM: usize = 4096;
@@ -234,11 +228,11 @@ impl Journal {
             Beside::RefusesLoad { id, code } => self.answer_load(hart, id, code),
             Beside::ApprovesModule { about } => self.loaded(hart, about.id),
             Beside::ReleasesModule { about } => {
-                self.answer_load(hart, about.id, REFUSED_BY_MEASURE);
+                self.answer_load(hart, about.id, SbiCode::RefusedByMeasure);
             }
             Beside::UnloadsModule { about } => self.unloaded(hart, about.id),
             Beside::RefusesUnload { id, code } => self.answer_unload(hart, id, code),
-            Beside::RetiresInit { span: _ } => self.answer_retire(hart, SUCCESS),
+            Beside::RetiresInit { span: _ } => self.answer_retire(hart, SbiCode::Success),
             Beside::RefusesRetire { code } => self.answer_retire(hart, code),
             Beside::Nothing
             | Beside::SetsTimer { at: _ }
@@ -253,8 +247,8 @@ impl Journal {
         }
     }
 
-    // The answer to a call that loads a module; a negative code is a refusal.
-    fn answer_load(&mut self, hart: u8, id: u64, code: i64)
+    // The answer to a call that loads a module.
+    fn answer_load(&mut self, hart: u8, id: u64, code: SbiCode)
         requires refused { self.old.counts.refused < 2 ^ 64 - 1 }
         requires notes { self.old.counts.notes < 2 ^ 64 - 1 }
         ensures { self.new ≡ noted (Load hart self.old.counts.turns id code) (counted (count_answer code) self.old) }
@@ -270,7 +264,7 @@ impl Journal {
     }
 
     // The answer to a call that unloads a module.
-    fn answer_unload(&mut self, hart: u8, id: u64, code: i64)
+    fn answer_unload(&mut self, hart: u8, id: u64, code: SbiCode)
         requires refused { self.old.counts.refused < 2 ^ 64 - 1 }
         requires notes { self.old.counts.notes < 2 ^ 64 - 1 }
         ensures { self.new ≡ noted (Unload hart self.old.counts.turns id code) (counted (count_answer code) self.old) }
@@ -286,7 +280,7 @@ impl Journal {
     }
 
     // The answer to a call that frees the kernel's init text.
-    fn answer_retire(&mut self, hart: u8, code: i64)
+    fn answer_retire(&mut self, hart: u8, code: SbiCode)
         requires refused { self.old.counts.refused < 2 ^ 64 - 1 }
         requires notes { self.old.counts.notes < 2 ^ 64 - 1 }
         ensures { self.new ≡ noted (Retire hart self.old.counts.turns code) (counted (count_answer code) self.old) }
@@ -299,28 +293,29 @@ impl Journal {
     // A module that was loaded.
     fn loaded(&mut self, hart: u8, id: u64)
         requires counts { MayCount self.old.counts }
-        ensures { self.new ≡ noted (Load hart self.old.counts.turns id success) (counted count_load self.old) }
+        ensures { self.new ≡ noted (Load hart self.old.counts.turns id Success) (counted count_load self.old) }
     {
         self.counts.loads += 1;
-        self.answer_load(hart, id, SUCCESS);
+        self.answer_load(hart, id, SbiCode::Success);
     }
 
     // A module that was unloaded.
     fn unloaded(&mut self, hart: u8, id: u64)
         requires counts { MayCount self.old.counts }
-        ensures { self.new ≡ noted (Unload hart self.old.counts.turns id success) (counted count_unload self.old) }
+        ensures { self.new ≡ noted (Unload hart self.old.counts.turns id Success) (counted count_unload self.old) }
     {
         self.counts.unloads += 1;
-        self.answer_unload(hart, id, SUCCESS);
+        self.answer_unload(hart, id, SbiCode::Success);
     }
 
-    // A negative code is a refusal.
-    fn count_answer(&mut self, code: i64)
+    // A code other than success is a refusal.
+    fn count_answer(&mut self, code: SbiCode)
         requires { self.old.counts.refused < 2 ^ 64 - 1 }
         ensures { self.new ≡ counted (count_answer code) self.old }
     {
-        if code < 0 {
-            self.counts.refused += 1;
+        match code {
+            SbiCode::Success => {}
+            _ => self.counts.refused += 1,
         }
     }
 
