@@ -6,10 +6,12 @@ use Rattle.sv_types.specs.Bits.{bit}
 use Rattle.sv_types.specs.Bytes.{word, part, padded, overwrite, ram_base, ram_place, page_size, page_of}
 use Rattle.sv_types.specs.ApprovedPages.{numbers_from}
 use Rattle.sv_types.specs.Regions.{most_ram_pages}
+use Rattle.sv_types.specs.declared.image_fault.HeaderFault.{HeaderFault}
+use Rattle.sv_types.specs.declared.image_fault.ImageFault.{ImageFault}
 use Rattle.sv_types.specs.declared.kernel.ProgramHeader.{ProgramHeader}
 
--- the number of the first check that finds a fault
-abbrev pub first_refusal : List (ℕ × Bool) → Option ℕ
+-- the fault of the first check that finds one
+abbrev pub first_refusal : {F : Type 0} → List (F × Bool) → Option F
 first_refusal [] = None
 first_refusal (check ∷ checks) = if check.1 then Some check.0 else first_refusal checks
 
@@ -30,23 +32,27 @@ abbrev pub table_in_file : List ℕ → Bool
 table_in_file file = word file 54 2 == 56 && nat_le (table_place file + 56 * table_count file) (length file)
 
 -- 0x7F, E, L, F; 64 bits, little-endian; version 1; RISC-V; a kind of file; no compressed instructions, no floats
-unfoldable pub file_checks : ℕ → List ℕ → List (ℕ × Bool)
+unfoldable pub file_checks : ℕ → List ℕ → List (HeaderFault × Bool)
 file_checks kind file =
-    (1, nat_lt (length file) 64)
-    ∷ (2, not (word file 0 4 == 0x464C457F))
-    ∷ (3, not (word file 4 1 == 2 && word file 5 1 == 1))
-    ∷ (4, not (word file 6 1 == 1 && word file 20 4 == 1))
-    ∷ (5, not (word file 18 2 == 243))
-    ∷ (6, not (word file 16 2 == kind))
-    ∷ (7, not (word file 48 4 % 16 == 0))
+    (HeaderFault.TooShort, nat_lt (length file) 64)
+    ∷ (HeaderFault.Magic, not (word file 0 4 == 0x464C457F))
+    ∷ (HeaderFault.Class, not (word file 4 1 == 2 && word file 5 1 == 1))
+    ∷ (HeaderFault.Version, not (word file 6 1 == 1 && word file 20 4 == 1))
+    ∷ (HeaderFault.Machine, not (word file 18 2 == 243))
+    ∷ (HeaderFault.Kind, not (word file 16 2 == kind))
+    ∷ (HeaderFault.Flags, not (word file 48 4 % 16 == 0))
     ∷ []
 
-abbrev pub table_checks : List ℕ → List (ℕ × Bool)
-table_checks file = (8, nat_lt 0 (table_count file) && not (table_in_file file)) ∷ []
+-- a check of any file, as one of a kernel's
+abbrev pub image_check : HeaderFault × Bool → ImageFault × Bool
+image_check check = (ImageFault.Header check.0, check.1)
+
+abbrev pub table_checks : List ℕ → List (ImageFault × Bool)
+table_checks file = (ImageFault.ProgramHeaders, nat_lt 0 (table_count file) && not (table_in_file file)) ∷ []
 
 -- an executable file, with its table of program headers
-unfoldable pub header_checks : List ℕ → List (ℕ × Bool)
-header_checks file = file_checks 2 file ++ table_checks file
+unfoldable pub header_checks : List ℕ → List (ImageFault × Bool)
+header_checks file = map image_check (file_checks 2 file) ++ table_checks file
 
 -- ---- segments
 
@@ -80,13 +86,13 @@ is_writable h = bit h.flags 1
 abbrev pub memory_in_ram : ℕ → ProgramHeader → Bool
 memory_in_ram ram_pages h = nat_le ram_base h.gpa && nat_le (ram_place h.gpa + h.memory_size) (page_size * ram_pages)
 
-unfoldable pub segment_checks : ℕ → ℕ → ProgramHeader → List (ℕ × Bool)
+unfoldable pub segment_checks : ℕ → ℕ → ProgramHeader → List (ImageFault × Bool)
 segment_checks file_size ram_pages h =
-    (9, nat_lt file_size (h.offset + h.file_size))
-    ∷ (10, not (memory_in_ram ram_pages h))
-    ∷ (11, nat_lt h.memory_size h.file_size)
-    ∷ (12, is_executable h && is_writable h)
-    ∷ (13, is_executable h && not (h.gpa % page_size == 0))
+    (ImageFault.OutsideFile, nat_lt file_size (h.offset + h.file_size))
+    ∷ (ImageFault.OutsideRam, not (memory_in_ram ram_pages h))
+    ∷ (ImageFault.ShortMemory, nat_lt h.memory_size h.file_size)
+    ∷ (ImageFault.WritableText, is_executable h && is_writable h)
+    ∷ (ImageFault.TextInsidePage, is_executable h && not (h.gpa % page_size == 0))
     ∷ []
 
 -- the first and the last page that a segment touches
@@ -105,11 +111,11 @@ abbrev pub text_is_shared : List ProgramHeader → Bool
 text_is_shared [] = false
 text_is_shared (h ∷ hs) = list_any (may_clash h) hs || text_is_shared hs
 
-unfoldable pub image_checks : List ProgramHeader → List (ℕ × Bool)
-image_checks hs = (14, text_is_shared hs) ∷ (15, not (list_any is_executable hs)) ∷ []
+unfoldable pub image_checks : List ProgramHeader → List (ImageFault × Bool)
+image_checks hs = (ImageFault.SharedText, text_is_shared hs) ∷ (ImageFault.NoText, not (list_any is_executable hs)) ∷ []
 
--- the first refusal, in the order of the numbers, but for 9 to 13, which are judged segment by segment
-unfoldable pub kernel_refusal : List ℕ → ℕ → Option ℕ
+-- the first fault: those of the header, then segment by segment, then those of all segments
+unfoldable pub kernel_refusal : List ℕ → ℕ → Option ImageFault
 kernel_refusal file ram_pages =
     first_refusal (header_checks file
     ++ (flat_map (segment_checks (length file) ram_pages) (loaded_headers file) ++ image_checks (loaded_headers file)))

@@ -1,4 +1,6 @@
 pub mod Causes
+pub mod ImageFaults
+pub mod RelocationKinds
 pub mod Bytes
 pub mod Regions
 pub mod Instructions

@@ -1,5 +1,4 @@
--- What a policy permits, as plain data, and the limits of its values. The limits are this project's own; a relocation's
--- kinds are those of the RISC-V ELF psABI, "Relocations".
+-- What a policy permits, as plain data, and the limits of its values. The limits are this project's own.
 use Rattle.std.specs.Prelude.{ℕ, ◌+◌, ◌-◌, slice_get, ◌*◌, ◌%◌, Bool, true, false, ◌&&◌, ◌||◌, not, ◌==◌, nat_le, nat_lt, List, [], ◌∷◌, ◌++◌, length, map, sum, if◌then◌else◌, Option, Some, None}
 use Rattle.std.specs.List.{list_any}
 use Rattle.std.specs.Str.{bytes_eq}
@@ -9,6 +8,8 @@ use Rattle.sv_types.specs.declared.module.Site.{Site}
 use Rattle.sv_types.specs.declared.policy.Export.{Export}
 use Rattle.sv_types.specs.declared.policy.ModulePolicy.{ModulePolicy}
 use Rattle.sv_types.specs.declared.policy.Policy.{Policy}
+use Rattle.sv_types.specs.declared.relocation_kind.RelocationKind.{RelocationKind}
+use Rattle.sv_types.specs.declared.relocation_kind.RelocationKind.TheVariants.{Word64, PcrelLo12I, PcrelLo12S}
 
 -- ---- a policy as plain data
 
@@ -128,17 +129,16 @@ bound_within r = if r.format == 1 then length r.bound == 0 else all_bound r.ram_
 
 -- ---- sites
 
--- the kind is one of a module's relocations
-abbrev pub kind_within : ℕ → Bool
-kind_within kind = kind == 2 || kind == 16 || kind == 17 || is_between 23 28 kind
-
 -- the low half of an address, whose high half an AUIPC elsewhere holds
-abbrev pub is_low_part : ℕ → Bool
-is_low_part kind = kind == 24 || kind == 25
+abbrev pub is_low_part : RelocationKind → Bool
+is_low_part PcrelLo12I = true
+is_low_part PcrelLo12S = true
+is_low_part _ = false
 
 -- the bytes of a field
-abbrev pub site_size : ℕ → ℕ
-site_size kind = if kind == 2 then 8 else 4
+abbrev pub site_size : RelocationKind → ℕ
+site_size Word64 = 8
+site_size _ = 4
 
 abbrev pub module_bytes : ℕ → ℕ
 module_bytes pages = 4096 * pages
@@ -147,21 +147,21 @@ module_bytes pages = 4096 * pages
 abbrev pub place_within : ℕ → ℕ → Bool
 place_within pages offset = offset % 4 == 0 && nat_lt offset (module_bytes pages)
 
-abbrev pub is_aligned : ℕ → ℕ → Bool
+abbrev pub is_aligned : RelocationKind → ℕ → Bool
 is_aligned kind offset = offset % site_size kind == 0
 
 -- text, data space, no base, or one of the exports
 abbrev pub base_within : ℕ → ℕ → Bool
 base_within exports base = nat_lt base (3 + exports)
 
-abbrev pub anchor_within : ℕ → ℕ → ℕ → ℕ → Bool
+abbrev pub anchor_within : ℕ → RelocationKind → ℕ → ℕ → Bool
 anchor_within pages kind offset anchor = place_within pages anchor && (is_low_part kind || anchor == offset)
 
 -- the values of one site
 abbrev pub site_within : ℕ → ℕ → Site → Bool
 site_within pages exports site =
-    place_within pages site.offset && kind_within site.kind && is_aligned site.kind site.offset &&
-    base_within exports site.base && anchor_within pages site.kind site.offset site.anchor
+    place_within pages site.offset && is_aligned site.kind site.offset && base_within exports site.base &&
+    anchor_within pages site.kind site.offset site.anchor
 
 -- the byte behind a site's field
 abbrev pub site_end : Option Site → ℕ

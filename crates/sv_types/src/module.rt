@@ -1,5 +1,7 @@
 // Pages and relocated fields of a module.
 
+use crate::relocation_kind::RelocationKind;
+
 /// A run of RAM pages: the number of the first, and how many.
 #[derive(Clone, Copy, Debug, PartialEq, Eq, Drop)]
 pub struct Span {
@@ -14,12 +16,12 @@ pub struct Bases {
     pub data_va: u64,
 }
 
-/// A relocated field of a module's text: the byte where it begins, the relocation's kind by its ELF number, which base
-/// its symbol has, the symbol's value and addend from there, and the byte that a relative field counts from.
+/// A relocated field of a module's text: the byte where it begins, how it is relocated, which base its symbol has, the
+/// symbol's value and addend from there, and the byte that a relative field counts from.
 #[derive(Clone, Copy, Debug, PartialEq, Eq, Drop)]
 pub struct Site {
     pub offset: u32,
-    pub kind: u8,
+    pub kind: RelocationKind,
     pub base: u16,
     pub addend: i64,
     pub anchor: u32,
