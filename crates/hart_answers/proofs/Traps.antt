@@ -30,4 +30,4 @@ pub at_trap : (rules : Rules) → rules.bound ≡ [] → (interrupt : Bool) (cau
 unfolding host_at_trap
 at_trap rules none interrupt cause tval hart from =
     ap (λ entry. host_entered (host_of hart from) entry interrupt cause tval)
-    (no_entry rules none (hregs_in from None).mode (trap_target hart.csrs.vstvec interrupt cause))
+    (no_entry rules none (hregs_in from None).mode (trap_target hart.core.csrs.vstvec interrupt cause))

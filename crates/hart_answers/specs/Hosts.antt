@@ -9,7 +9,7 @@ use Rattle.machine_model.specs.StandsFor.{hregs_in}
 use Rattle.hart_answers.specs.declared.seats.Seat.{Seat}
 
 abbrev pub host_of : Hart → Mode → HostHart
-host_of hart mode = record { core = core_of hart (hregs_in mode None); started = hart.started; entry = None }
+host_of hart mode = record { core = core_of hart.core (hregs_in mode None); started = hart.started; entry = None }
 
 abbrev pub host_at : Seat → HostHart
 host_at seat = host_of seat.hart seat.side

@@ -5,11 +5,11 @@ use Rattle.hart_answers.specs.declared.seats.Seat.{Seat}
 
 abbrev pub forgotten : ℕ → ℕ → Seat → Seat
 forgotten hpa width seat = record seat {
-  hart = record seat.hart { reservation = after_write hpa width seat.hart.reservation };
+  hart = record seat.hart { core = record seat.hart.core { reservation = after_write hpa width seat.hart.core.reservation } };
 }
 
 abbrev pub notified : Seat → Seat
-notified seat = record seat { hart = record seat.hart { csrs = record seat.hart.csrs { hvip = 4 } } }
+notified seat = record seat { hart = record seat.hart { core = record seat.hart.core { csrs = record seat.hart.core.csrs { hvip = 4 } } } }
 
 -- of seats that are numbered from `at` on, the first n
 unfoldable pub first_changed : (ℕ → Seat → Seat) → (at n : ℕ) → List Seat → List Seat

@@ -2,7 +2,7 @@
 
 ghost use Rattle.std.specs.Prelude.{◌≡◌, ◌<◌, ◌%◌, [], true, false, None, OnOk, OnErr, IfErr};
 ghost use Rattle.sv_types.specs.Policies.{Rules};
-ghost use Rattle.sv_types.specs.Traps.{trap_target, mode_at_return};
+ghost use Rattle.sv_types.specs.Traps.{is_interrupt, guest_number, trap_target, mode_at_return};
 ghost use Rattle.sv_types.specs.declared.wires.Mode.{Mode as Privilege};
 ghost use Rattle.sv_types.specs.declared.wires.Mode.TheVariants.{Kernel};
 ghost use Rattle.reference.specs.Trapping.{may_enter};
@@ -13,15 +13,13 @@ use csr_file::Csrs;
 use hart::Hart;
 use page_guard::{Entries, Forbidden, Guard, Side};
 use rv64_exec::Regs;
-use sv_types::Mode;
+use sv_types::{ExitCause, Mode};
 use trap_entry::{into_guest, return_to_guest, target};
 
-/// A trap of the guest: whether it is an interrupt, the cause as `scause` has it without its bit 63, and the value that
-/// `stval` takes.
+/// A trap of the guest: its cause, and the value that `stval` takes.
 #[derive(Clone, Copy, Debug, PartialEq, Eq, Drop)]
 pub struct Trap {
-    pub interrupt: bool,
-    pub cause: u64,
+    pub cause: ExitCause,
     pub tval: u64,
 }
 
@@ -35,15 +33,15 @@ pub fn take_trap(
     entries: &Entries,
     trap: Trap,
 ) -> Result<(), Forbidden>
-    requires { hart.old.pc % 4 ≡ 0 }
-    ensures permitted { (rules : Rules) → rules.entries ≡ entries.now → OnOk result (may_enter rules side.old (trap_target hart.old.csrs.vstvec trap.interrupt trap.cause) ≡ true) }
-    ensures forbidden { (rules : Rules) → rules.entries ≡ entries.now → OnErr result (may_enter rules side.old (trap_target hart.old.csrs.vstvec trap.interrupt trap.cause) ≡ false) }
-    ensures hart { (rules : Rules) → rules.entries ≡ entries.now → rules.bound ≡ [] → OnOk result (host_of hart.new side.new ≡ host_at_trap rules trap.interrupt trap.cause trap.tval (host_of hart.old side.old)) }
+    requires { hart.old.core.pc % 4 ≡ 0 }
+    ensures permitted { (rules : Rules) → rules.entries ≡ entries.now → OnOk result (may_enter rules side.old (trap_target hart.old.core.csrs.vstvec (is_interrupt trap.cause) (guest_number trap.cause)) ≡ true) }
+    ensures forbidden { (rules : Rules) → rules.entries ≡ entries.now → OnErr result (may_enter rules side.old (trap_target hart.old.core.csrs.vstvec (is_interrupt trap.cause) (guest_number trap.cause)) ≡ false) }
+    ensures hart { (rules : Rules) → rules.entries ≡ entries.now → rules.bound ≡ [] → OnOk result (host_of hart.new side.new ≡ host_at_trap rules (is_interrupt trap.cause) (guest_number trap.cause) trap.tval (host_of hart.old side.old)) }
     ensures kept { OnErr result (host_of hart.new side.new ≡ host_of hart.old side.old) }
-    ensures target { IfErr result (λ forbidden. forbidden.target ≡ trap_target hart.old.csrs.vstvec trap.interrupt trap.cause) }
+    ensures target { IfErr result (λ forbidden. forbidden.target ≡ trap_target hart.old.core.csrs.vstvec (is_interrupt trap.cause) (guest_number trap.cause)) }
 {
     let from = side.mode();
-    let target = target(&hart.csrs, trap.interrupt, trap.cause);
+    let target = target(&hart.core.csrs, trap.cause);
     side.enter(guard, entries, target)?;
     enter_handler(hart, from, trap);
     Ok(())
@@ -51,18 +49,17 @@ pub fn take_trap(
 
 // The hart in its trap handler, which it came to from a mode.
 fn enter_handler(hart: &mut Hart, from: Mode, trap: Trap)
-    requires { hart.old.pc % 4 ≡ 0 }
-    ensures { host_of hart.new Kernel ≡ host_entered (host_of hart.old from) None trap.interrupt trap.cause trap.tval }
+    requires { hart.old.core.pc % 4 ≡ 0 }
+    ensures { host_of hart.new Kernel ≡ host_entered (host_of hart.old from) None (is_interrupt trap.cause) (guest_number trap.cause) trap.tval }
 {
-    hart.pc = into_guest(
-        &mut hart.csrs,
+    hart.core.pc = into_guest(
+        &mut hart.core.csrs,
         from,
-        trap.interrupt,
         trap.cause,
         trap.tval,
-        hart.pc,
+        hart.core.pc,
     );
-    hart.reservation = None;
+    hart.core.reservation = None;
 }
 
 /// The hart returns from its trap, as its own registers say: in kernel mode SecVisor carries SRET out.
@@ -70,11 +67,11 @@ fn enter_handler(hart: &mut Hart, from: Mode, trap: Trap)
 pub fn return_from_trap(hart: &mut Hart, side: &mut Side, guard: &Guard)
     requires { side.old ≡ Kernel }
     ensures hart { host_of hart.new side.new ≡ host_at_return (host_of hart.old side.old) }
-    ensures side { side.new ≡ mode_at_return hart.old.csrs.vsstatus }
+    ensures side { side.new ≡ mode_at_return hart.old.core.csrs.vsstatus }
 {
-    let (pc, to) = return_to_guest(&mut hart.csrs);
-    hart.pc = pc;
-    hart.reservation = None;
+    let (pc, to) = return_to_guest(&mut hart.core.csrs);
+    hart.core.pc = pc;
+    hart.core.reservation = None;
     if to == Mode::User {
         side.leave(guard);
     }
@@ -86,7 +83,7 @@ pub fn demote(hart: &mut Hart, side: &mut Side, guard: &Guard)
     ensures hart { host_of hart.new side.new ≡ host_demoted (host_of hart.old side.old) }
 {
     side.demote(guard);
-    hart.reservation = None;
+    hart.core.reservation = None;
 }
 
 /// The hart goes on after its instruction.
@@ -94,8 +91,8 @@ pub fn demote(hart: &mut Hart, side: &mut Side, guard: &Guard)
 pub fn pass(hart: &mut Hart)
     ensures hart { (mode : Privilege) → host_of hart.new mode ≡ host_passed (host_of hart.old mode) }
 {
-    hart.pc = hart.pc.wrapping_add(4);
-    hart.reservation = None;
+    hart.core.pc = hart.core.pc.wrapping_add(4);
+    hart.core.reservation = None;
 }
 
 /// The hart goes on after its instruction with one register set.
@@ -104,7 +101,7 @@ pub fn set(hart: &mut Hart, rd: u8, value: u64)
     requires { rd < 32 }
     ensures hart { (mode : Privilege) → host_of hart.new mode ≡ host_with rd value (host_of hart.old mode) }
 {
-    hart.regs.set(rd, value);
+    hart.core.regs.set(rd, value);
     pass(hart);
 }
 
@@ -113,8 +110,8 @@ pub fn set(hart: &mut Hart, rd: u8, value: u64)
 pub fn answer(hart: &mut Hart, a0: u64, a1: u64)
     ensures hart { (mode : Privilege) → host_of hart.new mode ≡ host_answered a0 a1 (host_of hart.old mode) }
 {
-    hart.regs.set(10, a0);
-    hart.regs.set(11, a1);
+    hart.core.regs.set(10, a0);
+    hart.core.regs.set(11, a1);
     pass(hart);
 }
 
@@ -123,7 +120,7 @@ pub fn answer(hart: &mut Hart, a0: u64, a1: u64)
 pub fn stay(hart: &mut Hart)
     ensures hart { (mode : Privilege) → host_of hart.new mode ≡ host_stayed (host_of hart.old mode) }
 {
-    hart.reservation = None;
+    hart.core.reservation = None;
 }
 
 /// The hart stops at its instruction.
@@ -131,7 +128,7 @@ pub fn stay(hart: &mut Hart)
 pub fn stop(hart: &mut Hart)
     ensures hart { (mode : Privilege) → host_of hart.new mode ≡ host_stopped (host_of hart.old mode) }
 {
-    hart.reservation = None;
+    hart.core.reservation = None;
     hart.started = false;
 }
 
@@ -142,11 +139,11 @@ pub fn start(hart: &mut Hart, side: &mut Side, guard: &Guard, which: u8, pc: u64
     ensures hart { host_of hart.new side.new ≡ host_started which pc opaque (host_of hart.old side.old) }
 {
     *side = Side::at_boot(guard);
-    hart.regs = Regs::new();
-    hart.regs.set(10, u64::from(which));
-    hart.regs.set(11, opaque);
-    hart.pc = pc;
-    hart.csrs = Csrs::at_boot();
-    hart.reservation = None;
+    hart.core.regs = Regs::new();
+    hart.core.regs.set(10, u64::from(which));
+    hart.core.regs.set(11, opaque);
+    hart.core.pc = pc;
+    hart.core.csrs = Csrs::at_boot();
+    hart.core.reservation = None;
     hart.started = true;
 }

@@ -39,7 +39,7 @@ pub fn forget(seats: &mut [Seat], hpa: u64, width: u8)
 fn forget_one(seat: &mut Seat, hpa: u64, width: u8)
     ensures { seat.new ≡ forgotten hpa width seat.old }
 {
-    seat.hart.forget(hpa, width);
+    seat.hart.core.forget(hpa, width);
 }
 
 /// Sends a software interrupt to each hart that a mask and a base name.
@@ -58,7 +58,7 @@ fn notify(seat: &mut Seat, named: bool)
     ensures { seat.new ≡ (if named then notified seat.old else seat.old) }
 {
     if named {
-        set_software(&mut seat.hart.csrs);
+        set_software(&mut seat.hart.core.csrs);
     }
 }
 

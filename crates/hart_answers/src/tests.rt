@@ -8,13 +8,12 @@ use hart::Hart;
 use host_mem::HostMem;
 use page_guard::{Entries, Forbidden, Guard, Side};
 use std::test::Fail;
-use sv_types::Mode;
+use sv_types::{Cause, ExitCause, Mode};
 
 const STVEC: u16 = 0x105;
 
 const CALL: Trap = Trap {
-    interrupt: false,
-    cause: 8,
+    cause: ExitCause::Exception(Cause::UserCall),
     tval: 0,
 };
 
@@ -30,7 +29,7 @@ fn a_hart_through_all_answers(rt: HostRuntime) -> Result<(), Fail> {
     let mut hart = Hart::at_boot();
     start(&mut hart, &mut side, &guard, 1, 0x8000_0000, 7);
     assert_eq!(rt;
-        (hart.regs.get(10), hart.regs.get(11), hart.started),
+        (hart.core.regs.get(10), hart.core.regs.get(11), hart.started),
         (1, 7, true)
     );
     let kernel = *side.registers();
@@ -39,11 +38,15 @@ fn a_hart_through_all_answers(rt: HostRuntime) -> Result<(), Fail> {
     answer(&mut hart, 2, 3);
     stay(&mut hart);
     assert_eq!(rt;
-        (hart.regs.get(5), hart.regs.get(10), hart.regs.get(11)),
+        (
+            hart.core.regs.get(5),
+            hart.core.regs.get(10),
+            hart.core.regs.get(11)
+        ),
         (9, 2, 3)
     );
     demote(&mut hart, &mut side, &guard);
-    assert_eq!(rt; (side.mode(), hart.pc), (Mode::User, 0x8000_000C));
+    assert_eq!(rt; (side.mode(), hart.core.pc), (Mode::User, 0x8000_000C));
     for (stvec, want) in [
         (
             0x8000_0100,
@@ -53,17 +56,17 @@ fn a_hart_through_all_answers(rt: HostRuntime) -> Result<(), Fail> {
         ),
         (0x8000_0104, Ok(())),
     ] {
-        assert_eq!(rt; hart.csrs.write(&kernel, STVEC, stvec), Ok(()));
-        assert!(rt; hart.pc.is_multiple_of(4));
+        assert_eq!(rt; hart.core.csrs.write(&kernel, STVEC, stvec), Ok(()));
+        assert!(rt; hart.core.pc.is_multiple_of(4));
         assert_eq!(rt;
             take_trap(&mut hart, &mut side, &guard, &entries, CALL),
             want
         );
     }
-    assert_eq!(rt; (hart.pc, hart.csrs.vscause), (0x8000_0104, 8));
+    assert_eq!(rt; (hart.core.pc, hart.core.csrs.vscause), (0x8000_0104, 8));
     assert!(rt; side.mode() == Mode::Kernel);
     return_from_trap(&mut hart, &mut side, &guard);
-    assert_eq!(rt; (side.mode(), hart.pc), (Mode::User, 0x8000_000C));
+    assert_eq!(rt; (side.mode(), hart.core.pc), (Mode::User, 0x8000_000C));
     stop(&mut hart);
     assert!(rt; !hart.started);
     Ok(())
@@ -94,10 +97,10 @@ fn two_harts_behind_a_write_and_an_interrupt(rt: HostRuntime) -> Result<(), Fail
     interrupt(&mut seats, 1, 1);
     let [first, second] = &seats;
     assert_eq!(rt;
-        (first.hart.reservation, second.hart.reservation),
+        (first.hart.core.reservation, second.hart.core.reservation),
         (None, Some(0x2008))
     );
-    let waits = (first.hart.csrs.hvip, second.hart.csrs.hvip);
+    let waits = (first.hart.core.csrs.hvip, second.hart.core.csrs.hvip);
     assert_eq!(rt; waits, (0, 4));
     Ok(())
 }
