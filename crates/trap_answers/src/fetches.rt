@@ -7,7 +7,7 @@ ghost use Rattle.trap_answers.specs.Possible.{IsPossible};
 use crate::addresses::{gpa_in_ram, is_implicit};
 use host_mem::HostMem;
 use machine_model::ExitAnswer;
-use sv_types::{Cause, Exit, Mode};
+use sv_types::{Cause, Exit, ExitCause, Mode};
 
 /// The word of SRET.
 const SRET: u64 = 0x1020_0073;
@@ -17,8 +17,7 @@ pub(crate) fn raises(cause: Cause, tval: u64) -> ExitAnswer
     ensures { result ≡ raises cause tval }
 {
     ExitAnswer::Traps {
-        interrupt: false,
-        cause: cause.number(),
+        cause: ExitCause::Exception(cause),
         tval,
     }
 }

@@ -14,19 +14,19 @@ use sv_types::Effect;
 // What an instruction asks on a hart.
 #[tactic(auto, using(sv_types::proofs::EffectRequests::is_request))]
 fn asked(hart: &Hart, instr: &Instr) -> Effect
-    requires aligned { hart.now.pc % 4 ≡ 0 }
+    requires aligned { hart.now.core.pc % 4 ≡ 0 }
     requires fits { IsTrue (fits instr.now) }
-    ensures effect { result ≡ effect_of instr.now hart.now.regs hart.now.pc }
+    ensures effect { result ≡ effect_of instr.now hart.now.core.regs hart.now.core.pc }
     ensures request { IsRequest result }
 {
-    effect(instr, &hart.regs, hart.pc)
+    effect(instr, &hart.core.regs, hart.core.pc)
 }
 
 /// What the transformed instruction of an exit asks, of which the address doesn't count.
 #[tactic(auto, unfolding(machine_model::specs::Served::transformed))]
 pub(crate) fn transformed(hart: &Hart, htinst: u32) -> Option<Effect>
-    requires aligned { hart.now.pc % 4 ≡ 0 }
-    ensures effect { result ≡ transformed htinst hart.now.regs hart.now.pc }
+    requires aligned { hart.now.core.pc % 4 ≡ 0 }
+    ensures effect { result ≡ transformed htinst hart.now.core.regs hart.now.core.pc }
     ensures request { IfSome result IsRequest }
 {
     match decode(htinst) {

@@ -8,13 +8,12 @@ use journal_records::Journal;
 use machine_model::ExitAnswer;
 use page_guard::{Entries, Guard, Side};
 use std::test::Fail;
-use sv_types::{Exit, Mode, Note, Rule, Verdict};
+use sv_types::{Cause, Exit, ExitCause, Mode, Note, Rule, Verdict};
 
 const PC: u64 = 0x8000_3000;
 
 const FETCH: Exit = Exit {
-    interrupt: false,
-    cause: 20,
+    cause: ExitCause::Exception(Cause::GuestFetch),
     pc: PC,
     stval: PC,
     htval: PC / 4,
@@ -22,8 +21,7 @@ const FETCH: Exit = Exit {
 };
 
 const ILLEGAL: Exit = Exit {
-    interrupt: false,
-    cause: 2,
+    cause: ExitCause::Exception(Cause::Illegal),
     pc: PC,
     stval: 0,
     htval: 0,
@@ -51,22 +49,20 @@ fn demoted_and_then_stopped(rt: HostRuntime) -> Result<(), Fail> {
     };
     start(&mut seat.hart, &mut seat.side, &guard, 0, PC, 0);
     let mut notes = Journal::new(rt.alloc())?;
-    assert!(rt; seat.hart.pc.is_multiple_of(4));
+    assert!(rt; seat.hart.core.pc.is_multiple_of(4));
     let fetch = exit_answer(&mem, &seat.hart, seat.side.mode(), &FETCH);
     assert_eq!(rt; fetch, ExitAnswer::Demotes { gpa: PC });
     guest_demotion(0, &mut seat, &guard, &mut notes, PC);
     assert_eq!(rt; notes.notes().first(), Some(&DEMOTED));
     assert_eq!(rt; seat.side.mode(), Mode::User);
     let mut stop = Journal::new(rt.alloc())?;
-    assert!(rt; seat.hart.pc.is_multiple_of(4));
+    assert!(rt; seat.hart.core.pc.is_multiple_of(4));
     let illegal = exit_answer(&mem, &seat.hart, seat.side.mode(), &ILLEGAL);
     let trap = Trap {
-        interrupt: false,
-        cause: 2,
+        cause: ExitCause::Exception(Cause::Illegal),
         tval: 0,
     };
     let same = ExitAnswer::Traps {
-        interrupt: trap.interrupt,
         cause: trap.cause,
         tval: trap.tval,
     };

@@ -1,6 +1,7 @@
 // What an answer does to a hart: the guest's trap, its return from one, and the end of its stay in kernel mode.
 
 ghost use Rattle.std.specs.Prelude.{◌≡◌, ◌%◌, ℕ, []};
+ghost use Rattle.sv_types.specs.Traps.{is_interrupt, guest_number};
 ghost use Rattle.sv_types.specs.declared.wires.Mode.TheVariants.{Kernel};
 ghost use Rattle.machine_model.specs.HostHarts.{host_trap, host_return, host_demote, host_write_stopped};
 ghost use Rattle.machine_model.specs.Machine.{Machine};
@@ -22,9 +23,9 @@ pub fn guest_trap(
     journal: &mut Journal,
     trap: Trap,
 )
-    requires aligned { seat.old.hart.pc % 4 ≡ 0 }
+    requires aligned { seat.old.hart.core.pc % 4 ≡ 0 }
     requires counts { MayCount journal.old.counts }
-    ensures machine { (m : Machine) → m.rules.entries ≡ entries.now → m.rules.bound ≡ [] → answered m which (host_at seat.new) journal.new ≡ host_trap (answered m which (host_at seat.old) journal.old) which (host_at seat.old) seat.old.side trap.interrupt trap.cause trap.tval }
+    ensures machine { (m : Machine) → m.rules.entries ≡ entries.now → m.rules.bound ≡ [] → answered m which (host_at seat.new) journal.new ≡ host_trap (answered m which (host_at seat.old) journal.old) which (host_at seat.old) seat.old.side (is_interrupt trap.cause) (guest_number trap.cause) trap.tval }
 {
     let from = seat.side.mode();
     match take_trap(&mut seat.hart, &mut seat.side, guard, entries, trap) {
@@ -55,7 +56,7 @@ pub fn guest_demotion(which: u8, seat: &mut Seat, guard: &Guard, journal: &mut J
     requires counts { MayCount journal.old.counts }
     ensures machine { (m : Machine) → answered m which (host_at seat.new) journal.new ≡ host_demote (answered m which (host_at seat.old) journal.old) which (host_at seat.old) gpa }
 {
-    journal.demote(which, seat.hart.pc, gpa);
+    journal.demote(which, seat.hart.core.pc, gpa);
     demote(&mut seat.hart, &mut seat.side, guard);
 }
 
@@ -66,7 +67,7 @@ pub fn stop_at_write(which: u8, seat: &Seat, journal: &mut Journal, gpa: u64)
     journal.stop(
         which,
         Rule::Write {
-            pc: seat.hart.pc,
+            pc: seat.hart.core.pc,
             gpa,
         },
     );

@@ -1,4 +1,5 @@
 use Rattle.std.proofs.Common.{refl}
+use Rattle.sv_types.specs.Traps.{is_interrupt, guest_number}
 use Rattle.machine_model.specs.HostHarts.{host_at_trap}
 use Rattle.hart_answers.specs.Hosts.{host_at}
 use Rattle.trap_answers.proofs.Places.{update_there}
@@ -9,7 +10,7 @@ returns-in-Ok c = record {
   machine = λ m same unbound.
       rw (
         c.in-Ok.ensures.permitted m.rules same,
-        update_there m.harts c.args.which (host_at c.args.seat.now) (host_at_trap m.rules c.args.trap.interrupt c.args.trap.cause c.args.trap.tval),
+        update_there m.harts c.args.which (host_at c.args.seat.now) (host_at_trap m.rules (is_interrupt c.args.trap.cause) (guest_number c.args.trap.cause) c.args.trap.tval),
         c.in-Ok.ensures.hart m.rules same unbound,
         c.count_trap.ensures,
         c.mode-from.ensures,
