@@ -1,7 +1,7 @@
 // Accesses to device registers.
 
-ghost use Rattle.std.specs.Prelude.{◌≡◌, ◌%◌, ◌<◌, length, [], false};
-ghost use Rattle.sv_types.specs.Causes.{cause_number};
+ghost use Rattle.std.specs.Prelude.{◌≡◌, ◌%◌, ◌<◌, length, []};
+ghost use Rattle.sv_types.specs.declared.exit.ExitCause.{ExitCause};
 ghost use Rattle.reference.specs.Counting.{MayCount};
 ghost use Rattle.reference.specs.Devices.{device_load, device_store};
 ghost use Rattle.machine_model.specs.HostHarts.{host_device_load, host_device_store};
@@ -15,7 +15,7 @@ use dma_guard::DiskPort;
 use hart_answers::{Seat, Trap, pass, set};
 use journal_records::Journal;
 use page_guard::{Entries, Guard};
-use sv_types::Cause;
+use sv_types::{Cause, ExitCause};
 use trap_answers::guest_trap;
 
 /// A load: the register that it sets, its virtual address, how it takes the value, and the guest-physical address.
@@ -48,7 +48,7 @@ pub fn device_load<D: DiskPort>(
     journal: &mut Journal,
     load: Load,
 )
-    requires aligned { seat.old.hart.pc % 4 ≡ 0 }
+    requires aligned { seat.old.hart.core.pc % 4 ≡ 0 }
     requires counts { MayCount journal.old.counts }
     requires register { load.rd < 32 }
     ensures machine { (m : Machine) → m.rules.entries ≡ entries.now → m.rules.bound ≡ [] → accessed m which (host_at seat.new) devices.new journal.new ≡ host_device_load (accessed m which (host_at seat.old) devices.old journal.old) which (host_at seat.old) seat.old.side load.rd load.address load.width load.signed (device_load devices.old load.gpa load.width) }
@@ -77,7 +77,7 @@ pub fn device_store<D: DiskPort>(
     journal: &mut Journal,
     store: Store,
 )
-    requires aligned { seat.old.hart.pc % 4 ≡ 0 }
+    requires aligned { seat.old.hart.core.pc % 4 ≡ 0 }
     requires counts { MayCount journal.old.counts }
     requires room { length journal.old.printed < 4096 }
     ensures machine { (m : Machine) → m.rules.entries ≡ entries.now → m.rules.bound ≡ [] → accessed m which (host_at seat.new) devices.new journal.new ≡ host_device_store (accessed m which (host_at seat.old) devices.old journal.old) which (host_at seat.old) seat.old.side store.address (device_store devices.old journal.old store.gpa store.width store.value) }
@@ -93,11 +93,10 @@ pub fn device_store<D: DiskPort>(
 
 // An access fault of the guest, with the address that `stval` takes.
 fn access_fault(cause: Cause, address: u64) -> Trap
-    ensures { result ≡ record { interrupt = false; cause = cause_number cause; tval = address } }
+    ensures { result ≡ record { cause = ExitCause.Exception cause; tval = address } }
 {
     Trap {
-        interrupt: false,
-        cause: cause.number(),
+        cause: ExitCause::Exception(cause),
         tval: address,
     }
 }

@@ -104,7 +104,7 @@ fn registers(rt: HostRuntime) -> Result<(), Fail> {
     assert!(rt; devices.key(0xF0));
     for (row, access) in ACCESSES.iter().enumerate() {
         let mut notes = Journal::new(rt.alloc())?;
-        assert!(rt; seat.hart.pc.is_multiple_of(4));
+        assert!(rt; seat.hart.core.pc.is_multiple_of(4));
         match access.kind {
             Kind::Load { signed } => {
                 let load = Load {
@@ -129,7 +129,7 @@ fn registers(rt: HostRuntime) -> Result<(), Fail> {
                     address: access.gpa,
                     gpa: access.gpa,
                     width: 1,
-                    value: seat.hart.regs.get(A0),
+                    value: seat.hart.core.regs.get(A0),
                 };
                 device_store(
                     0,
@@ -143,11 +143,11 @@ fn registers(rt: HostRuntime) -> Result<(), Fail> {
             }
         }
         assert_eq!(rt;
-            (seat.hart.pc, seat.hart.regs.get(A0)),
+            (seat.hart.core.pc, seat.hart.core.regs.get(A0)),
             (access.pc, access.a0),
             "row {row}"
         );
-        assert_eq!(rt; seat.hart.csrs.vscause, access.vscause, "row {row}");
+        assert_eq!(rt; seat.hart.core.csrs.vscause, access.vscause, "row {row}");
         assert_eq!(rt;
             (notes.counts().retired, notes.printed().len()),
             (access.retired, access.printed),

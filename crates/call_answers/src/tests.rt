@@ -135,13 +135,19 @@ fn calls_one_after_another(rt: HostRuntime) -> Result<(), Fail> {
         let answer = answer_of(&seats, &entries, devices.input(), &asked);
         give(0, &mut seats, &guard, &mut devices, &mut journal, &answer);
         let [caller, _] = &seats;
-        let registers = (caller.hart.regs.get(10), caller.hart.regs.get(11));
+        let registers = (caller.hart.core.regs.get(10), caller.hart.core.regs.get(11));
         assert_eq!(rt; journal.verdict(), Verdict::Running);
         assert_eq!(rt; registers, (row.code.cast_unsigned(), row.value));
     }
     let [caller, other] = &seats;
-    assert_eq!(rt; caller.hart.pc, 0x8000_0024);
-    assert_eq!(rt; (caller.hart.csrs.hvip, other.hart.csrs.hvip), (4, 4));
-    assert_eq!(rt; (other.hart.pc, other.hart.regs.get(11)), (ENTRY, 7));
+    assert_eq!(rt; caller.hart.core.pc, 0x8000_0024);
+    assert_eq!(rt;
+        (caller.hart.core.csrs.hvip, other.hart.core.csrs.hvip),
+        (4, 4)
+    );
+    assert_eq!(rt;
+        (other.hart.core.pc, other.hart.core.regs.get(11)),
+        (ENTRY, 7)
+    );
     Ok(())
 }
