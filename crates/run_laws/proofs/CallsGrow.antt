@@ -2,11 +2,12 @@
 use Rattle.std.proofs.Common.{ℕ, zero, suc, slice_get}
 use Rattle.sv_types.specs.declared.event.Note.TheVariants.{Load, Unload, Retire}
 use Rattle.sv_types.specs.declared.event.Verdict.TheVariants.{Shutdown}
+use Rattle.sv_types.specs.declared.sbi.SbiCode.TheVariants.{Success, RefusedByMeasure}
 use Rattle.reference.specs.States.{State, Hart, Journal, Loading}
 use Rattle.reference.specs.Answers.{journal_beside, answered, call}
-use Rattle.reference.specs.Calls.{asked_by, facts_of, success}
+use Rattle.reference.specs.Calls.{asked_by, facts_of}
 use Rattle.reference.specs.Loads.{is_good, decide, load_step_of}
-use Rattle.reference.specs.ModuleCalls.{answer_of, load_decision, refused_by_measure}
+use Rattle.reference.specs.ModuleCalls.{answer_of, load_decision}
 use Rattle.reference.specs.declared.answers.Answer.{Answer}
 use Rattle.reference.specs.declared.answers.Beside.{Beside}
 use Rattle.reference.specs.declared.answers.Beside.TheVariants.{Prints, ShutsDown, RefusesLoad, ApprovesModule, ReleasesModule, UnloadsModule, RefusesUnload, RetiresInit, RefusesRetire}
@@ -16,13 +17,13 @@ beside_gains : (b : Beside) (h : ℕ) (j : Journal) → Moves j (journal_beside 
 unfolding journal_beside
 beside_gains (Prints byte) h j = printed j byte
 beside_gains ShutsDown h j = ended j Shutdown
-beside_gains (RefusesLoad id number) h j = answers j number (Load h j.counts.turns id number)
-beside_gains (ApprovesModule m) h j = loads j (Load h j.counts.turns m.id success)
-beside_gains (ReleasesModule m) h j = answers j refused_by_measure (Load h j.counts.turns m.id refused_by_measure)
-beside_gains (UnloadsModule m) h j = unloads j (Unload h j.counts.turns m.id success)
-beside_gains (RefusesUnload id number) h j = answers j number (Unload h j.counts.turns id number)
-beside_gains (RetiresInit span) h j = answers j success (Retire h j.counts.turns success)
-beside_gains (RefusesRetire number) h j = answers j number (Retire h j.counts.turns number)
+beside_gains (RefusesLoad id how) h j = answers j how (Load h j.counts.turns id how)
+beside_gains (ApprovesModule m) h j = loads j (Load h j.counts.turns m.id Success)
+beside_gains (ReleasesModule m) h j = answers j RefusedByMeasure (Load h j.counts.turns m.id RefusedByMeasure)
+beside_gains (UnloadsModule m) h j = unloads j (Unload h j.counts.turns m.id Success)
+beside_gains (RefusesUnload id how) h j = answers j how (Unload h j.counts.turns id how)
+beside_gains (RetiresInit span) h j = answers j Success (Retire h j.counts.turns Success)
+beside_gains (RefusesRetire how) h j = answers j how (Retire h j.counts.turns how)
 beside_gains _ h j = still j
 
 answered_gains : (r : State) (h : ℕ) (hart : Hart) (a : Answer) → Gains r (answered r h hart a)

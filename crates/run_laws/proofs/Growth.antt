@@ -1,14 +1,15 @@
 -- What one event does to the journal once its own count was raised: each other count rises by one at most, and one byte at
 -- most is printed, behind those that were.
-use Rattle.std.proofs.Common.{◌≡◌, ℕ, ◌+◌, ◌%◌, ◌≤◌, ◌∷◌, ◌++◌, Bool, true, false, List, [], length, refl, sym, subst, arith, length-append, ℤ, pos, negsuc}
+use Rattle.std.proofs.Common.{◌≡◌, ℕ, ◌+◌, ◌%◌, ◌≤◌, ◌∷◌, ◌++◌, Bool, true, false, List, [], length, refl, sym, subst, arith, length-append}
 use Rattle.std.specs.Prelude.{if◌then◌else◌}
 use Rattle.std.proofs.lemmas.List.{append-nil}
 use Rattle.sv_types.specs.declared.event.Note.{Note}
 use Rattle.sv_types.specs.declared.event.Verdict.{Verdict}
+use Rattle.sv_types.specs.declared.sbi.SbiCode.{SbiCode}
 use Rattle.sv_types.specs.declared.wires.Mode.{Mode}
 use Rattle.sv_types.specs.declared.wires.Mode.TheVariants.{Kernel, User}
 use Rattle.reference.specs.States.{State, Journal}
-use Rattle.reference.specs.Counting.{counted, noted, printed_low, machine_ended, count_trap, count_return, count_retired, count_denied, count_demote, count_dropped, count_load, count_unload, count_turn, count_beat, count_key, count_tick}
+use Rattle.reference.specs.Counting.{counted, noted, printed_low, machine_ended, count_trap, count_return, count_retired, count_denied, count_demote, count_dropped, count_load, count_unload, count_refused, count_turn, count_beat, count_key, count_tick}
 use Rattle.reference.specs.Answers.{count_answer}
 use Rattle.run_laws.specs.GrowthLaws.{Grows}
 
@@ -93,9 +94,15 @@ unloads j line = quietly j _ (record { turns = refl; beats = refl; keys = refl; 
 pub drops : (j : Journal) → Moves j (counted count_dropped j)
 drops j = quietly j _ (record { turns = refl; beats = refl; keys = refl; ticks = refl; retired = omega arith; traps = omega arith; enters = omega arith; leaves = omega arith; demotes = omega arith; denied = omega arith; dropped = omega arith; loads = omega arith; unloads = omega arith; refused = omega arith; notes = omega arith }) refl
 
-pub answers : (j : Journal) (code : ℤ) (line : Note) → Moves j (noted line (counted (count_answer code) j))
-answers j (pos n) line = quietly j _ (record { turns = refl; beats = refl; keys = refl; ticks = refl; retired = omega arith; traps = omega arith; enters = omega arith; leaves = omega arith; demotes = omega arith; denied = omega arith; dropped = omega arith; loads = omega arith; unloads = omega arith; refused = omega arith; notes = omega arith }) refl
-answers j (negsuc n) line = quietly j _ (record { turns = refl; beats = refl; keys = refl; ticks = refl; retired = omega arith; traps = omega arith; enters = omega arith; leaves = omega arith; demotes = omega arith; denied = omega arith; dropped = omega arith; loads = omega arith; unloads = omega arith; refused = omega arith; notes = omega arith }) refl
+went_well : (j : Journal) (line : Note) → Moves j (noted line j)
+went_well j line = quietly j _ (record { turns = refl; beats = refl; keys = refl; ticks = refl; retired = omega arith; traps = omega arith; enters = omega arith; leaves = omega arith; demotes = omega arith; denied = omega arith; dropped = omega arith; loads = omega arith; unloads = omega arith; refused = omega arith; notes = omega arith }) refl
+
+failed : (j : Journal) (line : Note) → Moves j (noted line (counted count_refused j))
+failed j line = quietly j _ (record { turns = refl; beats = refl; keys = refl; ticks = refl; retired = omega arith; traps = omega arith; enters = omega arith; leaves = omega arith; demotes = omega arith; denied = omega arith; dropped = omega arith; loads = omega arith; unloads = omega arith; refused = omega arith; notes = omega arith }) refl
+
+pub answers : (j : Journal) (how : SbiCode) (line : Note) → Moves j (noted line (counted (count_answer how) j))
+answers j SbiCode.Success line = went_well j line
+answers j _ line = failed j line
 
 -- ---- choices
 
