@@ -1,35 +1,40 @@
 -- Modules, computed.
 use Rattle.std.proofs.Common.{◌≡◌, ℕ, refl, [], ◌∷◌, Bool, true, false}
-use Rattle.std.specs.Prelude.{pos}
 use Rattle.sv_types.specs.declared.event.Note.TheVariants.{Denied, Load, Unload}
+use Rattle.sv_types.specs.declared.sbi.SbiCode.TheVariants.{Success, InvalidParameter, RefusedByMeasure, InvalidAddress, Already, UnderWay}
 use Rattle.sha2.specs.Sha256.{sha256, first_words, schedule, rounds, compress, hash_after, digest_bytes}
 use Rattle.sv_types.specs.Measure.{measure}
 use Rattle.reference.specs.Loads.{is_good, is_as_measured, decide, load_step_of}
 use Rattle.reference.specs.Relocations.{masked, fields_right, field_right, clear_field, site_value}
 use Rattle.machine_model.specs.HostExits.{load_counted, page_counted, page_sites}
 use Rattle.machine_model.specs.Machine.{HostLoad}
-use Rattle.reference_rows.specs.ModuleRows.{ModuleRows, loaded_at, turned_at, cleared_digest, all_calls, beat_after_a_page, beat_before_the_call, refused_by}
+use Rattle.reference_rows.specs.CallRows.{answer, refused}
+use Rattle.reference_rows.specs.ModuleRows.{ModuleRows, loaded_at, turned_at, cleared_digest, all_calls, beat_after_a_page, beat_before_the_call}
 use Rattle.reference_rows.proofs.Computing.{computing}
 
-its_calls_noted : all_calls.journal.notes ≡ Load 1 2 1 (refused_by 6) ∷ Load 0 6 0 (pos 0) ∷ Load 0 7 0 (refused_by 5) ∷ Load 0 8 1 (refused_by 4) ∷ Load 0 9 1 (refused_by 4) ∷ Load 0 10 2 (refused_by 2) ∷ Unload 0 11 1 (refused_by 2) ∷ Unload 0 12 0 (pos 0) ∷ []
+its_calls_noted : all_calls.journal.notes ≡ Load 1 2 1 UnderWay ∷ Load 0 6 0 Success ∷ Load 0 7 0 Already ∷ Load 0 8 1 InvalidAddress ∷ Load 0 9 1 InvalidAddress ∷ Load 0 10 2 InvalidParameter ∷ Unload 0 11 1 InvalidParameter ∷ Unload 0 12 0 Success ∷ []
 unfolding computing load_step_of decide is_good is_as_measured masked fields_right field_right clear_field site_value measure sha256 first_words schedule rounds compress hash_after digest_bytes
 its_calls_noted = refl
 
-its_held_pages_are_not_written : beat_after_a_page.journal.notes ≡ Denied 0x80005000 ∷ Load 0 5 0 (pos 0) ∷ []
+its_held_pages_are_not_written : beat_after_a_page.journal.notes ≡ Denied 0x80005000 ∷ Load 0 5 0 Success ∷ []
 unfolding computing load_step_of decide is_good is_as_measured masked fields_right field_right clear_field site_value measure sha256 first_words schedule rounds compress hash_after digest_bytes
 its_held_pages_are_not_written = refl
 
-its_bytes_written_before_count : beat_before_the_call.journal.notes ≡ Load 0 5 0 (refused_by 3) ∷ []
+its_bytes_written_before_count : beat_before_the_call.journal.notes ≡ Load 0 5 0 RefusedByMeasure ∷ []
 unfolding computing load_step_of decide is_good is_as_measured masked fields_right field_right clear_field site_value measure sha256 first_words schedule rounds compress hash_after digest_bytes
 its_bytes_written_before_count = refl
 
-its_right_address : (loaded_at 0x80005000).journal.notes ≡ Load 0 3 0 (pos 0) ∷ []
+its_right_address : (loaded_at 0x80005000).journal.notes ≡ Load 0 3 0 Success ∷ []
 unfolding computing load_step_of decide is_good is_as_measured masked fields_right field_right clear_field site_value measure sha256 first_words schedule rounds compress hash_after digest_bytes
 its_right_address = refl
 
-its_wrong_address : (loaded_at 0x80006000).journal.notes ≡ Load 0 3 0 (refused_by 3) ∷ []
+its_wrong_address : (loaded_at 0x80006000).journal.notes ≡ Load 0 3 0 RefusedByMeasure ∷ []
 unfolding computing load_step_of decide is_good is_as_measured masked fields_right field_right clear_field site_value measure sha256 first_words schedule rounds compress hash_after digest_bytes
 its_wrong_address = refl
+
+its_wrong_answer : answer (loaded_at 0x80006000) ≡ refused 4
+unfolding computing load_step_of decide is_good is_as_measured masked fields_right field_right clear_field site_value measure sha256 first_words schedule rounds compress hash_after digest_bytes
+its_wrong_answer = refl
 
 turned : (gpa : ℕ) (right : Bool) → HostLoad
 turned gpa right =
@@ -63,6 +68,7 @@ module_rows = record {
   bytes_written_before_count = its_bytes_written_before_count;
   right_address = its_right_address;
   wrong_address = its_wrong_address;
+  wrong_address_answered = its_wrong_answer;
   right_page_turned = its_right_page;
   wrong_page_turned = its_wrong_page;
   unload_demotes_who_runs_there = refl;

@@ -1,10 +1,11 @@
 -- Relocated fields, loads, unloads and retired text. RISC-V ELF psABI, "Relocations"; this project's own.
-use Rattle.std.specs.Prelude.{◌≡◌, ℕ, List, [], ◌∷◌, ◌++◌, map, replicate, Option, Some, None, ℤ, pos, negsuc, Bool, true, false}
+use Rattle.std.specs.Prelude.{◌≡◌, ℕ, List, [], ◌∷◌, ◌++◌, map, replicate, Option, Some, None, pos, Bool, true, false}
 use Rattle.sv_types.specs.Bytes.{padded}
 use Rattle.sv_types.specs.Policies.{Rules, ModuleRule}
 use Rattle.sv_types.specs.ApprovedPages.{ApprovedPage, approved_pages}
 use Rattle.sv_types.specs.declared.event.Event.TheVariants.{Turn, Beat}
 use Rattle.sv_types.specs.declared.event.Note.TheVariants.{Demote, Denied, Load, Unload, Retire}
+use Rattle.sv_types.specs.declared.sbi.SbiCode.TheVariants.{Success, InvalidParameter, RefusedByMeasure, InvalidAddress, Already, UnderWay}
 use Rattle.sv_types.specs.declared.module.Bases.{Bases}
 use Rattle.sv_types.specs.declared.module.Site.{Site}
 use Rattle.sv_types.specs.declared.module.Span.{Span}
@@ -147,9 +148,6 @@ turned_at gpa = load_counted address_rules two_addresses
 abbrev pub pages_of : State → List ℕ
 pages_of r = map (λ (entry : ApprovedPage). entry.page) r.approved
 
-abbrev pub refused_by : ℕ → ℤ
-refused_by n = negsuc n
-
 -- its hart has an interrupt that it might take
 abbrev pub interruptible : State → State
 interruptible r = with_hart r 0 (record (hart_of r 0) { supervisor = record (hart_of r 0).supervisor { sstatus = 2; sie = 2; software = true } })
@@ -171,21 +169,22 @@ pub record ModuleRows : Type 0 where
   pub in_kernel_text : answer (loads first 0 1 0x80001000) ≡ refused 5
   pub outside_ram : answer (loads first 0 0 0x80006000) ≡ refused 5
   pub calls_noted : all_calls.journal.notes ≡
-      Load 1 2 1 (refused_by 6)
-      ∷ Load 0 6 0 (pos 0)
-      ∷ Load 0 7 0 (refused_by 5)
-      ∷ Load 0 8 1 (refused_by 4)
-      ∷ Load 0 9 1 (refused_by 4)
-      ∷ Load 0 10 2 (refused_by 2)
-      ∷ Unload 0 11 1 (refused_by 2)
-      ∷ Unload 0 12 0 (pos 0)
+      Load 1 2 1 UnderWay
+      ∷ Load 0 6 0 Success
+      ∷ Load 0 7 0 Already
+      ∷ Load 0 8 1 InvalidAddress
+      ∷ Load 0 9 1 InvalidAddress
+      ∷ Load 0 10 2 InvalidParameter
+      ∷ Unload 0 11 1 InvalidParameter
+      ∷ Unload 0 12 0 Success
       ∷ []
   -- ---- bytes of the deciding moment
-  pub held_pages_are_not_written : beat_after_a_page.journal.notes ≡ Denied 0x80005000 ∷ Load 0 5 0 (pos 0) ∷ []
-  pub bytes_written_before_count : beat_before_the_call.journal.notes ≡ Load 0 5 0 (refused_by 3) ∷ []
+  pub held_pages_are_not_written : beat_after_a_page.journal.notes ≡ Denied 0x80005000 ∷ Load 0 5 0 Success ∷ []
+  pub bytes_written_before_count : beat_before_the_call.journal.notes ≡ Load 0 5 0 RefusedByMeasure ∷ []
   -- ---- a module with one field
-  pub right_address : (loaded_at 0x80005000).journal.notes ≡ Load 0 3 0 (pos 0) ∷ []
-  pub wrong_address : (loaded_at 0x80006000).journal.notes ≡ Load 0 3 0 (refused_by 3) ∷ []
+  pub right_address : (loaded_at 0x80005000).journal.notes ≡ Load 0 3 0 Success ∷ []
+  pub wrong_address : (loaded_at 0x80006000).journal.notes ≡ Load 0 3 0 RefusedByMeasure ∷ []
+  pub wrong_address_answered : answer (loaded_at 0x80006000) ≡ refused 4
   pub right_page_turned : turned_at 0x80005000 ≡ record {
     hart = 0;
     about = record { id = 0; gpa = 0x80005000; va = 0x80008000; data_va = 0 };
@@ -201,9 +200,9 @@ pub record ModuleRows : Type 0 where
     right = false;
   }
   -- ---- unload and retire
-  pub unload_demotes_who_runs_there : (step (asks running_in_it 0 1 1 0 0) (Turn 1)).journal.notes ≡ Unload 0 1 1 (pos 0) ∷ Demote 1 2 0x80004000 0x80004000 ∷ []
+  pub unload_demotes_who_runs_there : (step (asks running_in_it 0 1 1 0 0) (Turn 1)).journal.notes ≡ Unload 0 1 1 Success ∷ Demote 1 2 0x80004000 0x80004000 ∷ []
   pub unload_while_a_load_is_under_way : answer (asks (record with_second { loading = Some (record { hart = 1; about = record { id = 0; gpa = 0x80005000; va = 0; data_va = 0 }; left = 3 }) }) 0 1 1 0 0) ≡ refused 7
   pub unload_of_none : answer (asks first 0 1 1 0 0) ≡ refused 3
   pub retire : pages_of (asks with_init 0 2 0 0 0) ≡ 0 ∷ []
-  pub retire_twice : (asks (asks with_init 0 2 0 0 0) 0 2 0 0 0).journal.notes ≡ Retire 0 1 (pos 0) ∷ Retire 0 2 (refused_by 5) ∷ []
+  pub retire_twice : (asks (asks with_init 0 2 0 0 0) 0 2 0 0 0).journal.notes ≡ Retire 0 1 Success ∷ Retire 0 2 Already ∷ []
   pub nothing_to_retire : answer (asks first 0 2 0 0 0) ≡ refused 3
