@@ -7,13 +7,14 @@ use Rattle.std.proofs.lemmas.Bool.Decides.{nat_tests}
 use Rattle.sv_types.specs.Bits.{without}
 use Rattle.sv_types.specs.Bytes.{page_size, page_bytes, word, overwrite, write_word, low_bytes}
 use Rattle.sv_types.specs.Measure.{page_digest, page_digests}
-use Rattle.sv_types.specs.Policies.{Rules, ModuleRule, rules_within, numbers_within, lists_within, init_within, modules_count_within, modules_within, module_within, module_pages_within, sites_count_within, sites_within, sites_of, is_module, each_within, next_site_within, site_within, place_within, kind_within, base_within, anchor_within, is_behind, is_aligned}
+use Rattle.sv_types.specs.Policies.{Rules, ModuleRule, rules_within, numbers_within, lists_within, init_within, modules_count_within, modules_within, module_within, module_pages_within, sites_count_within, sites_within, sites_of, is_module, each_within, next_site_within, site_within, place_within, base_within, anchor_within, is_behind, is_aligned, site_size}
 use Rattle.sv_types.specs.declared.module.Bases.{Bases}
 use Rattle.sv_types.specs.declared.module.Site.{Site}
 use Rattle.sv_types.specs.declared.policy.Export.{Export}
 use Rattle.sv_types.proofs.ByteLemmas.{length_low_bytes, length_overwrite, length_write_word, drop_front, take_front, length_before, part_before, part_after, overwrite_behind, overwrite_in_front, word_in_page_bytes}
 use Rattle.machine_model.specs.HostExits.{moved_site, is_site_in, page_sites}
-use Rattle.reference.specs.Relocations.{BField, JField, UField, IField, SField, field_of, field_width, field_bits, field_word, clear_field, masked, field_right, fields_right, site_value}
+use Rattle.reference.specs.Relocations.{field_of, field_width, field_bits, field_word, clear_field, masked, field_right, fields_right, site_value}
+use Rattle.reference.proofs.FieldWidths.{width_by, sizes}
 use Rattle.run_laws.proofs.Lookups.{and_first, and_second, is_there}
 
 -- ---- where fields lie
@@ -30,35 +31,25 @@ abbrev pub AllLieIn : ℕ → List Site → Type 0
 AllLieIn bytes [] = Unit {0}
 AllLieIn bytes (site ∷ sites) = LiesIn bytes site × AllLieIn bytes sites
 
-narrow : (a b c d : Bool) → field_width (if a then BField else if b then JField else if c then UField else if d then IField else SField) ≡ 4
-narrow true b c d = refl
-narrow false true c d = refl
-narrow false false true d = refl
-narrow false false false true = refl
-narrow false false false false = refl
-
-width_by : (kind : ℕ) (b : Bool) → (kind == 2) ≡ b → field_width (field_of kind) ≡ (if b then 8 else 4)
-width_by kind true e = rw e refl
-width_by kind false e = rw e (narrow (kind == 16) (kind == 17) (kind == 23 || kind == 26) (kind == 24 || kind == 27))
-
-lies_by : (pages : ℕ) (site : Site) (b : Bool) → (site.kind == 2) ≡ b → site.offset % 4 ≡ 0 → site.offset < 4096 * pages → site.offset % (if b then 8 else 4) ≡ 0 → LiesIn (4096 * pages) site
-lies_by pages site true e four below aligned =
-    let w : width_of site ≡ 8 = width_by site.kind true e in
-    record { below = below; inside = rw w (omega arith); whole = rw w (grind arith) }
-lies_by pages site false e four below aligned =
-    let w : width_of site ≡ 4 = width_by site.kind false e in
-    record { below = below; inside = rw w (omega arith); whole = rw w (grind arith) }
+lies_by : (pages : ℕ) (site : Site) (size : ℕ) → width_of site ≡ size → (size ≡ 4) ⊎ (size ≡ 8) → site.offset % 4 ≡ 0 → site.offset < 4096 * pages → site.offset % size ≡ 0 → LiesIn (4096 * pages) site
+lies_by pages site size w (inl e) four below aligned =
+    let width : width_of site ≡ 4 = w ∙ e in
+    let whole : site.offset % 4 ≡ 0 = four in
+    record { below = below; inside = rw width (omega arith); whole = rw width (grind arith) }
+lies_by pages site size w (inr e) four below aligned =
+    let width : width_of site ≡ 8 = w ∙ e in
+    let whole : site.offset % 8 ≡ 0 = subst (λ (n : ℕ). site.offset % n ≡ 0) e aligned in
+    record { below = below; inside = rw width (omega arith); whole = rw width (grind arith) }
 
 lies : (pages exports : ℕ) (site : Site) → site_within pages exports site ≡ true → LiesIn (4096 * pages) site
 lies pages exports site e =
-    let a = and_first (place_within pages site.offset && kind_within site.kind && is_aligned site.kind site.offset && base_within exports site.base) (anchor_within pages site.kind site.offset site.anchor) e in
-    let b = and_first (place_within pages site.offset && kind_within site.kind && is_aligned site.kind site.offset) (base_within exports site.base) a in
-    let c = and_first (place_within pages site.offset && kind_within site.kind) (is_aligned site.kind site.offset) b in
-    let aligned = and_second (place_within pages site.offset && kind_within site.kind) (is_aligned site.kind site.offset) b in
-    let d = and_first (place_within pages site.offset) (kind_within site.kind) c in
+    let a = and_first (place_within pages site.offset && is_aligned site.kind site.offset && base_within exports site.base) (anchor_within pages site.kind site.offset site.anchor) e in
+    let b = and_first (place_within pages site.offset && is_aligned site.kind site.offset) (base_within exports site.base) a in
+    let d = and_first (place_within pages site.offset) (is_aligned site.kind site.offset) b in
+    let aligned = and_second (place_within pages site.offset) (is_aligned site.kind site.offset) b in
     let four : site.offset % 4 ≡ 0 = eqb-true (site.offset % 4) 0 (and_first (site.offset % 4 == 0) (nat_lt site.offset (4096 * pages)) d) in
     let lower = and_second (site.offset % 4 == 0) (nat_lt site.offset (4096 * pages)) d in
-    lies_by pages site (site.kind == 2) refl four (grind (arith, nat_tests)) (eqb-true (site.offset % (if site.kind == 2 then 8 else 4)) 0 aligned)
+    lies_by pages site (site_size site.kind) (width_by site.kind) (sizes site.kind) four (grind (arith, nat_tests)) (eqb-true (site.offset % site_size site.kind) 0 aligned)
 
 all_lie : (pages exports : ℕ) (before sites : List Site) → each_within (next_site_within pages exports) before sites ≡ true → AllLieIn (4096 * pages) sites
 all_lie pages exports before [] e = tt

@@ -4,9 +4,10 @@ use Rattle.std.specs.Prelude.{All, nat_le, nat_lt, ◌==◌, if◌then◌else◌
 use Rattle.std.proofs.lemmas.Bool.{and_parts, eqb-true, eq-eqb}
 use Rattle.std.proofs.lemmas.Bool.Decides.{nat_tests}
 use Rattle.std.proofs.lemmas.List.Elements.{All-nil, All-cons}
-use Rattle.sv_types.specs.Policies.{each_within, next_site_within, site_within, is_behind, place_within, kind_within, is_aligned, base_within, anchor_within}
+use Rattle.sv_types.specs.Policies.{each_within, next_site_within, site_within, is_behind, place_within, is_aligned, base_within, anchor_within, site_size}
 use Rattle.sv_types.specs.declared.module.Site.{Site}
-use Rattle.reference.specs.Relocations.{field_width, field_of, BField, JField, UField, IField, SField}
+use Rattle.reference.specs.Relocations.{field_width, field_of}
+use Rattle.reference.proofs.FieldWidths.{width_by}
 use Rattle.machine_model.specs.HostExits.{page_sites, moved_site, is_site_in}
 use Rattle.relocated_fields.specs.Pieces.{piece_sites, lies_in, IsAligned}
 
@@ -35,23 +36,12 @@ piece_is_page n (site ∷ sites) =
 
 -- ---- each site's place is a multiple of its field's bytes
 
-four : (a b c d : Bool) → field_width (if a then BField else if b then JField else if c then UField else if d then IField else SField) ≡ 4
-four true b c d = refl
-four false true c d = refl
-four false false true d = refl
-four false false false true = refl
-four false false false false = refl
-
-width_by : (kind : ℕ) (b : Bool) → (kind == 2) ≡ b → field_width (field_of kind) ≡ (if b then 8 else 4)
-width_by kind true e = rw e refl
-width_by kind false e = rw e (four (kind == 16) (kind == 17) (kind == 23 || kind == 26) (kind == 24 || kind == 27))
-
 site_aligned : (pages exports : ℕ) (site : Site) → site_within pages exports site ≡ true → IsAligned site
 site_aligned pages exports site within =
-    let a = and_parts (place_within pages site.offset && kind_within site.kind && is_aligned site.kind site.offset && base_within exports site.base) (anchor_within pages site.kind site.offset site.anchor) within in
-    let b = and_parts (place_within pages site.offset && kind_within site.kind && is_aligned site.kind site.offset) (base_within exports site.base) a.0 in
-    let c = and_parts (place_within pages site.offset && kind_within site.kind) (is_aligned site.kind site.offset) b.0 in
-    subst (λ (w : ℕ). site.offset % w ≡ 0) (sym (width_by site.kind (site.kind == 2) refl)) (eqb-true (site.offset % (if site.kind == 2 then 8 else 4)) 0 c.1)
+    let a = and_parts (place_within pages site.offset && is_aligned site.kind site.offset && base_within exports site.base) (anchor_within pages site.kind site.offset site.anchor) within in
+    let b = and_parts (place_within pages site.offset && is_aligned site.kind site.offset) (base_within exports site.base) a.0 in
+    let c = and_parts (place_within pages site.offset) (is_aligned site.kind site.offset) b.0 in
+    subst (λ (w : ℕ). site.offset % w ≡ 0) (sym (width_by site.kind)) (eqb-true (site.offset % site_size site.kind) 0 c.1)
 
 pub sites_aligned : (pages exports : ℕ) (before sites : List Site) → each_within (next_site_within pages exports) before sites ≡ true → All IsAligned sites
 sites_aligned pages exports before [] within = All-nil IsAligned

@@ -1,6 +1,6 @@
 -- The relocated fields of a module's text: clearing them, and which value each has to have.
 -- RISC-V ELF psABI, "Relocations".
-use Rattle.std.specs.Prelude.{ℕ, zero, suc, ◌+◌, ◌-◌, ◌*◌, ◌%◌, ◌^◌, Bool, true, ◌&&◌, ◌||◌, List, fold, ◌==◌, if◌then◌else◌, bit_and, slice_get, Option, Some, None, ℤ, pos, negsuc, int_le}
+use Rattle.std.specs.Prelude.{ℕ, zero, suc, ◌+◌, ◌-◌, ◌*◌, ◌%◌, ◌^◌, Bool, true, false, ◌&&◌, List, fold, ◌==◌, if◌then◌else◌, bit_and, slice_get, Option, Some, None, ℤ, pos, negsuc, int_le}
 use Rattle.std.specs.List.{list_all}
 use Rattle.std.specs.Int.{w64, cast_unsigned}
 use Rattle.sv_types.specs.Bits.{without}
@@ -10,19 +10,23 @@ use Rattle.sv_types.specs.Instructions.{bits}
 use Rattle.sv_types.specs.declared.module.Site.{Site}
 use Rattle.sv_types.specs.declared.module.Bases.{Bases}
 use Rattle.sv_types.specs.declared.policy.Export.{Export}
+use Rattle.sv_types.specs.declared.relocation_kind.RelocationKind.{RelocationKind}
+use Rattle.sv_types.specs.declared.relocation_kind.RelocationKind.TheVariants.{Word64, Branch, Jal, PcrelHi20, PcrelLo12I, PcrelLo12S, Hi20, Lo12I, Lo12S}
 
 -- where in an instruction a value stands: 8 bytes of data, or the immediate of an instruction format
 pub data Field : Type 0 where
   DoubleWord BField JField UField IField SField : Field
 
-abbrev pub field_of : ℕ → Field
-field_of kind =
-    if kind == 2 then DoubleWord
-    else if kind == 16 then BField
-    else if kind == 17 then JField
-    else if kind == 23 || kind == 26 then UField
-    else if kind == 24 || kind == 27 then IField
-    else SField
+abbrev pub field_of : RelocationKind → Field
+field_of Word64 = DoubleWord
+field_of Branch = BField
+field_of Jal = JField
+field_of PcrelHi20 = UField
+field_of PcrelLo12I = IField
+field_of PcrelLo12S = SField
+field_of Hi20 = UField
+field_of Lo12I = IField
+field_of Lo12S = SField
 
 -- the bits of an instruction that the field takes
 abbrev pub field_bits : Field → ℕ
@@ -88,13 +92,17 @@ symbol_base exports bases (suc zero) = bases.data_va
 symbol_base exports bases (suc (suc zero)) = 0
 symbol_base exports bases (suc (suc (suc i))) = export_addr (slice_get exports i)
 
--- S + A for kinds 2, 26, 27 and 28, S + A - P for the others
-abbrev pub is_absolute_kind : (kind : ℕ) → Bool
-is_absolute_kind kind = kind == 2 || kind == 26 || kind == 27 || kind == 28
+-- S + A for these, S + A - P for the others
+abbrev pub is_absolute : RelocationKind → Bool
+is_absolute Word64 = true
+is_absolute Hi20 = true
+is_absolute Lo12I = true
+is_absolute Lo12S = true
+is_absolute _ = false
 
 unfoldable pub site_value : List Export → Bases → Site → ℕ
 site_value exports bases site =
-    if is_absolute_kind site.kind
+    if is_absolute site.kind
     then plus (symbol_base exports bases site.base) (cast_unsigned w64 site.addend)
     else minus (plus (symbol_base exports bases site.base) (cast_unsigned w64 site.addend)) (plus bases.va site.anchor)
 

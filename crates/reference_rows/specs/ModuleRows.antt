@@ -8,6 +8,7 @@ use Rattle.sv_types.specs.declared.event.Note.TheVariants.{Demote, Denied, Load,
 use Rattle.sv_types.specs.declared.sbi.SbiCode.TheVariants.{Success, InvalidParameter, RefusedByMeasure, InvalidAddress, Already, UnderWay}
 use Rattle.sv_types.specs.declared.module.Bases.{Bases}
 use Rattle.sv_types.specs.declared.module.Site.{Site}
+use Rattle.sv_types.specs.declared.relocation_kind.RelocationKind.{RelocationKind}
 use Rattle.sv_types.specs.declared.module.Span.{Span}
 use Rattle.sv_types.specs.declared.policy.Export.{Export}
 use Rattle.sv_types.specs.declared.wires.Mode.TheVariants.{Kernel}
@@ -23,11 +24,11 @@ use Rattle.reference_rows.specs.Guests.{words, page, hart_in, hart_of, at_pc}
 
 -- ---- a call of an export, by two fields
 
-abbrev pub site : (offset kind base anchor : ℕ) → Site
+abbrev pub site : (offset : ℕ) → RelocationKind → (base anchor : ℕ) → Site
 site offset kind base anchor = record { offset = offset; kind = kind; base = base; addend = pos 0; anchor = anchor }
 
 abbrev pub call_sites : List Site
-call_sites = site 0 23 3 0 ∷ site 4 24 3 0 ∷ []
+call_sites = site 0 RelocationKind.PcrelHi20 3 0 ∷ site 4 RelocationKind.PcrelLo12I 3 0 ∷ []
 
 abbrev pub print_at : List Export
 print_at = record { name = []; addr = 0x80003010 } ∷ []
@@ -116,7 +117,7 @@ with_init = begin (Some (record { first = 1; count = 4 }))
 
 -- a module of one page, whose first field holds its own address. At page 5 it is right, and at page 6 another address stands there
 abbrev pub address_site : List Site
-address_site = site 0 2 0 0 ∷ []
+address_site = site 0 RelocationKind.Word64 0 0 ∷ []
 
 -- SHA-256 of the page with its field cleared, and of that digest
 abbrev pub cleared_digest : List ℕ

@@ -6,6 +6,8 @@ ghost use Rattle.sv_types.specs.Regions.{IsWidth};
 ghost use Rattle.reference.specs.Relocations as spec;
 ghost use Rattle.relocated_fields.specs.Fields.{field_view};
 
+use sv_types::RelocationKind;
+
 /// 8 bytes of data, or the immediate of an instruction's format.
 #[derive(Clone, Copy, Drop)]
 pub(crate) enum Field {
@@ -18,16 +20,16 @@ pub(crate) enum Field {
 }
 
 /// The field of a relocation's kind.
-pub(crate) fn field_of(kind: u8) -> Field
+pub(crate) fn field_of(kind: RelocationKind) -> Field
     ensures { field_view result ≡ spec.field_of kind }
 {
     match kind {
-        2 => Field::DoubleWord,
-        16 => Field::Branch,
-        17 => Field::Jump,
-        23 | 26 => Field::Upper,
-        24 | 27 => Field::Immediate,
-        _ => Field::Store,
+        RelocationKind::Word64 => Field::DoubleWord,
+        RelocationKind::Branch => Field::Branch,
+        RelocationKind::Jal => Field::Jump,
+        RelocationKind::PcrelHi20 | RelocationKind::Hi20 => Field::Upper,
+        RelocationKind::PcrelLo12I | RelocationKind::Lo12I => Field::Immediate,
+        RelocationKind::PcrelLo12S | RelocationKind::Lo12S => Field::Store,
     }
 }
 

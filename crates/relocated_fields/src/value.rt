@@ -3,7 +3,7 @@
 ghost use Rattle.std.specs.Prelude.{◌≡◌};
 ghost use Rattle.reference.specs.Relocations as spec;
 
-use sv_types::{Bases, Export, Site};
+use sv_types::{Bases, Export, RelocationKind, Site};
 
 // The address that a symbol's base stands for: the text's, the data's, none, or an export's.
 fn symbol_base(exports: &[Export], bases: &Bases, base: u16) -> u64
@@ -21,10 +21,20 @@ fn symbol_base(exports: &[Export], bases: &Bases, base: u16) -> u64
 }
 
 // Whether the value is an address, and none that is relative to the field's place.
-fn is_absolute_kind(kind: u8) -> bool
-    ensures { result ≡ spec.is_absolute_kind kind }
+fn is_absolute(kind: RelocationKind) -> bool
+    ensures { result ≡ spec.is_absolute kind }
 {
-    kind == 2 || kind == 26 || kind == 27 || kind == 28
+    match kind {
+        RelocationKind::Word64
+        | RelocationKind::Hi20
+        | RelocationKind::Lo12I
+        | RelocationKind::Lo12S => true,
+        RelocationKind::Branch
+        | RelocationKind::Jal
+        | RelocationKind::PcrelHi20
+        | RelocationKind::PcrelLo12I
+        | RelocationKind::PcrelLo12S => false,
+    }
 }
 
 /// The value that a field has to have for these bases, modulo 2^64.
@@ -33,7 +43,7 @@ pub(crate) fn site_value(exports: &[Export], bases: &Bases, site: &Site) -> u64
     ensures { result ≡ spec.site_value exports.now bases.now site.now }
 {
     let address = symbol_base(exports, bases, site.base).wrapping_add(site.addend.cast_unsigned());
-    if is_absolute_kind(site.kind) {
+    if is_absolute(site.kind) {
         address
     } else {
         address.wrapping_sub(bases.va.wrapping_add(site.anchor as u64))
