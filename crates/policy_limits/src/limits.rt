@@ -4,7 +4,7 @@ ghost use Rattle.std.specs.Prelude.{◌≡◌, ◌+◌, ◌≤◌, IsTrue, map, 
 ghost use Rattle.sv_types.specs.Policies as limits;
 
 use crate::names::{is_exported, is_module};
-use crate::places::{is_aligned, is_anchor, is_behind, is_kind, is_place};
+use crate::places::{is_aligned, is_anchor, is_behind, is_place};
 use sv_types::{Export, ModulePolicy, Policy, Site, Span};
 
 /// The most harts.
@@ -83,7 +83,6 @@ fn site_within(pages: u32, exports: usize, site: Site) -> bool
     ensures { result ≡ limits.site_within pages exports site }
 {
     is_place(pages, u64::from(site.offset))
-        && is_kind(u64::from(site.kind))
         && is_aligned(site.kind, site.offset)
         && base_within(exports, site.base)
         && is_anchor(pages, site.kind, site.offset, u64::from(site.anchor))

@@ -3,16 +3,17 @@
 ghost use Rattle.std.specs.Prelude.{◌≡◌, ◌≤◌, Some};
 ghost use Rattle.sv_types.specs.Policies as limits;
 
-use sv_types::{PAGE_BYTES, Site};
+use sv_types::{PAGE_BYTES, RelocationKind, Site};
 
-/// The kind of a field of eight bytes. All others have four.
-const EIGHT_BYTES: u8 = 2;
-
-fn site_size(kind: u8) -> u64
+/// The bytes of a field.
+pub fn site_size(kind: RelocationKind) -> u64
     ensures size { result ≡ limits.site_size kind }
     ensures most { result ≤ 8 }
 {
-    if kind == EIGHT_BYTES { 8 } else { 4 }
+    match kind {
+        RelocationKind::Word64 => 8,
+        _ => 4,
+    }
 }
 
 /// An instruction of a module of so many pages begins at this byte of it.
@@ -22,29 +23,25 @@ pub fn is_place(pages: u32, place: u64) -> bool
     place % 4 == 0 && place < PAGE_BYTES * u64::from(pages)
 }
 
-/// The kind is one of a module's relocations.
-pub fn is_kind(kind: u64) -> bool
-    ensures { result ≡ limits.kind_within kind }
-{
-    kind == 2 || kind == 16 || kind == 17 || (23 <= kind && kind <= 28)
-}
-
-// The field holds the low part of an address, whose high part stands at the anchor.
-fn is_low_part(kind: u8) -> bool
+/// The field holds the low part of an address, whose high part stands at the anchor.
+pub fn is_low_part(kind: RelocationKind) -> bool
     ensures { result ≡ limits.is_low_part kind }
 {
-    kind == 24 || kind == 25
+    match kind {
+        RelocationKind::PcrelLo12I | RelocationKind::PcrelLo12S => true,
+        _ => false,
+    }
 }
 
 /// A field of this kind may stand at this byte of a module.
-pub fn is_aligned(kind: u8, offset: u32) -> bool
+pub fn is_aligned(kind: RelocationKind, offset: u32) -> bool
     ensures { result ≡ limits.is_aligned kind offset }
 {
     u64::from(offset) % site_size(kind) == 0
 }
 
 /// The anchor of a field in a module of so many pages: the field's own offset, or for a low part any place.
-pub fn is_anchor(pages: u32, kind: u8, offset: u32, anchor: u64) -> bool
+pub fn is_anchor(pages: u32, kind: RelocationKind, offset: u32, anchor: u64) -> bool
     ensures { result ≡ limits.anchor_within pages kind offset anchor }
 {
     is_place(pages, anchor) && (is_low_part(kind) || anchor == u64::from(offset))
