@@ -2,16 +2,18 @@
 ghost use Rattle.std.specs.Prelude.{◌≡◌, ◌++◌, OnOk, IfOk, string_bytes};
 ghost use Rattle.std.specs.Fmt.{signed_decimal};
 ghost use Rattle.sv_types.specs.declared.event.Note.TheVariants.{Demote, Denied, Load, Unload, Retire};
+ghost use Rattle.sv_types.specs.SbiCodes.{code_number};
 ghost use Rattle.reference.specs.Report as spec;
 
 use std::alloc::{AllocError, Global};
-use sv_types::Note;
+use sv_types::{Note, SbiCode};
 use text_numbers::address_text;
 
-fn code_text(alloc: Global, code: i64) -> Result<String, AllocError>
-    ensures { IfOk result (λ t. string_bytes t ≡ signed_decimal code) }
+fn code_text(alloc: Global, code: SbiCode) -> Result<String, AllocError>
+    ensures { IfOk result (λ t. string_bytes t ≡ signed_decimal (code_number code)) }
 {
-    format!(in alloc; "{code}")
+    let number = code.number();
+    format!(in alloc; "{number}")
 }
 
 #[tactic(auto, unfolding(reference::specs::Report::note_line))]
@@ -32,7 +34,13 @@ fn denied_line(alloc: Global, gpa: u64) -> Result<String, AllocError>
 }
 
 #[tactic(auto, unfolding(reference::specs::Report::note_line))]
-fn load_line(alloc: Global, hart: u8, turn: u64, id: u64, code: i64) -> Result<String, AllocError>
+fn load_line(
+    alloc: Global,
+    hart: u8,
+    turn: u64,
+    id: u64,
+    code: SbiCode,
+) -> Result<String, AllocError>
     ensures { IfOk result (λ t. string_bytes t ≡ spec.note_line (Load hart turn id code)) }
 {
     let code = code_text(alloc, code)?;
@@ -40,7 +48,13 @@ fn load_line(alloc: Global, hart: u8, turn: u64, id: u64, code: i64) -> Result<S
 }
 
 #[tactic(auto, unfolding(reference::specs::Report::note_line))]
-fn unload_line(alloc: Global, hart: u8, turn: u64, id: u64, code: i64) -> Result<String, AllocError>
+fn unload_line(
+    alloc: Global,
+    hart: u8,
+    turn: u64,
+    id: u64,
+    code: SbiCode,
+) -> Result<String, AllocError>
     ensures { IfOk result (λ t. string_bytes t ≡ spec.note_line (Unload hart turn id code)) }
 {
     let code = code_text(alloc, code)?;
@@ -48,7 +62,7 @@ fn unload_line(alloc: Global, hart: u8, turn: u64, id: u64, code: i64) -> Result
 }
 
 #[tactic(auto, unfolding(reference::specs::Report::note_line))]
-fn retire_line(alloc: Global, hart: u8, turn: u64, code: i64) -> Result<String, AllocError>
+fn retire_line(alloc: Global, hart: u8, turn: u64, code: SbiCode) -> Result<String, AllocError>
     ensures { IfOk result (λ t. string_bytes t ≡ spec.note_line (Retire hart turn code)) }
 {
     let code = code_text(alloc, code)?;

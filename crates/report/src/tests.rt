@@ -1,7 +1,7 @@
 // A line of each note and of each verdict, as they are printed.
 use super::{report, status_of};
 use std::test::Fail;
-use sv_types::{Counts, Note, Rule, Status, Verdict};
+use sv_types::{Counts, Note, Rule, SbiCode, Status, Verdict};
 
 const NOTES: [Note; 5] = [
     Note::Demote {
@@ -15,18 +15,18 @@ const NOTES: [Note; 5] = [
         hart: 0,
         turn: 5,
         id: 2,
-        code: -9_223_372_036_854_775_808,
+        code: SbiCode::UnderWay,
     },
     Note::Unload {
         hart: 1,
         turn: 18_446_744_073_709_551_615,
         id: 7,
-        code: 0,
+        code: SbiCode::Success,
     },
     Note::Retire {
         hart: 2,
         turn: 9,
-        code: 12,
+        code: SbiCode::Already,
     },
 ];
 
@@ -49,7 +49,7 @@ const COUNTS: Counts = Counts {
 };
 
 const LINES: &str =
-    "\ndemote hart 3 turn 70 pc 0x0000000080003000 gpa 0x0000000080004000\ndenied gpa 0x0000000080005abc\nload hart 0 turn 5 id 2 code -9223372036854775808\nunload hart 1 turn 18446744073709551615 id 7 code 0\nretire hart 2 turn 9 code 12\nnotes 15\nturns 1 beats 2 keys 3 ticks 4\nretired 5 traps 6 enters 7 leaves 8 demotes 9\ndenied 10 dropped 11 loads 12 unloads 13 refused 14\nverdict ended\n";
+    "\ndemote hart 3 turn 70 pc 0x0000000080003000 gpa 0x0000000080004000\ndenied gpa 0x0000000080005abc\nload hart 0 turn 5 id 2 code -7\nunload hart 1 turn 18446744073709551615 id 7 code 0\nretire hart 2 turn 9 code -6\nnotes 15\nturns 1 beats 2 keys 3 ticks 4\nretired 5 traps 6 enters 7 leaves 8 demotes 9\ndenied 10 dropped 11 loads 12 unloads 13 refused 14\nverdict ended\n";
 
 #[test]
 fn a_line_of_each_note(rt: HostRuntime) -> Result<(), Fail> {
