@@ -102,6 +102,16 @@ impl HostMem {
         put_word(self.bytes.as_mut_slice(), at, width, value);
     }
 
+    /// Writes a word of 8 bytes at a host place, a multiple of 8, as an entry of a table is written. Counts one step.
+    pub fn set_word<L: Ledger>(&mut self, at: usize, value: u64, steps: &mut Steps<L>)
+        requires { IsHostPlace self.old at 8 }
+        ensures memory { self.new ≡ write_host self.old at 8 value }
+        ensures step { steps.new ≡ steps.old + 1 }
+    {
+        steps.tick();
+        self.write(at, 8, value);
+    }
+
     /// The 4,096 bytes of page `n` of guest RAM, where pages are counted from 0.
     pub fn page(&self, n: u32) -> &[u8]
         requires { page_size * (n + 1) ≤ length self.now.ram }
