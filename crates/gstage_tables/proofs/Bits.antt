@@ -3,13 +3,10 @@ use Rattle.std.proofs.Common.{◌≡◌, ℕ, ◌+◌, ◌*◌, ◌/◌, ◌%◌
 use Rattle.std.specs.Prelude.{◌&&◌, ◌||◌, not, Some, if◌then◌else◌}
 use Rattle.sv_types.specs.Bits.{bit}
 use Rattle.sv_types.specs.Translation.{well_formed, is_pointer, is_leaf, at_entry, Destination, At, PageFault}
-use Rattle.sv_types.specs.SecondStage.{permits_guest, view_permits, Sight, OfKernel, OfUser}
+use Rattle.sv_types.specs.SecondStage.{permits_guest, view_permits, Sight}
 use Rattle.sv_types.specs.declared.wires.Access.{Access}
 use Rattle.sv_types.specs.declared.wires.Access.TheVariants.{Fetch, Load, Store}
 use Rattle.sv_types.specs.declared.wires.Protection.{Protection}
-use Rattle.sv_types.specs.declared.wires.Protection.TheVariants.{Free, Held, Approved}
-use Rattle.sv_types.specs.declared.wires.Mode.{Mode}
-use Rattle.sv_types.specs.declared.wires.Mode.TheVariants.{Kernel, User}
 use Rattle.gstage_tables.specs.Layout.{pointer, flags, leaf}
 
 -- the low bits are those of the flags
@@ -62,10 +59,7 @@ zero_no_leaf below = refl
 pub zero_gives : (grants : ℕ → Bool) (below at a : ℕ) (deeper : ℕ → Destination) → at_entry grants below at deeper a (Some 0) ≡ PageFault
 zero_gives grants below at a deeper = rw (zero_is, zero_no_leaf below) refl
 
--- ---- a leaf answers as its mode's view does
-
-whole : (n : ℕ) → n % 1 ≡ 0
-whole n = omega arith
+-- ---- a leaf answers by what its tree shows
 
 abbrev may : ℕ → Access → Bool
 may f Fetch = bit f 3
@@ -79,9 +73,9 @@ leaf_pointer : (p f : ℕ) → f < 1024 → p < 2 ^ 44 → is_pointer (1024 * p 
 unfolding is_pointer well_formed
 leaf_pointer p f h l = rw (bit_0 p f h, bit_1 p f h, bit_2 p f h, bit_3 p f h, bit_4 p f h, bit_6 p f h, bit_7 p f h, reserved p f h l) refl
 
-leaf_is : (p f : ℕ) → f < 1024 → p < 2 ^ 44 → is_leaf 0 (1024 * p + f) ≡ (good f && (bit f 1 || bit f 3) && true)
+leaf_is : (below p f : ℕ) → f < 1024 → p < 2 ^ 44 → p % 512 ^ below ≡ 0 → is_leaf below (1024 * p + f) ≡ (good f && (bit f 1 || bit f 3) && true)
 unfolding is_leaf well_formed
-leaf_is p f h l = rw (bit_0 p f h, bit_1 p f h, bit_2 p f h, bit_3 p f h, reserved p f h l, whole) refl
+leaf_is below p f h l whole = rw (bit_0 p f h, bit_1 p f h, bit_2 p f h, bit_3 p f h, reserved p f h l, named p f h l, whole) refl
 
 leaf_permits : (p f : ℕ) (access : Access) → f < 1024 → permits_guest access (1024 * p + f) ≡ (bit f 4 && bit f 6 && may f access)
 unfolding permits_guest
@@ -89,57 +83,59 @@ leaf_permits p f Fetch h = rw (bit_3 p f h, bit_4 p f h, bit_6 p f h) refl
 leaf_permits p f Load h = rw (bit_1 p f h, bit_4 p f h, bit_6 p f h) refl
 leaf_permits p f Store h = rw (bit_2 p f h, bit_4 p f h, bit_6 p f h, bit_7 p f h) refl
 
-few_flags : (mode : Mode) (protection : Protection) → flags mode protection < 1024
-few_flags Kernel Free = lit< tt
-few_flags Kernel Held = lit< tt
-few_flags Kernel Approved = lit< tt
-few_flags User Free = lit< tt
-few_flags User Held = lit< tt
-few_flags User Approved = lit< tt
+few_flags : (store fetch : Bool) → flags store fetch < 1024
+few_flags false false = lit< tt
+few_flags false true = lit< tt
+few_flags true false = lit< tt
+few_flags true true = lit< tt
 
 abbrev no_pointer : ℕ → Bool
 no_pointer f = good f && not (bit f 1) && not (bit f 3) && not (bit f 4) && not (bit f 6) && not (bit f 7)
 
-never_points : (mode : Mode) (protection : Protection) → no_pointer (flags mode protection) ≡ false
-never_points Kernel Free = refl
-never_points Kernel Held = refl
-never_points Kernel Approved = refl
-never_points User Free = refl
-never_points User Held = refl
-never_points User Approved = refl
+never_points : (store fetch : Bool) → no_pointer (flags store fetch) ≡ false
+never_points false false = refl
+never_points false true = refl
+never_points true false = refl
+never_points true true = refl
 
 abbrev flags_say : ℕ → Access → Bool
 flags_say f access = good f && (bit f 1 || bit f 3) && true && (bit f 4 && bit f 6 && may f access)
 
--- what a mode sees
-abbrev pub sight_in : Mode → Sight
-sight_in Kernel = OfKernel
-sight_in User = OfUser
+fetch_said : (store fetch : Bool) → flags_say (flags store fetch) Fetch ≡ fetch
+fetch_said false false = refl
+fetch_said false true = refl
+fetch_said true false = refl
+fetch_said true true = refl
 
-says : (mode : Mode) (page : ℕ) (protection : Protection) (access : Access) → flags_say (flags mode protection) access ≡ view_permits (sight_in mode) page protection access
-says Kernel page Free Load = refl
-says Kernel page Free Store = refl
-says Kernel page Free Fetch = refl
-says Kernel page Held Load = refl
-says Kernel page Held Store = refl
-says Kernel page Held Fetch = refl
-says Kernel page Approved Load = refl
-says Kernel page Approved Store = refl
-says Kernel page Approved Fetch = refl
-says User page Free Load = refl
-says User page Free Store = refl
-says User page Free Fetch = refl
-says User page Held Load = refl
-says User page Held Store = refl
-says User page Held Fetch = refl
-says User page Approved Load = refl
-says User page Approved Store = refl
-says User page Approved Fetch = refl
+load_said : (store fetch : Bool) → flags_say (flags store fetch) Load ≡ true
+load_said false false = refl
+load_said false true = refl
+load_said true false = refl
+load_said true true = refl
 
-pub leaf_gives : (mode : Mode) (page : ℕ) (protection : Protection) (p at a : ℕ) (access : Access) (deeper : ℕ → Destination) → p < 2 ^ 44
-    → at_entry (permits_guest access) 0 at deeper a (Some (leaf mode protection p)) ≡ (if view_permits (sight_in mode) page protection access then At (4096 * p + a % 4096) else PageFault)
-leaf_gives mode page protection p at a access deeper l =
-    let f : ℕ = flags mode protection in
-    let few : f < 1024 = few_flags mode protection in
-    let address : 4096 * ((1024 * p + f) / 2 ^ 10 % 2 ^ 44) + a % 4096 ≡ 4096 * p + a % 4096 = ap (λ (n : ℕ). 4096 * n + a % 4096) (named p f few l) in
-    rw (leaf_pointer p f few l, never_points mode protection, leaf_is p f few l, leaf_permits p f access few, says mode page protection access, address) refl
+store_said : (store fetch : Bool) → flags_say (flags store fetch) Store ≡ store
+store_said false false = refl
+store_said false true = refl
+store_said true false = refl
+store_said true true = refl
+
+-- what the flags of a page permit
+abbrev shown : Sight → ℕ → Protection → ℕ
+shown sight page protection = flags (view_permits sight page protection Store) (view_permits sight page protection Fetch)
+
+says : (sight : Sight) (page : ℕ) (protection : Protection) (access : Access) → flags_say (shown sight page protection) access ≡ view_permits sight page protection access
+says sight page protection Fetch = fetch_said (view_permits sight page protection Store) (view_permits sight page protection Fetch)
+says sight page protection Load = load_said (view_permits sight page protection Store) (view_permits sight page protection Fetch)
+says sight page protection Store = store_said (view_permits sight page protection Store) (view_permits sight page protection Fetch)
+
+-- a leaf with so many levels below it maps as large a block
+pub leaf_gives : (below : ℕ) (sight : Sight) (page : ℕ) (protection : Protection) (host at a : ℕ) (access : Access) (deeper : ℕ → Destination) → host < 2 ^ 44 → host % 512 ^ below ≡ 0
+    → at_entry (permits_guest access) below at deeper a (Some (leaf sight page protection host))
+    ≡ (if view_permits sight page protection access then At (4096 * host + a % (4096 * 512 ^ below)) else PageFault)
+leaf_gives below sight page protection host at a access deeper l whole =
+    let store : Bool = view_permits sight page protection Store in
+    let fetch : Bool = view_permits sight page protection Fetch in
+    let f : ℕ = flags store fetch in
+    let few : f < 1024 = few_flags store fetch in
+    let address : 4096 * ((1024 * host + f) / 2 ^ 10 % 2 ^ 44) + a % (4096 * 512 ^ below) ≡ 4096 * host + a % (4096 * 512 ^ below) = ap (λ (n : ℕ). 4096 * n + a % (4096 * 512 ^ below)) (named host f few l) in
+    rw (leaf_pointer host f few l, never_points store fetch, leaf_is below host f few l whole, leaf_permits host f access few, says sight page protection access, address) refl

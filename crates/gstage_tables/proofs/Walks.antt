@@ -1,23 +1,21 @@
--- Where walks of the trees lead: both roots are views.
-use Rattle.std.proofs.Common.{◌≡◌, ◌≢◌, ℕ, ◌+◌, ◌-◌, ◌*◌, ◌/◌, ◌%◌, ◌^◌, ◌<◌, ◌≤◌, inl, inr, Bool, true, false, List, [], ◌∷◌, length, refl, sym, ap, subst, ◌∙◌, arith, lit≤}
-use Rattle.std.specs.Prelude.{Option, Some, None, IsSomeAnd, ◌==◌, ◌&&◌, nat_lt, nat_le, if◌then◌else◌}
+-- Where walks of the trees lead: each root is a view.
+use Rattle.std.proofs.Common.{◌≡◌, ◌≢◌, ℕ, zero, suc, ◌+◌, ◌-◌, ◌*◌, ◌/◌, ◌%◌, ◌^◌, ◌<◌, ◌≤◌, inl, inr, Bool, true, false, List, [], ◌∷◌, length, refl, sym, ap, subst, ◌∙◌, arith, mul-le-mul_right}
+use Rattle.std.specs.Prelude.{Option, Some, None, IsSomeAnd, ◌==◌, ◌&&◌, nat_lt, nat_le, if◌then◌else◌, slice_get, slice_index_or, option_map}
 use borrow.Author.Tests.{le-leb, lt-ltb, le-ltb, ne_eqb, eq-eqb}
 use Rattle.std.proofs.lemmas.Bool.{lt-leb}
 use Rattle.std.proofs.lemmas.Bool.Decides.{nat_tests}
-use Rattle.sv_types.specs.Bytes.{page_of, ram_place}
+use Rattle.sv_types.specs.Bytes.{word, page_of, ram_place}
 use Rattle.sv_types.specs.Regions.{host_word}
 use Rattle.sv_types.specs.Instructions.{bits}
 use Rattle.sv_types.specs.Translation.{walk, root_of, Destination, At, PageFault}
-use Rattle.sv_types.specs.SecondStage.{IsView, AreViews, Sight, sight_of, view_hgatp, view_answer, view_permits, page_in_ram, walk_guest, address_at, guest_destination, entry_in_tables, entry_in_region, host_entry, permits_guest, with_ram}
+use Rattle.sv_types.specs.SecondStage.{IsView, AreViews, Sight, OfKernel, OfUser, OfEntry, sight_of, view_hgatp, view_answer, view_permits, page_in_ram, walk_guest, address_at, guest_destination, entry_in_tables, entry_in_region, host_entry, permits_guest, with_ram}
 use Rattle.sv_types.specs.declared.wires.Access.{Access}
 use Rattle.sv_types.specs.declared.wires.Protection.{Protection}
-use Rattle.sv_types.specs.declared.wires.Mode.{Mode}
-use Rattle.sv_types.specs.declared.wires.Mode.TheVariants.{Kernel, User}
 use Rattle.sv_types.specs.declared.wires.View.{View}
 use Rattle.sv_types.proofs.ByteLemmas.{lt_or_le}
-use Rattle.gstage_tables.specs.Layout.{leaf_tables, table_size, pointer, leaf, leaf_word, table_word, host_page, HoldsTrees}
-use Rattle.gstage_tables.proofs.Bits.{pointer_gives, zero_gives, leaf_gives, sight_in}
-use Rattle.gstage_tables.proofs.Places.{tree, root_word, middle_word, leaf_at, leaf_there, leaf_past}
+use Rattle.gstage_tables.specs.Layout.{leaf_tables, table_pages, table_size, tree_count, tree_of, sight_in, pointer, leaf, root_word, middle_word, leaf_word, HoldsTrees}
+use Rattle.gstage_tables.proofs.Bits.{pointer_gives, zero_gives, leaf_gives}
+use Rattle.gstage_tables.proofs.Places.{root_two, root_other, middle_there, middle_past, leaf_there, leaf_past}
 
 -- ---- one step
 
@@ -31,36 +29,24 @@ step_on : (read : ℕ → Option ℕ) (grants : ℕ → Bool) (i : ℕ) (is : Li
 unfolding walk
 step_on read grants i is table a p e l = rw e (pointer_gives grants (length is) (table + 8 * i) a p (λ next. walk read grants is next a) l)
 
-step_leaf : (read : ℕ → Option ℕ) (access : Access) (i table a p : ℕ) (mode : Mode) (page : ℕ) (protection : Protection) → read (table + 8 * i) ≡ Some (leaf mode protection p) → p < 2 ^ 44
-    → walk read (permits_guest access) (i ∷ []) table a ≡ (if view_permits (sight_in mode) page protection access then At (4096 * p + a % 4096) else PageFault)
+step_leaf : (read : ℕ → Option ℕ) (access : Access) (i table a host : ℕ) (sight : Sight) (page : ℕ) (protection : Protection) → read (table + 8 * i) ≡ Some (leaf sight page protection host) → host < 2 ^ 44
+    → walk read (permits_guest access) (i ∷ []) table a ≡ (if view_permits sight page protection access then At (4096 * host + a % 4096) else PageFault)
 unfolding walk
-step_leaf read access i table a p mode page protection e l =
-    rw e (leaf_gives mode page protection p (table + 8 * i) a access (λ next. walk read (permits_guest access) [] next a) l)
+step_leaf read access i table a host sight page protection e l =
+    let whole : host % 1 ≡ 0 = omega arith in
+    rw e (leaf_gives 0 sight page protection host (table + 8 * i) a access (λ next. walk read (permits_guest access) [] next a) l whole)
 
 -- ---- a reader that gives the words of the trees
 
-pub record Reads (read : ℕ → Option ℕ) (pages : ℕ) (ps : ℕ → Protection) : Type 0 where
-  pub most : pages ≤ 65536
-  pub words : (k : ℕ) → 8 * k + 8 ≤ table_size pages → read (8 * k) ≡ Some (table_word pages (leaf_tables pages) ps k)
-
-module _ (read : ℕ → Option ℕ) (pages : ℕ) (ps : ℕ → Protection) (h : Reads read pages ps) where
-  abbrev t : ℕ
-  t = leaf_tables pages
-
-  at_word : (at k : ℕ) → at ≡ 8 * k → 8 * k + 8 ≤ table_size pages → read at ≡ Some (table_word pages t ps k)
-  at_word at k e le = ap read e ∙ h.words k le
-
-  pub in_root : (mode : Mode) (i at : ℕ) → i < 2048 → at ≡ 16384 * tree mode + 8 * i → read at ≡ Some (if i == 2 then pointer (8 + tree mode) else 0)
-  in_root Kernel i at l e = at_word at (2048 * 0 + i) (omega arith) (omega arith) ∙ ap Some (root_word pages t ps Kernel i l)
-  in_root User i at l e = at_word at (2048 * 1 + i) (omega arith) (omega arith) ∙ ap Some (root_word pages t ps User i l)
-
-  pub in_middle : (mode : Mode) (i at : ℕ) → i < 512 → at ≡ 4096 * (8 + tree mode) + 8 * i → read at ≡ Some (if nat_lt i t then pointer (10 + tree mode * t + i) else 0)
-  in_middle Kernel i at l e = at_word at (4096 + 512 * 0 + i) (omega arith) (omega arith) ∙ ap Some (middle_word pages t ps Kernel i l)
-  in_middle User i at l e = at_word at (4096 + 512 * 1 + i) (omega arith) (omega arith) ∙ ap Some (middle_word pages t ps User i l)
-
-  pub in_leaves : (mode : Mode) (p at : ℕ) → p < 512 * t → at ≡ 4096 * (10 + tree mode * t) + 8 * p → read at ≡ Some (leaf_word pages ps mode p)
-  in_leaves Kernel p at l e = at_word at (5120 + 512 * (0 * t) + p) (omega arith) (omega arith) ∙ ap Some (leaf_at pages t ps Kernel p l)
-  in_leaves User p at l e = at_word at (5120 + 512 * (1 * t) + p) (omega arith) (omega arith) ∙ ap Some (leaf_at pages t ps User p l)
+-- of so many trees, each with t level-0 tables, in n pages
+pub record Reads (read : ℕ → Option ℕ) (pages t n trees : ℕ) (sights : ℕ → Sight) (ps : ℕ → Protection) : Type 0 where
+  pub covers : pages ≤ 512 * t
+  pub few_tables : t ≤ 512
+  pub few_trees : trees ≤ 66
+  pub few_pages : n ≤ 34122
+  pub roots : (tree i : ℕ) → tree < trees → i < 2048 → read (8 * (512 * (4 * tree) + i)) ≡ Some (root_word trees tree i)
+  pub middles : (tree i : ℕ) → tree < trees → i < 512 → read (8 * (512 * (4 * trees + tree) + i)) ≡ Some (middle_word trees t tree i)
+  pub leaves : (tree p : ℕ) → tree < trees → p < 512 * t → read (8 * (512 * (5 * trees + tree * t) + p)) ≡ Some (leaf_word pages n (sights tree) ps p)
 
 -- ---- whether an address lies in RAM
 
@@ -79,41 +65,33 @@ within pages gpa above l =
 
 -- ---- where a walk leads
 
-abbrev pub leads : ℕ → ℕ → Mode → (ℕ → Protection) → ℕ → Access → Destination
-leads table_bytes pages mode ps gpa access =
-    if page_in_ram pages gpa && view_permits (sight_in mode) (page_of gpa) (ps (page_of gpa)) access then At (table_bytes + ram_place gpa) else PageFault
+abbrev pub leads : ℕ → ℕ → Sight → (ℕ → Protection) → ℕ → Access → Destination
+leads table_bytes pages sight ps gpa access =
+    if page_in_ram pages gpa && view_permits sight (page_of gpa) (ps (page_of gpa)) access then At (table_bytes + ram_place gpa) else PageFault
 
-outside : (table_bytes pages : ℕ) (mode : Mode) (ps : ℕ → Protection) (gpa : ℕ) (access : Access) → page_in_ram pages gpa ≡ false
-    → PageFault ≡ leads table_bytes pages mode ps gpa access
-outside table_bytes pages mode ps gpa access misses = rw misses refl
+outside : (table_bytes pages : ℕ) (sight : Sight) (ps : ℕ → Protection) (gpa : ℕ) (access : Access) → page_in_ram pages gpa ≡ false
+    → PageFault ≡ leads table_bytes pages sight ps gpa access
+outside table_bytes pages sight ps gpa access misses = rw misses refl
 
-inside : (pages : ℕ) (mode : Mode) (ps : ℕ → Protection) (gpa p : ℕ) (access : Access) → page_in_ram pages gpa ≡ true → 0x80000000 ≤ gpa → p ≡ (gpa - 0x80000000) / 4096
-    → (if view_permits (sight_in mode) p (ps p) access then At (4096 * host_page pages p + gpa % 4096) else PageFault) ≡ leads (table_size pages) pages mode ps gpa access
-inside pages mode ps gpa p access hits above is =
-    let place : 4096 * (10 + 2 * leaf_tables pages + p) + gpa % 4096 ≡ 4096 * (10 + 2 * leaf_tables pages) + (gpa - 0x80000000) = omega arith in
+inside : (pages n : ℕ) (sight : Sight) (ps : ℕ → Protection) (gpa p : ℕ) (access : Access) → page_in_ram pages gpa ≡ true → 0x80000000 ≤ gpa → p ≡ (gpa - 0x80000000) / 4096
+    → (if view_permits sight p (ps p) access then At (4096 * (n + p) + gpa % 4096) else PageFault) ≡ leads (4096 * n) pages sight ps gpa access
+inside pages n sight ps gpa p access hits above is =
+    let place : 4096 * (n + p) + gpa % 4096 ≡ 4096 * n + (gpa - 0x80000000) = omega arith in
     rw (hits, ← is, place) refl
 
--- the view of a mode outside of entries
-abbrev view_in : Mode → View
-view_in Kernel = View.Kernel
-view_in User = View.User
+-- the tables of a tree below another lie in front of that one's
+pub in_front : (a b t : ℕ) → a < b → a * t + t ≤ b * t
+in_front a b t l =
+    let one : (a + 1) * t ≡ a * t + t = omega arith in
+    let more : (a + 1) * t ≤ b * t = mul-le-mul_right t (omega arith) in omega arith
 
-root_at : (mode : Mode) → root_of (view_hgatp (view_in mode)) ≡ 16384 * tree mode
-root_at Kernel = refl
-root_at User = refl
+low : (trees tree t i : ℕ) → tree < trees → trees ≤ 66 → t ≤ 512 → i < t → 5 * trees + tree * t + i < 2 ^ 44
+low trees tree t i l few few_tables h =
+    let front = in_front tree trees t l in
+    let most : trees * t ≤ 66 * t = mul-le-mul_right t few in omega arith
 
-small_tree : (mode : Mode) → tree mode ≤ 1
-small_tree Kernel = lit≤ tt
-small_tree User = lit≤ tt
-
-low : (mode : Mode) (t i : ℕ) → t ≤ 128 → i < 512 → 10 + tree mode * t + i < 2 ^ 44
-low Kernel t i h l = omega arith
-low User t i h l = omega arith
-
-leaf_place : (mode : Mode) (t i j : ℕ) → 4096 * (10 + tree mode * t + i) + 8 * j ≡ 4096 * (10 + tree mode * t) + 8 * (512 * i + j)
-leaf_place mode t i j = omega arith
-
-module _ (read : ℕ → Option ℕ) (pages : ℕ) (ps : ℕ → Protection) (h : Reads read pages ps) (mode : Mode) (gpa : ℕ) (access : Access) where
+module _ (read : ℕ → Option ℕ) (pages t n trees : ℕ) (sights : ℕ → Sight) (ps : ℕ → Protection) (h : Reads read pages t n trees sights ps)
+    (tree hgatp : ℕ) (there : tree < trees) (rooted : root_of hgatp ≡ 16384 * tree) (gpa : ℕ) (access : Access) where
   abbrev i2 : ℕ
   i2 = bits gpa 30 41
 
@@ -126,60 +104,73 @@ module _ (read : ℕ → Option ℕ) (pages : ℕ) (ps : ℕ → Protection) (h 
   abbrev grants : ℕ → Bool
   grants = permits_guest access
 
-  abbrev root : ℕ
-  root = root_of (view_hgatp (view_in mode))
+  -- the tree's tables
+  abbrev middle : ℕ
+  middle = 4096 * (4 * trees + tree)
 
-  first : gpa < 2 ^ 41 → read (root + 8 * i2) ≡ Some (if i2 == 2 then pointer (8 + tree mode) else 0)
-  first l = in_root read pages ps h mode i2 (root + 8 * i2) (omega arith) (ap (λ (k : ℕ). k + 8 * i2) (root_at mode))
+  abbrev last : ℕ
+  last = 4096 * (5 * trees + tree * t + i1)
 
-  missed : gpa < 2 ^ 41 → i2 ≢ 2 → guest_destination read (view_hgatp (view_in mode)) gpa access ≡ PageFault
-  missed l ne = let e : (i2 == 2) ≡ false = ne_eqb i2 2 ne in
-      step_zero read grants i2 (i1 ∷ i0 ∷ []) root gpa (first l ∙ rw e refl)
+  first : gpa < 2 ^ 41 → read (root_of hgatp + 8 * i2) ≡ Some (root_word trees tree i2)
+  first l =
+      let place : root_of hgatp + 8 * i2 ≡ 8 * (512 * (4 * tree) + i2) = ap (λ (k : ℕ). k + 8 * i2) rooted ∙ omega arith in
+      ap read place ∙ h.roots tree i2 there (omega arith)
 
-  met : gpa < 2 ^ 41 → i2 ≡ 2 → guest_destination read (view_hgatp (view_in mode)) gpa access ≡ walk read grants (i1 ∷ i0 ∷ []) (4096 * (8 + tree mode)) gpa
-  met l same = let e : (i2 == 2) ≡ true = eq-eqb i2 2 same in
-      step_on read grants i2 (i1 ∷ i0 ∷ []) root gpa (8 + tree mode) (first l ∙ rw e refl) (omega (arith, small_tree mode))
+  missed : gpa < 2 ^ 41 → i2 ≢ 2 → guest_destination read hgatp gpa access ≡ PageFault
+  missed l ne = step_zero read grants i2 (i1 ∷ i0 ∷ []) (root_of hgatp) gpa (first l ∙ ap Some (root_other trees tree i2 ne))
 
-  second : read (4096 * (8 + tree mode) + 8 * i1) ≡ Some (if nat_lt i1 (leaf_tables pages) then pointer (10 + tree mode * leaf_tables pages + i1) else 0)
-  second = in_middle read pages ps h mode i1 (4096 * (8 + tree mode) + 8 * i1) (omega arith) refl
+  met : gpa < 2 ^ 41 → i2 ≡ 2 → guest_destination read hgatp gpa access ≡ walk read grants (i1 ∷ i0 ∷ []) middle gpa
+  met l same =
+      let few = h.few_trees in
+      step_on read grants i2 (i1 ∷ i0 ∷ []) (root_of hgatp) gpa (4 * trees + tree) (first l ∙ ap Some (root_two trees tree i2 same)) (omega arith)
 
-  no_table : leaf_tables pages ≤ i1 → walk read grants (i1 ∷ i0 ∷ []) (4096 * (8 + tree mode)) gpa ≡ PageFault
-  no_table none = let e : nat_lt i1 (leaf_tables pages) ≡ false = le-ltb i1 (leaf_tables pages) none in
-      step_zero read grants i1 (i0 ∷ []) (4096 * (8 + tree mode)) gpa (second ∙ rw e refl)
+  second : read (middle + 8 * i1) ≡ Some (middle_word trees t tree i1)
+  second =
+      let place : middle + 8 * i1 ≡ 8 * (512 * (4 * trees + tree) + i1) = omega arith in
+      ap read place ∙ h.middles tree i1 there (omega arith)
 
-  one_table : i1 < leaf_tables pages → walk read grants (i1 ∷ i0 ∷ []) (4096 * (8 + tree mode)) gpa ≡ walk read grants (i0 ∷ []) (4096 * (10 + tree mode * leaf_tables pages + i1)) gpa
-  one_table some = let e : nat_lt i1 (leaf_tables pages) ≡ true = lt-ltb i1 (leaf_tables pages) some in
-      let most = h.most in
-      step_on read grants i1 (i0 ∷ []) (4096 * (8 + tree mode)) gpa (10 + tree mode * leaf_tables pages + i1) (second ∙ rw e refl) (low mode (leaf_tables pages) i1 (omega arith) (omega arith))
+  no_table : t ≤ i1 → walk read grants (i1 ∷ i0 ∷ []) middle gpa ≡ PageFault
+  no_table none = step_zero read grants i1 (i0 ∷ []) middle gpa (second ∙ ap Some (middle_past trees t tree i1 none))
 
-  third : i1 < leaf_tables pages → read (4096 * (10 + tree mode * leaf_tables pages + i1) + 8 * i0) ≡ Some (leaf_word pages ps mode (512 * i1 + i0))
-  third some = in_leaves read pages ps h mode (512 * i1 + i0) (4096 * (10 + tree mode * leaf_tables pages + i1) + 8 * i0) (omega arith) (leaf_place mode (leaf_tables pages) i1 i0)
+  one_table : i1 < t → walk read grants (i1 ∷ i0 ∷ []) middle gpa ≡ walk read grants (i0 ∷ []) last gpa
+  one_table some =
+      step_on read grants i1 (i0 ∷ []) middle gpa (5 * trees + tree * t + i1) (second ∙ ap Some (middle_there trees t tree i1 some))
+      (low trees tree t i1 there h.few_trees h.few_tables some)
 
-  past : i1 < leaf_tables pages → pages ≤ 512 * i1 + i0 → walk read grants (i0 ∷ []) (4096 * (10 + tree mode * leaf_tables pages + i1)) gpa ≡ PageFault
-  past some beyond = step_zero read grants i0 [] (4096 * (10 + tree mode * leaf_tables pages + i1)) gpa (third some ∙ ap Some (leaf_past pages ps mode (512 * i1 + i0) beyond))
+  third : i1 < t → read (last + 8 * i0) ≡ Some (leaf_word pages n (sights tree) ps (512 * i1 + i0))
+  third some =
+      let place : last + 8 * i0 ≡ 8 * (512 * (5 * trees + tree * t) + (512 * i1 + i0)) = leaf_place (5 * trees + tree * t) i1 i0 in
+      ap read place ∙ h.leaves tree (512 * i1 + i0) there (omega arith)
+    where
+      leaf_place : (at i j : ℕ) → 4096 * (at + i) + 8 * j ≡ 8 * (512 * at + (512 * i + j))
+      leaf_place at i j = omega arith
 
-  there : i1 < leaf_tables pages → 512 * i1 + i0 < pages → walk read grants (i0 ∷ []) (4096 * (10 + tree mode * leaf_tables pages + i1)) gpa
-      ≡ (if view_permits (sight_in mode) (512 * i1 + i0) (ps (512 * i1 + i0)) access then At (4096 * host_page pages (512 * i1 + i0) + gpa % 4096) else PageFault)
-  there some below = let most = h.most in
-      step_leaf read access i0 (4096 * (10 + tree mode * leaf_tables pages + i1)) gpa (host_page pages (512 * i1 + i0)) mode (512 * i1 + i0) (ps (512 * i1 + i0))
-      (third some ∙ ap Some (leaf_there pages ps mode (512 * i1 + i0) below)) (omega arith)
+  past : i1 < t → pages ≤ 512 * i1 + i0 → walk read grants (i0 ∷ []) last gpa ≡ PageFault
+  past some beyond = step_zero read grants i0 [] last gpa (third some ∙ ap Some (leaf_past pages n (sights tree) ps (512 * i1 + i0) beyond))
 
-  pub walk_leads : gpa < 2 ^ 41 → guest_destination read (view_hgatp (view_in mode)) gpa access ≡ leads (table_size pages) pages mode ps gpa access
+  mapped : i1 < t → 512 * i1 + i0 < pages → walk read grants (i0 ∷ []) last gpa
+      ≡ (if view_permits (sights tree) (512 * i1 + i0) (ps (512 * i1 + i0)) access then At (4096 * (n + (512 * i1 + i0)) + gpa % 4096) else PageFault)
+  mapped some below =
+      let few = h.few_pages in
+      step_leaf read access i0 last gpa (n + (512 * i1 + i0)) (sights tree) (512 * i1 + i0) (ps (512 * i1 + i0))
+      (third some ∙ ap Some (leaf_there pages n (sights tree) ps (512 * i1 + i0) below)) (omega arith)
+
+  pub walk_leads : gpa < 2 ^ 41 → guest_destination read hgatp gpa access ≡ leads (4096 * n) pages (sights tree) ps gpa access
   walk_leads l =
-      let most = h.most in
-      let covers : pages ≤ 512 * leaf_tables pages = omega arith in
+      let covers = h.covers in
+      let few = h.few_tables in
       elim (lt_or_le gpa 0x80000000) [
-        | inl below ↦ missed l (omega arith) ∙ outside (table_size pages) pages mode ps gpa access (not_below pages gpa below)
+        | inl below ↦ missed l (omega arith) ∙ outside (4096 * n) pages (sights tree) ps gpa access (not_below pages gpa below)
         | inr above ↦ elim (lt_or_le gpa 0xC0000000) [
-          | inr high ↦ missed l (omega arith) ∙ outside (table_size pages) pages mode ps gpa access (not_past pages gpa above (omega arith))
-          | inl middle ↦
-              met l (omega arith) ∙ elim (lt_or_le i1 (leaf_tables pages)) [
-                | inr none ↦ no_table none ∙ outside (table_size pages) pages mode ps gpa access (not_past pages gpa above (omega arith))
+          | inr high ↦ missed l (omega arith) ∙ outside (4096 * n) pages (sights tree) ps gpa access (not_past pages gpa above (omega arith))
+          | inl near ↦
+              met l (omega arith) ∙ elim (lt_or_le i1 t) [
+                | inr none ↦ no_table none ∙ outside (4096 * n) pages (sights tree) ps gpa access (not_past pages gpa above (omega arith))
                 | inl some ↦
                     let is : 512 * i1 + i0 ≡ (gpa - 0x80000000) / 4096 = omega arith in
                     one_table some ∙ elim (lt_or_le (512 * i1 + i0) pages) [
-                      | inl below ↦ there some below ∙ inside pages mode ps gpa (512 * i1 + i0) access (within pages gpa above (omega arith)) above is
-                      | inr beyond ↦ past some beyond ∙ outside (table_size pages) pages mode ps gpa access (not_past pages gpa above (omega arith))
+                      | inl below ↦ mapped some below ∙ inside pages n (sights tree) ps gpa (512 * i1 + i0) access (within pages gpa above (omega arith)) above is
+                      | inr beyond ↦ past some beyond ∙ outside (4096 * n) pages (sights tree) ps gpa access (not_past pages gpa above (omega arith))
                     ]
               ]
         ]
@@ -187,28 +178,58 @@ module _ (read : ℕ → Option ℕ) (pages : ℕ) (ps : ℕ → Protection) (h 
 
 -- ---- the two readers
 
-holds_pages : (tables : List ℕ) (pages : ℕ) (ps : ℕ → Protection) → HoldsTrees tables pages ps → Reads (entry_in_tables tables) pages ps
-unfolding entry_in_tables
-holds_pages tables pages ps h = record {
-  most = h.most;
-  words = λ k le.
-      let size : length tables ≡ table_size pages = h.size in
-      let fits : 8 * k + 8 ≤ length tables = omega arith in
-      let test : nat_le (8 * k + 8) (length tables) ≡ true = le-leb (8 * k + 8) (length tables) fits in
-      rw test (ap Some (h.words k fits));
-}
+-- every word of the trees lies in the tables
+module _ (trees t : ℕ) where
+  root_fits : (tree i : ℕ) → tree < trees → i < 2048 → 8 * (512 * (4 * tree) + i) + 8 ≤ 4096 * (5 * trees + trees * t)
+  root_fits tree i l h = omega arith
 
-holds_region : (tables ram : List ℕ) (pages : ℕ) (ps : ℕ → Protection) → HoldsTrees tables pages ps → Reads (entry_in_region (with_ram tables ram)) pages ps
+  middle_fits : (tree i : ℕ) → tree < trees → i < 512 → 8 * (512 * (4 * trees + tree) + i) + 8 ≤ 4096 * (5 * trees + trees * t)
+  middle_fits tree i l h = omega arith
+
+  leaf_fits : (tree p : ℕ) → tree < trees → p < 512 * t → 8 * (512 * (5 * trees + tree * t) + p) + 8 ≤ 4096 * (5 * trees + trees * t)
+  leaf_fits tree p l h = let front = in_front tree trees t l in omega arith
+
+few_table_pages : (trees t : ℕ) → trees ≤ 66 → t ≤ 512 → 5 * trees + trees * t ≤ 34122
+few_table_pages trees t few few_tables = let most : trees * t ≤ 66 * t = mul-le-mul_right t few in omega arith
+
+-- a reader that gives what stands in the tables
+module _ (read : ℕ → Option ℕ) (tables : List ℕ) (pages : ℕ) (bound : List ℕ) (ps : ℕ → Protection) (h : HoldsTrees tables pages bound ps)
+    (gives : (at : ℕ) → at + 8 ≤ length tables → read at ≡ Some (word tables at 8)) where
+  abbrev trees : ℕ
+  trees = tree_count (length bound)
+
+  abbrev t : ℕ
+  t = leaf_tables pages
+
+  given : (at value : ℕ) → at + 8 ≤ 4096 * (5 * trees + trees * t) → word tables at 8 ≡ value → read at ≡ Some value
+  given at value fits is = gives at (subst (λ (size : ℕ). at + 8 ≤ size) (sym h.size) fits) ∙ ap Some is
+
+  pub holds_reads : Reads read pages t (table_pages pages (length bound)) trees (sight_in bound) ps
+  holds_reads =
+      let most = h.most in
+      let few = h.few in
+      let few_trees : trees ≤ 66 = omega arith in
+      let few_tables : t ≤ 512 = omega arith in
+      record {
+        covers = omega arith;
+        few_tables = few_tables;
+        few_trees = few_trees;
+        few_pages = few_table_pages trees t few_trees few_tables;
+        roots = λ tree i l k. given _ _ (root_fits trees t tree i l k) (h.roots tree i l k);
+        middles = λ tree i l k. given _ _ (middle_fits trees t tree i l k) (h.middles tree i l k);
+        leaves = λ tree p l k. given _ _ (leaf_fits trees t tree p l k) (h.leaves tree p l k);
+      }
+
+reads_tables : (tables : List ℕ) (at : ℕ) → at + 8 ≤ length tables → entry_in_tables tables at ≡ Some (word tables at 8)
+unfolding entry_in_tables
+reads_tables tables at fits = let test : nat_le (at + 8) (length tables) ≡ true = le-leb (at + 8) (length tables) fits in rw test refl
+
+reads_region : (tables ram : List ℕ) (at : ℕ) → at + 8 ≤ length tables → entry_in_region (with_ram tables ram) at ≡ Some (word tables at 8)
 unfolding host_entry host_word
-holds_region tables ram pages ps h = record {
-  most = h.most;
-  words = λ k le.
-      let size : length tables ≡ table_size pages = h.size in
-      let fits : 8 * k + 8 ≤ length tables = omega arith in
-      let test : nat_le (8 * k + 8) (length tables + length ram) ≡ true = le-leb (8 * k + 8) (length tables + length ram) (omega arith) in
-      let low : nat_lt (8 * k) (length tables) ≡ true = lt-ltb (8 * k) (length tables) (omega arith) in
-      rw (test, low) (ap Some (h.words k fits));
-}
+reads_region tables ram at fits =
+    let test : nat_le (at + 8) (length tables + length ram) ≡ true = le-leb (at + 8) (length tables + length ram) (omega arith) in
+    let low : nat_lt at (length tables) ≡ true = lt-ltb at (length tables) (omega arith) in
+    rw (test, low) refl
 
 -- ---- the views
 
@@ -216,34 +237,75 @@ place_chosen : (b : Bool) (x : ℕ) → address_at (if b then At x else PageFaul
 place_chosen true x = refl
 place_chosen false x = refl
 
-module _ (tables : List ℕ) (pages : ℕ) (ps : ℕ → Protection) (h : HoldsTrees tables pages ps) (mode : Mode) where
-  near : (ram : List ℕ) (gpa : ℕ) (access : Access) → gpa < 2 ^ 41 → walk_guest (with_ram tables ram) (view_hgatp (view_in mode)) gpa access ≡ view_answer (length tables) pages (sight_in mode) ps gpa access
+module _ (tables : List ℕ) (pages : ℕ) (bound : List ℕ) (ps : ℕ → Protection) (h : HoldsTrees tables pages bound ps)
+    (tree hgatp : ℕ) (there : tree < tree_count (length bound)) (rooted : root_of hgatp ≡ 16384 * tree) where
+  abbrev sight : Sight
+  sight = sight_in bound tree
+
+  by_tables : (gpa : ℕ) (access : Access) → gpa < 2 ^ 41 → guest_destination (entry_in_tables tables) hgatp gpa access ≡ leads (table_size pages (length bound)) pages sight ps gpa access
+  by_tables gpa access l =
+      walk_leads (entry_in_tables tables) pages (leaf_tables pages) (table_pages pages (length bound)) (tree_count (length bound)) (sight_in bound) ps
+      (holds_reads (entry_in_tables tables) tables pages bound ps h (reads_tables tables)) tree hgatp there rooted gpa access l
+
+  by_region : (ram : List ℕ) (gpa : ℕ) (access : Access) → gpa < 2 ^ 41 → guest_destination (entry_in_region (with_ram tables ram)) hgatp gpa access ≡ leads (table_size pages (length bound)) pages sight ps gpa access
+  by_region ram gpa access l =
+      walk_leads (entry_in_region (with_ram tables ram)) pages (leaf_tables pages) (table_pages pages (length bound)) (tree_count (length bound)) (sight_in bound) ps
+      (holds_reads (entry_in_region (with_ram tables ram)) tables pages bound ps h (reads_region tables ram)) tree hgatp there rooted gpa access l
+
+  near : (ram : List ℕ) (gpa : ℕ) (access : Access) → gpa < 2 ^ 41 → walk_guest (with_ram tables ram) hgatp gpa access ≡ view_answer (length tables) pages sight ps gpa access
   unfolding walk_guest view_answer
   near ram gpa access l =
       let test : gpa / 2 ^ 41 ≡ 0 = omega arith in
-      rw (test, h.size) (ap address_at (walk_leads (entry_in_region (with_ram tables ram)) pages ps (holds_region tables ram pages ps h) mode gpa access l)
-      ∙ place_chosen (page_in_ram pages gpa && view_permits (sight_in mode) (page_of gpa) (ps (page_of gpa)) access) (table_size pages + ram_place gpa))
+      rw (test, h.size) (ap address_at (by_region ram gpa access l)
+      ∙ place_chosen (page_in_ram pages gpa && view_permits sight (page_of gpa) (ps (page_of gpa)) access) (table_size pages (length bound) + ram_place gpa))
 
-  far : (ram : List ℕ) (gpa : ℕ) (access : Access) → 2 ^ 41 ≤ gpa → walk_guest (with_ram tables ram) (view_hgatp (view_in mode)) gpa access ≡ view_answer (length tables) pages (sight_in mode) ps gpa access
+  far : (ram : List ℕ) (gpa : ℕ) (access : Access) → 2 ^ 41 ≤ gpa → walk_guest (with_ram tables ram) hgatp gpa access ≡ view_answer (length tables) pages sight ps gpa access
   unfolding walk_guest view_answer
   far ram gpa access over =
       let most = h.most in
       let test : (gpa / 2 ^ 41 == 0) ≡ false = grind (arith, nat_tests) in
       rw (test, not_past pages gpa (omega arith) (omega arith)) refl
 
-  is_view : IsView tables pages ps (sight_in mode) (view_hgatp (view_in mode))
+  pub is_view : IsView tables pages ps sight hgatp
   is_view = record {
     answers = λ ram gpa access size small. elim (lt_or_le gpa (2 ^ 41)) [ inl l ↦ near ram gpa access l | inr over ↦ far ram gpa access over ];
-    reads = λ ram gpa access size l.
-        walk_leads (entry_in_tables tables) pages ps (holds_pages tables pages ps h) mode gpa access l
-        ∙ sym (walk_leads (entry_in_region (with_ram tables ram)) pages ps (holds_region tables ram pages ps h) mode gpa access l);
+    reads = λ ram gpa access size l. by_tables gpa access l ∙ sym (by_region ram gpa access l);
   }
 
-views_each : (tables : List ℕ) (pages : ℕ) (ps : ℕ → Protection) → HoldsTrees tables pages ps → (view : View) (sight : Sight)
-    → sight_of [] view ≡ Some sight → IsView tables pages ps sight (view_hgatp view)
-views_each tables pages ps h View.Kernel sight is = subst (λ (s : Option Sight). IsSomeAnd s (λ seen. IsView tables pages ps seen (view_hgatp View.Kernel))) is (is_view tables pages ps h Kernel)
-views_each tables pages ps h View.User sight is = subst (λ (s : Option Sight). IsSomeAnd s (λ seen. IsView tables pages ps seen (view_hgatp View.User))) is (is_view tables pages ps h User)
-views_each tables pages ps h (View.Entry i) sight is = absurd (cc)
+-- ---- every root that there is
 
-pub are_views : (tables : List ℕ) (pages : ℕ) (ps : ℕ → Protection) → HoldsTrees tables pages ps → AreViews tables pages [] ps
-are_views tables pages ps h = record { each = views_each tables pages ps h }
+some_is : {a b : Sight} → Some a ≡ Some b → a ≡ b
+some_is e = cc
+
+-- the page that an entry is bound to
+bound_there : (bound : List ℕ) (i : ℕ) (sight : Sight) → option_map OfEntry (slice_get bound i) ≡ Some sight
+    → (i < length bound) × (OfEntry (slice_index_or bound i 0) ≡ sight)
+bound_there [] i sight is = absurd (cc)
+bound_there (page ∷ bound) zero sight is = (omega arith, some_is is)
+bound_there (page ∷ bound) (suc i) sight is = let rest = bound_there bound i sight is in (omega arith, rest.1)
+
+pub entry_root : (i : ℕ) → i ≤ 64 → root_of (view_hgatp (View.Entry i)) ≡ 16384 * (2 + i)
+entry_root i few = omega arith
+
+entry_sight : (bound : List ℕ) (i : ℕ) → sight_in bound (2 + i) ≡ OfEntry (slice_index_or bound i 0)
+entry_sight bound i =
+    let a : (2 + i == 0) ≡ false = ne_eqb (2 + i) 0 (omega arith) in
+    let b : (2 + i == 1) ≡ false = ne_eqb (2 + i) 1 (omega arith) in
+    let c : 2 + i - 2 ≡ i = omega arith in
+    rw (a, b, c) refl
+
+views_each : (tables : List ℕ) (pages : ℕ) (bound : List ℕ) (ps : ℕ → Protection) → HoldsTrees tables pages bound ps → (view : View) (sight : Sight)
+    → sight_of bound view ≡ Some sight → IsView tables pages ps sight (view_hgatp view)
+views_each tables pages bound ps h View.Kernel sight is =
+    subst (λ (s : Sight). IsView tables pages ps s (view_hgatp View.Kernel)) (some_is is) (is_view tables pages bound ps h 0 (view_hgatp View.Kernel) (omega arith) refl)
+views_each tables pages bound ps h View.User sight is =
+    subst (λ (s : Sight). IsView tables pages ps s (view_hgatp View.User)) (some_is is) (is_view tables pages bound ps h 1 (view_hgatp View.User) (omega arith) refl)
+views_each tables pages bound ps h (View.Entry i) sight is =
+    let few = h.few in
+    let entry = bound_there bound i sight is in
+    let below : i < length bound = entry.0 in
+    subst (λ (s : Sight). IsView tables pages ps s (view_hgatp (View.Entry i))) (entry_sight bound i ∙ entry.1)
+    (is_view tables pages bound ps h (2 + i) (view_hgatp (View.Entry i)) (omega arith) (entry_root i (omega arith)))
+
+pub are_views : (tables : List ℕ) (pages : ℕ) (bound : List ℕ) (ps : ℕ → Protection) → HoldsTrees tables pages bound ps → AreViews tables pages bound ps
+are_views tables pages bound ps h = record { each = views_each tables pages bound ps h }

@@ -1,55 +1,106 @@
--- How two trees of second-stage tables lie in the table part: kernel mode's root and user mode's, of four pages
--- each, a level-1 table of each, then the level-0 tables of the one and of the other.
+-- How the trees of second-stage tables lie in the table part: the roots of all trees, of four pages each, then a level-1
+-- table of each tree, then the level-0 tables of one tree after the other. Tree 0 shows kernel mode's memory, tree 1 user
+-- mode's, and tree 2 + i what is seen in entry i.
 -- RISC-V Privileged manual, H extension, "Guest Physical Address Translation"; the places are this project's own.
-use Rattle.std.specs.Prelude.{◌≡◌, ℕ, ◌+◌, ◌-◌, ◌*◌, ◌/◌, ◌%◌, ◌≤◌, ◌==◌, if◌then◌else◌, nat_lt, List, length}
+use Rattle.std.specs.Prelude.{◌≡◌, ℕ, ◌+◌, ◌-◌, ◌*◌, ◌/◌, ◌<◌, ◌≤◌, ◌==◌, Bool, if◌then◌else◌, nat_lt, List, length, slice_index_or}
 use Rattle.sv_types.specs.Bytes.{word, page_size}
 use Rattle.sv_types.specs.Regions.{most_ram_pages}
+use Rattle.sv_types.specs.SecondStage.{Sight, OfKernel, OfUser, OfEntry, view_permits}
+use Rattle.sv_types.specs.declared.wires.Access.TheVariants.{Fetch, Store}
 use Rattle.sv_types.specs.declared.wires.Protection.{Protection}
-use Rattle.sv_types.specs.declared.wires.Protection.TheVariants.{Free, Held, Approved}
-use Rattle.sv_types.specs.declared.wires.Mode.{Mode}
-use Rattle.sv_types.specs.declared.wires.Mode.TheVariants.{Kernel, User}
+use Rattle.sv_types.specs.declared.wires.View.{View}
+use Rattle.sv_types.specs.declared.wires.View.TheVariants.{Kernel, User, Entry}
 
--- level-0 tables of one tree
+-- ---- the trees
+
+-- the most entries that are bound to a page
+abbrev pub most_bound : ℕ
+most_bound = 64
+
+-- what the trees are made for: the pages of RAM, and the page that each entry is bound to
+pub record Shape : Type 0 where
+  pub ram_pages : ℕ
+  pub bound : List ℕ
+
+-- the trees for so many entries
+abbrev pub tree_count : ℕ → ℕ
+tree_count bound = 2 + bound
+
+abbrev pub tree_of : View → ℕ
+tree_of Kernel = 0
+tree_of User = 1
+tree_of (Entry i) = 2 + i
+
+abbrev pub sight_in : (bound : List ℕ) → (tree : ℕ) → Sight
+sight_in bound tree =
+    if tree == 0 then OfKernel
+    else if tree == 1 then OfUser
+    else OfEntry (slice_index_or bound (tree - 2) 0)
+
+-- ---- where the tables lie, in pages of the table part
+
+-- the level-0 tables of one tree
 abbrev pub leaf_tables : ℕ → ℕ
 leaf_tables ram_pages = (ram_pages + 511) / 512
 
-abbrev pub table_size : ℕ → ℕ
-table_size ram_pages = page_size * (10 + 2 * leaf_tables ram_pages)
+-- the root of a tree
+abbrev pub root_table : (tree : ℕ) → ℕ
+root_table tree = 4 * tree
+
+-- the level-1 table of a tree
+abbrev pub middle_table : (trees tree : ℕ) → ℕ
+middle_table trees tree = 4 * trees + tree
+
+-- the first level-0 table of a tree, where each tree has so many
+abbrev pub leaf_table : (trees leaf_tables tree : ℕ) → ℕ
+leaf_table trees leaf_tables tree = 5 * trees + tree * leaf_tables
+
+-- the pages of all tables
+abbrev pub table_pages : (ram_pages bound : ℕ) → ℕ
+table_pages ram_pages bound = leaf_table (tree_count bound) (leaf_tables ram_pages) (tree_count bound)
+
+abbrev pub table_size : (ram_pages bound : ℕ) → ℕ
+table_size ram_pages bound = page_size * table_pages ram_pages bound
+
+-- ---- entries
 
 -- an entry that names the next table: V
 abbrev pub pointer : ℕ → ℕ
 pointer page = 1024 * page + 1
 
--- V, R, U and A; W and D where the page is free; X for the kernel where it is approved, and for the user where it isn't
-abbrev pub flags : Mode → Protection → ℕ
-flags Kernel Free = 0xD7
-flags Kernel Held = 0x53
-flags Kernel Approved = 0x5B
-flags User Free = 0xDF
-flags User Held = 0x5B
-flags User Approved = 0x53
+-- V, R, U and A; W and D for what may be written; X for what may be fetched
+abbrev pub flags : (store fetch : Bool) → ℕ
+flags store fetch = 0x53 + ((if store then 0x84 else 0) + (if fetch then 8 else 0))
 
-abbrev pub leaf : Mode → Protection → ℕ → ℕ
-leaf mode protection page = 1024 * page + flags mode protection
+-- the entry that maps a page of RAM to a host page, by what the tree shows
+abbrev pub leaf : Sight → (page : ℕ) → Protection → (host : ℕ) → ℕ
+leaf sight page protection host = 1024 * host + flags (view_permits sight page protection Store) (view_permits sight page protection Fetch)
 
--- the host page of page p of RAM, behind the tables
-abbrev pub host_page : ℕ → ℕ → ℕ
-host_page ram_pages p = 10 + 2 * leaf_tables ram_pages + p
+-- entry i of a root: entry 2 is for the gigabyte in which RAM lies
+unfoldable pub root_word : (trees tree i : ℕ) → ℕ
+root_word trees tree i = if i == 2 then pointer (middle_table trees tree) else 0
 
--- the entry for page p of RAM, and 0 past its end
-unfoldable pub leaf_word : ℕ → (ℕ → Protection) → Mode → ℕ → ℕ
-leaf_word ram_pages protections mode p = if nat_lt p ram_pages then leaf mode (protections p) (host_page ram_pages p) else 0
+-- entry i of a level-1 table
+unfoldable pub middle_word : (trees leaf_tables tree i : ℕ) → ℕ
+middle_word trees leaf_tables tree i = if nat_lt i leaf_tables then pointer (leaf_table trees leaf_tables tree + i) else 0
 
--- word k of the table part, where t is the number of level-0 tables of a tree
-unfoldable pub table_word : ℕ → ℕ → (ℕ → Protection) → ℕ → ℕ
-table_word ram_pages t protections k =
-    if nat_lt k 4096 then (if k % 2048 == 2 then pointer (8 + k / 2048) else 0)
-    else if nat_lt k 5120 then (if nat_lt ((k - 4096) % 512) t then pointer (10 + (k - 4096) / 512 * t + (k - 4096) % 512) else 0)
-    else if nat_lt (k - 5120) (512 * t) then leaf_word ram_pages protections Kernel (k - 5120)
-    else leaf_word ram_pages protections User (k - 5120 - 512 * t)
+-- the entry for page p of RAM, which lies behind the tables, and 0 past its end
+unfoldable pub leaf_word : (ram_pages table_pages : ℕ) → Sight → (ℕ → Protection) → (p : ℕ) → ℕ
+leaf_word ram_pages table_pages sight protections p =
+    if nat_lt p ram_pages then leaf sight p (protections p) (table_pages + p) else 0
+
+-- ---- the whole
 
 -- the trees for these protections lie in the tables
-pub record HoldsTrees (tables : List ℕ) (ram_pages : ℕ) (protections : ℕ → Protection) : Type 0 where
-  pub size : length tables ≡ table_size ram_pages
+pub record HoldsTrees (tables : List ℕ) (ram_pages : ℕ) (bound : List ℕ) (protections : ℕ → Protection) : Type 0 where
+  pub size : length tables ≡ table_size ram_pages (length bound)
   pub most : ram_pages ≤ most_ram_pages
-  pub words : (k : ℕ) → 8 * k + 8 ≤ length tables → word tables (8 * k) 8 ≡ table_word ram_pages (leaf_tables ram_pages) protections k
+  pub few : length bound ≤ most_bound
+  pub roots : (tree i : ℕ) → tree < tree_count (length bound) → i < 2048
+      → word tables (8 * (512 * root_table tree + i)) 8 ≡ root_word (tree_count (length bound)) tree i
+  pub middles : (tree i : ℕ) → tree < tree_count (length bound) → i < 512
+      → word tables (8 * (512 * middle_table (tree_count (length bound)) tree + i)) 8
+      ≡ middle_word (tree_count (length bound)) (leaf_tables ram_pages) tree i
+  pub leaves : (tree p : ℕ) → tree < tree_count (length bound) → p < 512 * leaf_tables ram_pages
+      → word tables (8 * (512 * leaf_table (tree_count (length bound)) (leaf_tables ram_pages) tree + p)) 8
+      ≡ leaf_word ram_pages (table_pages ram_pages (length bound)) (sight_in bound tree) protections p

@@ -1,20 +1,31 @@
-// Words of the tables.
+// Entries of the tables, and where the tables lie.
 
 ghost use Rattle.std.specs.Prelude.{◌≡◌, ◌+◌, ◌*◌, ◌<◌, ◌≤◌, ◌^◌};
 ghost use Rattle.sv_types.specs.Regions.{most_ram_pages};
-ghost use Rattle.sv_types.specs.SecondStage.{all_free};
-ghost use Rattle.gstage_tables.specs.Layout.{leaf_tables, pointer, flags, leaf, leaf_word, table_word};
+ghost use Rattle.gstage_tables.specs.Layout.{leaf_tables, leaf_table, pointer, flags, root_word, middle_word};
 
 use bitflags::Flags;
-use sv_types::{Mode, Protection, PteBits};
+use sv_types::PteBits;
 
 /// The level-0 tables of one tree.
 pub(crate) fn leaf_tables(ram_pages: u64) -> u64
     requires { ram_pages ≤ most_ram_pages }
     ensures value { result ≡ leaf_tables ram_pages }
-    ensures few { result ≤ 128 }
+    ensures few { result ≤ 512 }
+    ensures covers { ram_pages ≤ 512 * result }
 {
     ram_pages.div_ceil(512)
+}
+
+/// The first level-0 table of a tree, or where the last tree's end, in pages of the table part.
+pub(crate) fn leaf_table(trees: u64, tables: u64, tree: u64) -> u64
+    requires trees { trees ≤ 66 }
+    requires tables { tables ≤ 512 }
+    requires tree { tree ≤ trees }
+    ensures value { result ≡ leaf_table trees tables tree }
+    ensures few { result ≤ 34122 }
+{
+    5 * trees + tree * tables
 }
 
 // The flags of a page that may be read.
@@ -34,19 +45,25 @@ fn writable() -> PteBits
     readable().union(PteBits::WRITE).union(PteBits::DIRTY)
 }
 
-// The flags of a page: readable always, writable where it is free, executable by the mode.
-fn flags(mode: Mode, protection: Protection) -> PteBits
-    ensures value { result.0 ≡ flags mode protection }
+// The flags of a page that may be read, and stored to or fetched from where that is permitted.
+fn flags(store: bool, fetch: bool) -> PteBits
+    ensures value { result.0 ≡ flags store fetch }
     ensures small { result.0 < 1024 }
 {
-    match (mode, protection) {
-        (Mode::Kernel, Protection::Free) => writable(),
-        (Mode::User, Protection::Free) => writable().union(PteBits::EXECUTE),
-        (Mode::Kernel, Protection::Held) | (Mode::User, Protection::Approved) => readable(),
-        (Mode::Kernel, Protection::Approved) | (Mode::User, Protection::Held) => readable().union(
-            PteBits::EXECUTE,
-        ),
+    match (store, fetch) {
+        (false, false) => readable(),
+        (false, true) => readable().union(PteBits::EXECUTE),
+        (true, false) => writable(),
+        (true, true) => writable().union(PteBits::EXECUTE),
     }
+}
+
+/// The entry that maps a host page.
+pub(crate) fn mapping(host: u64, store: bool, fetch: bool) -> u64
+    requires { host < 2 ^ 44 }
+    ensures { result ≡ 1024 * host + flags store fetch }
+{
+    1024 * host + flags(store, fetch).bits()
 }
 
 // The entry that names the next table.
@@ -57,52 +74,27 @@ fn pointer(page: u64) -> u64
     1024 * page + PteBits::VALID.bits()
 }
 
-/// The entry that maps a host page.
-pub(crate) fn leaf(mode: Mode, protection: Protection, page: u64) -> u64
-    requires { page < 2 ^ 44 }
-    ensures { result ≡ leaf mode protection page }
+/// Entry `i` of a tree's root.
+#[tactic(auto, unfolding(crate::specs::Layout::root_word))]
+pub(crate) fn root_word(trees: u64, tree: u64, i: u64) -> u64
+    requires trees { trees ≤ 66 }
+    requires tree { tree < trees }
+    ensures { result ≡ root_word trees tree i }
 {
-    1024 * page + flags(mode, protection).bits()
+    if i == 2 { pointer(4 * trees + tree) } else { 0 }
 }
 
-// The entry for page `p` of RAM where all pages are free.
-#[tactic(auto, unfolding(crate::specs::Layout::leaf_word))]
-fn free_word(ram_pages: u64, mode: Mode, p: u64) -> u64
-    requires most { ram_pages ≤ most_ram_pages }
-    requires small { p < 2 ^ 30 }
-    ensures { result ≡ leaf_word ram_pages all_free mode p }
+/// Entry `i` of a tree's level-1 table.
+#[tactic(auto, unfolding(crate::specs::Layout::middle_word))]
+pub(crate) fn middle_word(trees: u64, tables: u64, tree: u64, i: u64) -> u64
+    requires trees { trees ≤ 66 }
+    requires tables { tables ≤ 512 }
+    requires tree { tree < trees }
+    ensures { result ≡ middle_word trees tables tree i }
 {
-    if p < ram_pages {
-        leaf(mode, Protection::Free, 10 + 2 * leaf_tables(ram_pages) + p)
+    if i < tables {
+        pointer(leaf_table(trees, tables, tree) + i)
     } else {
         0
-    }
-}
-
-/// Word `k` of the table part where all pages are free.
-#[tactic(auto, unfolding(crate::specs::Layout::table_word))]
-pub(crate) fn first_word(ram_pages: u64, k: u64) -> u64
-    requires most { ram_pages ≤ most_ram_pages }
-    requires small { k < 2 ^ 30 }
-    ensures { result ≡ table_word ram_pages (leaf_tables ram_pages) all_free k }
-{
-    let tables = leaf_tables(ram_pages);
-    if k < 4096 {
-        if k % 2048 == 2 {
-            pointer(8 + k / 2048)
-        } else {
-            0
-        }
-    } else if k < 5120 {
-        let i = (k - 4096) % 512;
-        if i < tables {
-            pointer(10 + (k - 4096) / 512 * tables + i)
-        } else {
-            0
-        }
-    } else if k - 5120 < 512 * tables {
-        free_word(ram_pages, Mode::Kernel, k - 5120)
-    } else {
-        free_word(ram_pages, Mode::User, k - 5120 - 512 * tables)
     }
 }

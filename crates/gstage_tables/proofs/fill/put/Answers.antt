@@ -1,6 +1,6 @@
 use Rattle.std.proofs.Common.{◌*◌, ◌∙◌, arith}
 use Rattle.sv_types.proofs.RegionLemmas.{write_in_tables}
-use Rattle.gstage_tables.proofs.put.Goals as goal
+use Rattle.gstage_tables.proofs.fill.put.Goals as goal
 
 pub returns : goal.returns
 returns c = c.write.ensures ∙ write_in_tables c.args.mem.now (8 * c.args.k) 8 c.args.value (let fits = c.requires in omega arith)

@@ -1,0 +1,23 @@
+use Rattle.std.proofs.Common.{◌≡◌, ◌≢◌, ℕ, ◌+◌, ◌*◌, ◌/◌, ◌%◌, ◌<◌, ◌≤◌, ◌∙◌, List, length, refl, ap, arith, rules}
+use Rattle.sv_types.specs.Regions.{Region}
+use Rattle.gstage_tables.specs.Layout.{middle_word}
+use Rattle.gstage_tables.proofs.Writes.{wrote_none, wrote_more, wrote_all}
+use Rattle.gstage_tables.proofs.fill.fill_middles.Goals as goal
+
+pub loop-k-init : goal.loop-k-init
+loop-k-init c = record { ram = refl; words = wrote_none c.args.mem.now.tables (λ k. 2048 * c.args.trees + k) (λ k. middle_word c.args.trees c.args.tables (k / 512) (k % 512)) }
+
+pub loop-k-preserved : goal.loop-k-preserved
+loop-k-preserved c =
+    let inv = c.loop-k.invariant in
+    let size = c.requires.size in
+    let below : c.loop-k.k < 512 * c.args.trees = search rules in
+    let fits : 8 * (2048 * c.args.trees + c.loop-k.k) + 8 ≤ length c.args.mem.now.tables = omega arith in
+    record {
+      ram = ap (λ (r : Region). r.ram) c.put.ensures ∙ inv.ram;
+      words = wrote_more c.args.mem.now.tables c.loop-k.mem c.put.new.mem c.loop-k.k (λ k. 2048 * c.args.trees + k) (λ k. middle_word c.args.trees c.args.tables (k / 512) (k % 512))
+          (2048 * c.args.trees + c.loop-k.k) c.middle_word.result inv.words c.put.ensures refl c.middle_word.ensures (search rules) fits (λ m l. omega arith);
+    }
+
+pub returns-clause-words : goal.returns-clause-words
+returns-clause-words c = let all : c.loop-k.k ≡ 512 * c.args.trees = omega arith in wrote_all c.loop-k.invariant.words all
