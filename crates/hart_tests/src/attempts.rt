@@ -9,11 +9,13 @@ ghost use Rattle.gstage_tables.specs.Layout.{table_size};
 
 use gstage_cache::Cache;
 use gstage_tables::Trees;
-use hart::{Cpu, Hart, Outcome, Wrote};
+use hart::{Core, Cpu, Outcome, Wrote};
 use host_mem::HostMem;
 use std::alloc::{AllocError, Global};
 use std::process::Abort;
-use sv_types::{Access, Exit, GuestFault, HRegs, Lines, Mode, Protection};
+use sv_types::{
+    Access, Cause, Exit, ExitCause, GuestFault, HRegs, Interrupt, Lines, Mode, Protection,
+};
 
 const PAGES: usize = 16;
 
@@ -91,35 +93,34 @@ fn attempt_once(
     rt: &impl Abort,
     alloc: Global,
     words: &[(usize, u64)],
-    hart: &mut Hart,
+    core: &mut Core,
     mode: Mode,
     lines: &Lines,
 ) -> Result<Outcome, AllocError>
-    requires { hart.old.pc % 4 ≡ 0 }
+    requires { core.old.pc % 4 ≡ 0 }
 {
     let mut mem = region(rt, alloc, words)?;
     let regs = hypervisor_registers(mode);
     let mut cache = Cache::new();
     let mut cpu = Cpu::new(alloc)?;
-    Ok(cpu.attempt(hart, &regs, &mut cache, &mut mem, lines))
+    Ok(cpu.attempt(core, &regs, &mut cache, &mut mem, lines))
 }
 
-// A hart whose x1 is an address and whose x2 is 7, with a reservation at place 0x2000 of RAM and every interrupt enabled.
-fn hart_with(address: u64) -> Hart {
-    let mut hart = Hart::at_boot();
+// A core whose x1 is an address and whose x2 is 7, with a reservation at place 0x2000 of RAM and every interrupt enabled.
+fn core_with(address: u64) -> Core {
+    let mut core = Core::at_boot();
     let regs = hypervisor_registers(Mode::Kernel);
-    hart.regs.set(1, address);
-    hart.regs.set(2, 7);
-    let _tvec = hart.csrs.write(&regs, 0x105, 0x8000_0100);
-    let _enabled = hart.csrs.write(&regs, 0x104, 0x222);
-    hart.reservation = Some(0xE000);
-    hart
+    core.regs.set(1, address);
+    core.regs.set(2, 7);
+    let _tvec = core.csrs.write(&regs, 0x105, 0x8000_0100);
+    let _enabled = core.csrs.write(&regs, 0x104, 0x222);
+    core.reservation = Some(0xE000);
+    core
 }
 
-fn exit(cause: u64, pc: u64, stval: u64, htval: u64, htinst: u32) -> Outcome {
+fn exit(cause: Cause, pc: u64, stval: u64, htval: u64, htinst: u32) -> Outcome {
     Outcome::Exit(Exit {
-        interrupt: false,
-        cause,
+        cause: ExitCause::Exception(cause),
         pc,
         stval,
         htval,
@@ -162,7 +163,13 @@ fn each_instruction_has_its_outcome(rt: HostRuntime) -> Result<(), AllocError> {
             K,
             0x0000_B183,
             0x200_0000_0000,
-            exit(21, KERNEL_PC, 0x200_0000_0000, 0x80_0000_0000, 0x3183),
+            exit(
+                Cause::GuestLoad,
+                KERNEL_PC,
+                0x200_0000_0000,
+                0x80_0000_0000,
+                0x3183,
+            ),
             0,
             true,
         ),
@@ -187,7 +194,13 @@ fn each_instruction_has_its_outcome(rt: HostRuntime) -> Result<(), AllocError> {
             K,
             0x0020_B023,
             0x8000_0008,
-            exit(23, KERNEL_PC, 0x8000_0008, 0x2000_0002, 0x0020_3023),
+            exit(
+                Cause::GuestStore,
+                KERNEL_PC,
+                0x8000_0008,
+                0x2000_0002,
+                0x0020_3023,
+            ),
             0,
             true,
         ),
@@ -195,7 +208,7 @@ fn each_instruction_has_its_outcome(rt: HostRuntime) -> Result<(), AllocError> {
             U,
             0x0020_B023,
             0x8000_0001,
-            exit(6, USER_PC, 0x8000_0001, 0, 0),
+            exit(Cause::StoreMisaligned, USER_PC, 0x8000_0001, 0, 0),
             0,
             true,
         ),
@@ -214,7 +227,13 @@ fn each_instruction_has_its_outcome(rt: HostRuntime) -> Result<(), AllocError> {
             K,
             0x1820_B1AF,
             0x8000_0008,
-            exit(23, KERNEL_PC, 0x8000_0008, 0x2000_0002, 0x1820_31AF),
+            exit(
+                Cause::GuestStore,
+                KERNEL_PC,
+                0x8000_0008,
+                0x2000_0002,
+                0x1820_31AF,
+            ),
             0,
             true,
         ),
@@ -231,7 +250,13 @@ fn each_instruction_has_its_outcome(rt: HostRuntime) -> Result<(), AllocError> {
             K,
             0x0020_A1AF,
             0x1000_0000,
-            exit(23, KERNEL_PC, 0x1000_0000, 0x400_0000, 0x0020_21AF),
+            exit(
+                Cause::GuestStore,
+                KERNEL_PC,
+                0x1000_0000,
+                0x400_0000,
+                0x0020_21AF,
+            ),
             0,
             true,
         ),
@@ -241,23 +266,44 @@ fn each_instruction_has_its_outcome(rt: HostRuntime) -> Result<(), AllocError> {
             U,
             0x1000_21F3,
             0,
-            exit(22, USER_PC, 0x1000_21F3, 0, 0),
+            exit(Cause::Virtual, USER_PC, 0x1000_21F3, 0, 0),
             0,
             true,
         ),
         (K, 0xC010_91F3, 0, Outcome::GuestTrap, 0, false),
         // ecall, ebreak
-        (K, 0x0000_0073, 0, exit(10, KERNEL_PC, 0, 0, 0), 0, true),
-        (U, 0x0000_0073, 0, exit(8, USER_PC, 0, 0, 0), 0, true),
+        (
+            K,
+            0x0000_0073,
+            0,
+            exit(Cause::GuestCall, KERNEL_PC, 0, 0, 0),
+            0,
+            true,
+        ),
+        (
+            U,
+            0x0000_0073,
+            0,
+            exit(Cause::UserCall, USER_PC, 0, 0, 0),
+            0,
+            true,
+        ),
         (K, 0x0010_0073, 0, Outcome::GuestTrap, 0, false),
-        (U, 0x0010_0073, 0, exit(3, USER_PC, USER_PC, 0, 0), 0, true),
+        (
+            U,
+            0x0010_0073,
+            0,
+            exit(Cause::Breakpoint, USER_PC, USER_PC, 0, 0),
+            0,
+            true,
+        ),
         // wfi, sret, sfence.vma, fence, hlv.b, jalr, no instruction
         (K, 0x1050_0073, 0, DONE, 0, true),
         (
             U,
             0x1050_0073,
             0,
-            exit(22, USER_PC, 0x1050_0073, 0, 0),
+            exit(Cause::Virtual, USER_PC, 0x1050_0073, 0, 0),
             0,
             true,
         ),
@@ -265,7 +311,7 @@ fn each_instruction_has_its_outcome(rt: HostRuntime) -> Result<(), AllocError> {
             K,
             0x1020_0073,
             0,
-            exit(22, KERNEL_PC, 0x1020_0073, 0, 0),
+            exit(Cause::Virtual, KERNEL_PC, 0x1020_0073, 0, 0),
             0,
             true,
         ),
@@ -273,7 +319,7 @@ fn each_instruction_has_its_outcome(rt: HostRuntime) -> Result<(), AllocError> {
             U,
             0x1200_0073,
             0,
-            exit(22, USER_PC, 0x1200_0073, 0, 0),
+            exit(Cause::Virtual, USER_PC, 0x1200_0073, 0, 0),
             0,
             true,
         ),
@@ -282,7 +328,7 @@ fn each_instruction_has_its_outcome(rt: HostRuntime) -> Result<(), AllocError> {
             K,
             0x6000_C1F3,
             0,
-            exit(22, KERNEL_PC, 0x6000_C1F3, 0, 0),
+            exit(Cause::Virtual, KERNEL_PC, 0x6000_C1F3, 0, 0),
             0,
             true,
         ),
@@ -290,20 +336,20 @@ fn each_instruction_has_its_outcome(rt: HostRuntime) -> Result<(), AllocError> {
             U,
             0x0000_81E7,
             0x8000_0002,
-            exit(0, USER_PC, 0x8000_0002, 0, 0),
+            exit(Cause::InstrMisaligned, USER_PC, 0x8000_0002, 0, 0),
             0,
             true,
         ),
-        (U, 0, 0, exit(2, USER_PC, 0, 0, 0), 0, true),
+        (U, 0, 0, exit(Cause::Illegal, USER_PC, 0, 0, 0), 0, true),
     ] {
-        let mut hart = hart_with(address);
-        hart.pc = if mode == K { KERNEL_PC } else { USER_PC };
+        let mut core = core_with(address);
+        core.pc = if mode == K { KERNEL_PC } else { USER_PC };
         let words = [(0, word), (0x4000, word), (0x2000, LOADED)];
-        let found = attempt_once(&rt, rt.alloc(), &words, &mut hart, mode, &QUIET)?;
+        let found = attempt_once(&rt, rt.alloc(), &words, &mut core, mode, &QUIET)?;
         assert_eq!(rt; found, want, "of {word:x}");
-        assert_eq!(rt; hart.regs.get(3), x3, "x3 of {word:x}");
+        assert_eq!(rt; core.regs.get(3), x3, "x3 of {word:x}");
         assert_eq!(rt;
-            hart.reservation.is_some(),
+            core.reservation.is_some(),
             stands,
             "reservation of {word:x}"
         );
@@ -318,8 +364,7 @@ fn interrupts_come_before_fetches(rt: HostRuntime) -> Result<(), AllocError> {
     const K: Mode = Mode::Kernel;
     const U: Mode = Mode::User;
     let timer = Outcome::Exit(Exit {
-        interrupt: true,
-        cause: 6,
+        cause: ExitCause::Interrupt(Interrupt::Timer),
         pc: USER_PC,
         stval: 0,
         htval: 0,
@@ -336,7 +381,7 @@ fn interrupts_come_before_fetches(rt: HostRuntime) -> Result<(), AllocError> {
             2,
             0,
             QUIET,
-            exit(20, 0x8000_1000, 0x8000_1000, 0x2000_0400, 0),
+            exit(Cause::GuestFetch, 0x8000_1000, 0x8000_1000, 0x2000_0400, 0),
         ),
         (
             U,
@@ -344,7 +389,7 @@ fn interrupts_come_before_fetches(rt: HostRuntime) -> Result<(), AllocError> {
             2,
             0,
             QUIET,
-            exit(20, 0x8000_0000, 0x8000_0000, 0x2000_0000, 0),
+            exit(Cause::GuestFetch, 0x8000_0000, 0x8000_0000, 0x2000_0000, 0),
         ),
         (
             U,
@@ -352,16 +397,16 @@ fn interrupts_come_before_fetches(rt: HostRuntime) -> Result<(), AllocError> {
             0,
             0x8000_0000_0010_0000,
             QUIET,
-            exit(20, USER_PC, USER_PC, 0x4000_0004, 0x3000),
+            exit(Cause::GuestFetch, USER_PC, USER_PC, 0x4000_0004, 0x3000),
         ),
     ] {
-        let mut hart = hart_with(0);
+        let mut core = core_with(0);
         let regs = hypervisor_registers(K);
-        let _status = hart.csrs.write(&regs, 0x100, status);
-        let _satp = hart.csrs.write(&regs, 0x180, satp);
-        hart.pc = KERNEL_PC + 0x1000 * page % 0x1_0000;
+        let _status = core.csrs.write(&regs, 0x100, status);
+        let _satp = core.csrs.write(&regs, 0x180, satp);
+        core.pc = KERNEL_PC + 0x1000 * page % 0x1_0000;
         let words = [(0, 0x0050_0193), (0x4000, 0x0050_0193)];
-        let found = attempt_once(&rt, rt.alloc(), &words, &mut hart, mode, &lines)?;
+        let found = attempt_once(&rt, rt.alloc(), &words, &mut core, mode, &lines)?;
         assert_eq!(rt; found, want, "on page {page}");
     }
     Ok(())
@@ -388,19 +433,19 @@ fn loads_through_sv39_fault_by_the_entry(rt: HostRuntime) -> Result<(), AllocErr
         (0x20_1000, Outcome::GuestTrap),
         (0x20_2000, DONE),
     ] {
-        let mut hart = hart_with(address);
+        let mut core = core_with(address);
         let regs = hypervisor_registers(Mode::Kernel);
-        let _satp = hart.csrs.write(&regs, 0x180, 0x8000_0000_0008_0001);
-        hart.pc = KERNEL_PC;
-        let found = attempt_once(&rt, rt.alloc(), &words, &mut hart, Mode::Kernel, &QUIET)?;
+        let _satp = core.csrs.write(&regs, 0x180, 0x8000_0000_0008_0001);
+        core.pc = KERNEL_PC;
+        let found = attempt_once(&rt, rt.alloc(), &words, &mut core, Mode::Kernel, &QUIET)?;
         assert_eq!(rt; found, want, "at {address:x}");
         if found == Outcome::GuestTrap {
             assert_eq!(rt;
-                (hart.csrs.vscause, hart.csrs.vstval),
+                (core.csrs.vscause, core.csrs.vstval),
                 (13, address),
                 "at {address:x}"
             );
-            assert_eq!(rt; hart.pc, 0x8000_0100);
+            assert_eq!(rt; core.pc, 0x8000_0100);
         }
     }
     Ok(())
@@ -413,8 +458,8 @@ fn an_attempt_fills_the_cache(rt: HostRuntime) -> Result<(), AllocError> {
     let regs = hypervisor_registers(Mode::Kernel);
     let mut cache = Cache::new();
     let mut cpu = Cpu::new(rt.alloc())?;
-    let mut hart = hart_with(0);
-    hart.pc = KERNEL_PC;
+    let mut core = core_with(0);
+    core.pc = KERNEL_PC;
     assert_eq!(rt;
         cache.walk(&mem, regs.hgatp, KERNEL_PC, Access::Fetch),
         Ok(TABLES)
@@ -426,7 +471,7 @@ fn an_attempt_fills_the_cache(rt: HostRuntime) -> Result<(), AllocError> {
     cache.fence_all();
     assert!(rt; !cache.holds(regs.hgatp, KERNEL_PC));
     assert_eq!(rt;
-        cpu.attempt(&mut hart, &regs, &mut cache, &mut mem, &QUIET),
+        cpu.attempt(&mut core, &regs, &mut cache, &mut mem, &QUIET),
         DONE
     );
     assert_eq!(rt; cpu.count(), 1);
