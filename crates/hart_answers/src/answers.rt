@@ -72,8 +72,9 @@ pub fn return_from_trap(hart: &mut Hart, side: &mut Side, guard: &Guard)
     let (pc, to) = return_to_guest(&mut hart.core.csrs);
     hart.core.pc = pc;
     hart.core.reservation = None;
-    if to == Mode::User {
-        side.leave(guard);
+    match to {
+        Mode::Kernel => {}
+        Mode::User => side.leave(guard),
     }
 }
 
@@ -82,7 +83,7 @@ pub fn return_from_trap(hart: &mut Hart, side: &mut Side, guard: &Guard)
 pub fn demote(hart: &mut Hart, side: &mut Side, guard: &Guard)
     ensures hart { host_of hart.new side.new ≡ host_demoted (host_of hart.old side.old) }
 {
-    side.demote(guard);
+    side.leave(guard);
     hart.core.reservation = None;
 }
 

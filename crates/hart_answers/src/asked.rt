@@ -5,7 +5,6 @@ ghost use Rattle.reference.specs.Calls.{Facts, asked_by};
 ghost use Rattle.reference.specs.ModuleCalls.{answer_of, module_call};
 ghost use Rattle.hart_answers.specs.Asking.{is_about_modules};
 
-use crate::extensions::extension_of;
 use reference::Extension;
 use rv64_exec::Regs;
 use std::marker::Model;
@@ -56,6 +55,9 @@ impl Asked {
         ensures about { result ≡ is_about_modules self.now }
         ensures modules { (f : Facts) → result ≡ true → answer_of f self.now ≡ module_call f self.now }
     {
-        matches!(extension_of(self.extension), Some(Extension::Modules))
+        matches!(
+            Extension::from_number(self.extension),
+            Some(Extension::Modules)
+        )
     }
 }

@@ -3,7 +3,6 @@
 
 mod answers;
 mod asked;
-mod extensions;
 mod seats;
 #[cfg(test)]
 mod tests;
@@ -12,5 +11,4 @@ pub use answers::{
     Trap, answer, demote, pass, return_from_trap, set, start, stay, stop, take_trap,
 };
 pub use asked::Asked;
-pub use extensions::extension_of;
 pub use seats::{ALL_HARTS, Seat, forget, interrupt};

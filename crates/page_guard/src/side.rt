@@ -88,15 +88,8 @@ impl Side {
         }
     }
 
-    /// Returns from a trap to user mode.
+    /// Leaves kernel mode, by a return from a trap, or since it fetched from a page that isn't approved.
     pub fn leave(&mut self, guard: &Guard)
-        ensures { self.new ≡ User }
-    {
-        self.regs = in_user(guard);
-    }
-
-    /// Leaves kernel mode, which fetched from a page that isn't approved.
-    pub fn demote(&mut self, guard: &Guard)
         ensures { self.new ≡ User }
     {
         self.regs = in_user(guard);
