@@ -80,9 +80,9 @@ fn two_harts_behind_a_write_and_an_interrupt(rt: HostRuntime) -> Result<(), Fail
     assert_eq!(rt; mem.ram_pages(), 16);
     let guard = Guard::new(rt.alloc(), &mut mem)?;
     let mut first = Hart::at_boot();
-    first.reservation = Some(0x2000);
+    first.core.reservation = Some(0x2000);
     let mut second = Hart::at_boot();
-    second.reservation = Some(0x2008);
+    second.core.reservation = Some(0x2008);
     let mut seats = [
         Seat {
             hart: first,
