@@ -16,9 +16,9 @@ use Rattle.machine.specs.Turns.{AreOutside}
 use Rattle.machine.specs.declared.parts.Parts.TheInside.{Inside}
 
 pub registers_there : (seats : List Seat) (h : ℕ) (d : Seat) → h < length seats → d ≡ slice_index_or seats h d
-    → asked_by (hart_in (hosts_of seats) h).core.registers ≡ asked_by d.hart.regs
+    → asked_by (hart_in (hosts_of seats) h).core.registers ≡ asked_by d.hart.core.regs
 registers_there seats h d below is =
-    ap (λ (x : HostHart). asked_by x.core.registers) (host_there seats h d below) ∙ sym (ap (λ (s : Seat). asked_by s.hart.regs) is)
+    ap (λ (x : HostHart). asked_by x.core.registers) (host_there seats h d below) ∙ sym (ap (λ (s : Seat). asked_by s.hart.core.regs) is)
 
 -- as many harts as seats
 pub harts_number : (p : Inside) (now : Machine) → machine_of_parts p ≡ now → length now.harts ≡ length p.seats.items
@@ -26,7 +26,7 @@ harts_number p now same = sym (ap (λ (m : Machine). length m.harts) same) ∙ h
 
 -- an answer by what a hart's registers ask
 pub answered_there : (p : Inside) (h : ℕ) (d : Seat) (ask : Asked) (answer : Answer) (now : Machine) → d ≡ slice_index_or p.seats.items h d
-    → machine_of_parts p ≡ now → h < length now.harts → ask ≡ asked_by d.hart.regs → answer ≡ answer_of (host_facts (machine_of_parts p)) ask
+    → machine_of_parts p ≡ now → h < length now.harts → ask ≡ asked_by d.hart.core.regs → answer ≡ answer_of (host_facts (machine_of_parts p)) ask
     → answer ≡ answer_of (host_facts now) (asked_by (hart_in now.harts h).core.registers)
 answered_there p h d ask answer now is same below asks made =
     let here : h < length p.seats.items = subst (λ (n : ℕ). h < n) (harts_number p now same) below in

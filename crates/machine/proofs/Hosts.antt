@@ -67,7 +67,7 @@ pc_kept [] h hpa width below = absurd (omega arith)
 pc_kept (x ∷ harts) zero hpa width below = refl
 pc_kept (x ∷ harts) (suc h) hpa width below = pc_kept harts h hpa width (omega arith)
 
-pc_set : (seats : List Seat) (h : ℕ) (new : Seat) → h < length seats → (hart_in (hosts_of (slice_set seats h new)) h).core.pc ≡ new.hart.pc
+pc_set : (seats : List Seat) (h : ℕ) (new : Seat) → h < length seats → (hart_in (hosts_of (slice_set seats h new)) h).core.pc ≡ new.hart.core.pc
 pc_set [] h new below = absurd (omega arith)
 pc_set (x ∷ seats) zero new below = refl
 pc_set (x ∷ seats) (suc h) new below = pc_set seats h new (omega arith)
@@ -79,7 +79,7 @@ set_number (x ∷ seats) (suc h) new below = let k = set_number seats h new (ome
 
 -- the pc of a hart that was put in, whatever a write takes from all
 pub pc_there : (o : Outcome) (seats : List Seat) (h : ℕ) (new : Seat) → h < length seats
-    → (hart_in (all_forget o (hosts_of (slice_set seats h new))) h).core.pc ≡ new.hart.pc
+    → (hart_in (all_forget o (hosts_of (slice_set seats h new))) h).core.pc ≡ new.hart.core.pc
 unfolding all_forget
 pc_there (Outcome.Retired (Some wrote)) seats h new below =
     pc_kept (hosts_of (slice_set seats h new)) h wrote.hpa wrote.width (set_number seats h new below) ∙ pc_set seats h new below

@@ -104,7 +104,7 @@ pub machine_keepable : (m : Machine) (r : State) → StandsFor m r → HaveAddre
 machine_keepable m r stands have = subst IsMachineKeepable (sym stands.same) (of_state stands.unseen r have)
 
 pub seat_keepable : (tables : ℕ) (seats : List Seat) (h : ℕ) (seat : Seat) → h < length seats → seat ≡ get_or seats h seat → AreKeepable tables (hosts_of seats)
-    → IsKeepable tables seat.hart.reservation
+    → IsKeepable tables seat.hart.core.reservation
 seat_keepable tables seats h seat below is are =
     subst (λ (x : HostHart). IsKeepable tables x.core.reservation) (host_there seats h seat below ∙ ap host_at (sym is)) (are h)
 

@@ -6,13 +6,13 @@ use Rattle.sv_types.specs.Policies.{Rules}
 use Rattle.sv_types.specs.SecondStage.{AreViews}
 use Rattle.sv_types.specs.Regions.{Region}
 use Rattle.sv_types.specs.declared.outcome.Outcome.{Outcome}
-use Rattle.sv_types.specs.declared.wires.Exit.{Exit}
+use Rattle.sv_types.specs.declared.exit.Exit.{Exit}
 use Rattle.sv_types.specs.declared.wires.Protection.{Protection}
 use Rattle.reference.specs.Protections.{protection_at}
 use Rattle.reference.specs.Counting.{counted}
 use Rattle.answer_laws.proofs.TurnsServed.{once_outside}
 use Rattle.machine_model.specs.HardwareEvent.{attempted, is_loading, left_by}
-use Rattle.machine_model.specs.HostExits.{host_exit, served_exit, served_by, served_load_turn}
+use Rattle.machine_model.specs.HostExits.{host_exit, served_exit, served_by}
 use Rattle.machine_model.specs.Machine.{Machine, HostHart, count_outcome}
 use Rattle.machine_model.specs.StandsFor.{bound_pages}
 use Rattle.machine_model.specs.Steps.{WithTables, TurnServed, HartServed, StartedServed, AttemptsServed, OutcomeServed}
@@ -58,10 +58,6 @@ past_end [] h past = refl
 past_end (x ∷ harts) zero past = absurd (omega arith)
 past_end (x ∷ harts) (suc h) past = past_end harts h (omega arith)
 
--- no hart is there
-pub turn_past : (m : Machine) (h : ℕ) → length m.harts ≤ h → TurnServed m h (slice_get m.harts h) m
-turn_past m h past = subst (λ (x : Option HostHart). TurnServed m h x m) (sym (past_end m.harts h past)) refl
-
 served_started : (m after : Machine) (h : ℕ) (b : Bool) → h < length m.harts → (hart_in m.harts h).started ≡ b → HartServed b m h (hart_in m.harts h) after
     → TurnServed m h (slice_get m.harts h) after
 served_started m after h b below e served =
@@ -71,12 +67,6 @@ served_started m after h b below e served =
 -- it is stopped
 pub turn_stopped : (m : Machine) (h : ℕ) → h < length m.harts → (hart_in m.harts h).started ≡ false → TurnServed m h (slice_get m.harts h) m
 turn_stopped m h below e = served_started m m h false below e refl
-
--- its load goes on
-pub turn_loads : (m after : Machine) (h : ℕ) → h < length m.harts → (hart_in m.harts h).started ≡ true → is_loading m.loading h ≡ true
-    → WithTables m (served_load_turn m h) after → TurnServed m h (slice_get m.harts h) after
-turn_loads m after h below e loads served =
-    served_started m after h true below e (subst (λ (b : Bool). StartedServed b m h (hart_in m.harts h) after) (sym loads) served)
 
 outcome_served : (m after : Machine) (h : ℕ) (host : HostHart) (o : Outcome) → (attempted m h host).outcome ≡ o → Finished o (left_by m h host) h after
     → OutcomeServed o m h host after

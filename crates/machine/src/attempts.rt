@@ -27,13 +27,13 @@ fn attempt_in_seat<W: Wires>(
     ensures host { host_at seat.new ≡ with_core (attempt mem.old (host_at seat.old).core (W.seen wires.now)).core (host_at seat.old) }
     ensures region { mem.new ≡ (attempt mem.old (host_at seat.old).core (W.seen wires.now)).region }
     ensures outcome { result ≡ (attempt mem.old (host_at seat.old).core (W.seen wires.now)).outcome }
-    ensures aligned { seat.new.hart.pc % 4 ≡ 0 }
+    ensures aligned { seat.new.hart.core.pc % 4 ≡ 0 }
     ensures tables { mem.new.tables ≡ mem.old.tables }
     ensures ram { length mem.new.ram ≡ length mem.old.ram }
     ensures usable { IsUsable mem.new.tables cache.new }
 {
     let regs = seat.side.registers();
-    cpu.attempt(&mut seat.hart, regs, cache, mem, wires)
+    cpu.attempt(&mut seat.hart.core, regs, cache, mem, wires)
 }
 
 /// One attempt of a hart among all harts, each with its cache.

@@ -46,7 +46,7 @@ impl Parts {
         requires there { which < length self.old.harts }
         requires aligned { (hart_in self.old.harts which).core.pc % 4 ≡ 0 }
         requires counts { MayCount self.old.journal.counts }
-        ensures { WithTables self.old (answered_exit self.old which (Traps trap.interrupt trap.cause trap.tval)) self.new }
+        ensures { WithTables self.old (answered_exit self.old which (Traps trap.cause trap.tval)) self.new }
     {
         let seat = &mut self.seats[which as usize];
         guest_trap(
@@ -141,7 +141,7 @@ impl Parts {
         ensures answer { result ≡ answer_of (host_facts self.now) (asked_by (hart_in self.now.harts which).core.registers) }
         ensures starts { StartsOneOf (length self.now.harts) result.beside }
     {
-        let asked = Asked::by(&self.seats[which as usize].hart.regs);
+        let asked = Asked::by(&self.seats[which as usize].hart.core.regs);
         law_starts();
         if asked.is_about_modules() {
             module_answer(&self.policy, &self.guard, &self.mem, &self.modules, &asked)
@@ -203,18 +203,7 @@ impl Parts {
         ensures { WithTables self.old (answered_exit self.old which answer) self.new }
     {
         match answer {
-            ExitAnswer::Traps {
-                interrupt,
-                cause,
-                tval,
-            } => self.guest_trap(
-                which,
-                Trap {
-                    interrupt,
-                    cause,
-                    tval,
-                },
-            ),
+            ExitAnswer::Traps { cause, tval } => self.guest_trap(which, Trap { cause, tval }),
             ExitAnswer::Returns => self.guest_return(which),
             ExitAnswer::Demotes { gpa } => self.guest_demotion(which, gpa),
             ExitAnswer::LeavesEntry => unreachable!(),

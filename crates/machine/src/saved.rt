@@ -92,16 +92,16 @@ fn saved_harts(
 }
 
 fn saved_hart(seat: &Seat, timer: u64, tables: usize) -> SavedHart
-    requires { IsKeepable tables seat.now.hart.reservation }
+    requires { IsKeepable tables seat.now.hart.core.reservation }
     ensures { result ≡ kept_hart tables timer (host_at seat.now) }
 {
     let hart = &seat.hart;
-    let csrs = &hart.csrs;
+    let csrs = &hart.core.csrs;
     SavedHart {
         started: hart.started,
         mode: seat.side.registers().mode,
-        pc: hart.pc,
-        registers: hart.regs.values(),
+        pc: hart.core.pc,
+        registers: hart.core.regs.values(),
         sstatus: csrs.vsstatus,
         sie: csrs.hie >> 1,
         stvec: csrs.vstvec,
@@ -112,7 +112,7 @@ fn saved_hart(seat: &Seat, timer: u64, tables: usize) -> SavedHart
         stval: csrs.vstval,
         sip: csrs.hvip >> 1,
         satp: csrs.vsatp,
-        reservation: saved_reservation(hart.reservation, tables),
+        reservation: saved_reservation(hart.core.reservation, tables),
         entry: None,
         timer,
     }

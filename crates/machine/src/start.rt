@@ -116,7 +116,7 @@ fn first_seat(guard: &Guard, entry: u64) -> Seat
     ensures { host_at result ≡ host_at_boot entry true }
 {
     let mut hart = Hart::at_boot();
-    hart.pc = entry;
+    hart.core.pc = entry;
     hart.started = true;
     Seat {
         hart,
