@@ -6,11 +6,11 @@ ghost use Rattle.reference.specs.ModuleCalls.{answer_of};
 ghost use Rattle.hart_answers.specs.Asking.{is_about_modules};
 ghost use Rattle.call_answers.specs.Known.{started_of, StartsOneOf};
 
-use crate::codes::{Code, plain, reply_of_code, reply_of_value};
 use crate::masks::mask_exists;
-use hart_answers::{Asked, Seat, extension_of};
+use hart_answers::{Asked, Seat};
 use page_guard::Entries;
 use reference::{Answer, Beside, Extension, Reply};
+use sv_types::SbiCode;
 
 /// SBI 1.0.
 const SPECIFICATION: u64 = 0x0100_0000;
@@ -42,9 +42,6 @@ const STOP: u64 = 1;
 
 const STATUS: u64 = 2;
 
-/// The code -1: no input waits.
-const NO_INPUT: u64 = u64::MAX;
-
 // The next byte of input, or the code for none.
 #[tactic(auto, using(crate::proofs::Inputs::input_there, crate::proofs::Inputs::no_input_there))]
 fn first_input(input: &[u8]) -> u64
@@ -52,7 +49,7 @@ fn first_input(input: &[u8]) -> u64
 {
     match input.first() {
         Some(byte) => u64::from(*byte),
-        None => NO_INPUT,
+        None => SbiCode::NoInput.word(),
     }
 }
 
@@ -61,12 +58,12 @@ fn base_call(asked: &Asked) -> Reply
     ensures { result ≡ base_call asked.now }
 {
     match asked.function {
-        GET_SPECIFICATION => reply_of_value(SPECIFICATION),
-        GET_IMPLEMENTATION => reply_of_value(IMPLEMENTATION),
-        GET_VERSION => reply_of_value(VERSION),
-        PROBE => reply_of_value(u64::from(extension_of(asked.a0).is_some())),
-        GET_VENDOR..=GET_MACHINE => reply_of_value(0),
-        _ => reply_of_code(Code::NotSupported),
+        GET_SPECIFICATION => Reply::of_value(SPECIFICATION),
+        GET_IMPLEMENTATION => Reply::of_value(IMPLEMENTATION),
+        GET_VERSION => Reply::of_value(VERSION),
+        PROBE => Reply::of_value(u64::from(Extension::from_number(asked.a0).is_some())),
+        GET_VENDOR..=GET_MACHINE => Reply::of_value(0),
+        _ => Reply::of_code(SbiCode::NotSupported),
     }
 }
 
@@ -77,11 +74,11 @@ fn timer_call(asked: &Asked) -> Answer
 {
     if asked.function == 0 {
         Answer {
-            reply: reply_of_code(Code::Success),
+            reply: Reply::of_code(SbiCode::Success),
             beside: Beside::SetsTimer { at: asked.a0 },
         }
     } else {
-        plain(reply_of_code(Code::NotSupported))
+        Answer::plain(Reply::of_code(SbiCode::NotSupported))
     }
 }
 
@@ -91,17 +88,17 @@ fn ipi_call(harts: u64, asked: &Asked) -> Answer
     ensures starts { (n : ℕ) → StartsOneOf n result.beside }
 {
     if asked.function != 0 {
-        plain(reply_of_code(Code::NotSupported))
+        Answer::plain(Reply::of_code(SbiCode::NotSupported))
     } else if mask_exists(harts, asked.a0, asked.a1) {
         Answer {
-            reply: reply_of_code(Code::Success),
+            reply: Reply::of_code(SbiCode::Success),
             beside: Beside::SendsInterrupts {
                 mask: asked.a0,
                 base: asked.a1,
             },
         }
     } else {
-        plain(reply_of_code(Code::InvalidParameter))
+        Answer::plain(Reply::of_code(SbiCode::InvalidParameter))
     }
 }
 
@@ -110,11 +107,11 @@ fn fence_call(harts: u64, asked: &Asked) -> Reply
     ensures { (f : Facts) → length f.started ≡ harts → result ≡ fence_call f asked.now }
 {
     if asked.function > 2 {
-        reply_of_code(Code::NotSupported)
+        Reply::of_code(SbiCode::NotSupported)
     } else if mask_exists(harts, asked.a0, asked.a1) {
-        reply_of_code(Code::Success)
+        Reply::of_code(SbiCode::Success)
     } else {
-        reply_of_code(Code::InvalidParameter)
+        Reply::of_code(SbiCode::InvalidParameter)
     }
 }
 
@@ -137,12 +134,12 @@ fn start_other(seats: &[Seat], entries: &Entries, asked: &Asked) -> Answer
     ensures starts { StartsOneOf (length seats.now) result.beside }
 {
     match is_started(seats, asked.a0) {
-        None => plain(reply_of_code(Code::InvalidParameter)),
-        Some(true) => plain(reply_of_code(Code::Already)),
+        None => Answer::plain(Reply::of_code(SbiCode::InvalidParameter)),
+        Some(true) => Answer::plain(Reply::of_code(SbiCode::Already)),
         Some(false) => {
             if entries.permits(asked.a1) {
                 Answer {
-                    reply: reply_of_code(Code::Success),
+                    reply: Reply::of_code(SbiCode::Success),
                     beside: Beside::StartsHart {
                         other: asked.a0 as u8,
                         pc: asked.a1,
@@ -150,7 +147,7 @@ fn start_other(seats: &[Seat], entries: &Entries, asked: &Asked) -> Answer
                     },
                 }
             } else {
-                plain(reply_of_code(Code::InvalidAddress))
+                Answer::plain(Reply::of_code(SbiCode::InvalidAddress))
             }
         }
     }
@@ -160,8 +157,8 @@ fn status_of_hart(seats: &[Seat], asked: &Asked) -> Reply
     ensures { result ≡ status_of_hart (slice_get (started_of seats.now) asked.now.a0) }
 {
     match is_started(seats, asked.a0) {
-        None => reply_of_code(Code::InvalidParameter),
-        Some(started) => reply_of_value(u64::from(!started)),
+        None => Reply::of_code(SbiCode::InvalidParameter),
+        Some(started) => Reply::of_value(u64::from(!started)),
     }
 }
 
@@ -173,9 +170,9 @@ fn hart_call(seats: &[Seat], entries: &Entries, asked: &Asked) -> Answer
 {
     match asked.function {
         START => start_other(seats, entries, asked),
-        STOP => plain(Reply::Stops),
-        STATUS => plain(status_of_hart(seats, asked)),
-        _ => plain(reply_of_code(Code::NotSupported)),
+        STOP => Answer::plain(Reply::Stops),
+        STATUS => Answer::plain(status_of_hart(seats, asked)),
+        _ => Answer::plain(Reply::of_code(SbiCode::NotSupported)),
     }
 }
 
@@ -194,13 +191,13 @@ fn reset_call(asked: &Asked) -> Answer
     ensures starts { (n : ℕ) → StartsOneOf n result.beside }
 {
     if asked.function != 0 {
-        plain(reply_of_code(Code::NotSupported))
+        Answer::plain(Reply::of_code(SbiCode::NotSupported))
     } else if asked.a0 == 0 {
         shut_down()
     } else if asked.a0 <= 2 {
-        plain(reply_of_code(Code::NotSupported))
+        Answer::plain(Reply::of_code(SbiCode::NotSupported))
     } else {
-        plain(reply_of_code(Code::InvalidParameter))
+        Answer::plain(Reply::of_code(SbiCode::InvalidParameter))
     }
 }
 
@@ -213,8 +210,8 @@ pub fn answer_of(seats: &[Seat], entries: &Entries, input: &[u8], asked: &Asked)
     ensures starts { StartsOneOf (length seats.now) result.beside }
 {
     let harts = seats.len() as u64;
-    match extension_of(asked.extension) {
-        None | Some(Extension::Modules) => plain(reply_of_code(Code::NotSupported)),
+    match Extension::from_number(asked.extension) {
+        None | Some(Extension::Modules) => Answer::plain(Reply::of_code(SbiCode::NotSupported)),
         Some(Extension::SetTimer) => Answer {
             reply: Reply::Gives { a0: 0 },
             beside: Beside::SetsTimer { at: asked.a0 },
@@ -230,10 +227,10 @@ pub fn answer_of(seats: &[Seat], entries: &Entries, input: &[u8], asked: &Asked)
             beside: Beside::TakesInput,
         },
         Some(Extension::ShutDown) => shut_down(),
-        Some(Extension::Base) => plain(base_call(asked)),
+        Some(Extension::Base) => Answer::plain(base_call(asked)),
         Some(Extension::Timer) => timer_call(asked),
         Some(Extension::Interrupt) => ipi_call(harts, asked),
-        Some(Extension::Fence) => plain(fence_call(harts, asked)),
+        Some(Extension::Fence) => Answer::plain(fence_call(harts, asked)),
         Some(Extension::HartState) => hart_call(seats, entries, asked),
         Some(Extension::Reset) => reset_call(asked),
     }

@@ -3,7 +3,6 @@
 #![tactic(auto)]
 
 mod calls;
-mod codes;
 mod decisions;
 mod laws;
 mod masks;

@@ -9,7 +9,7 @@ use host_mem::HostMem;
 use journal_records::Journal;
 use page_guard::{Entries, Guard, Side};
 use std::test::Fail;
-use sv_types::Verdict;
+use sv_types::{SbiCode, Verdict};
 
 const ENTRY: u64 = 0x8000_0104;
 
@@ -22,7 +22,7 @@ struct Row {
     function: u64,
     a0: u64,
     a1: u64,
-    code: i64,
+    code: SbiCode,
     value: u64,
 }
 
@@ -33,7 +33,7 @@ const ROWS: [Row; 9] = [
         function: 3,
         a0: 0x0853_4543,
         a1: 0,
-        code: 0,
+        code: SbiCode::Success,
         value: 1,
     },
     Row {
@@ -41,7 +41,7 @@ const ROWS: [Row; 9] = [
         function: 7,
         a0: 0,
         a1: 0,
-        code: -2,
+        code: SbiCode::NotSupported,
         value: 0,
     },
     Row {
@@ -49,7 +49,7 @@ const ROWS: [Row; 9] = [
         function: 0,
         a0: 0,
         a1: 0,
-        code: -1,
+        code: SbiCode::NoInput,
         value: 0,
     },
     Row {
@@ -57,7 +57,7 @@ const ROWS: [Row; 9] = [
         function: 0,
         a0: 5,
         a1: 0,
-        code: -3,
+        code: SbiCode::InvalidParameter,
         value: 0,
     },
     Row {
@@ -65,7 +65,7 @@ const ROWS: [Row; 9] = [
         function: 0,
         a0: u64::MAX,
         a1: ENTRY,
-        code: -3,
+        code: SbiCode::InvalidParameter,
         value: 0,
     },
     Row {
@@ -73,7 +73,7 @@ const ROWS: [Row; 9] = [
         function: 0,
         a0: 1,
         a1: 0x8000_0100,
-        code: -5,
+        code: SbiCode::InvalidAddress,
         value: 0,
     },
     Row {
@@ -81,7 +81,7 @@ const ROWS: [Row; 9] = [
         function: 0,
         a0: 1,
         a1: ENTRY,
-        code: 0,
+        code: SbiCode::Success,
         value: 0,
     },
     Row {
@@ -89,7 +89,7 @@ const ROWS: [Row; 9] = [
         function: 0,
         a0: 1,
         a1: ENTRY,
-        code: -6,
+        code: SbiCode::Already,
         value: 0,
     },
     Row {
@@ -97,7 +97,7 @@ const ROWS: [Row; 9] = [
         function: 0,
         a0: 0,
         a1: ALL_HARTS,
-        code: 0,
+        code: SbiCode::Success,
         value: 0,
     },
 ];
@@ -137,7 +137,7 @@ fn calls_one_after_another(rt: HostRuntime) -> Result<(), Fail> {
         let [caller, _] = &seats;
         let registers = (caller.hart.core.regs.get(10), caller.hart.core.regs.get(11));
         assert_eq!(rt; journal.verdict(), Verdict::Running);
-        assert_eq!(rt; registers, (row.code.cast_unsigned(), row.value));
+        assert_eq!(rt; registers, (row.code.word(), row.value));
     }
     let [caller, other] = &seats;
     assert_eq!(rt; caller.hart.core.pc, 0x8000_0024);
