@@ -1,6 +1,6 @@
 -- What an answer that is given may do to pages and modules: a line for each that changes them.
-use Rattle.std.proofs.Common.{◌≡◌, ℕ, List, [], ◌∷◌, length, refl, sym, subst, Bool, true, false, not, slice_get, inl, inr}
-use Rattle.std.specs.Prelude.{Option, Some, None, if◌then◌else◌, ◌==◌, nat_le, is_some}
+use Rattle.std.proofs.Common.{◌≡◌, ℕ, List, [], ◌∷◌, length, refl, sym, ◌∙◌, ap, subst, Bool, true, false, not, slice_get, inl, inr}
+use Rattle.std.specs.Prelude.{Option, Some, None, option_map, if◌then◌else◌, ◌==◌, nat_le, is_some}
 use Rattle.std.proofs.lemmas.Bool.{eqb-true}
 use Rattle.sv_types.specs.Policies.{Rules, ModuleRule}
 use Rattle.sv_types.specs.declared.module.Span.{Span}
@@ -13,9 +13,10 @@ use Rattle.reference.specs.declared.answers.Answer.{Answer}
 use Rattle.reference.specs.declared.answers.Beside.{Beside}
 use Rattle.reference.specs.declared.answers.Beside.TheVariants.{BeginsLoad, ApprovesModule, ReleasesModule, UnloadsModule, RetiresInit}
 use Rattle.reference.specs.declared.answers.Extension.{Extension}
+use Rattle.machine_model.specs.GivenAnswers.{IsGiven}
+use Rattle.machine_model.specs.Machine.{HostLoad}
 use Rattle.module_gate.specs.Gates.{is_good_place}
-use Rattle.module_answers.specs.Conditions.{IsGiven}
-use Rattle.module_answers.specs.Parts.{loading_of, facts_in}
+use Rattle.module_answers.specs.Parts.{load_of, loading_of, facts_in}
 use Rattle.module_answers.specs.declared.modules.Modules.{Modules}
 use Rattle.module_answers.specs.declared.modules.UnderWay.{UnderWay}
 
@@ -138,10 +139,21 @@ module _ (rules : Rules) (ram : List ℕ) (guard : List Protection) (modules : M
     call_may ask (Some Extension.Modules) = module_may ask
     call_may ask _ = tt
 
-  decision_may : (u : UnderWay) (good : Bool) → modules.loading ≡ Some u → u.load.left ≡ 0 → May (load_decision good u.load.about)
-  decision_may u true there counted = record { under_way = u; there = there; counted = counted; about_it = refl }
-  decision_may u false there counted = record { under_way = u; there = there; counted = counted; about_it = refl }
+  is_counted : (x : Option UnderWay) (load : HostLoad) → modules.loading ≡ x → option_map load_of x ≡ Some load → load.left ≡ 0 → IsCounted modules load.about
+  is_counted None load e there counted = absurd (cc)
+  is_counted (Some u) load e there counted =
+      let same : load_of u ≡ load = cc in
+      record {
+        under_way = u;
+        there = e;
+        counted = ap (λ (l : HostLoad). l.left) same ∙ counted;
+        about_it = ap (λ (l : HostLoad). l.about) same;
+      }
 
-  pub may_do : (beside : Beside) → IsGiven rules ram guard modules beside → MayDo beside
+  decision_may : (good : Bool) (about : SavedModule) → IsCounted modules about → May (load_decision good about)
+  decision_may true about counted = counted
+  decision_may false about counted = counted
+
+  pub may_do : (beside : Beside) → IsGiven (facts_in [] [] rules ram guard modules) (loading_of modules) beside → MayDo beside
   may_do beside (inl call) = subst MayDo (sym call.same) (call_may call.started call.input call.ask _)
-  may_do beside (inr load) = subst MayDo (sym load.same) (decision_may load.under_way _ load.there load.counted)
+  may_do beside (inr load) = subst MayDo (sym load.same) (decision_may _ load.load.about (is_counted modules.loading load.load refl load.there load.counted))

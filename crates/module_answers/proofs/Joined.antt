@@ -36,6 +36,16 @@ may_end rules guard modules u joined guarded there =
       other = held.other;
     }
 
+any_may_end : (rules : Rules) (guard : List Protection) (modules : Modules) (x : Option UnderWay) → modules.loading ≡ x → AreJoined rules modules
+    → AreGuarded rules guard modules.gate.loaded (loading_of modules) → IfSome x (MayEnd guard modules.gate.loaded)
+any_may_end rules guard modules None none joined guarded = record {}
+any_may_end rules guard modules (Some u) there joined guarded = may_end rules guard modules u joined guarded there
+
+-- where a load is under way
+pub ends : (rules : Rules) (guard : List Protection) (modules : Modules) → AreJoined rules modules → AreGuarded rules guard modules.gate.loaded (loading_of modules)
+    → IfSome modules.loading (MayEnd guard modules.gate.loaded)
+ends rules guard modules joined guarded = any_may_end rules guard modules modules.loading refl joined guarded
+
 none_by : (o : Option UnderWay) → is_some (option_map load_of o) ≡ false → o ≡ None
 none_by None e = refl
 none_by (Some u) e = cc

@@ -1,19 +1,15 @@
--- What holds of modules and their pages before each answer, and which answers are given. This project's own.
-use Rattle.std.specs.Prelude.{◌≡◌, ℕ, ◌≤◌, ◌⊎◌, Bool, List, length, Option, Some, None, IfSome, slice_get, is_some}
+-- What holds of modules and their pages before each answer. This project's own.
+use Rattle.std.specs.Prelude.{◌≡◌, ◌≤◌, List, length, Option, Some, None, IfSome, slice_get, is_some}
 use Rattle.sv_types.specs.Policies.{Rules}
 use Rattle.sv_types.specs.Regions.{Region}
 use Rattle.sv_types.specs.declared.saved.SavedModule.{SavedModule}
 use Rattle.sv_types.specs.declared.wires.Protection.{Protection}
 use Rattle.sv_types.specs.declared.wires.Protection.TheVariants.{Held}
-use Rattle.reference.specs.Calls.{Asked}
-use Rattle.reference.specs.ModuleCalls.{answer_of, load_decision}
 use Rattle.reference.specs.States.{pages_in_rule, find_module}
-use Rattle.reference.specs.declared.answers.Beside.{Beside}
-use Rattle.machine_model.specs.HostExits.{host_is_good}
 use Rattle.machine_model.specs.Machine.{HostLoad}
 use Rattle.page_guard.specs.Guarded.{IsInRam, AllAre, IsTheirs}
 use Rattle.module_gate.specs.Gates.{load_span, module_span, AreApproved}
-use Rattle.module_answers.specs.Parts.{load_of, loading_of, facts_in}
+use Rattle.module_answers.specs.Parts.{loading_of}
 use Rattle.module_answers.specs.declared.modules.Modules.{Modules}
 use Rattle.module_answers.specs.declared.modules.UnderWay.{UnderWay}
 
@@ -51,22 +47,3 @@ pub record IsReadable (rules : Rules) (region : Region) (modules : Modules) : Ty
   pub guard : List Protection
   pub theirs : IsTheirs region guard
   pub guarded : AreGuarded rules guard modules.gate.loaded (loading_of modules)
-
--- ---- answers that are given
-
--- what happens beside a call, as the call is answered
-pub record IsOfCall (rules : Rules) (ram : List ℕ) (guard : List Protection) (modules : Modules) (beside : Beside) : Type 0 where
-  pub started : List Bool
-  pub input : List ℕ
-  pub ask : Asked
-  pub same : beside ≡ (answer_of (facts_in started input rules ram guard modules) ask).beside
-
--- what happens at the end of the load under way, as it is decided
-pub record IsOfLoad (rules : Rules) (modules : Modules) (beside : Beside) : Type 0 where
-  pub under_way : UnderWay
-  pub there : modules.loading ≡ Some under_way
-  pub counted : under_way.load.left ≡ 0
-  pub same : beside ≡ (load_decision (host_is_good (load_of under_way) (slice_get rules.modules under_way.load.about.id)) under_way.load.about).beside
-
-abbrev pub IsGiven : Rules → (ram : List ℕ) → (guard : List Protection) → Modules → Beside → Type 0
-IsGiven rules ram guard modules beside = IsOfCall rules ram guard modules beside ⊎ IsOfLoad rules modules beside

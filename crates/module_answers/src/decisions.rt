@@ -1,8 +1,8 @@
 // What a call about modules is answered: the first check that fails gives the code.
 
-ghost use Rattle.std.specs.Prelude.{◌≡◌, ℕ, ℤ, Bool, List, not, slice_get, is_some};
+ghost use Rattle.std.specs.Prelude.{◌≡◌, ℕ, Bool, List, not, slice_get, is_some};
 ghost use Rattle.sv_types.specs.Policies.{rules_of};
-ghost use Rattle.reference.specs.Calls.{Facts, code};
+ghost use Rattle.reference.specs.Calls.{Facts};
 ghost use Rattle.reference.specs.ModuleCalls.{module_asked, load_refused, load_call, load_decision, unload_refused, unload_call, retire_refused, retire_call, module_call};
 ghost use Rattle.reference.specs.Protections.{is_free, protection_at};
 ghost use Rattle.reference.specs.States.{find_module};
@@ -15,22 +15,7 @@ use host_mem::HostMem;
 use module_gate::{is_good_place, rule_of};
 use page_guard::Guard;
 use reference::{Answer, Beside, Reply};
-use sv_types::{Policy, SavedModule};
-
-/// The codes, by their numbers.
-const SUCCESS: i64 = 0;
-
-const NOT_SUPPORTED: i64 = -2;
-
-const INVALID_PARAMETER: i64 = -3;
-
-const REFUSED_BY_MEASURE: i64 = -4;
-
-const INVALID_ADDRESS: i64 = -5;
-
-const ALREADY: i64 = -6;
-
-const UNDER_WAY: i64 = -7;
+use sv_types::{Policy, SavedModule, SbiCode};
 
 /// The functions, by their numbers.
 const LOAD: u64 = 0;
@@ -39,39 +24,30 @@ const UNLOAD: u64 = 1;
 
 const RETIRE: u64 = 2;
 
-fn code(number: i64) -> Reply
-    ensures { result ≡ code number }
+fn load_refused(id: u64, code: SbiCode) -> Answer
+    ensures { result ≡ load_refused id code }
 {
-    Reply::Replies {
-        a0: number.cast_unsigned(),
-        a1: 0,
+    Answer {
+        reply: Reply::of_code(code),
+        beside: Beside::RefusesLoad { id, code },
     }
 }
 
-fn load_refused(id: u64, number: i64) -> Answer
-    ensures { result ≡ load_refused id number }
+fn unload_refused(id: u64, code: SbiCode) -> Answer
+    ensures { result ≡ unload_refused id code }
 {
     Answer {
-        reply: code(number),
-        beside: Beside::RefusesLoad { id, code: number },
+        reply: Reply::of_code(code),
+        beside: Beside::RefusesUnload { id, code },
     }
 }
 
-fn unload_refused(id: u64, number: i64) -> Answer
-    ensures { result ≡ unload_refused id number }
+fn retire_refused(code: SbiCode) -> Answer
+    ensures { result ≡ retire_refused code }
 {
     Answer {
-        reply: code(number),
-        beside: Beside::RefusesUnload { id, code: number },
-    }
-}
-
-fn retire_refused(number: i64) -> Answer
-    ensures { result ≡ retire_refused number }
-{
-    Answer {
-        reply: code(number),
-        beside: Beside::RefusesRetire { code: number },
+        reply: Reply::of_code(code),
+        beside: Beside::RefusesRetire { code },
     }
 }
 
@@ -101,12 +77,12 @@ fn load_call(
 {
     let about = module_asked(asked);
     let Some(rule) = rule_of(policy, about.id) else {
-        return load_refused(about.id, INVALID_PARAMETER);
+        return load_refused(about.id, SbiCode::InvalidParameter);
     };
     if modules.is_loading() {
-        load_refused(about.id, UNDER_WAY)
+        load_refused(about.id, SbiCode::UnderWay)
     } else if modules.gate.find(about.id).is_some() {
-        load_refused(about.id, ALREADY)
+        load_refused(about.id, SbiCode::Already)
     } else if is_good_place(guard, mem, &about, rule.pages) {
         Answer {
             reply: Reply::Stays,
@@ -116,7 +92,7 @@ fn load_call(
             },
         }
     } else {
-        load_refused(about.id, INVALID_ADDRESS)
+        load_refused(about.id, SbiCode::InvalidAddress)
     }
 }
 
@@ -126,10 +102,10 @@ fn unload_call(modules: &Modules, id: u64) -> Answer
     ensures { (f : Facts) → result ≡ unload_call (record f { loads = is_some (loading_of modules.now) }) id (find_module modules.now.gate.loaded id) }
 {
     match modules.gate.find(id) {
-        None => unload_refused(id, INVALID_PARAMETER),
-        Some(_) if modules.is_loading() => unload_refused(id, UNDER_WAY),
+        None => unload_refused(id, SbiCode::InvalidParameter),
+        Some(_) if modules.is_loading() => unload_refused(id, SbiCode::UnderWay),
         Some(about) => Answer {
-            reply: code(SUCCESS),
+            reply: Reply::of_code(SbiCode::Success),
             beside: Beside::UnloadsModule { about },
         },
     }
@@ -141,10 +117,10 @@ fn retire_call(policy: &Policy, modules: &Modules) -> Answer
     ensures { (f : Facts) → result ≡ retire_call (record f { retired = modules.now.gate.retired }) (rules_of policy.now).init }
 {
     match policy.init {
-        None => retire_refused(INVALID_PARAMETER),
-        Some(_) if modules.gate.retired() => retire_refused(ALREADY),
+        None => retire_refused(SbiCode::InvalidParameter),
+        Some(_) if modules.gate.retired() => retire_refused(SbiCode::Already),
         Some(span) => Answer {
-            reply: code(SUCCESS),
+            reply: Reply::of_code(SbiCode::Success),
             beside: Beside::RetiresInit { span },
         },
     }
@@ -166,10 +142,7 @@ pub fn module_answer(
         LOAD => load_call(policy, guard, mem, modules, asked),
         UNLOAD => unload_call(modules, asked.a0),
         RETIRE => retire_call(policy, modules),
-        _ => Answer {
-            reply: code(NOT_SUPPORTED),
-            beside: Beside::Nothing,
-        },
+        _ => Answer::plain(Reply::of_code(SbiCode::NotSupported)),
     }
 }
 
@@ -179,12 +152,12 @@ pub(crate) fn load_decision(good: bool, about: SavedModule) -> Answer
 {
     if good {
         Answer {
-            reply: code(SUCCESS),
+            reply: Reply::of_code(SbiCode::Success),
             beside: Beside::ApprovesModule { about },
         }
     } else {
         Answer {
-            reply: code(REFUSED_BY_MEASURE),
+            reply: Reply::of_code(SbiCode::RefusedByMeasure),
             beside: Beside::ReleasesModule { about },
         }
     }

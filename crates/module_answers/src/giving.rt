@@ -1,17 +1,18 @@
 // What an answer does to pages and modules.
 
-ghost use Rattle.std.specs.Prelude.{◌≡◌, false, true, Some, None, length, IsTrue, IsSome, IfSome, slice_get};
+ghost use Rattle.std.specs.Prelude.{◌≡◌, [], false, true, Some, None, length, IsTrue, IsSome, IfSome, slice_get};
 ghost use Rattle.sv_types.specs.Policies.{rules_of, rules_within};
 ghost use Rattle.sv_types.specs.declared.wires.Protection.TheVariants.{Free, Held, Approved};
 ghost use Rattle.reference.specs.States.{with_module, pages_in_rule};
 ghost use Rattle.machine_model.specs.HostCalls.{host_pages_beside};
+ghost use Rattle.machine_model.specs.GivenAnswers.{IsGiven};
 ghost use Rattle.machine_model.specs.HostExits.{with_tables};
 ghost use Rattle.machine_model.specs.Machine.{Machine};
 ghost use Rattle.page_guard.specs.Guarded.{with_span, IsTheirs};
 ghost use Rattle.module_gate.specs.Gates.{begun, is_good_place, load_span};
 ghost use Rattle.module_answers.specs.Changes.{sets_protections};
-ghost use Rattle.module_answers.specs.Conditions.{AreJoined, AreGuarded, MayEnd, IsGiven};
-ghost use Rattle.module_answers.specs.Parts.{moduled, loading_of};
+ghost use Rattle.module_answers.specs.Conditions.{AreJoined, AreGuarded, MayEnd};
+ghost use Rattle.module_answers.specs.Parts.{moduled, loading_of, facts_in};
 
 use crate::modules::{Modules, UnderWay, put_load};
 use host_mem::HostMem;
@@ -94,7 +95,7 @@ pub fn give_pages(
     requires theirs { IsTheirs mem.old guard.old }
     requires joined { AreJoined (rules_of policy.now) modules.old }
     requires guarded { AreGuarded (rules_of policy.now) guard.old modules.old.gate.loaded (loading_of modules.old) }
-    requires given { IsGiven (rules_of policy.now) mem.old.ram guard.old modules.old beside.now }
+    requires given { IsGiven (facts_in [] [] (rules_of policy.now) mem.old.ram guard.old modules.old) (loading_of modules.old) beside.now }
     ensures machine { (m : Machine) → moduled m (rules_of policy.now) mem.new guard.new modules.new ≡ with_tables (host_pages_beside beside.now which (moduled m (rules_of policy.now) mem.old guard.old modules.old)) mem.new.tables }
     ensures changed { result ≡ sets_protections beside.now }
     ensures kept { result ≡ false → (guard.new ≡ guard.old) × (mem.new ≡ mem.old) }

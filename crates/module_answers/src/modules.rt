@@ -1,10 +1,9 @@
 // The gate of modules with the load that is under way.
 
-ghost use Rattle.std.specs.Prelude.{◌≡◌, Some, None, IfOk, is_some};
-ghost use Rattle.sv_types.specs.Policies.{rules_of};
+ghost use Rattle.std.specs.Prelude.{◌≡◌, Some, None, IfOk, IfSome, is_some};
 ghost use Rattle.page_guard.specs.Guarded.{IsTheirs};
 ghost use Rattle.module_gate.specs.Gates.{no_modules};
-ghost use Rattle.module_answers.specs.Conditions.{AreJoined, AreGuarded};
+ghost use Rattle.module_answers.specs.Conditions.{MayEnd};
 ghost use Rattle.module_answers.specs.Parts.{loading_of, without_load};
 
 use host_mem::HostMem;
@@ -12,7 +11,6 @@ use module_gate::{Gate, Load};
 use page_guard::Guard;
 use std::alloc::{AllocError, Global};
 use std::mem;
-use sv_types::Policy;
 
 /// A load under way, with the hart that asked for it.
 pub struct UnderWay {
@@ -50,9 +48,8 @@ impl Modules {
     }
 
     /// Frees the pages of a load that is under way, and drops the rest.
-    pub fn end(self, guard: &mut Guard, mem: &mut HostMem, policy: &Policy)
-        requires joined { AreJoined (rules_of policy.now) self }
-        requires guarded { AreGuarded (rules_of policy.now) guard.old self.gate.loaded (loading_of self) }
+    pub fn end(self, guard: &mut Guard, mem: &mut HostMem)
+        requires may { IfSome self.loading (MayEnd guard.old self.gate.loaded) }
         requires theirs { IsTheirs mem.old guard.old }
         ensures guard { guard.new ≡ without_load guard.old self.loading }
         ensures theirs { IsTheirs mem.new guard.new }
