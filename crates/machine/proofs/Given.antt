@@ -1,32 +1,28 @@
 -- What an answer gives is the machine's, as is what a load under way does.
-use Rattle.std.proofs.Common.{◌≡◌, ℕ, List, [], length, inl, inr, refl, sym, ◌∙◌, ap, subst}
-use Rattle.std.specs.Prelude.{Option, Some, None, option_map, slice_get}
+use Rattle.std.proofs.Common.{◌≡◌, ℕ, List, [], length, refl, sym, ◌∙◌, ap, subst}
 use Rattle.sv_types.specs.Policies.{rules_of}
 use Rattle.sv_types.specs.Regions.{Region}
 use Rattle.sv_types.specs.SecondStage.{AreViews}
 use Rattle.sv_types.specs.declared.wires.Protection.{Protection}
 use Rattle.gstage_tables.specs.Layout.{table_size}
 use Rattle.reference.specs.Answers.{devices_beside, journal_beside}
-use Rattle.reference.specs.ModuleCalls.{load_decision}
 use Rattle.reference.specs.Protections.{protection_at}
 use Rattle.reference.specs.States.{Devices, Journal}
 use Rattle.reference.specs.declared.answers.Answer.{Answer}
 use Rattle.reference.specs.declared.answers.Beside.{Beside}
-use Rattle.machine_model.specs.HostCalls.{host_given, host_pages_beside, host_replied, hosts_beside}
-use Rattle.machine_model.specs.HostExits.{host_is_good, served_load_turn, with_tables}
-use Rattle.machine_model.specs.Machine.{Machine, HostHart, HostLoad, update}
+use Rattle.machine_model.specs.GivenAnswers.{IsGiven}
+use Rattle.machine_model.specs.HostCalls.{host_facts, host_given, host_pages_beside, host_replied, hosts_beside}
+use Rattle.machine_model.specs.HostExits.{served_load_turn, with_tables}
+use Rattle.machine_model.specs.Machine.{Machine, HostHart, update}
 use Rattle.machine_model.specs.StandsFor.{bound_pages}
 use Rattle.machine_model.specs.Steps.{WithTables}
 use Rattle.page_guard.specs.Guarded.{IsTheirs}
 use Rattle.hart_answers.specs.Hosts.{hosts_of}
 use Rattle.hart_answers.specs.declared.seats.Seat.{Seat}
-use Rattle.module_answers.specs.Conditions as Parts
-use Rattle.module_answers.specs.Parts.{load_of, moduled}
+use Rattle.module_answers.specs.Parts.{loading_of, facts_in, moduled}
 use Rattle.module_answers.specs.declared.modules.Modules.{Modules}
-use Rattle.module_answers.specs.declared.modules.UnderWay.{UnderWay}
 use Rattle.machine.proofs.Turns.{stays, views_shown}
 use Rattle.machine.specs.Parts.{machine_of_parts}
-use Rattle.machine.specs.Turns.{IsGiven}
 use Rattle.machine.specs.declared.parts.Parts.TheInside.{Inside}
 
 module _ (p : Inside) where
@@ -34,39 +30,9 @@ module _ (p : Inside) where
   whole = machine_of_parts p
 
   -- what happens beside is what a call or a load asks for, by the parts
-  abbrev Given : Beside → Type 0
-  Given beside = Parts.IsGiven (rules_of p.policy) p.mem.ram p.guard p.modules beside
-
-  of_parts : (beside : Beside) → Given beside → IsGiven whole beside
-  of_parts beside (inl call) = inl (record { started = call.started; input = call.input; ask = call.ask; same = call.same })
-  of_parts beside (inr load) = inr (record {
-    load = load_of load.under_way;
-    there = ap (option_map load_of) load.there;
-    counted = load.counted;
-    same = load.same;
-  })
-
-  pub given_of : (beside : Beside) (now : Machine) → whole ≡ now → Given beside → IsGiven now beside
-  given_of beside now same given = subst (λ (m : Machine). IsGiven m beside) same (of_parts beside given)
-
-  load_given : (beside : Beside) (x : Option UnderWay) (load : HostLoad) → p.modules.loading ≡ x → option_map load_of x ≡ Some load → load.left ≡ 0
-      → beside ≡ (load_decision (host_is_good load (slice_get whole.rules.modules load.about.id)) load.about).beside → Given beside
-  load_given beside None load e there counted same = absurd (cc)
-  load_given beside (Some under_way) load e there counted same =
-      let is : load ≡ load_of under_way = cc in
-      inr (record {
-        under_way = under_way;
-        there = e;
-        counted = ap (λ (l : HostLoad). l.left) (sym is) ∙ counted;
-        same = same ∙ ap (λ (l : HostLoad). (load_decision (host_is_good l (slice_get whole.rules.modules l.about.id)) l.about).beside) is;
-      })
-
-  by_parts : (beside : Beside) → IsGiven whole beside → Given beside
-  by_parts beside (inl call) = inl (record { started = call.started; input = call.input; ask = call.ask; same = call.same })
-  by_parts beside (inr load) = load_given beside p.modules.loading load.load refl load.there load.counted load.same
-
-  pub given_in : (beside : Beside) (now : Machine) → whole ≡ now → IsGiven now beside → Given beside
-  given_in beside now same given = by_parts beside (subst (λ (m : Machine). IsGiven m beside) (sym same) given)
+  pub given_in : (beside : Beside) (now : Machine) → whole ≡ now → IsGiven (host_facts now) now.loading beside
+      → IsGiven (facts_in [] [] (rules_of p.policy) p.mem.ram p.guard p.modules) (loading_of p.modules) beside
+  given_in beside now same given = subst (λ (m : Machine). IsGiven (host_facts m) m.loading beside) (sym same) given
 
   -- the machine of the parts that an answer leaves
   abbrev pub left_parts : List Seat → Devices → Journal → Region → List Protection → Modules → Machine

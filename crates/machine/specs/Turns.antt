@@ -1,17 +1,13 @@
 -- What a turn does beside its attempt. This project's own.
-use Rattle.std.specs.Prelude.{◌≡◌, ◌⊎◌, ℕ, true, false, IsTrue, Bool, List, Some, None, slice_get}
+use Rattle.std.specs.Prelude.{◌≡◌, ℕ, true, false, IsTrue, None}
 use Rattle.sv_types.specs.Policies.{rules_within}
 use Rattle.sv_types.specs.declared.outcome.Outcome.{Outcome}
 use Rattle.sv_types.specs.declared.wires.Mode.TheVariants.{Kernel}
 use Rattle.reference.specs.Counting.{counted, count_retired, count_trap}
-use Rattle.reference.specs.Calls.{Asked}
 use Rattle.reference.specs.Devices.{lines_at}
-use Rattle.reference.specs.ModuleCalls.{answer_of, load_decision}
-use Rattle.reference.specs.declared.answers.Beside.{Beside}
 use Rattle.machine_model.specs.HardwareEvent.{is_loading}
-use Rattle.machine_model.specs.HostCalls.{host_facts}
-use Rattle.machine_model.specs.HostExits.{host_exit_answered, host_is_good, served_exit}
-use Rattle.machine_model.specs.Machine.{Machine, HostLoad}
+use Rattle.machine_model.specs.HostExits.{host_exit_answered, served_exit}
+use Rattle.machine_model.specs.Machine.{Machine}
 use Rattle.machine_model.specs.Steps.{WithTables}
 use Rattle.machine_model.specs.declared.exits.ExitAnswer.{ExitAnswer}
 use Rattle.module_answers.specs.Conditions.{AreGuarded}
@@ -38,23 +34,6 @@ pub record IsGuarded (m : Machine) : Type 0 where
 -- what an exit of hart h is answered, done
 abbrev pub answered_exit : Machine → ℕ → ExitAnswer → Machine
 answered_exit m h answer = host_exit_answered m h (hart_in m.harts h) (hart_in m.harts h).core.hregs.mode answer
-
--- what happens beside is what some call asks for, whichever harts are started and whatever input waits
-pub record IsOfCall (m : Machine) (beside : Beside) : Type 0 where
-  pub started : List Bool
-  pub input : List ℕ
-  pub ask : Asked
-  pub same : beside ≡ (answer_of (record (host_facts m) { started = started; input = input }) ask).beside
-
--- or it is the decision of the load under way, all of whose pages are counted
-pub record IsOfLoad (m : Machine) (beside : Beside) : Type 0 where
-  pub load : HostLoad
-  pub there : m.loading ≡ Some load
-  pub counted : load.left ≡ 0
-  pub same : beside ≡ (load_decision (host_is_good load (slice_get m.rules.modules load.about.id)) load.about).beside
-
-abbrev pub IsGiven : Machine → Beside → Type 0
-IsGiven m beside = IsOfCall m beside ⊎ IsOfLoad m beside
 
 -- ---- attempts
 

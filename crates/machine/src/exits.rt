@@ -4,6 +4,7 @@ ghost use Rattle.std.specs.Prelude.{◌≡◌, ◌<◌, ◌%◌, ◌*◌, length
 ghost use Rattle.reference.specs.Calls.{asked_by};
 ghost use Rattle.reference.specs.Counting.{MayCount};
 ghost use Rattle.reference.specs.ModuleCalls.{answer_of};
+ghost use Rattle.machine_model.specs.GivenAnswers.{IsGiven};
 ghost use Rattle.machine_model.specs.HostCalls.{host_facts, host_given, served_call};
 ghost use Rattle.machine_model.specs.HostExits.{host_exit, host_exit_answered};
 ghost use Rattle.machine_model.specs.HostHarts.{host_seen};
@@ -14,7 +15,7 @@ ghost use Rattle.sv_types.specs.declared.wires.Mode.TheVariants.{Kernel};
 ghost use Rattle.call_answers.specs.Known.{StartsOneOf};
 ghost use Rattle.trap_answers.specs.Possible.{IsPossible};
 ghost use Rattle.machine.specs.Attempts.{hart_in};
-ghost use Rattle.machine.specs.Turns.{IsGiven, IsGuarded, answered_exit};
+ghost use Rattle.machine.specs.Turns.{IsGuarded, answered_exit};
 
 use crate::caches::fence;
 use crate::parts::Parts;
@@ -156,7 +157,7 @@ impl Parts {
         requires counts { MayCount self.old.journal.counts }
         requires room { length self.old.journal.printed < 4096 }
         requires guarded { IsGuarded self.old }
-        requires given { IsGiven self.old answer.now.beside }
+        requires given { IsGiven (host_facts self.old) self.old.loading answer.now.beside }
         requires starts { StartsOneOf (length self.old.harts) answer.now.beside }
         ensures { WithTables self.old (host_given self.old which answer.now) self.new }
     {

@@ -254,11 +254,12 @@ impl Parts {
     }
 
     /// Drops the parts; a load under way frees its pages.
+    #[tactic(auto, using(module_answers::proofs::Joined::ends))]
     pub(crate) fn end(self)
         requires { IsGuarded self }
     {
         let Parts {
-            policy,
+            policy: _,
             entries: _,
             mut mem,
             seats: _,
@@ -270,6 +271,6 @@ impl Parts {
             cpu: _,
             cleared: _,
         } = self;
-        modules.end(&mut guard, &mut mem, &policy);
+        modules.end(&mut guard, &mut mem);
     }
 }
