@@ -1,70 +1,83 @@
 -- Checks, one behind the other.
-use Rattle.std.proofs.Common.{◌≡◌, ℕ, suc, ◌+◌, ◌<◌, ◌≤◌, Bool, true, false, List, [], ◌∷◌, ◌++◌, length, get_or, drop, flat_map, Some, None, refl, ap, sym, ◌∙◌, subst, arith, add-one, zero}
+use Rattle.std.proofs.Common.{◌≡◌, ℕ, suc, ◌+◌, ◌<◌, ◌≤◌, Bool, true, false, List, [], ◌∷◌, ◌++◌, length, get_or, drop, map, flat_map, Some, None, refl, ap, sym, ◌∙◌, subst, arith, add-one, zero}
 use Rattle.std.proofs.Math.Seq.{drop-cons}
 use Rattle.std.specs.Prelude.{nat_lt, not, ◌==◌, ◌&&◌, ◌%◌}
 use Rattle.std.proofs.lemmas.Bool.{ltb-false, not-false, eqb-true}
 use Rattle.sv_types.specs.Bytes.{page_size}
-use Rattle.sv_types.specs.Kernel.{first_refusal, header_checks, segment_checks, image_checks, loaded_headers, kernel_refusal, memory_in_ram, is_executable, is_writable, text_is_shared}
+use Rattle.sv_types.specs.Kernel.{first_refusal, image_check, header_checks, segment_checks, image_checks, loaded_headers, kernel_refusal, memory_in_ram, is_executable, is_writable, text_is_shared}
+use Rattle.sv_types.specs.declared.image_fault.HeaderFault.{HeaderFault}
+use Rattle.sv_types.specs.declared.image_fault.ImageFault.{ImageFault}
 use Rattle.sv_types.specs.declared.kernel.ProgramHeader.{ProgramHeader}
 
 -- checks that find no fault leave it to those behind them
-pub passed : (xs ys : List (ℕ × Bool)) → first_refusal xs ≡ None → first_refusal (xs ++ ys) ≡ first_refusal ys
+pub passed : {F : Type 0} (xs ys : List (F × Bool)) → first_refusal xs ≡ None → first_refusal (xs ++ ys) ≡ first_refusal ys
 passed [] ys none = refl
 passed ((n, true) ∷ xs) ys none = cc
 passed ((n, false) ∷ xs) ys none = passed xs ys none
 
 -- and a fault that they find is the first
-pub refused : (xs ys : List (ℕ × Bool)) (n : ℕ) → first_refusal xs ≡ Some n → first_refusal (xs ++ ys) ≡ Some n
+pub refused : {F : Type 0} (xs ys : List (F × Bool)) (n : F) → first_refusal xs ≡ Some n → first_refusal (xs ++ ys) ≡ Some n
 refused [] ys n some = cc
 refused ((m, true) ∷ xs) ys n some = some
 refused ((m, false) ∷ xs) ys n some = refused xs ys n some
 
 -- what finds no fault as a whole finds none in its first part, and none in the rest
-pub first_passed : (xs ys : List (ℕ × Bool)) → first_refusal (xs ++ ys) ≡ None → first_refusal xs ≡ None
+pub first_passed : {F : Type 0} (xs ys : List (F × Bool)) → first_refusal (xs ++ ys) ≡ None → first_refusal xs ≡ None
 first_passed [] ys none = refl
 first_passed ((n, true) ∷ xs) ys none = none
 first_passed ((n, false) ∷ xs) ys none = first_passed xs ys none
 
-pub rest_passed : (xs ys : List (ℕ × Bool)) → first_refusal (xs ++ ys) ≡ None → first_refusal ys ≡ None
+pub rest_passed : {F : Type 0} (xs ys : List (F × Bool)) → first_refusal (xs ++ ys) ≡ None → first_refusal ys ≡ None
 rest_passed xs ys none = sym (passed xs ys (first_passed xs ys none)) ∙ none
 
-here : {X : Type 0} (f : X → List (ℕ × Bool)) (hs : List X) (i : ℕ) (d : X) → i < length hs
+-- a check of any file finds the same as one of a kernel's
+pub image_passed : (xs : List (HeaderFault × Bool)) → first_refusal xs ≡ None → first_refusal (map image_check xs) ≡ None
+image_passed [] none = refl
+image_passed ((n, true) ∷ xs) none = cc
+image_passed ((n, false) ∷ xs) none = image_passed xs none
+
+pub image_refused : (xs : List (HeaderFault × Bool)) (n : HeaderFault) → first_refusal xs ≡ Some n → first_refusal (map image_check xs) ≡ Some (ImageFault.Header n)
+image_refused [] n some = cc
+image_refused ((m, true) ∷ xs) n some = cc some
+image_refused ((m, false) ∷ xs) n some = image_refused xs n some
+
+here : {X F : Type 0} (f : X → List (F × Bool)) (hs : List X) (i : ℕ) (d : X) → i < length hs
     → flat_map f (drop i hs) ≡ f (get_or hs i d) ++ flat_map f (drop (suc i) hs)
 here f hs i d h = ap (flat_map f) (drop-cons hs i d h)
 
-pub place_passed : {X : Type 0} (f : X → List (ℕ × Bool)) (hs : List X) (i : ℕ) (d : X) → i < length hs
+pub place_passed : {X F : Type 0} (f : X → List (F × Bool)) (hs : List X) (i : ℕ) (d : X) → i < length hs
     → first_refusal (f (get_or hs i d)) ≡ None → first_refusal (flat_map f (drop (i + 1) hs)) ≡ first_refusal (flat_map f (drop i hs))
 place_passed {X = X} f hs i d h none =
     rw add-one (sym (ap first_refusal (here f hs i d h) ∙ passed (f (get_or hs i d)) (flat_map f (drop (suc i) hs)) none))
 
-pub place_refused : {X : Type 0} (f : X → List (ℕ × Bool)) (hs : List X) (i : ℕ) (d : X) (n : ℕ) → i < length hs
+pub place_refused : {X F : Type 0} (f : X → List (F × Bool)) (hs : List X) (i : ℕ) (d : X) (n : F) → i < length hs
     → first_refusal (f (get_or hs i d)) ≡ Some n → first_refusal (flat_map f (drop i hs)) ≡ Some n
 place_refused f hs i d n h some =
     ap first_refusal (here f hs i d h) ∙ refused (f (get_or hs i d)) (flat_map f (drop (suc i) hs)) n some
 
 -- where none of all finds a fault, none at a place does
-pub each_passed : {X : Type 0} (f : X → List (ℕ × Bool)) (hs : List X) (i : ℕ) (d : X) → i < length hs
+pub each_passed : {X F : Type 0} (f : X → List (F × Bool)) (hs : List X) (i : ℕ) (d : X) → i < length hs
     → first_refusal (flat_map f hs) ≡ None → first_refusal (f (get_or hs i d)) ≡ None
 each_passed f [] i d h none = absurd (omega arith)
 each_passed f (x ∷ hs) zero d h none = first_passed (f x) (flat_map f hs) none
 each_passed f (x ∷ hs) (suc i) d h none = each_passed f hs i d (omega arith) (rest_passed (f x) (flat_map f hs) none)
 
-abbrev first_test : List (ℕ × Bool) → Bool
+abbrev first_test : {F : Type 0} → List (F × Bool) → Bool
 first_test [] = false
 first_test (check ∷ checks) = check.1
 
-first_test_passed : (checks : List (ℕ × Bool)) → first_refusal checks ≡ None → first_test checks ≡ false
+first_test_passed : {F : Type 0} (checks : List (F × Bool)) → first_refusal checks ≡ None → first_test checks ≡ false
 first_test_passed [] none = refl
 first_test_passed ((n, true) ∷ checks) none = cc
 first_test_passed ((n, false) ∷ checks) none = refl
 
 -- ---- the whole file
 
-pub header_refused : (file : List ℕ) (ram_pages n : ℕ) → first_refusal (header_checks file) ≡ Some n → kernel_refusal file ram_pages ≡ Some n
+pub header_refused : (file : List ℕ) (ram_pages : ℕ) (n : ImageFault) → first_refusal (header_checks file) ≡ Some n → kernel_refusal file ram_pages ≡ Some n
 unfolding kernel_refusal
 header_refused file ram_pages n some = refused (header_checks file) _ n some
 
-pub segment_refused : (file : List ℕ) (ram_pages n : ℕ) (hs : List ProgramHeader) → hs ≡ loaded_headers file → first_refusal (header_checks file) ≡ None
+pub segment_refused : (file : List ℕ) (ram_pages : ℕ) (n : ImageFault) (hs : List ProgramHeader) → hs ≡ loaded_headers file → first_refusal (header_checks file) ≡ None
     → first_refusal (flat_map (segment_checks (length file) ram_pages) hs) ≡ Some n → kernel_refusal file ram_pages ≡ Some n
 unfolding kernel_refusal
 segment_refused file ram_pages n hs same none some =
@@ -103,7 +116,7 @@ pub record Passed (file_size ram_pages : ℕ) (h : ProgramHeader) : Type 0 where
   pub short : h.file_size ≤ h.memory_size
   pub whole : is_executable h ≡ true → h.gpa % page_size ≡ 0
 
-tests_passed : (a b c d e : Bool) → first_refusal ((9, a) ∷ (10, b) ∷ (11, c) ∷ (12, d) ∷ (13, e) ∷ []) ≡ None
+tests_passed : (a b c d e : Bool) → first_refusal ((ImageFault.OutsideFile, a) ∷ (ImageFault.OutsideRam, b) ∷ (ImageFault.ShortMemory, c) ∷ (ImageFault.WritableText, d) ∷ (ImageFault.TextInsidePage, e) ∷ []) ≡ None
     → (a ≡ false) × (b ≡ false) × (c ≡ false) × (d ≡ false) × (e ≡ false)
 tests_passed true b c d e none = cc
 tests_passed false true c d e none = cc

@@ -6,3 +6,4 @@ pub mod Owners
 pub mod LoadedBytes
 pub mod LoadedText
 pub mod ExportsFound
+pub mod RefusedOn

@@ -1,16 +1,14 @@
 -- The addresses of the kernel's functions that modules call. ELF-64 Object File Format, "Symbol Table".
-use Rattle.std.specs.Prelude.{ℕ, ◌/◌, Bool, false, ◌&&◌, not, ◌==◌, nat_lt, List, [], length, find, if◌then◌else◌, option_map, Option, Some, None, Result, Ok, Err}
+use Rattle.std.specs.Prelude.{ℕ, ◌/◌, Bool, false, ◌&&◌, not, ◌==◌, nat_lt, List, [], length, find, if◌then◌else◌, option_map, Option, Some, None, Ok, Err}
 use Rattle.std.specs.Str.{bytes_eq}
 use Rattle.sv_types.specs.Kernel.{first_refusal, file_checks}
+use Rattle.sv_types.specs.declared.image_fault.HeaderFault.{HeaderFault}
+use Rattle.sv_types.specs.declared.image_fault.ImageFault.{ImageFault}
 use Rattle.sv_types.specs.declared.policy.Export.{Export}
 use Rattle.elf64_sections.specs.Judged.{◌>>=◌, each}
 use Rattle.elf64_sections.specs.Sections.{Tables, sections_in_file, sections_of, tables_of, symbols_of, name_at}
 use Rattle.elf64_sections.specs.declared.tables.Symbol.{Symbol}
-use Rattle.elf64_load.specs.declared.read.ElfRefusal.{ElfRefusal}
-use Rattle.elf64_load.specs.declared.read.ElfRefusal.TheVariants.{Number}
-
-abbrev pub Judged : Type 0 → Type 0
-Judged A = Result A ElfRefusal
+use Rattle.elf64_load.specs.Refusals.{Judged}
 
 -- its binding is global, and a section defines it
 abbrev pub is_defined_global : Symbol → Bool
@@ -32,7 +30,7 @@ unfoldable pub address_of : Tables → List ℕ → Option ℕ
 address_of tables wanted = address_among tables.strings (symbols_of tables.symbols) wanted
 
 abbrev pub export_at : List ℕ → Option ℕ → Judged Export
-export_at name None = Err (Number 17)
+export_at name None = Err ImageFault.UndefinedName
 export_at name (Some addr) = Ok (record { name = name; addr = addr })
 
 abbrev pub export_of : Tables → List ℕ → Judged Export
@@ -40,18 +38,18 @@ export_of tables name = export_at name (address_of tables name)
 
 -- at most 4,096 of them
 abbrev pub if_few : List Export → Judged (List Export)
-if_few exports = if nat_lt 4096 (length exports) then Err (Number 18) else Ok exports
+if_few exports = if nat_lt 4096 (length exports) then Err ImageFault.TooManyNames else Ok exports
 
 abbrev pub exports_in : Option Tables → List (List ℕ) → Judged (List Export)
-exports_in None names = Err (Number 16)
+exports_in None names = Err ImageFault.NoSymbols
 exports_in (Some tables) names = each (export_of tables) [] names >>= if_few
 
 -- the symbol table of a kernel
 abbrev pub kernel_tables : List ℕ → Option Tables
 kernel_tables file = if sections_in_file file then tables_of file (sections_of file) else None
 
-abbrev pub exports_of_file : Option ℕ → List ℕ → List (List ℕ) → Judged (List Export)
-exports_of_file (Some number) file names = Err (Number number)
+abbrev pub exports_of_file : Option HeaderFault → List ℕ → List (List ℕ) → Judged (List Export)
+exports_of_file (Some fault) file names = Err (ImageFault.Header fault)
 exports_of_file None file names = exports_in (kernel_tables file) names
 
 -- the header's faults come first

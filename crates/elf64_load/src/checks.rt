@@ -9,7 +9,7 @@ use crate::headers::PROGRAM_HEADER_BYTES;
 use crate::shared_text::text_is_shared;
 use elf64_sections::{double, file_refusal, half};
 use std::alloc::{AllocError, Global};
-use sv_types::{PAGE_BYTES, ProgramHeader, RAM_BASE, has_bit};
+use sv_types::{ImageFault, PAGE_BYTES, ProgramHeader, RAM_BASE, has_bit};
 
 /// The kind of an executable file.
 pub(crate) const EXECUTABLE_FILE: u16 = 2;
@@ -30,25 +30,25 @@ fn table_in_file(file: &[u8]) -> bool
         && end_of(double(file, 32), size) <= file.len() as u128
 }
 
-fn table_refusal(file: &[u8]) -> Option<u8>
+fn table_refusal(file: &[u8]) -> Option<ImageFault>
     requires { 64 ≤ length file.now }
     ensures first { result ≡ first_refusal (table_checks file.now) }
     ensures table { IfNone result (0 < table_count file.now → table_place file.now + 56 * table_count file.now ≤ length file.now) }
 {
     if half(file, 56) > 0 && !table_in_file(file) {
-        return Some(8);
+        return Some(ImageFault::ProgramHeaders);
     }
     None
 }
 
 /// The first fault of the header.
-pub(crate) fn header_refusal(file: &[u8]) -> Option<u8>
+pub(crate) fn header_refusal(file: &[u8]) -> Option<ImageFault>
     ensures first { result ≡ first_refusal (header_checks file.now) }
     ensures long { IfNone result (64 ≤ length file.now) }
     ensures table { IfNone result (0 < table_count file.now → table_place file.now + 56 * table_count file.now ≤ length file.now) }
 {
-    if let Some(number) = file_refusal(file, EXECUTABLE_FILE) {
-        return Some(number);
+    if let Some(fault) = file_refusal(file, EXECUTABLE_FILE) {
+        return Some(ImageFault::Header(fault));
     }
     table_refusal(file)
 }
@@ -75,23 +75,23 @@ fn memory_in_ram(ram_pages: u32, header: &ProgramHeader) -> bool
 
 /// The first fault of a segment.
 #[tactic(auto, unfolding(sv_types::specs::Kernel::segment_checks))]
-fn segment_refusal(file_size: usize, ram_pages: u32, header: &ProgramHeader) -> Option<u8>
+fn segment_refusal(file_size: usize, ram_pages: u32, header: &ProgramHeader) -> Option<ImageFault>
     ensures { result ≡ first_refusal (segment_checks file_size ram_pages header.now) }
 {
     if end_of(header.offset, header.file_size) > file_size as u128 {
-        return Some(9);
+        return Some(ImageFault::OutsideFile);
     }
     if !memory_in_ram(ram_pages, header) {
-        return Some(10);
+        return Some(ImageFault::OutsideRam);
     }
     if header.file_size > header.memory_size {
-        return Some(11);
+        return Some(ImageFault::ShortMemory);
     }
     if is_executable(header) && is_writable(header) {
-        return Some(12);
+        return Some(ImageFault::WritableText);
     }
     if is_executable(header) && header.gpa % PAGE_BYTES != 0 {
-        return Some(13);
+        return Some(ImageFault::TextInsidePage);
     }
     None
 }
@@ -101,12 +101,12 @@ pub(crate) fn segments_refusal(
     file_size: usize,
     ram_pages: u32,
     headers: &[ProgramHeader],
-) -> Option<u8>
+) -> Option<ImageFault>
     ensures { result ≡ first_refusal (flat_map (segment_checks file_size ram_pages) headers.now) }
 {
     'headers: for header in headers {
-        if let Some(number) = segment_refusal(file_size, ram_pages, header) {
-            return Some(number);
+        if let Some(fault) = segment_refusal(file_size, ram_pages, header) {
+            return Some(fault);
         }
     }
     None
@@ -123,15 +123,15 @@ fn some_are_executable(headers: &[ProgramHeader]) -> bool
 pub(crate) fn image_refusal(
     alloc: Global,
     headers: &[ProgramHeader],
-) -> Result<Option<u8>, AllocError>
+) -> Result<Option<ImageFault>, AllocError>
     requires { All HasMemory headers.now }
-    ensures { IfOk result (λ number. number ≡ first_refusal (image_checks headers.now)) }
+    ensures { IfOk result (λ fault. fault ≡ first_refusal (image_checks headers.now)) }
 {
     if text_is_shared(alloc, headers)? {
-        return Ok(Some(14));
+        return Ok(Some(ImageFault::SharedText));
     }
     if !some_are_executable(headers) {
-        return Ok(Some(15));
+        return Ok(Some(ImageFault::NoText));
     }
     Ok(None)
 }

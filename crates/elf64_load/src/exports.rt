@@ -17,7 +17,7 @@ use elf64_sections::{
 use policy_limits::MOST_EXPORTS;
 use std::alloc::{AllocError, Global};
 use std::collections::BTreeMap;
-use sv_types::{Export, Name};
+use sv_types::{Export, ImageFault, Name};
 
 fn is_defined_global(symbol: &Symbol) -> bool
     ensures { result ≡ spec.is_defined_global symbol.now }
@@ -60,7 +60,7 @@ fn addresses<'a>(
     Ok(addresses)
 }
 
-fn export_at(addresses: &BTreeMap<&str, u64>, name: &Name) -> Result<Export, ElfRefusal>
+fn export_at(addresses: &BTreeMap<&str, u64>, name: &Name) -> Result<Export, ImageFault>
     ensures { result ≡ spec.export_at name.now (found addresses.now name.now) }
 {
     match addresses.get(name.text()) {
@@ -68,7 +68,7 @@ fn export_at(addresses: &BTreeMap<&str, u64>, name: &Name) -> Result<Export, Elf
             name: *name,
             addr: *addr,
         }),
-        None => Err(ElfRefusal::Number(17)),
+        None => Err(ImageFault::UndefinedName),
     }
 }
 
@@ -89,6 +89,7 @@ fn exports_in(
     Ok(exports)
 }
 
+#[tactic(auto, using(crate::proofs::RefusedOn::refused_on))]
 fn few_exports(
     alloc: Global,
     tables: &SymbolTables,
@@ -99,7 +100,7 @@ fn few_exports(
 {
     let exports = exports_in(alloc, tables, names)?;
     if exports.len() > MOST_EXPORTS {
-        return Err(ElfRefusal::Number(18));
+        return Err(ElfRefusal::Fault(ImageFault::TooManyNames));
     }
     Ok(exports)
 }
@@ -117,20 +118,19 @@ fn kernel_tables(alloc: Global, file: &[u8]) -> Result<Option<SymbolTables<'_>>,
 }
 
 /// The exports of these names, in their order: the values of the first global symbols of the kernel's file that define
-/// them. Refuses a file by 1 to 7 as `read_kernel` does; by 16 where its section headers, its symbol table or the table of
-/// its names is absent, outside the file, or of a wrong size of entries or link; by 17 where a name is no defined global
-/// symbol; by 18 where there are more than 4,096 names; and for want of memory. The time is linear in the file, but for
-/// looking names up.
+/// them. Refuses a file for its header as `read_kernel` does; where its section headers, its symbol table or the table of
+/// its names is absent, outside the file, or of a wrong size of entries or link; where a name is no defined global symbol;
+/// where there are more than 4,096 names; and for want of memory. The time is linear in the file, but for looking names up.
 #[tactic(auto, unfolding(crate::specs::Exports::exports_judged))]
 pub fn read_exports(alloc: Global, bytes: &[u8], names: &[Name]) -> Result<Vec<Export>, ElfRefusal>
     ensures exports { IfOk result (λ exports. spec.exports_judged bytes.now names.now ≡ Ok exports.items) }
     ensures refused { IfErr result (Refuses (spec.exports_judged bytes.now names.now)) }
 {
-    if let Some(number) = file_refusal(bytes, EXECUTABLE_FILE) {
-        return Err(ElfRefusal::Number(number));
+    if let Some(fault) = file_refusal(bytes, EXECUTABLE_FILE) {
+        return Err(ElfRefusal::Fault(ImageFault::Header(fault)));
     }
     match kernel_tables(alloc, bytes)? {
         Some(tables) => few_exports(alloc, &tables, names),
-        None => Err(ElfRefusal::Number(16)),
+        None => Err(ElfRefusal::Fault(ImageFault::NoSymbols)),
     }
 }

@@ -4,28 +4,32 @@ ghost use Rattle.std.specs.Prelude.{◌≡◌, ◌+◌, ◌≤◌, None, length,
 ghost use Rattle.sv_types.specs.Kernel.{first_refusal, header_checks, segment_checks, loaded_headers, loaded_segment, header_entry, kernel_refusal, kernel_segments};
 ghost use Rattle.elf64_load.specs.Images.{segment_of, segments_of};
 ghost use Rattle.elf64_load.specs.Refusals.{IsRefusalOf};
-ghost use Rattle.elf64_load.specs.declared.read.ElfRefusal.TheVariants.{Memory};
+ghost use Rattle.elf64_load.specs.declared.read.ElfRefusal.TheVariants.{Fault, Memory};
 
 use crate::checks::{header_refusal, image_refusal, is_executable, segments_refusal};
 use crate::headers::loaded_headers;
 use crate::image::{KernelImage, Segment};
 use elf64_sections::double;
 use std::alloc::{AllocError, AllocFailed, Global};
-use sv_types::ProgramHeader;
+use sv_types::{ImageFault, ProgramHeader};
 use thiserror::Error;
 
 /// Why a file is refused.
 #[derive(Clone, Copy, Debug, PartialEq, Eq, Drop, Error)]
 pub enum ElfRefusal {
-    /// The first fault. The header: 1 shorter than a header, 2 the magic bytes, 3 class or byte order, 4 version, 5
-    /// machine, 6 kind of file, 7 flags, 8 the table of program headers. A segment: 9 its bytes are outside the file, 10
-    /// its memory is outside RAM, 11 more bytes than memory, 12 executable and writable, 13 text that begins inside a page.
-    /// All segments: 14 a page of text is touched by two, 15 no text. Exports: 16 no good tables of sections and symbols, 17
-    /// a name that no global symbol defines, 18 too many names.
-    #[error("fault {0} of the image")]
-    Number(u8),
+    /// The first fault of the image.
+    #[error("a fault of the image")]
+    Fault(ImageFault),
     #[error("out of memory")]
     Memory,
+}
+
+impl From<ImageFault> for ElfRefusal {
+    ghost from_gives = { λ fault e. e ≡ Fault fault };
+
+    fn from(fault: ImageFault) -> ElfRefusal {
+        ElfRefusal::Fault(fault)
+    }
 }
 
 impl From<AllocError> for ElfRefusal {
@@ -57,20 +61,20 @@ fn judged_headers(
     ensures accepted { OnOk result (kernel_refusal file.now ram_pages ≡ None) }
     ensures refused { IfErr result (IsRefusalOf file.now ram_pages) }
 {
-    if let Some(number) = header_refusal(file) {
-        return Err(ElfRefusal::Number(number));
+    if let Some(fault) = header_refusal(file) {
+        return Err(ElfRefusal::Fault(fault));
     }
     let Ok(headers) = loaded_headers(alloc, file) else {
         return Err(ElfRefusal::Memory);
     };
-    if let Some(number) = segments_refusal(file.len(), ram_pages, &headers) {
-        return Err(ElfRefusal::Number(number));
+    if let Some(fault) = segments_refusal(file.len(), ram_pages, &headers) {
+        return Err(ElfRefusal::Fault(fault));
     }
-    let Ok(fault) = image_refusal(alloc, &headers) else {
+    let Ok(whole) = image_refusal(alloc, &headers) else {
         return Err(ElfRefusal::Memory);
     };
-    if let Some(number) = fault {
-        return Err(ElfRefusal::Number(number));
+    if let Some(fault) = whole {
+        return Err(ElfRefusal::Fault(fault));
     }
     Ok(headers)
 }

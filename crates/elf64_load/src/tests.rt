@@ -103,7 +103,7 @@ fn changed(alloc: Global, fields: &[Field], length: usize) -> Result<Vec<u8>, Al
 fn fault(alloc: Global, file: &[u8], ram_pages: u32) -> Option<u8> {
     match read_kernel(alloc, file, ram_pages) {
         Ok(_) => Some(0),
-        Err(ElfRefusal::Number(number)) => Some(number),
+        Err(ElfRefusal::Fault(fault)) => Some(fault.number()),
         Err(ElfRefusal::Memory) => None,
     }
 }
@@ -549,14 +549,6 @@ fn a_linkers_file(rt: HostRuntime) -> Result<(), Fail> {
     let text = kernel.text(rt.alloc())?;
     assert_eq!(rt; text.len(), 0x1000);
     assert!(rt; text.starts_with(&code));
-    Ok(())
-}
-
-#[test]
-fn refusals_name_their_number(rt: HostRuntime) -> Result<(), Fail> {
-    let refusal = ElfRefusal::Number(9);
-    let text = format!(in rt.alloc(); "{refusal}")?;
-    assert!(rt; text.as_str() == "fault 9 of the image");
     Ok(())
 }
 

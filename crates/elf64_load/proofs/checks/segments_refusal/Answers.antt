@@ -6,7 +6,7 @@ use Rattle.elf64_load.proofs.checks.segments_refusal.Goals as goal
 pub returns-in-Some : goal.returns-in-Some
 returns-in-Some c =
     sym (sym c.headers.invariant
-    ∙ place_refused (segment_checks c.args.file_size c.args.ram_pages) c.args.headers.now c.headers.header-index _ c.in-Some.number
+    ∙ place_refused (segment_checks c.args.file_size c.args.ram_pages) c.args.headers.now c.headers.header-index _ c.in-Some.fault
     c.headers-test.true
     (sym c.segment_refusal.ensures ∙ c.in-Some.is))
 
