@@ -35,12 +35,12 @@ by_test g page k x false e below = ap or_free (get_other g page k x (λ same. le
 pub set_is_protect : (g : List Protection) (page : ℕ) (x : Protection) → page < length g → protect (protection_at g) page x ≡ protection_at (slice_set g page x)
 set_is_protect g page x below = λ i k. sym (by_test g page k x (k == page) refl below) i
 
-pub set_theirs : (r : Region) (g : List Protection) (page : ℕ) (x : Protection) → page < length g → HoldsTrees r.tables (length g) (protect (protection_at g) page x)
+pub set_theirs : (r : Region) (g : List Protection) (page : ℕ) (x : Protection) → page < length g → HoldsTrees r.tables (length g) [] (protect (protection_at g) page x)
     → AreViews r.tables (length g) [] (protect (protection_at g) page x) → length r.ram ≡ page_size * length g → IsTheirs r (slice_set g page x)
 set_theirs r g page x below trees views ram =
     let same = set_is_protect g page x below in
     let size = sym (length-set g page x) in record {
       ram = ram ∙ ap (λ (n : ℕ). page_size * n) size;
       views = subst (λ (n : ℕ). AreViews r.tables n [] (protection_at (slice_set g page x))) size (subst (AreViews r.tables (length g) []) same views);
-      trees = subst (λ (n : ℕ). HoldsTrees r.tables n (protection_at (slice_set g page x))) size (subst (HoldsTrees r.tables (length g)) same trees);
+      trees = subst (λ (n : ℕ). HoldsTrees r.tables n [] (protection_at (slice_set g page x))) size (subst (HoldsTrees r.tables (length g) []) same trees);
     }

@@ -30,4 +30,4 @@ first_taken guard span = find (λ page. not (is_free (protection_at guard page))
 pub record IsTheirs (r : Region) (guard : List Protection) : Type 0 where
   pub ram : length r.ram ≡ page_size * length guard
   pub views : AreViews r.tables (length guard) [] (protection_at guard)
-  pub trees : HoldsTrees r.tables (length guard) (protection_at guard)
+  pub trees : HoldsTrees r.tables (length guard) [] (protection_at guard)

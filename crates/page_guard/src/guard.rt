@@ -31,13 +31,13 @@ impl Model for Guard {
 
     ghost Value = { List Kind };
 
-    ghost use Rattle.std.specs.Prelude.{◌≡◌, ◌≤◌, length, map};
+    ghost use Rattle.std.specs.Prelude.{◌≡◌, ◌≤◌, length, map, []};
     ghost use Rattle.sv_types.specs.Regions.{most_ram_pages};
     ghost use Rattle.reference.specs.Protections.{is_free};
 
     ghost view = { λ g. g.protections.items };
 
-    ghost invariant = { λ g. (g.trees ≡ length g.protections.items) × ((g.dma ≡ map is_free g.protections.items) × (length g.protections.items ≤ most_ram_pages)) };
+    ghost invariant = { λ g. (g.trees.ram_pages ≡ length g.protections.items) × ((g.trees.bound ≡ []) × ((g.dma ≡ map is_free g.protections.items) × (length g.protections.items ≤ most_ram_pages))) };
 }
 
 /// Pages that are held, until they are approved or released. It can't be dropped. Contracts see the span.
@@ -62,7 +62,7 @@ pub struct Taken {
 impl Guard {
     /// All pages free. The region's table part has the size that the trees ask for.
     pub fn new(alloc: Global, mem: &mut HostMem) -> Result<Guard, AllocError>
-        requires { length mem.old.tables ≡ table_size (length mem.old.ram / page_size) }
+        requires { length mem.old.tables ≡ table_size (length mem.old.ram / page_size) 0 }
         ensures guard { IfOk result (λ g. g ≡ replicate (length mem.old.ram / page_size) Free) }
         ensures theirs { IfOk result (λ g. IsTheirs mem.new g) }
         ensures ram { mem.new.ram ≡ mem.old.ram }
@@ -70,7 +70,7 @@ impl Guard {
         let pages = mem.ram_pages();
         let protections = vec![in alloc; Protection::Free; pages]?;
         let dma = DmaGuard::new(alloc, pages)?;
-        let trees = Trees::new(mem);
+        let trees = Trees::new(mem, &[]);
         Ok(Guard {
             trees,
             dma,

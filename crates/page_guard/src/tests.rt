@@ -15,7 +15,7 @@ fn entries_of_a_list(rt: HostRuntime) -> Result<(), Fail> {
 
 #[test]
 fn a_span_held_approved_and_freed(rt: HostRuntime) -> Result<(), Fail> {
-    let size = Trees::table_bytes(16);
+    let size = Trees::table_bytes(16, 0);
     let mut mem = HostMem::new(rt.alloc(), size, 16)?;
     assert_eq!(rt; mem.table_bytes(), size);
     assert_eq!(rt; mem.ram_pages(), 16);

@@ -13,18 +13,20 @@ invariant_of-result c =
     let items : c.in_ok-protections.protections.items ≡ replicate c.ram_pages-pages.result Free = search rules in
     let size : length c.in_ok-protections.protections.items ≡ c.ram_pages-pages.result = search rules in
     let ram = ap (λ (ram : List ℕ). length ram) c.new-trees.ensures.ram in
-    let pages : c.new-trees.result ≡ c.ram_pages-pages.result = omega (arith, c.new-trees.ensures.pages, c.ram_pages-pages.ensures.value, ram) in
+    let pages : c.new-trees.result.ram_pages ≡ c.ram_pages-pages.result = omega (arith, c.new-trees.ensures.pages, c.ram_pages-pages.ensures.value, ram) in
     let most : c.ram_pages-pages.result ≤ most_ram_pages = omega (arith, c.ram_pages-pages.ensures.value, c.ram_pages-pages.ensures.region.most) in
     let bits : c.in_ok-dma.dma ≡ map is_free (replicate c.ram_pages-pages.result Free) = c.in_ok-dma.ensures ∙ sym (free_bits c.ram_pages-pages.result) in
-    (pages ∙ sym size, (bits ∙ ap (map is_free) (sym items), rw size most))
+    (pages ∙ sym size, (c.new-trees.ensures.bound, (bits ∙ ap (map is_free) (sym items), rw size most)))
 
 pub returns-clause-theirs : goal.returns-clause-theirs
 returns-clause-theirs c =
     let items : c.in_ok-protections.protections.items ≡ replicate c.ram_pages-pages.result Free = search rules in
     let ram = ap (λ (ram : List ℕ). length ram) c.new-trees.ensures.ram in
-    let pages : c.new-trees.result ≡ c.ram_pages-pages.result = omega (arith, c.new-trees.ensures.pages, c.ram_pages-pages.ensures.value, ram) in
+    let pages : c.new-trees.result.ram_pages ≡ c.ram_pages-pages.result = omega (arith, c.new-trees.ensures.pages, c.ram_pages-pages.ensures.value, ram) in
     subst (IsTheirs c.new-trees.new.mem) (sym items)
     (new_theirs c.new-trees.new.mem c.ram_pages-pages.result
     (omega (arith, c.new-trees.ensures.pages, pages))
-    (subst (λ (n : ℕ). AreViews c.new-trees.new.mem.tables n [] all_free) pages c.new-trees.ensures.views)
-    (subst (λ (n : ℕ). HoldsTrees c.new-trees.new.mem.tables n all_free) pages c.new-trees.ensures.holds))
+    (subst (λ (n : ℕ). AreViews c.new-trees.new.mem.tables n [] all_free) pages
+    (subst (λ (bound : List ℕ). AreViews c.new-trees.new.mem.tables c.new-trees.result.ram_pages bound all_free) c.new-trees.ensures.bound c.new-trees.ensures.views))
+    (subst (λ (n : ℕ). HoldsTrees c.new-trees.new.mem.tables n [] all_free) pages
+    (subst (λ (bound : List ℕ). HoldsTrees c.new-trees.new.mem.tables c.new-trees.result.ram_pages bound all_free) c.new-trees.ensures.bound c.new-trees.ensures.holds)))

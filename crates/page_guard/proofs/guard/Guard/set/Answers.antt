@@ -16,14 +16,20 @@ returns-clause-theirs c =
     let view : c.args.self.now ≡ guard = sym c.self.view_is in
     let theirs : IsTheirs c.args.mem.now guard = subst (IsTheirs c.args.mem.now) view c.requires.theirs in
     let inside : c.args.page < length guard = subst (λ (g : List Protection). c.args.page < length g) view c.requires.inside in
-    let before : HoldsTrees c.args.mem.now.tables c.self.inside.trees (protection_at guard) =
-    subst (λ (n : ℕ). HoldsTrees c.args.mem.now.tables n (protection_at guard)) (sym c.self.invariant.0) theirs.trees in
-    let after : HoldsTrees c.set.new.mem.tables (length guard) (protect (protection_at guard) c.args.page c.args.protection) =
-    subst (λ (n : ℕ). HoldsTrees c.set.new.mem.tables n (protect (protection_at guard) c.args.page c.args.protection)) c.self.invariant.0
-    (c.set.ensures.holds (protection_at guard) before) in
+    let trees = c.self.inside.trees in
+    let pages : trees.ram_pages ≡ length guard = c.self.invariant.0 in
+    let unbound : trees.bound ≡ [] = c.self.invariant.1.0 in
+    let before : HoldsTrees c.args.mem.now.tables trees.ram_pages trees.bound (protection_at guard) =
+    subst (λ (bound : List ℕ). HoldsTrees c.args.mem.now.tables trees.ram_pages bound (protection_at guard)) (sym unbound)
+    (subst (λ (n : ℕ). HoldsTrees c.args.mem.now.tables n [] (protection_at guard)) (sym pages) theirs.trees) in
+    let after : HoldsTrees c.set.new.mem.tables (length guard) [] (protect (protection_at guard) c.args.page c.args.protection) =
+    subst (λ (bound : List ℕ). HoldsTrees c.set.new.mem.tables (length guard) bound (protect (protection_at guard) c.args.page c.args.protection)) unbound
+    (subst (λ (n : ℕ). HoldsTrees c.set.new.mem.tables n trees.bound (protect (protection_at guard) c.args.page c.args.protection)) pages
+    (c.set.ensures.holds (protection_at guard) before)) in
     let views : AreViews c.set.new.mem.tables (length guard) [] (protect (protection_at guard) c.args.page c.args.protection) =
-    subst (λ (n : ℕ). AreViews c.set.new.mem.tables n [] (protect (protection_at guard) c.args.page c.args.protection)) c.self.invariant.0
-    (c.set.ensures.views (protection_at guard) before) in
+    subst (λ (bound : List ℕ). AreViews c.set.new.mem.tables (length guard) bound (protect (protection_at guard) c.args.page c.args.protection)) unbound
+    (subst (λ (n : ℕ). AreViews c.set.new.mem.tables n trees.bound (protect (protection_at guard) c.args.page c.args.protection)) pages
+    (c.set.ensures.views (protection_at guard) before)) in
     set_theirs c.set.new.mem guard c.args.page c.args.protection inside after views
     (ap (λ (xs : List ℕ). length xs) c.set.ensures.ram ∙ theirs.ram)
 
@@ -32,7 +38,10 @@ invariant_of-self c =
     let guard = c.self.inside.protections.items in (
       search rules,
       (
-        (search rules ∙ sym (map-set is_free guard c.args.page c.args.protection)),
         search rules,
+        (
+          (search rules ∙ sym (map-set is_free guard c.args.page c.args.protection)),
+          search rules,
+        ),
       ),
     )
