@@ -88,7 +88,7 @@ const ACCESSES: [Access; 5] = [
 
 #[test]
 fn registers(rt: HostRuntime) -> Result<(), Fail> {
-    let size = Trees::table_bytes(16);
+    let size = Trees::table_bytes(16, 0);
     let mut mem = HostMem::new(rt.alloc(), size, 16)?;
     assert_eq!(rt; mem.table_bytes(), size);
     assert_eq!(rt; mem.ram_pages(), 16);

@@ -104,7 +104,7 @@ const ROWS: [Row; 9] = [
 
 #[test]
 fn calls_one_after_another(rt: HostRuntime) -> Result<(), Fail> {
-    let size = Trees::table_bytes(16);
+    let size = Trees::table_bytes(16, 0);
     let mut mem = HostMem::new(rt.alloc(), size, 16)?;
     assert_eq!(rt; mem.table_bytes(), size);
     assert_eq!(rt; mem.ram_pages(), 16);

@@ -19,7 +19,7 @@ const CALL: Trap = Trap {
 
 #[test]
 fn a_hart_through_all_answers(rt: HostRuntime) -> Result<(), Fail> {
-    let size = Trees::table_bytes(16);
+    let size = Trees::table_bytes(16, 0);
     let mut mem = HostMem::new(rt.alloc(), size, 16)?;
     assert_eq!(rt; mem.table_bytes(), size);
     assert_eq!(rt; mem.ram_pages(), 16);
@@ -74,7 +74,7 @@ fn a_hart_through_all_answers(rt: HostRuntime) -> Result<(), Fail> {
 
 #[test]
 fn two_harts_behind_a_write_and_an_interrupt(rt: HostRuntime) -> Result<(), Fail> {
-    let size = Trees::table_bytes(16);
+    let size = Trees::table_bytes(16, 0);
     let mut mem = HostMem::new(rt.alloc(), size, 16)?;
     assert_eq!(rt; mem.table_bytes(), size);
     assert_eq!(rt; mem.ram_pages(), 16);

@@ -38,12 +38,12 @@ const TIMER: Lines = Lines {
 
 // Both views, in which page 0 is approved.
 fn draw_views(mem: &mut HostMem)
-    requires tables { length mem.old.tables ≡ table_size 16 }
+    requires tables { length mem.old.tables ≡ table_size 16 0 }
     requires ram { length mem.old.ram ≡ 4096 * 16 }
     ensures views { AreViews mem.new.tables 16 [] (protect all_free 0 Approved) }
     ensures ram { length mem.new.ram ≡ 4096 * 16 }
 {
-    let mut trees = Trees::new(mem);
+    let mut trees = Trees::new(mem, &[]);
     trees.set(mem, 0, Protection::Approved);
 }
 
@@ -52,7 +52,7 @@ fn region(rt: &impl Abort, alloc: Global, words: &[(usize, u64)]) -> Result<Host
     ensures views { IfOk result (λ m. AreViews m.tables 16 [] (protect all_free 0 Approved)) }
     ensures ram { IfOk result (λ m. length m.ram ≡ 4096 * 16) }
 {
-    let mut mem = HostMem::new(alloc, Trees::table_bytes(PAGES), PAGES)?;
+    let mut mem = HostMem::new(alloc, Trees::table_bytes(PAGES, 0), PAGES)?;
     for (place, word) in words {
         assert!(rt; *place < 0x1_0000);
         let at = mem.table_bytes() + *place;
@@ -60,7 +60,7 @@ fn region(rt: &impl Abort, alloc: Global, words: &[(usize, u64)]) -> Result<Host
         mem.write(at, 8, *word);
     }
     assert!(rt; mem.ram_pages() == PAGES);
-    assert!(rt; mem.table_bytes() == Trees::table_bytes(PAGES));
+    assert!(rt; mem.table_bytes() == Trees::table_bytes(PAGES, 0));
     draw_views(&mut mem);
     Ok(mem)
 }

@@ -40,12 +40,12 @@ fn expect(rt: &impl Abort, mem: &HostMem, trees: &Trees, gpa: u64, want: [[Optio
 fn an_approved_page_is_read_in_both_views_and_fetched_in_one(
     rt: HostRuntime,
 ) -> Result<(), AllocError> {
-    let size = Trees::table_bytes(RAM_PAGES);
+    let size = Trees::table_bytes(RAM_PAGES, 0);
     assert_eq!(rt; size, 49152);
     let mut mem = HostMem::new(rt.alloc(), size, RAM_PAGES)?;
     assert_eq!(rt; mem.table_bytes(), size);
     assert_eq!(rt; mem.ram_pages(), RAM_PAGES);
-    let mut trees = Trees::new(&mut mem);
+    let mut trees = Trees::new(&mut mem, &[]);
     assert_eq!(rt; trees.root(View::Kernel), 0x8000_1000_0000_0000);
     assert_eq!(rt; trees.root(View::User), 0x8000_2000_0000_0004);
     let place = Some(0xF000);
@@ -90,14 +90,14 @@ fn load(
 ) -> Result<Result<Place, Fault>, AllocError>
     requires { (vsatp / 2 ^ 60 ≡ 0) ⊎ (vsatp / 2 ^ 60 ≡ 8) }
 {
-    let size = Trees::table_bytes(RAM_PAGES);
+    let size = Trees::table_bytes(RAM_PAGES, 0);
     let mut mem = HostMem::new(alloc, size, RAM_PAGES)?;
     put_entry(&mut mem, 0x1000, 0x2000_0801);
     put_entry(&mut mem, 0x2000, middle);
     put_entry(&mut mem, 0x3000, leaf);
     assert_eq!(rt; mem.table_bytes(), size);
     assert_eq!(rt; mem.ram_pages(), RAM_PAGES);
-    let trees = Trees::new(&mut mem);
+    let trees = Trees::new(&mut mem, &[]);
     let regime = Regime {
         hgatp: trees.root(View::Kernel),
         vsatp,

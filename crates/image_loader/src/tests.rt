@@ -1,6 +1,7 @@
 // Files with a page of text and data behind it, loaded into four pages of RAM.
 
 ghost use Rattle.std.specs.Prelude.{◌≡◌, ◌*◌, ◌≤◌, length, IfOk};
+ghost use Rattle.sv_types.specs.Regions.{most_ram_pages};
 
 use super::{approve_text, fill_ram};
 use elf64_load::{ElfRefusal, read_kernel};
@@ -89,7 +90,7 @@ fn file_of(alloc: Global, parts: &[Part]) -> Result<Vec<u8>, AllocError> {
 
 // RAM with the segments of a file.
 fn filled(alloc: Global, file: &[u8], ram_pages: u32) -> Result<HostMem, ElfRefusal>
-    requires { ram_pages ≤ 65536 }
+    requires { ram_pages ≤ most_ram_pages }
     ensures { IfOk result (λ mem. length mem.ram ≡ 4096 * ram_pages) }
 {
     let image = read_kernel(alloc, file, ram_pages)?;
@@ -194,7 +195,7 @@ fn later_segments_win(rt: HostRuntime) -> Result<(), Fail> {
 fn pages_of_text_are_approved(rt: HostRuntime) -> Result<(), Fail> {
     let file = file_of(rt.alloc(), &[NOTHING, NOTHING, NOTHING])?;
     let image = read_kernel(rt.alloc(), &file, RAM_PAGES)?;
-    let size = Trees::table_bytes(RAM_PAGES as usize);
+    let size = Trees::table_bytes(RAM_PAGES as usize, 0);
     let mut mem = HostMem::new(rt.alloc(), size, RAM_PAGES as usize)?;
     assert_eq!(rt; mem.table_bytes(), size);
     assert_eq!(rt; mem.ram_pages(), RAM_PAGES as usize);

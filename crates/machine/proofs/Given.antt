@@ -60,7 +60,7 @@ module _ (p : Inside) where
       (record {
         tables = mem.tables;
         are = record {
-          size = after.trees.size ∙ ap table_size size ∙ sym before.trees.size;
+          size = after.trees.size ∙ ap (λ (pages : ℕ). table_size pages 0) size ∙ sym before.trees.size;
           views = subst (λ (g : List Protection). AreViews mem.tables whole.rules.ram_pages (bound_pages whole.rules) (protection_at g)) (ap (λ (m : Machine). m.protections) same)
               (views_shown whole.rules mem guard after (size ∙ pages) unbound);
         };

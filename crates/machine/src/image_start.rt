@@ -108,11 +108,11 @@ fn assemble(
 fn image_region(alloc: Global, image: &KernelImage, ram_pages: u32) -> Result<HostMem, AllocError>
     requires few { ram_pages ≤ most_ram_pages }
     requires placed { ArePlaced ram_pages (segments_of image.now) }
-    ensures tables { IfOk result (λ m. length m.tables ≡ table_size ram_pages) }
+    ensures tables { IfOk result (λ m. length m.tables ≡ table_size ram_pages 0) }
     ensures ram { IfOk result (λ m. m.ram ≡ segments_ram (segments_of image.now) ram_pages) }
     ensures size { IfOk result (λ m. length m.ram ≡ page_size * ram_pages) }
 {
-    let tables = Trees::table_bytes(ram_pages as usize);
+    let tables = Trees::table_bytes(ram_pages as usize, 0);
     let mut mem = HostMem::new(alloc, tables, ram_pages as usize)?;
     fill_ram(alloc, &mut mem, image, ram_pages)?;
     Ok(mem)
@@ -126,7 +126,7 @@ fn image_guard(
     ram_pages: u32,
 ) -> Result<Guard, AllocError>
     requires size { length mem.old.ram ≡ page_size * ram_pages }
-    requires tables { length mem.old.tables ≡ table_size ram_pages }
+    requires tables { length mem.old.tables ≡ table_size ram_pages 0 }
     requires placed { ArePlaced ram_pages (segments_of image.now) }
     ensures guard { IfOk result (λ g. g ≡ image_protections ram_pages (segments_of image.now)) }
     ensures theirs { IfOk result (λ g. IsTheirs mem.new g) }

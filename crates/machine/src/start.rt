@@ -213,10 +213,10 @@ fn flat_policy(alloc: Global, wanted: [u8; 32]) -> Result<Policy, AllocError>
 // A region of 16 pages of RAM with pages at their start, and room for its tables.
 fn flat_region(alloc: Global, pages: &[u8]) -> Result<HostMem, AllocError>
     requires { length pages.now ≤ 65536 }
-    ensures tables { IfOk result (λ m. length m.tables ≡ table_size flat_ram_pages) }
+    ensures tables { IfOk result (λ m. length m.tables ≡ table_size flat_ram_pages 0) }
     ensures ram { IfOk result (λ m. m.ram ≡ flat_ram pages.now) }
 {
-    let tables = Trees::table_bytes(FLAT_PAGES);
+    let tables = Trees::table_bytes(FLAT_PAGES, 0);
     let mut mem = HostMem::new(alloc, tables, FLAT_PAGES)?;
     mem.copy_in(tables, pages);
     Ok(mem)
@@ -226,7 +226,7 @@ fn flat_region(alloc: Global, pages: &[u8]) -> Result<HostMem, AllocError>
 #[tactic(auto, using(crate::proofs::Starting::none_taken))]
 fn approved_start(alloc: Global, mem: &mut HostMem, count: u32) -> Result<Guard, AllocError>
     requires ram { length mem.old.ram ≡ page_size * flat_ram_pages }
-    requires tables { length mem.old.tables ≡ table_size flat_ram_pages }
+    requires tables { length mem.old.tables ≡ table_size flat_ram_pages 0 }
     requires few { count ≤ flat_ram_pages }
     ensures guard { IfOk result (λ g. g ≡ first_approved count) }
     ensures theirs { IfOk result (λ g. IsTheirs mem.new g) }

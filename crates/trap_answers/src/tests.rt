@@ -37,7 +37,7 @@ const DEMOTED: Note = Note::Demote {
 
 #[test]
 fn demoted_and_then_stopped(rt: HostRuntime) -> Result<(), Fail> {
-    let size = Trees::table_bytes(16);
+    let size = Trees::table_bytes(16, 0);
     let mut mem = HostMem::new(rt.alloc(), size, 16)?;
     assert_eq!(rt; mem.table_bytes(), size);
     assert_eq!(rt; mem.ram_pages(), 16);
