@@ -117,16 +117,6 @@ kept_filled tables hgatp before after line kept agrees tag = record {
       ];
 }
 
--- so walks under an hgatp value leave a cache that agrees with the tables as such a one
-pub filled_agrees : (tables : List ℕ) (hgatp : ℕ) (before after : List (Option CacheLine)) → FilledUnder tables hgatp before after → CacheAgrees tables before
-    → CacheAgrees tables after
-filled_agrees tables hgatp before after filled all = record {
-  held = λ i line e. elim (filled.lines i) [
-    | inl same ↦ all.held i line (sym same ∙ e)
-    | inr fresh ↦ let is : fresh.0 ≡ line = let both = sym fresh.1.0 ∙ e in cc in subst (λ (l : CacheLine). LineAgrees tables l) is fresh.1.1.1
-  ];
-}
-
 test_same : (hgatp page : ℕ) → (hgatp == hgatp && page == page) ≡ true
 test_same hgatp page = grind (arith, nat_tests)
 

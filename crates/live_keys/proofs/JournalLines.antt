@@ -1,5 +1,5 @@
 -- The text of a journal, read back.
-use Rattle.std.proofs.Common.{◌≡◌, ◌≤◌, ◌<◌, ◌+◌, ◌-◌, ◌*◌, ◌%◌, ◌^◌, ◌==◌, ℕ, zero, suc, Bool, true, false, ◌&&◌, nat_le, if◌then◌else◌, List, [], ◌∷◌, ◌++◌, length, map, flat_map, replicate, drop, Option, Some, None, is_none, unwrap_or, option_map, codes, refl, sym, ◌∙◌, ap, subst, append_assoc, arith, rules, length-append, add-one, get_or, drop-cons}
+use Rattle.std.proofs.Common.{◌≡◌, ◌≤◌, ◌<◌, ◌+◌, ◌-◌, ◌*◌, ◌%◌, ◌^◌, ◌==◌, ℕ, zero, suc, Bool, true, false, ◌&&◌, nat_le, if◌then◌else◌, List, [], ◌∷◌, ◌++◌, length, map, flat_map, replicate, drop, Option, Some, None, is_none, unwrap_or, option_map, codes, refl, sym, ◌∙◌, ap, subst, append_assoc, arith, rules, length-append, add-one}
 use Rattle.std.proofs.Math.ListN.{drop_of_length-le}
 use Rattle.std.specs.Fmt.{decimal}
 use Rattle.std.specs.List.{All, list_all, position_from}
@@ -294,26 +294,6 @@ no_line count text none = sym (append-nil text) ∙ ap (λ (n : ℕ). text ++ te
 pub one_line : (count : ℕ) (old new : List ℕ) → 0 < count → new ≡ old ++ ended_line (auto_line count) → new ≡ old ++ text_of (auto_lines count)
 one_line zero old new some is = absurd (omega arith)
 one_line (suc count) old new some is = is ∙ ap (λ (text : List ℕ). old ++ text) (sym (append-nil (ended_line (auto_line (suc count)))))
-
-pub keys_from : (keys : List LiveKey) (at : ℕ) (key : LiveKey) → at < length keys → key ≡ get_or keys at key → drop at keys ≡ key ∷ drop (at + 1) keys
-keys_from keys at key within is =
-    drop-cons keys at key within ∙ ap (λ (k : LiveKey). k ∷ drop (suc at) keys) (sym is) ∙ ap (λ (n : ℕ). key ∷ drop n keys) (sym (add-one at))
-
--- the lines of one key more
-pub key_pushed : (text autos keyed : List ℕ) (made : ℕ) (key : LiveKey) (left rest : List LiveKey) (last : ℕ) (whole : List ℕ) → left ≡ key ∷ rest →
-    autos ≡ text ++ text_of (auto_lines (key.before - made)) → keyed ≡ autos ++ ended_line (key_line key.byte) →
-    text ++ text_of (journal_lines made left last) ≡ whole → keyed ++ text_of (journal_lines key.before rest last) ≡ whole
-key_pushed text autos keyed made key left rest last whole begun autos_are keyed_is whole_is =
-    let front : List ℕ = text_of (auto_lines (key.before - made)) in
-    let line : List ℕ = ended_line (key_line key.byte) in
-    let back : List ℕ = text_of (journal_lines key.before rest last) in
-    ap (λ (t : List ℕ). t ++ back) keyed_is
-    ∙ ap (λ (t : List ℕ). (t ++ line) ++ back) autos_are
-    ∙ append_assoc (text ++ front) line back
-    ∙ append_assoc text front (line ++ back)
-    ∙ ap (λ (t : List ℕ). text ++ t) (sym (flat_map-append ended_line (auto_lines (key.before - made)) (key_line key.byte ∷ journal_lines key.before rest last)))
-    ∙ ap (λ (keys : List LiveKey). text ++ text_of (journal_lines made keys last)) (sym begun)
-    ∙ whole_is
 
 -- behind the last key come the events that are left
 pub text_whole : (before after : List ℕ) (made : ℕ) (keys : List LiveKey) (at last : ℕ) → length keys ≤ at →

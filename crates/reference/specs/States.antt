@@ -152,8 +152,5 @@ with_hart r h hart = record r { harts = slice_set r.harts h hart }
 abbrev pub with_journal : State → Journal → State
 with_journal r journal = record r { journal = journal }
 
-abbrev pub with_devices : State → Devices → State
-with_devices r devices = record r { devices = devices }
-
 abbrev pub without_reservation : Hart → Hart
 without_reservation hart = record hart { reservation = None }

@@ -4,7 +4,7 @@ use Rattle.std.proofs.Math.Nat.{pow-suc, mod-one, mod-lt}
 use Rattle.std.proofs.Math.Arith.{mod-mul}
 use Rattle.std.proofs.Math.Seq.{drop-append_seam, take-append_seam, drop-append-add, take-append-add}
 use Rattle.std.proofs.lemmas.List.{take-append-le, drop-append-le, drop-take, take-take, drop-drop}
-use Rattle.std.proofs.lemmas.List.Elements.{All-append, All-drop, All-take, All-nil, All-cons, All-head, All-tail}
+use Rattle.std.proofs.lemmas.List.Elements.{All-nil, All-cons, All-head, All-tail}
 use borrow.Author.Tests.{ltb-true, ltb-false}
 use Rattle.sv_types.specs.Bytes.{word, overwrite, write_word, low_bytes, little_endian, part, page_bytes, page_size}
 
@@ -164,12 +164,6 @@ IsBytes bytes = All (λ b. b < 256) bytes
 pub low_bytes_bytes : (n value : ℕ) → IsBytes (low_bytes n value)
 low_bytes_bytes zero value = All-nil (λ b. b < 256)
 low_bytes_bytes (suc n) value = All-cons (λ b. b < 256) (value % 256) (low_bytes n (value / 256)) (mod-lt value (lit< tt)) (low_bytes_bytes n (value / 256))
-
-pub overwrite_bytes : (list bytes : List ℕ) (at : ℕ) → IsBytes list → IsBytes bytes → IsBytes (overwrite list at bytes)
-unfolding overwrite
-overwrite_bytes list bytes at h k =
-    All-append (λ b. b < 256) _ _ (All-take (λ b. b < 256) at list h)
-    (All-append (λ b. b < 256) _ _ k (All-drop (λ b. b < 256) (at + length bytes) list h))
 
 pub little_endian_below : (bytes : List ℕ) → IsBytes bytes → little_endian bytes < 256 ^ length bytes
 little_endian_below [] h = lit< tt

@@ -1,8 +1,8 @@
 -- Reads and writes of a region, by its two parts and by all its bytes.
-use Rattle.std.proofs.Common.{◌≡◌, ℕ, ◌+◌, ◌-◌, ◌%◌, ◌<◌, ◌≤◌, ◌⊎◌, inl, inr, List, ◌++◌, length, take, drop, take-append-drop, refl, sym, ◌∙◌, ap, arith, true, false}
+use Rattle.std.proofs.Common.{◌≡◌, ℕ, ◌+◌, ◌-◌, ◌%◌, ◌<◌, ◌≤◌, ◌⊎◌, inl, inr, List, length, take-append-drop, refl, sym, ◌∙◌, ap, arith, true, false}
 use Rattle.std.specs.Prelude.{nat_lt}
 use Rattle.std.proofs.lemmas.Bool.Decides.{nat_tests}
-use Rattle.sv_types.specs.Bytes.{word, write_word, overwrite, low_bytes}
+use Rattle.sv_types.specs.Bytes.{word, write_word, low_bytes}
 use Rattle.sv_types.specs.Regions.{Region, IsHostPlace, IsWidth, host_bytes, region_of, host_word, write_host}
 use Rattle.sv_types.proofs.ByteLemmas.{word_behind, word_in_front, overwrite_behind, overwrite_in_front, lt_or_le, length_low_bytes, length_write_word, drop_front, take_front}
 
@@ -26,22 +26,6 @@ word_in_ram r i n = rw (not_in_tables (length r.tables) i, less_tables (length r
 pub write_in_ram : (r : Region) (i n value : ℕ) → write_host r (length r.tables + i) n value ≡ record r { ram = write_word r.ram i n value }
 unfolding write_host
 write_in_ram r i n value = rw (not_in_tables (length r.tables) i, less_tables (length r.tables) i) refl
-
--- bytes that are copied in there, the tables as many as before, overwrite RAM alone
-pub copied_into_ram : (before after : Region) (i : ℕ) (bytes : List ℕ)
-    → host_bytes after ≡ overwrite (host_bytes before) (length before.tables + i) bytes
-    → length after.tables ≡ length before.tables
-    → after ≡ record before { ram = overwrite before.ram i bytes }
-copied_into_ram before after i bytes e len =
-    let whole : after.tables ++ after.ram ≡ before.tables ++ overwrite before.ram i bytes =
-    e ∙ overwrite_behind before.tables before.ram bytes i in
-    let front : after.tables ≡ before.tables =
-    sym (take_front after.tables after.ram (length before.tables) len) ∙ ap {B = List ℕ} (take (length before.tables)) whole
-    ∙ take_front before.tables (overwrite before.ram i bytes) (length before.tables) refl in
-    let rest : after.ram ≡ overwrite before.ram i bytes =
-    sym (drop_front after.tables after.ram (length before.tables) len) ∙ ap {B = List ℕ} (drop (length before.tables)) whole
-    ∙ drop_front before.tables (overwrite before.ram i bytes) (length before.tables) refl in
-    same_region after (record before { ram = overwrite before.ram i bytes }) front rest
 
 -- ---- all bytes
 

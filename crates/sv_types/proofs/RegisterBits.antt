@@ -9,9 +9,8 @@ use Rattle.std.proofs.lemmas.Nat.Bits.{bit_at_and, bit_at_or, same_from_bits, an
 use Rattle.sv_types.specs.Bits.{with_bits, without, bit}
 use Rattle.sv_types.specs.Registers.{legal_status, status_bits, legal_satp, satp_bits, is_satp_mode, legal_epc, interrupt_bits}
 use Rattle.sv_types.specs.Traps.{trap_target, status_at_trap, status_at_return, is_kernel}
-use Rattle.sv_types.specs.HypervisorRegisters.{HypervisorRegisters, IsLegal, registers_at_boot, registers_at_trap, registers_at_return, registers_at_exit, with_alias, write_virtual, virtual_interrupt_bits, virtual_software_bit}
+use Rattle.sv_types.specs.HypervisorRegisters.{HypervisorRegisters, IsLegal, registers_at_boot, registers_at_trap, registers_at_return, with_alias, write_virtual, virtual_interrupt_bits, virtual_software_bit}
 use Rattle.sv_types.specs.declared.csr.Csr.{Csr}
-use Rattle.sv_types.specs.declared.exit.Exit.{Exit}
 use Rattle.sv_types.specs.declared.wires.Mode.{Mode}
 
 -- ---- masks
@@ -263,21 +262,6 @@ return_is_legal c l = record {
   hvip = l.hvip;
   sepc = l.sepc;
   htinst = l.htinst;
-}
-
-pub exit_is_legal : (c : HypervisorRegisters) (exit : Exit) → IsLegal c → exit.pc % 4 ≡ 0 → exit.pc < 2 ^ 64 → exit.htinst < 2 ^ 32
-    → IsLegal (registers_at_exit c exit)
-unfolding registers_at_exit
-exit_is_legal c exit l aligned small word = record {
-  vsstatus = l.vsstatus;
-  vstvec = l.vstvec;
-  vsepc = l.vsepc;
-  vsatp = l.vsatp;
-  scounteren = l.scounteren;
-  hie = l.hie;
-  hvip = l.hvip;
-  sepc = aligned_epc exit.pc aligned small;
-  htinst = word;
 }
 
 target_cases : (base : ℕ) (vectored : Bool) (cause : ℕ) → base % 4 ≡ 0 → (if vectored then (base + 4 * cause) % 2 ^ 64 else base) % 4 ≡ 0

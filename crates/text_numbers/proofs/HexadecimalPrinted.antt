@@ -4,9 +4,6 @@ use Rattle.std.specs.Char.{digit_char}
 use Rattle.std.specs.Fmt.{digits, digits_onto, digit_glyph, padded_integral, format_spec, char_count}
 use Rattle.sv_types.specs.Output.{hexadecimal}
 
-glyph_is : (d : ℕ) → d < 16 → digit_glyph false d ≡ digit_char d
-glyph_is d small = refl
-
 zeros_more : (j : ℕ) → ◌++◌ {A = ℕ} (replicate j 48) (48 ∷ []) ≡ replicate (suc j) 48
 zeros_more zero = refl
 zeros_more (suc j) = ap (λ (ds : List ℕ). 48 ∷ ds) (zeros_more j)
