@@ -1,2 +1,5 @@
 pub mod Lists
 pub mod NamesJoined
+pub mod TextPlaces
+pub mod FieldPlaces
+pub mod RefusedOn

@@ -1,9 +1,11 @@
+pub mod Asking
 pub mod Bases
 pub mod JudgingViews
 pub mod Layouts
 pub mod Modules
 pub mod ModuleViews
 pub mod NameKeys
+pub mod ObjectFaults
 pub mod Objects
 pub mod Refusals
 pub mod Relocations

@@ -1,25 +1,29 @@
 -- Modules: which objects are refused and why, which fields their text has, and the text itself.
 -- RISC-V ELF psABI, "Relocations"; the limits are this project's own.
-use Rattle.std.specs.Prelude.{ℕ, ◌+◌, ◌*◌, ◌%◌, ◌^◌, Bool, false, ◌&&◌, ◌||◌, not, List, [], ◌∷◌, ◌++◌, length, map, find, replicate, ◌==◌, if◌then◌else◌, nat_lt, Option, Some, None, Ok, Err}
+use Rattle.std.specs.Prelude.{ℕ, ◌+◌, ◌*◌, ◌/◌, ◌%◌, ◌^◌, Bool, false, ◌&&◌, ◌||◌, not, List, [], ◌∷◌, ◌++◌, length, map, find, replicate, ◌==◌, if◌then◌else◌, nat_lt, Option, Some, None, Ok, Err}
 use Rattle.std.specs.BTreeMap.{insert_entry}
 use Rattle.std.specs.BTreeSet.{replace_key}
 use Rattle.std.specs.Cmp.Lexicographic.{slice_cmp}
 use Rattle.std.specs.List.{list_all}
 use Rattle.std.specs.Ordering.{nat_cmp}
 use Rattle.sv_types.specs.Effects.{plus, signed}
-use Rattle.sv_types.specs.Policies.{kind_within, is_low_part, site_size}
+use Rattle.sv_types.specs.Policies.{is_low_part, site_size, is_aligned, place_within, module_pages_within}
 use Rattle.sv_types.specs.declared.module.Site.{Site}
 use Rattle.sv_types.specs.declared.policy.Export.{Export}
+use Rattle.sv_types.specs.declared.relocation_kind.RelocationKind.{RelocationKind}
 use Rattle.elf64_sections.specs.Judged.{◌>>=◌}
 use Rattle.elf64_sections.specs.Sections.{Tables, section_bytes, symbol_count, symbol_at, name_at}
 use Rattle.elf64_sections.specs.declared.sections.SectionHeader.{SectionHeader}
 use Rattle.elf64_sections.specs.declared.tables.Symbol.{Symbol}
+use Rattle.elf64_reloc.specs.Asking.{asked_of, asked_bytes, place_alignment, is_high}
 use Rattle.elf64_reloc.specs.Layouts.{space_of, is_good_alignment, padding, placed_sections, text_size}
 use Rattle.elf64_reloc.specs.Objects.{Object, object_judged}
-use Rattle.elf64_reloc.specs.Refusals.{Judged, numbered}
+use Rattle.elf64_reloc.specs.Refusals.{Judged}
 use Rattle.elf64_reloc.specs.Relocations.{all_relocations, is_text}
 use Rattle.elf64_reloc.specs.Symbols.{Names, symbol_target, export_base}
-use Rattle.elf64_reloc.specs.declared.refusal.RelocRefusal.TheVariants.{Numbered}
+use Rattle.elf64_reloc.specs.declared.asked.Asked.{Asked}
+use Rattle.elf64_reloc.specs.declared.asked.Asked.TheVariants.{Field, Call}
+use Rattle.elf64_reloc.specs.declared.fault.ObjectFault.{ObjectFault}
 use Rattle.elf64_reloc.specs.declared.relocations.Relocation.{Relocation}
 use Rattle.elf64_reloc.specs.declared.sites.Found.{Found}
 use Rattle.elf64_reloc.specs.declared.symbols.Target.{Target}
@@ -28,7 +32,7 @@ use Rattle.elf64_reloc.specs.declared.symbols.Target.{Target}
 
 -- names in the order of their bytes, each once: a symbol's name joins them, and what is none is refused
 abbrev pub name_joined : List (List ℕ) → Option (List ℕ) → Judged (List (List ℕ))
-name_joined names None = Err (numbered 19)
+name_joined names None = Err ObjectFault.Name
 name_joined names (Some name) = Ok (replace_key (slice_cmp nat_cmp) names name)
 
 -- those of symbols alone that no section of the object defines
@@ -55,20 +59,9 @@ names_judged file = object_judged file >>= names_of_object
 
 -- ---- the fields of one relocation
 
--- a call: the high part of an address by an AUIPC, and its low part by the JALR behind it
-abbrev pub is_call : ℕ → Bool
-is_call kind = kind == 18 || kind == 19
-
-abbrev pub is_listed : ℕ → Bool
-is_listed kind = kind_within kind || is_call kind
-
--- the bytes of its fields
-abbrev pub relocated_bytes : ℕ → ℕ
-relocated_bytes kind = if is_call kind then 8 else site_size kind
-
 -- an AUIPC with the high part of an address stands at a place
 abbrev pub is_high_at : ℕ → Relocation → Bool
-is_high_at place r = (r.kind == 23 || is_call r.kind) && place == r.place
+is_high_at place r = is_high (asked_of r.kind) && place == r.place
 
 -- what relocations are judged by: the symbols, and the first high part at a place
 pub record Judging : Type 0 where
@@ -76,7 +69,7 @@ pub record Judging : Type 0 where
   pub high_at : ℕ → Option Relocation
 
 -- numbers of 32 bits are enough for a text of at most 1,024 pages
-abbrev pub site_at : (place kind : ℕ) → Target → (addend anchor : ℕ) → Site
+abbrev pub site_at : (place : ℕ) → RelocationKind → Target → (addend anchor : ℕ) → Site
 site_at place kind t addend anchor = record {
   offset = place % 2 ^ 32;
   kind = kind;
@@ -88,37 +81,40 @@ site_at place kind t addend anchor = record {
 abbrev pub one_field : Site → Found
 one_field site = record { first = site; second = None }
 
-abbrev pub plain_fields : Relocation → Target → Found
-plain_fields r t =
-    if is_call r.kind
-    then record { first = site_at r.place 23 t r.addend r.place; second = Some (site_at (plus r.place 4) 24 t r.addend r.place) }
-    else one_field (site_at r.place r.kind t r.addend r.place)
+abbrev pub call_fields : Relocation → Target → Found
+call_fields r t = record {
+  first = site_at r.place RelocationKind.PcrelHi20 t r.addend r.place;
+  second = Some (site_at (plus r.place 4) RelocationKind.PcrelLo12I t r.addend r.place);
+}
 
 abbrev pub or_nothing : Option Target → Target
 or_nothing None = record { base = 2; value = 0 }
 or_nothing (Some t) = t
 
 -- the low part goes by its high part's symbol, addend and place
-abbrev pub low_fields : Judging → Relocation → Option Relocation → Judged Found
-low_fields j r None = Err (numbered 15)
-low_fields j r (Some high) = Ok (one_field (site_at r.place r.kind (or_nothing (symbol_target j.names high.symbol)) high.addend high.place))
+abbrev pub low_fields : Judging → Relocation → RelocationKind → Option Relocation → Judged Found
+low_fields j r kind None = Err ObjectFault.NoHighPart
+low_fields j r kind (Some high) = Ok (one_field (site_at r.place kind (or_nothing (symbol_target j.names high.symbol)) high.addend high.place))
 
-abbrev pub fields_for : Judging → Relocation → Target → Judged Found
-fields_for j r t =
-    if is_low_part r.kind
-    then (if r.addend == 0 && t.base == 0 then low_fields j r (j.high_at t.value) else Err (numbered 15))
-    else Ok (plain_fields r t)
+abbrev pub fields_for : Judging → Relocation → Asked → Target → Judged Found
+fields_for j r Call t = Ok (call_fields r t)
+fields_for j r (Field kind) t =
+    if is_low_part kind
+    then (if r.addend == 0 && t.base == 0 then low_fields j r kind (j.high_at t.value) else Err ObjectFault.NoHighPart)
+    else Ok (one_field (site_at r.place kind t r.addend r.place))
 
-abbrev pub fields_with : Judging → Relocation → Option Target → Judged Found
-fields_with j r None = Err (numbered 13)
-fields_with j r (Some t) = if nat_lt r.size (r.offset + relocated_bytes r.kind) then Err (numbered 14) else fields_for j r t
+abbrev pub fields_with : Judging → Relocation → Asked → Option Target → Judged Found
+fields_with j r asked None = Err ObjectFault.Symbol
+fields_with j r asked (Some t) = if nat_lt r.size (r.offset + asked_bytes asked) then Err ObjectFault.OutsideSection else fields_for j r asked t
+
+abbrev pub fields_asked : Judging → Relocation → Option Asked → Judged Found
+fields_asked j r None = Err (ObjectFault.Kind r.kind)
+fields_asked j r (Some asked) = fields_with j r asked (symbol_target j.names r.symbol)
 
 -- the first fault of a relocation, or its fields
 unfoldable pub fields_judged : Judging → Relocation → Judged Found
 fields_judged j r =
-    if not (r.place % site_size r.kind == 0) then Err (numbered 11)
-    else if not (is_listed r.kind) then Err (Numbered 12 r.kind)
-    else fields_with j r (symbol_target j.names r.symbol)
+    if r.place % place_alignment (asked_of r.kind) == 0 then fields_asked j r (asked_of r.kind) else Err ObjectFault.Alignment
 
 -- ---- all fields
 
@@ -186,21 +182,33 @@ pub record Module : Type 0 where
   pub text : List ℕ
   pub sites : List Site
 
+-- the pages of a text
+abbrev pub pages_of : List ℕ → ℕ
+pages_of text = length text / 4096
+
+-- the field begins in a module of so many pages, at a multiple of its bytes
+abbrev pub site_fits : ℕ → Site → Bool
+site_fits pages site = place_within pages site.offset && is_aligned site.kind site.offset
+
+-- the limits of a policy, for a module by itself
+abbrev pub module_fits : Module → Bool
+module_fits m = module_pages_within (pages_of m.text) && list_all (site_fits (pages_of m.text)) m.sites
+
 abbrev pub is_too_large : List SectionHeader → List Site → Bool
 is_too_large sections sites = nat_lt 65536 (length sites) || nat_lt (4096 * 1024) (text_size sections)
 
 abbrev pub module_with : Object → List Site → Judged Module
 module_with o sites =
-    if is_too_large o.sections sites then Err (numbered 16)
-    else if fields_overlap sites (ordered_sites sites) then Err (numbered 17)
-    else if text_size o.sections == 0 then Err (numbered 18)
+    if is_too_large o.sections sites then Err ObjectFault.TooLarge
+    else if fields_overlap sites (ordered_sites sites) then Err ObjectFault.Overlap
+    else if text_size o.sections == 0 then Err ObjectFault.NoText
     else Ok (record { text = text_of o; sites = ordered_sites sites })
 
 abbrev pub sites_of : List Export → Object → Judged (List Site)
 sites_of exports o = each_judged (judging o exports) [] (relocations_of_object o)
 
 abbrev pub module_of : List Export → Object → Judged Module
-module_of exports o = if list_all is_good_alignment o.sections then (sites_of exports o >>= module_with o) else Err (numbered 11)
+module_of exports o = if list_all is_good_alignment o.sections then (sites_of exports o >>= module_with o) else Err ObjectFault.Alignment
 
 unfoldable pub module_judged : List ℕ → List Export → Judged Module
 module_judged file exports = object_judged file >>= module_of exports

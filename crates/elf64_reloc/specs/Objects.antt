@@ -4,7 +4,9 @@ use Rattle.std.specs.List.{list_all}
 use Rattle.sv_types.specs.Kernel.{first_refusal, file_checks}
 use Rattle.elf64_sections.specs.Sections.{Tables, sections_in_file, sections_of, part_in_file, tables_of}
 use Rattle.elf64_sections.specs.declared.sections.SectionHeader.{SectionHeader}
-use Rattle.elf64_reloc.specs.Refusals.{Judged, numbered}
+use Rattle.sv_types.specs.declared.image_fault.HeaderFault.{HeaderFault}
+use Rattle.elf64_reloc.specs.Refusals.{Judged}
+use Rattle.elf64_reloc.specs.declared.fault.ObjectFault.{ObjectFault}
 
 -- a file with its sections, its symbols and their names
 pub record Object : Type 0 where
@@ -20,16 +22,16 @@ abbrev pub is_good_part : List ℕ → SectionHeader → Bool
 is_good_part file s = is_without_bytes s || part_in_file file s
 
 abbrev pub object_with : List ℕ → List SectionHeader → Option Tables → Judged Object
-object_with file sections None = Err (numbered 10)
+object_with file sections None = Err ObjectFault.NoSymbols
 object_with file sections (Some tables) = Ok (record { file = file; sections = sections; tables = tables })
 
 abbrev pub object_of : List ℕ → List SectionHeader → Judged Object
 object_of file sections =
-    if list_all (is_good_part file) sections then object_with file sections (tables_of file sections) else Err (numbered 9)
+    if list_all (is_good_part file) sections then object_with file sections (tables_of file sections) else Err ObjectFault.OutsideFile
 
-abbrev pub object_behind : Option ℕ → List ℕ → Judged Object
-object_behind (Some number) file = Err (numbered number)
-object_behind None file = if sections_in_file file then object_of file (sections_of file) else Err (numbered 8)
+abbrev pub object_behind : Option HeaderFault → List ℕ → Judged Object
+object_behind (Some fault) file = Err (ObjectFault.Header fault)
+object_behind None file = if sections_in_file file then object_of file (sections_of file) else Err ObjectFault.SectionHeaders
 
 -- a relocatable file is of kind 1
 unfoldable pub object_judged : List ℕ → Judged Object

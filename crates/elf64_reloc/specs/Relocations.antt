@@ -21,7 +21,7 @@ relocation_at home bytes i = record {
   addend = word bytes (24 * i + 16) 8;
 }
 
--- kind 51 only allows a linker to shorten the code, and is passed over
+-- R_RISCV_RELAX only allows a linker to shorten the code, and is passed over
 abbrev pub kept : Relocation → List Relocation
 kept r = if r.kind == 51 then [] else r ∷ []
 

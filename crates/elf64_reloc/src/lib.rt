@@ -2,6 +2,8 @@
 //! of it that a relocation changes.
 #![tactic(auto)]
 
+mod asked;
+mod fault;
 mod layout;
 mod names;
 mod object;
@@ -15,6 +17,7 @@ mod symbols;
 mod tests;
 mod text;
 
+pub use fault::ObjectFault;
 pub use names::undefined_names;
 pub use read::{ModuleImage, read_module};
 pub use refusal::RelocRefusal;

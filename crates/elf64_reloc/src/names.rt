@@ -9,9 +9,10 @@ ghost use Rattle.elf64_reloc.specs.NameKeys.{names_of, AreNamed};
 ghost use Rattle.elf64_reloc.specs.Refusals.{Refuses};
 ghost use Rattle.elf64_reloc.specs.Views.{object_view};
 
+use crate::fault::ObjectFault;
 use crate::layout::lay_out;
 use crate::object::{Object, read_object};
-use crate::refusal::{RelocRefusal, numbered};
+use crate::refusal::RelocRefusal;
 use crate::relocations::{Relocation, all_relocations};
 use elf64_sections::{Symbol, SymbolTables, name_at, symbol_at, symbol_count};
 use std::alloc::{AllocError, Global};
@@ -34,10 +35,10 @@ fn join_symbol<'a>(
         return Ok(());
     }
     let Some(text) = name_at(strings, symbol.name) else {
-        return Err(numbered(19));
+        return Err(RelocRefusal::Fault(ObjectFault::Name));
     };
     let Some(name) = Name::new(text) else {
-        return Err(numbered(19));
+        return Err(RelocRefusal::Fault(ObjectFault::Name));
     };
     match names.insert(text, name) {
         Ok(_) => Ok(()),
@@ -69,6 +70,7 @@ fn in_order(alloc: Global, names: &BTreeMap<&str, Name>) -> Result<Vec<Name>, Al
     names.values().copied().collect(alloc)
 }
 
+#[tactic(auto, using(crate::proofs::RefusedOn::refused_on))]
 fn each_joined(
     alloc: Global,
     tables: &SymbolTables,
@@ -95,9 +97,9 @@ fn names_of_object(alloc: Global, object: &Object) -> Result<Vec<Name>, RelocRef
 }
 
 /// The names that the object's text wants of the kernel, each once, in the order of their bytes: those of symbols that no
-/// section defines and to which a relocation refers. Refuses an object by 1 to 10, by 19 where such a name is empty,
-/// longer than 64 bytes, no UTF-8 text or without an end, and for want of memory.
-#[tactic(auto, unfolding(crate::specs::Modules::names_judged))]
+/// section defines and to which a relocation refers. Refuses an object for a fault of its header, its sections or its
+/// symbols, where such a name is empty, longer than 64 bytes, no UTF-8 text or without an end, and for want of memory.
+#[tactic(auto, unfolding(crate::specs::Modules::names_judged), using(crate::proofs::RefusedOn::refused_on))]
 pub fn undefined_names(alloc: Global, bytes: &[u8]) -> Result<Vec<Name>, RelocRefusal>
     ensures names { IfOk result (λ names. spec.names_judged bytes.now ≡ Ok names.items) }
     ensures refused { IfErr result (Refuses (spec.names_judged bytes.now)) }

@@ -6,7 +6,8 @@ ghost use Rattle.elf64_reloc.specs.Objects as spec;
 ghost use Rattle.elf64_reloc.specs.Refusals.{Refuses};
 ghost use Rattle.elf64_reloc.specs.Views.{object_view};
 
-use crate::refusal::{RelocRefusal, numbered};
+use crate::fault::ObjectFault;
+use crate::refusal::RelocRefusal;
 use elf64_sections::{
     SectionHeader, SymbolTables, file_refusal, part_in_file, section_headers, sections_in_file,
     symbol_tables,
@@ -47,7 +48,7 @@ fn object_of<'a>(file: &'a [u8], sections: Vec<SectionHeader>) -> Result<Object<
     ensures refused { IfErr result (Refuses (spec.object_of file.now sections.items)) }
 {
     if !are_good_parts(file, &sections) {
-        return Err(numbered(9));
+        return Err(RelocRefusal::Fault(ObjectFault::OutsideFile));
     }
     match symbol_tables(file, &sections) {
         Some(tables) => Ok(Object {
@@ -55,22 +56,22 @@ fn object_of<'a>(file: &'a [u8], sections: Vec<SectionHeader>) -> Result<Object<
             sections,
             tables,
         }),
-        None => Err(numbered(10)),
+        None => Err(RelocRefusal::Fault(ObjectFault::NoSymbols)),
     }
 }
 
-/// The object in a file, or its first fault of 1 to 10.
+/// The object in a file, or the first fault of its header, its sections or its symbols.
 #[tactic(auto, unfolding(crate::specs::Objects::object_judged))]
 pub(crate) fn read_object(alloc: Global, file: &[u8]) -> Result<Object<'_>, RelocRefusal>
     ensures ok { IfOk result (λ object. spec.object_judged file.now ≡ Ok (object_view object)) }
     ensures parts { IfOk result (λ object. IsTrue (list_all (spec.is_good_part object.file.now) object.sections.items)) }
     ensures refused { IfErr result (Refuses (spec.object_judged file.now)) }
 {
-    if let Some(number) = file_refusal(file, RELOCATABLE_FILE) {
-        return Err(numbered(number));
+    if let Some(fault) = file_refusal(file, RELOCATABLE_FILE) {
+        return Err(RelocRefusal::Fault(ObjectFault::Header(fault)));
     }
     if !sections_in_file(file) {
-        return Err(numbered(8));
+        return Err(RelocRefusal::Fault(ObjectFault::SectionHeaders));
     }
     object_of(file, section_headers(alloc, file)?)
 }

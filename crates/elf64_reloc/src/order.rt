@@ -4,6 +4,7 @@ ghost use Rattle.std.specs.Prelude.{◌≡◌, map, IfOk};
 ghost use Rattle.std.specs.BTreeMap.{values};
 ghost use Rattle.elf64_reloc.specs.Modules as spec;
 
+use policy_limits::site_size;
 use std::alloc::{AllocError, Global};
 use std::collections::BTreeMap;
 use sv_types::Site;
@@ -28,7 +29,7 @@ pub(crate) fn ordered_sites(alloc: Global, sites: &[Site]) -> Result<Vec<Site>, 
 fn field_end(site: &Site) -> u64
     ensures { result ≡ spec.field_end site.now }
 {
-    site.offset as u64 + if site.kind == 2 { 8 } else { 4 }
+    site.offset as u64 + site_size(site.kind)
 }
 
 fn some_touch(ordered: &[Site]) -> bool

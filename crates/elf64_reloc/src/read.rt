@@ -1,6 +1,6 @@
 // The reading of a module's object.
 
-ghost use Rattle.std.specs.Prelude.{◌≡◌, ◌≤◌, [], Ok, IsTrue, length, IfOk, IfErr};
+ghost use Rattle.std.specs.Prelude.{◌≡◌, ◌≤◌, ◌^◌, [], Ok, IsTrue, true, length, IfOk, IfErr};
 ghost use Rattle.std.specs.BTreeMap.{get};
 ghost use Rattle.std.specs.Ordering.{nat_cmp};
 ghost use Rattle.std.specs.List.{list_all};
@@ -11,10 +11,11 @@ ghost use Rattle.elf64_reloc.specs.Objects.{is_good_part};
 ghost use Rattle.elf64_reloc.specs.Refusals.{Refuses};
 ghost use Rattle.elf64_reloc.specs.Views.{names_view, object_view};
 
+use crate::fault::ObjectFault;
 use crate::layout::{PlacedSection, are_good_alignments, lay_out};
 use crate::object::{Object, read_object};
 use crate::order::{fields_overlap, ordered_sites};
-use crate::refusal::{RelocRefusal, numbered};
+use crate::refusal::RelocRefusal;
 use crate::relocations::{Relocation, all_relocations};
 use crate::sites::{Judging, all_fields, high_parts};
 use crate::symbols::{Names, export_bases};
@@ -47,7 +48,7 @@ fn fields_by<'a, 'n>(
     all_fields(alloc, &judging, relocations)
 }
 
-// The fields of all relocations, or the first fault of 11 to 15.
+// The fields of all relocations, or the first fault of one.
 fn sites_of(
     alloc: Global,
     object: &Object,
@@ -72,7 +73,7 @@ fn sites_of(
     fields_by(alloc, &names, &highs, &relocations)
 }
 
-// The module of good fields, or the first fault of 16 to 18.
+// The module of good fields, or the first fault of the whole.
 fn module_with(
     alloc: Global,
     object: &Object,
@@ -86,14 +87,14 @@ fn module_with(
     ensures refused { IfErr result (Refuses (spec.module_with (object_view object.now) sites.now)) }
 {
     if sites.len() > MOST_MODULE_SITES || size > PAGE_BYTES * u64::from(MOST_MODULE_PAGES) {
-        return Err(numbered(16));
+        return Err(RelocRefusal::Fault(ObjectFault::TooLarge));
     }
     let ordered = ordered_sites(alloc, sites)?;
     if fields_overlap(sites, &ordered) {
-        return Err(numbered(17));
+        return Err(RelocRefusal::Fault(ObjectFault::Overlap));
     }
     if size == 0 {
-        return Err(numbered(18));
+        return Err(RelocRefusal::Fault(ObjectFault::NoText));
     }
     let text = text_of(alloc, object)?;
     Ok(ModuleImage {
@@ -102,6 +103,7 @@ fn module_with(
     })
 }
 
+#[tactic(auto, using(crate::proofs::RefusedOn::refused_on))]
 fn module_of(
     alloc: Global,
     object: &Object,
@@ -113,7 +115,7 @@ fn module_of(
     ensures refused { IfErr result (Refuses (spec.module_of exports.now (object_view object.now))) }
 {
     if !are_good_alignments(&object.sections) {
-        return Err(numbered(11));
+        return Err(RelocRefusal::Fault(ObjectFault::Alignment));
     }
     let layout = lay_out(alloc, &object.sections)?;
     let sites = sites_of(alloc, object, &layout.sections, exports)?;
@@ -121,9 +123,10 @@ fn module_of(
 }
 
 /// Reads a module's object: its text and the fields that relocations change, for a kernel with these exports, of which
-/// there are at most 4,096. Refuses an object for its first fault of 1 to 18, and for want of memory. The time is linear in
-/// the file's relocations, but for looking names up and for sorting.
-#[tactic(auto, unfolding(crate::specs::Modules::module_judged))]
+/// there are at most 4,096. Refuses an object for its first fault, and for want of memory. The time is linear in
+/// the file's relocations, but for looking names up and for sorting. A module of a file of at most 4 GiB is within the
+/// limits of a policy.
+#[tactic(auto, unfolding(crate::specs::Modules::module_judged), using(crate::proofs::RefusedOn::refused_on))]
 pub fn read_module(
     alloc: Global,
     bytes: &[u8],
@@ -131,6 +134,7 @@ pub fn read_module(
 ) -> Result<ModuleImage, RelocRefusal>
     requires { length exports.now ≤ 4096 }
     ensures module { IfOk result (λ image. spec.module_judged bytes.now exports.now ≡ Ok (module_view image)) }
+    ensures fits { length bytes.now ≤ 2 ^ 32 → IfOk result (λ image. spec.module_fits (module_view image) ≡ true) }
     ensures refused { IfErr result (Refuses (spec.module_judged bytes.now exports.now)) }
 {
     let object = read_object(alloc, bytes)?;

@@ -14,7 +14,7 @@ const RELOCATIONS: u32 = 4;
 
 const RELOCATION_BYTES: usize = 24;
 
-/// The kind that allows a linker to shorten the code.
+/// R_RISCV_RELAX, which allows a linker to shorten the code.
 const RELAX: u32 = 51;
 
 /// A relocation of a section of text: the field's offset in its section, which has so many bytes; its place in the text;

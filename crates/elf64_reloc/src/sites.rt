@@ -1,24 +1,22 @@
 // The fields that relocations change.
 
-ghost use Rattle.std.specs.Prelude.{◌≡◌, ◌++◌, ◌==◌, ◌||◌, ℕ, [], Ok, Some, find, if◌then◌else◌, option_map, IsTrue, IfOk, IfErr, OnOk};
-ghost use Rattle.sv_types.specs.Policies.{is_low_part, site_size};
+ghost use Rattle.std.specs.Prelude.{◌≡◌, ◌++◌, ℕ, [], Ok, Some, find, if◌then◌else◌, option_map, IfOk, IfErr, OnOk};
+ghost use Rattle.elf64_reloc.specs.declared.asked.Asked.TheVariants.{Field};
 ghost use Rattle.std.specs.BTreeMap.{get};
 ghost use Rattle.std.specs.Ordering.{nat_cmp};
 ghost use Rattle.elf64_reloc.specs.Modules as spec;
 ghost use Rattle.elf64_reloc.specs.Refusals.{Refuses};
 ghost use Rattle.elf64_reloc.specs.JudgingViews.{judging_view};
 
-use crate::refusal::{RelocRefusal, numbered};
+use crate::asked::{Asked, asked_bytes, is_high, place_alignment};
+use crate::fault::ObjectFault;
+use crate::refusal::RelocRefusal;
 use crate::relocations::Relocation;
 use crate::symbols::{Names, Target, symbol_target};
+use policy_limits::is_low_part;
 use std::alloc::{AllocError, Global};
 use std::collections::BTreeMap;
-use sv_types::Site;
-
-/// The kinds of the parts of an address that is relative to the field's place.
-const HIGH_PART: u8 = 23;
-
-const LOW_PART: u8 = 24;
+use sv_types::{RelocationKind, Site};
 
 /// What relocations are judged by: the symbols, and the first high part of an address at each place.
 #[derive(Clone, Copy, Drop)]
@@ -34,43 +32,6 @@ pub struct Found {
     pub second: Option<Site>,
 }
 
-fn is_call(kind: u32) -> bool
-    ensures { result ≡ spec.is_call kind }
-{
-    kind == 18 || kind == 19
-}
-
-fn is_low_part(kind: u32) -> bool
-    ensures { result ≡ is_low_part kind }
-{
-    kind == 24 || kind == 25
-}
-
-fn is_listed(kind: u32) -> bool
-    ensures { result ≡ spec.is_listed kind }
-{
-    kind == 2 || kind == 16 || kind == 17 || (kind >= 23 && kind <= 28) || is_call(kind)
-}
-
-// The bytes of the field of a kind, and which multiples its place has to be.
-fn field_bytes(kind: u32) -> u64
-    ensures { result ≡ site_size kind }
-{
-    if kind == 2 { 8 } else { 4 }
-}
-
-fn relocated_bytes(kind: u32) -> u64
-    ensures { result ≡ spec.relocated_bytes kind }
-{
-    if is_call(kind) { 8 } else { field_bytes(kind) }
-}
-
-fn is_high(relocation: &Relocation) -> bool
-    ensures { result ≡ (relocation.now.kind == 23 || spec.is_call relocation.now.kind) }
-{
-    relocation.kind == HIGH_PART as u32 || is_call(relocation.kind)
-}
-
 // Keeps a relocation at its place, if it is the high part of an address.
 fn keep_high(
     highs: &mut BTreeMap<u64, Relocation>,
@@ -78,7 +39,7 @@ fn keep_high(
 ) -> Result<(), AllocError>
     ensures { OnOk result ((place : ℕ) → get nat_cmp highs.new place ≡ (if spec.is_high_at place relocation.now then Some relocation.now else get nat_cmp highs.old place)) }
 {
-    if is_high(relocation) {
+    if is_high(Asked::of(relocation.kind)) {
         highs.insert(relocation.place, *relocation)?;
     }
     Ok(())
@@ -98,7 +59,7 @@ pub(crate) fn high_parts(
     Ok(highs)
 }
 
-fn site_at(place: u64, kind: u8, target: Target, addend: u64, anchor: u64) -> Site
+fn site_at(place: u64, kind: RelocationKind, target: Target, addend: u64, anchor: u64) -> Site
     ensures { result ≡ spec.site_at place kind target addend anchor }
 {
     Site {
@@ -110,32 +71,15 @@ fn site_at(place: u64, kind: u8, target: Target, addend: u64, anchor: u64) -> Si
     }
 }
 
-fn plain_fields(relocation: &Relocation, target: Target) -> Found
-    requires { IsTrue (spec.is_listed relocation.now.kind) }
-    ensures { result ≡ spec.plain_fields relocation.now target }
+fn call_fields(relocation: &Relocation, target: Target) -> Found
+    ensures { result ≡ spec.call_fields relocation.now target }
 {
     let place = relocation.place;
-    if is_call(relocation.kind) {
-        return Found {
-            first: site_at(place, HIGH_PART, target, relocation.addend, place),
-            second: Some(site_at(
-                place.wrapping_add(4),
-                LOW_PART,
-                target,
-                relocation.addend,
-                place,
-            )),
-        };
-    }
+    let addend = relocation.addend;
+    let behind = place.wrapping_add(4);
     Found {
-        first: site_at(
-            place,
-            relocation.kind as u8,
-            target,
-            relocation.addend,
-            place,
-        ),
-        second: None,
+        first: site_at(place, RelocationKind::PcrelHi20, target, addend, place),
+        second: Some(site_at(behind, RelocationKind::PcrelLo12I, target, addend, place)),
     }
 }
 
@@ -151,78 +95,106 @@ fn or_nothing(target: Option<Target>) -> Target
 fn low_fields(
     judging: &Judging,
     relocation: &Relocation,
+    kind: RelocationKind,
     high: Option<&Relocation>,
-) -> Result<Found, RelocRefusal>
-    requires { IsTrue (spec.is_listed relocation.now.kind) }
-    ensures { result ≡ spec.low_fields (judging_view judging.now) relocation.now (option_map (λ h. h.now) high.entry) }
+) -> Result<Found, ObjectFault>
+    ensures { result ≡ spec.low_fields (judging_view judging.now) relocation.now kind (option_map (λ h. h.now) high.entry) }
 {
     match high {
         Some(high) => {
             let target = or_nothing(symbol_target(&judging.names, high.symbol));
-            let kind = relocation.kind as u8;
             Ok(Found {
                 first: site_at(relocation.place, kind, target, high.addend, high.place),
                 second: None,
             })
         }
-        None => Err(numbered(15)),
+        None => Err(ObjectFault::NoHighPart),
     }
+}
+
+// The field of a relocation that isn't a call.
+fn one_field(
+    judging: &Judging,
+    relocation: &Relocation,
+    kind: RelocationKind,
+    target: Target,
+) -> Result<Found, ObjectFault>
+    ensures { result ≡ spec.fields_for (judging_view judging.now) relocation.now (Field kind) target }
+{
+    let place = relocation.place;
+    if !is_low_part(kind) {
+        return Ok(Found {
+            first: site_at(place, kind, target, relocation.addend, place),
+            second: None,
+        });
+    }
+    if relocation.addend != 0 || target.base != 0 {
+        return Err(ObjectFault::NoHighPart);
+    }
+    let high = judging.highs.get(&target.value);
+    low_fields(judging, relocation, kind, high)
 }
 
 fn fields_for(
     judging: &Judging,
     relocation: &Relocation,
+    asked: Asked,
     target: Target,
-) -> Result<Found, RelocRefusal>
-    requires { IsTrue (spec.is_listed relocation.now.kind) }
-    ensures { result ≡ spec.fields_for (judging_view judging.now) relocation.now target }
+) -> Result<Found, ObjectFault>
+    ensures { result ≡ spec.fields_for (judging_view judging.now) relocation.now asked target }
 {
-    if !is_low_part(relocation.kind) {
-        return Ok(plain_fields(relocation, target));
+    match asked {
+        Asked::Field(kind) => one_field(judging, relocation, kind, target),
+        Asked::Call => Ok(call_fields(relocation, target)),
     }
-    if relocation.addend != 0 || target.base != 0 {
-        return Err(numbered(15));
-    }
-    low_fields(judging, relocation, judging.highs.get(&target.value))
 }
 
 fn fields_with(
     judging: &Judging,
     relocation: &Relocation,
+    asked: Asked,
     target: Option<Target>,
-) -> Result<Found, RelocRefusal>
-    requires { IsTrue (spec.is_listed relocation.now.kind) }
-    ensures { result ≡ spec.fields_with (judging_view judging.now) relocation.now target }
+) -> Result<Found, ObjectFault>
+    ensures { result ≡ spec.fields_with (judging_view judging.now) relocation.now asked target }
 {
     let Some(target) = target else {
-        return Err(numbered(13));
+        return Err(ObjectFault::Symbol);
     };
-    let end = relocation.offset as u128 + relocated_bytes(relocation.kind) as u128;
+    let end = relocation.offset as u128 + asked_bytes(asked) as u128;
     if end > relocation.size as u128 {
-        return Err(numbered(14));
+        return Err(ObjectFault::OutsideSection);
     }
-    fields_for(judging, relocation, target)
+    fields_for(judging, relocation, asked, target)
 }
 
-/// The fields of a relocation, or its first fault of 11 to 15.
+fn fields_asked(
+    judging: &Judging,
+    relocation: &Relocation,
+    asked: Option<Asked>,
+) -> Result<Found, ObjectFault>
+    ensures { result ≡ spec.fields_asked (judging_view judging.now) relocation.now asked }
+{
+    match asked {
+        Some(asked) => {
+            let target = symbol_target(&judging.names, relocation.symbol);
+            fields_with(judging, relocation, asked, target)
+        }
+        None => Err(ObjectFault::Kind {
+            number: relocation.kind,
+        }),
+    }
+}
+
+/// The fields of a relocation, or its first fault.
 #[tactic(auto, unfolding(crate::specs::Modules::fields_judged))]
-fn fields_judged(judging: &Judging, relocation: &Relocation) -> Result<Found, RelocRefusal>
+fn fields_judged(judging: &Judging, relocation: &Relocation) -> Result<Found, ObjectFault>
     ensures { result ≡ spec.fields_judged (judging_view judging.now) relocation.now }
 {
-    if relocation.place % field_bytes(relocation.kind) != 0 {
-        return Err(numbered(11));
+    let asked = Asked::of(relocation.kind);
+    if relocation.place % place_alignment(asked) != 0 {
+        return Err(ObjectFault::Alignment);
     }
-    if !is_listed(relocation.kind) {
-        return Err(RelocRefusal::Numbered {
-            number: 12,
-            detail: relocation.kind as u64,
-        });
-    }
-    fields_with(
-        judging,
-        relocation,
-        symbol_target(&judging.names, relocation.symbol),
-    )
+    fields_asked(judging, relocation, asked)
 }
 
 fn push_found(sites: &mut Vec<Site>, found: Found) -> Result<(), AllocError>

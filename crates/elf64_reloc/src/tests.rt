@@ -5,7 +5,7 @@ ghost use Rattle.std.specs.Prelude.{◌≡◌, ◌≤◌, IfOk, length, vec_len}
 use super::*;
 use std::alloc::{AllocError, Global};
 use std::test::Fail;
-use sv_types::{Export, Name, Site};
+use sv_types::{Export, Name, RelocationKind, Site};
 
 /// A field of an object: its place, its width in bytes and its value.
 type Field = (u16, u8, u64);
@@ -103,26 +103,25 @@ fn print_exported(alloc: Global) -> Result<Vec<Export>, AllocError>
 }
 
 // The fault for which the names of an object are refused, 0 where they are given.
-fn name_fault(alloc: Global, object: &[u8]) -> Option<(u8, u64)> {
+fn name_fault(alloc: Global, object: &[u8]) -> Option<u8> {
     match undefined_names(alloc, object) {
-        Ok(_) => Some((0, 0)),
-        Err(RelocRefusal::Numbered { number, detail }) => Some((number, detail)),
+        Ok(_) => Some(0),
+        Err(RelocRefusal::Fault(fault)) => Some(fault.number()),
         Err(RelocRefusal::Memory) => None,
     }
 }
 
-fn module_fault(alloc: Global, object: &[u8], exports: &[Export]) -> Option<(u8, u64)>
+fn module_fault(alloc: Global, object: &[u8], exports: &[Export]) -> Option<u8>
     requires { length exports.now ≤ 4096 }
 {
     match read_module(alloc, object, exports) {
-        Ok(_) => Some((0, 0)),
-        Err(RelocRefusal::Numbered { number, detail }) => Some((number, detail)),
+        Ok(_) => Some(0),
+        Err(RelocRefusal::Fault(fault)) => Some(fault.number()),
         Err(RelocRefusal::Memory) => None,
     }
 }
 
-// An object with fields changed, cut to a length; the number that refuses its names, and the number and detail that refuse
-// the module, 0 where it is good.
+// An object with fields changed, cut to a length; the numbers that refuse its names and the module, 0 where it is good.
 #[derive(Clone, Copy, Drop)]
 struct FaultRow<'a> {
     what: &'a str,
@@ -130,7 +129,6 @@ struct FaultRow<'a> {
     length: usize,
     names: u8,
     number: u8,
-    detail: u64,
 }
 
 #[test]
@@ -142,7 +140,6 @@ fn first_faults(rt: HostRuntime) -> Result<(), Fail> {
             length: 512,
             names: 0,
             number: 0,
-            detail: 0,
         },
         FaultRow {
             what: "short",
@@ -150,7 +147,6 @@ fn first_faults(rt: HostRuntime) -> Result<(), Fail> {
             length: 63,
             names: 1,
             number: 1,
-            detail: 0,
         },
         FaultRow {
             what: "magic",
@@ -158,7 +154,6 @@ fn first_faults(rt: HostRuntime) -> Result<(), Fail> {
             length: 512,
             names: 2,
             number: 2,
-            detail: 0,
         },
         FaultRow {
             what: "class",
@@ -166,7 +161,6 @@ fn first_faults(rt: HostRuntime) -> Result<(), Fail> {
             length: 512,
             names: 3,
             number: 3,
-            detail: 0,
         },
         FaultRow {
             what: "version",
@@ -174,7 +168,6 @@ fn first_faults(rt: HostRuntime) -> Result<(), Fail> {
             length: 512,
             names: 4,
             number: 4,
-            detail: 0,
         },
         FaultRow {
             what: "machine",
@@ -182,7 +175,6 @@ fn first_faults(rt: HostRuntime) -> Result<(), Fail> {
             length: 512,
             names: 5,
             number: 5,
-            detail: 0,
         },
         FaultRow {
             what: "an executable file",
@@ -190,7 +182,6 @@ fn first_faults(rt: HostRuntime) -> Result<(), Fail> {
             length: 512,
             names: 6,
             number: 6,
-            detail: 0,
         },
         FaultRow {
             what: "compressed",
@@ -198,7 +189,6 @@ fn first_faults(rt: HostRuntime) -> Result<(), Fail> {
             length: 512,
             names: 7,
             number: 7,
-            detail: 0,
         },
         FaultRow {
             what: "section headers behind the end",
@@ -206,7 +196,6 @@ fn first_faults(rt: HostRuntime) -> Result<(), Fail> {
             length: 512,
             names: 8,
             number: 8,
-            detail: 0,
         },
         FaultRow {
             what: "section headers that wrap",
@@ -214,7 +203,6 @@ fn first_faults(rt: HostRuntime) -> Result<(), Fail> {
             length: 512,
             names: 8,
             number: 8,
-            detail: 0,
         },
         FaultRow {
             what: "section headers of 40 bytes",
@@ -222,7 +210,6 @@ fn first_faults(rt: HostRuntime) -> Result<(), Fail> {
             length: 512,
             names: 8,
             number: 8,
-            detail: 0,
         },
         FaultRow {
             what: "a section behind the end",
@@ -230,7 +217,6 @@ fn first_faults(rt: HostRuntime) -> Result<(), Fail> {
             length: 512,
             names: 9,
             number: 9,
-            detail: 0,
         },
         FaultRow {
             what: "a section that wraps",
@@ -238,7 +224,6 @@ fn first_faults(rt: HostRuntime) -> Result<(), Fail> {
             length: 512,
             names: 9,
             number: 9,
-            detail: 0,
         },
         FaultRow {
             what: "zeros behind the end",
@@ -246,7 +231,6 @@ fn first_faults(rt: HostRuntime) -> Result<(), Fail> {
             length: 512,
             names: 0,
             number: 18,
-            detail: 0,
         },
         FaultRow {
             what: "no symbols",
@@ -254,7 +238,6 @@ fn first_faults(rt: HostRuntime) -> Result<(), Fail> {
             length: 512,
             names: 10,
             number: 10,
-            detail: 0,
         },
         FaultRow {
             what: "symbols of 16 bytes",
@@ -262,7 +245,6 @@ fn first_faults(rt: HostRuntime) -> Result<(), Fail> {
             length: 512,
             names: 10,
             number: 10,
-            detail: 0,
         },
         FaultRow {
             what: "names in another section",
@@ -270,7 +252,6 @@ fn first_faults(rt: HostRuntime) -> Result<(), Fail> {
             length: 512,
             names: 10,
             number: 10,
-            detail: 0,
         },
         FaultRow {
             what: "names in no section",
@@ -278,7 +259,6 @@ fn first_faults(rt: HostRuntime) -> Result<(), Fail> {
             length: 512,
             names: 10,
             number: 10,
-            detail: 0,
         },
         FaultRow {
             what: "alignment of 3",
@@ -286,7 +266,6 @@ fn first_faults(rt: HostRuntime) -> Result<(), Fail> {
             length: 512,
             names: 0,
             number: 11,
-            detail: 0,
         },
         FaultRow {
             what: "alignment of 8,192",
@@ -294,7 +273,6 @@ fn first_faults(rt: HostRuntime) -> Result<(), Fail> {
             length: 512,
             names: 0,
             number: 11,
-            detail: 0,
         },
         FaultRow {
             what: "alignment of 0",
@@ -302,7 +280,6 @@ fn first_faults(rt: HostRuntime) -> Result<(), Fail> {
             length: 512,
             names: 0,
             number: 0,
-            detail: 0,
         },
         FaultRow {
             what: "a field at byte 2",
@@ -310,7 +287,6 @@ fn first_faults(rt: HostRuntime) -> Result<(), Fail> {
             length: 512,
             names: 0,
             number: 11,
-            detail: 0,
         },
         FaultRow {
             what: "8 bytes at byte 4",
@@ -318,7 +294,6 @@ fn first_faults(rt: HostRuntime) -> Result<(), Fail> {
             length: 512,
             names: 0,
             number: 11,
-            detail: 0,
         },
         FaultRow {
             what: "kind 20",
@@ -326,7 +301,6 @@ fn first_faults(rt: HostRuntime) -> Result<(), Fail> {
             length: 512,
             names: 0,
             number: 12,
-            detail: 20,
         },
         FaultRow {
             what: "an alignment to be kept by a linker",
@@ -334,7 +308,6 @@ fn first_faults(rt: HostRuntime) -> Result<(), Fail> {
             length: 512,
             names: 0,
             number: 12,
-            detail: 43,
         },
         FaultRow {
             what: "a kind of more than a byte",
@@ -342,7 +315,6 @@ fn first_faults(rt: HostRuntime) -> Result<(), Fail> {
             length: 512,
             names: 0,
             number: 12,
-            detail: 0x102,
         },
         FaultRow {
             what: "leave to relax",
@@ -350,7 +322,6 @@ fn first_faults(rt: HostRuntime) -> Result<(), Fail> {
             length: 512,
             names: 0,
             number: 0,
-            detail: 0,
         },
         FaultRow {
             what: "no such symbol",
@@ -358,7 +329,6 @@ fn first_faults(rt: HostRuntime) -> Result<(), Fail> {
             length: 512,
             names: 0,
             number: 13,
-            detail: 0,
         },
         FaultRow {
             what: "symbol 0",
@@ -366,7 +336,6 @@ fn first_faults(rt: HostRuntime) -> Result<(), Fail> {
             length: 512,
             names: 19,
             number: 13,
-            detail: 0,
         },
         FaultRow {
             what: "a name that isn't exported",
@@ -374,7 +343,6 @@ fn first_faults(rt: HostRuntime) -> Result<(), Fail> {
             length: 512,
             names: 0,
             number: 13,
-            detail: 0,
         },
         FaultRow {
             what: "a common symbol",
@@ -382,7 +350,6 @@ fn first_faults(rt: HostRuntime) -> Result<(), Fail> {
             length: 512,
             names: 0,
             number: 13,
-            detail: 0,
         },
         FaultRow {
             what: "a symbol of names",
@@ -390,7 +357,6 @@ fn first_faults(rt: HostRuntime) -> Result<(), Fail> {
             length: 512,
             names: 0,
             number: 13,
-            detail: 0,
         },
         FaultRow {
             what: "a symbol of no section",
@@ -398,7 +364,6 @@ fn first_faults(rt: HostRuntime) -> Result<(), Fail> {
             length: 512,
             names: 0,
             number: 13,
-            detail: 0,
         },
         FaultRow {
             what: "an absolute symbol",
@@ -406,7 +371,6 @@ fn first_faults(rt: HostRuntime) -> Result<(), Fail> {
             length: 512,
             names: 0,
             number: 0,
-            detail: 0,
         },
         FaultRow {
             what: "a call at the end",
@@ -414,7 +378,6 @@ fn first_faults(rt: HostRuntime) -> Result<(), Fail> {
             length: 512,
             names: 0,
             number: 14,
-            detail: 0,
         },
         FaultRow {
             what: "a low part of no high part",
@@ -422,7 +385,6 @@ fn first_faults(rt: HostRuntime) -> Result<(), Fail> {
             length: 512,
             names: 0,
             number: 15,
-            detail: 0,
         },
         FaultRow {
             what: "a low part with an addend",
@@ -430,7 +392,6 @@ fn first_faults(rt: HostRuntime) -> Result<(), Fail> {
             length: 512,
             names: 0,
             number: 15,
-            detail: 0,
         },
         FaultRow {
             what: "two calls at one place",
@@ -443,7 +404,6 @@ fn first_faults(rt: HostRuntime) -> Result<(), Fail> {
             length: 560,
             names: 0,
             number: 17,
-            detail: 0,
         },
         FaultRow {
             what: "a field in a call",
@@ -457,7 +417,6 @@ fn first_faults(rt: HostRuntime) -> Result<(), Fail> {
             length: 560,
             names: 0,
             number: 17,
-            detail: 0,
         },
         FaultRow {
             what: "no text",
@@ -465,7 +424,6 @@ fn first_faults(rt: HostRuntime) -> Result<(), Fail> {
             length: 512,
             names: 0,
             number: 18,
-            detail: 0,
         },
         FaultRow {
             what: "a name without an end",
@@ -473,7 +431,6 @@ fn first_faults(rt: HostRuntime) -> Result<(), Fail> {
             length: 512,
             names: 19,
             number: 13,
-            detail: 0,
         },
     ];
     let exports = print_exported(rt.alloc())?;
@@ -484,17 +441,16 @@ fn first_faults(rt: HostRuntime) -> Result<(), Fail> {
             length,
             names,
             number,
-            detail,
         } = row;
         let object = changed(rt.alloc(), fields, length)?;
         assert_eq!(rt;
             name_fault(rt.alloc(), &object),
-            Some((names, 0)),
+            Some(names),
             "names of {what}"
         );
         assert_eq!(rt;
             module_fault(rt.alloc(), &object, &exports),
-            Some((number, detail)),
+            Some(number),
             "{what}"
         );
     }
@@ -503,7 +459,7 @@ fn first_faults(rt: HostRuntime) -> Result<(), Fail> {
         &[(0x158, 8, 0), (0x160, 8, 0x40_0001)],
         0x40_0200,
     )?;
-    assert_eq!(rt; module_fault(rt.alloc(), &long, &exports), Some((16, 0)));
+    assert_eq!(rt; module_fault(rt.alloc(), &long, &exports), Some(16));
     Ok(())
 }
 
@@ -520,14 +476,14 @@ fn a_call_of_an_export(rt: HostRuntime) -> Result<(), Fail> {
     let wanted = vec![in rt.alloc();
         Site {
             offset: 0,
-            kind: 23,
+            kind: RelocationKind::PcrelHi20,
             base: 3,
             addend: 0,
             anchor: 0
         },
         Site {
             offset: 4,
-            kind: 24,
+            kind: RelocationKind::PcrelLo12I,
             base: 3,
             addend: 0,
             anchor: 0
@@ -569,14 +525,14 @@ fn a_low_part_goes_by_its_high_part(rt: HostRuntime) -> Result<(), Fail> {
     let wanted = vec![in rt.alloc();
         Site {
             offset: 0,
-            kind: 23,
+            kind: RelocationKind::PcrelHi20,
             base: 1,
             addend: 47,
             anchor: 0
         },
         Site {
             offset: 4,
-            kind: 24,
+            kind: RelocationKind::PcrelLo12I,
             base: 1,
             addend: 47,
             anchor: 0
