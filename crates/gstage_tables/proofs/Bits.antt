@@ -1,5 +1,5 @@
 -- What the entries of the trees give, bit by bit.
-use Rattle.std.proofs.Common.{◌≡◌, ℕ, ◌+◌, ◌*◌, ◌/◌, ◌%◌, ◌^◌, ◌<◌, Bool, true, false, refl, ap, arith, lit<}
+use Rattle.std.proofs.Common.{◌≡◌, ℕ, ◌+◌, ◌*◌, ◌/◌, ◌%◌, ◌^◌, ◌<◌, Bool, true, false, refl, ap, ◌∙◌, arith, lit<}
 use Rattle.std.specs.Prelude.{◌&&◌, ◌||◌, not, Some, if◌then◌else◌}
 use Rattle.sv_types.specs.Bits.{bit}
 use Rattle.sv_types.specs.Translation.{well_formed, is_pointer, is_leaf, at_entry, Destination, At, PageFault}
@@ -139,3 +139,21 @@ leaf_gives below sight page protection host at a access deeper l whole =
     let few : f < 1024 = few_flags store fetch in
     let address : 4096 * ((1024 * host + f) / 2 ^ 10 % 2 ^ 44) + a % (4096 * 512 ^ below) ≡ 4096 * host + a % (4096 * 512 ^ below) = ap (λ (n : ℕ). 4096 * n + a % (4096 * 512 ^ below)) (named host f few l) in
     rw (leaf_pointer host f few l, never_points store fetch, leaf_is below host f few l whole, leaf_permits host f access few, says sight page protection access, address) refl
+
+-- ---- whether an entry of level 1 is a leaf
+
+leaf_flags : (store fetch : Bool) → (good (flags store fetch) && (bit (flags store fetch) 1 || bit (flags store fetch) 3) && true) ≡ true
+leaf_flags false false = refl
+leaf_flags false true = refl
+leaf_flags true false = refl
+leaf_flags true true = refl
+
+pub leaf_is_leaf : (below : ℕ) (sight : Sight) (page : ℕ) (protection : Protection) (host : ℕ) → host < 2 ^ 44 → host % 512 ^ below ≡ 0 → is_leaf below (leaf sight page protection host) ≡ true
+leaf_is_leaf below sight page protection host l whole =
+    let store : Bool = view_permits sight page protection Store in
+    let fetch : Bool = view_permits sight page protection Fetch in
+    leaf_is below host (flags store fetch) (few_flags store fetch) l whole ∙ leaf_flags store fetch
+
+pub pointer_no_leaf : (below p : ℕ) → p < 2 ^ 44 → is_leaf below (pointer p) ≡ false
+unfolding is_leaf well_formed
+pointer_no_leaf below p l = rw (bit_0 p 1 (lit< tt), bit_1 p 1 (lit< tt), bit_2 p 1 (lit< tt), bit_3 p 1 (lit< tt), reserved p 1 (lit< tt) l) refl

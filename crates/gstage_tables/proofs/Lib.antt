@@ -1,4 +1,6 @@
 pub mod Bits
+pub mod Counts
+pub mod MapsBlocks
 pub mod Places
 pub mod Walks
 pub mod Writes

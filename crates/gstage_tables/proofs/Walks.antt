@@ -1,8 +1,8 @@
 -- Where walks of the trees lead: each root is a view.
 use Rattle.std.proofs.Common.{◌≡◌, ◌≢◌, ℕ, zero, suc, ◌+◌, ◌-◌, ◌*◌, ◌/◌, ◌%◌, ◌^◌, ◌<◌, ◌≤◌, inl, inr, Bool, true, false, List, [], ◌∷◌, length, refl, sym, ap, subst, ◌∙◌, arith, mul-le-mul_right}
-use Rattle.std.specs.Prelude.{Option, Some, None, IsSomeAnd, ◌==◌, ◌&&◌, nat_lt, nat_le, if◌then◌else◌, slice_get, slice_index_or, option_map}
-use borrow.Author.Tests.{le-leb, lt-ltb, le-ltb, ne_eqb, eq-eqb}
-use Rattle.std.proofs.lemmas.Bool.{lt-leb}
+use Rattle.std.specs.Prelude.{Option, Some, None, ◌==◌, ◌&&◌, nat_lt, nat_le, if◌then◌else◌, slice_get, slice_index_or, option_map}
+use borrow.Author.Tests.{le-leb, lt-ltb, le-ltb, ne_eqb}
+use Rattle.std.proofs.lemmas.Bool.{lt-leb, leb-true, eqb-true, and_parts}
 use Rattle.std.proofs.lemmas.Bool.Decides.{nat_tests}
 use Rattle.sv_types.specs.Bytes.{word, page_of, ram_place}
 use Rattle.sv_types.specs.Regions.{host_word}
@@ -10,12 +10,16 @@ use Rattle.sv_types.specs.Instructions.{bits}
 use Rattle.sv_types.specs.Translation.{walk, root_of, Destination, At, PageFault}
 use Rattle.sv_types.specs.SecondStage.{IsView, AreViews, Sight, OfKernel, OfUser, OfEntry, sight_of, view_hgatp, view_answer, view_permits, page_in_ram, walk_guest, address_at, guest_destination, entry_in_tables, entry_in_region, host_entry, permits_guest, with_ram}
 use Rattle.sv_types.specs.declared.wires.Access.{Access}
+use Rattle.sv_types.specs.declared.wires.Access.TheVariants.{Fetch, Load, Store}
 use Rattle.sv_types.specs.declared.wires.Protection.{Protection}
+use Rattle.sv_types.specs.declared.wires.Protection.TheVariants.{Free}
 use Rattle.sv_types.specs.declared.wires.View.{View}
 use Rattle.sv_types.proofs.ByteLemmas.{lt_or_le}
-use Rattle.gstage_tables.specs.Layout.{leaf_tables, table_pages, table_size, tree_count, tree_of, sight_in, pointer, leaf, root_word, middle_word, leaf_word, HoldsTrees}
+use Rattle.gstage_tables.specs.Blocks.{is_whole, taken_pages}
+use Rattle.gstage_tables.specs.Layout.{leaf_tables, table_pages, table_size, tree_count, sight_in, pointer, leaf, root_word, middle_word, leaf_word, HoldsTrees}
 use Rattle.gstage_tables.proofs.Bits.{pointer_gives, zero_gives, leaf_gives}
-use Rattle.gstage_tables.proofs.Places.{root_two, root_other, middle_there, middle_past, leaf_there, leaf_past}
+use Rattle.gstage_tables.proofs.Counts.{block_free}
+use Rattle.gstage_tables.proofs.Places.{root_two, root_other, middle_there, middle_whole, middle_past, leaf_there, leaf_past}
 
 -- ---- one step
 
@@ -36,16 +40,24 @@ step_leaf read access i table a host sight page protection e l =
     let whole : host % 1 ≡ 0 = omega arith in
     rw e (leaf_gives 0 sight page protection host (table + 8 * i) a access (λ next. walk read (permits_guest access) [] next a) l whole)
 
+-- a leaf of level 1
+step_block : (read : ℕ → Option ℕ) (access : Access) (i j table a host : ℕ) (sight : Sight) (page : ℕ) (protection : Protection) → read (table + 8 * i) ≡ Some (leaf sight page protection host) → host < 2 ^ 44
+    → host % 512 ≡ 0 → walk read (permits_guest access) (i ∷ j ∷ []) table a ≡ (if view_permits sight page protection access then At (4096 * host + a % 2097152) else PageFault)
+unfolding walk
+step_block read access i j table a host sight page protection e l whole =
+    rw e (leaf_gives 1 sight page protection host (table + 8 * i) a access (λ next. walk read (permits_guest access) (j ∷ []) next a) l whole)
+
 -- ---- a reader that gives the words of the trees
 
--- of so many trees, each with t level-0 tables, in n pages
+-- of so many trees, each with t level-0 tables, in n pages, which end at a multiple of 2 MiB
 pub record Reads (read : ℕ → Option ℕ) (pages t n trees : ℕ) (sights : ℕ → Sight) (ps : ℕ → Protection) : Type 0 where
   pub covers : pages ≤ 512 * t
   pub few_tables : t ≤ 512
   pub few_trees : trees ≤ 66
-  pub few_pages : n ≤ 34122
+  pub few_pages : n ≤ 34304
+  pub aligned : n % 512 ≡ 0
   pub roots : (tree i : ℕ) → tree < trees → i < 2048 → read (8 * (512 * (4 * tree) + i)) ≡ Some (root_word trees tree i)
-  pub middles : (tree i : ℕ) → tree < trees → i < 512 → read (8 * (512 * (4 * trees + tree) + i)) ≡ Some (middle_word trees t tree i)
+  pub middles : (tree i : ℕ) → tree < trees → i < 512 → read (8 * (512 * (4 * trees + tree) + i)) ≡ Some (middle_word trees t n (sights tree) tree i (is_whole pages ps i))
   pub leaves : (tree p : ℕ) → tree < trees → p < 512 * t → read (8 * (512 * (5 * trees + tree * t) + p)) ≡ Some (leaf_word pages n (sights tree) ps p)
 
 -- ---- whether an address lies in RAM
@@ -79,13 +91,44 @@ inside pages n sight ps gpa p access hits above is =
     let place : 4096 * (n + p) + gpa % 4096 ≡ 4096 * n + (gpa - 0x80000000) = omega arith in
     rw (hits, ← is, place) refl
 
+-- a free page of a block is seen as its first
+free_alike : (sight : Sight) (p q : ℕ) (access : Access) → view_permits sight p Free access ≡ view_permits sight q Free access
+free_alike OfKernel p q Fetch = refl
+free_alike OfKernel p q Load = refl
+free_alike OfKernel p q Store = refl
+free_alike OfUser p q Fetch = refl
+free_alike OfUser p q Load = refl
+free_alike OfUser p q Store = refl
+free_alike (OfEntry bound) p q Fetch = refl
+free_alike (OfEntry bound) p q Load = refl
+free_alike (OfEntry bound) p q Store = refl
+
+in_block : (pages n : ℕ) (sight : Sight) (ps : ℕ → Protection) (gpa block p : ℕ) (access : Access) → page_in_ram pages gpa ≡ true → 0x80000000 ≤ gpa → gpa < 0xC0000000
+    → p ≡ (gpa - 0x80000000) / 4096 → block ≡ gpa / 2 ^ 21 % 512 → ps p ≡ Free
+    → (if view_permits sight (512 * block) Free access then At (4096 * (n + 512 * block) + gpa % 2097152) else PageFault) ≡ leads (4096 * n) pages sight ps gpa access
+in_block pages n sight ps gpa block p access hits above high is index free =
+    let place : 4096 * (n + 512 * block) + gpa % 2097152 ≡ 4096 * n + (gpa - 0x80000000) = omega arith in
+    let seen : view_permits sight (512 * block) Free access ≡ view_permits sight p (ps p) access =
+    free_alike sight (512 * block) p access ∙ ap (λ (x : Protection). view_permits sight p x access) (sym free) in
+    rw (hits, ← is, seen, place) refl
+
+whole_parts : (pages : ℕ) (ps : ℕ → Protection) (block : ℕ) → is_whole pages ps block ≡ true → (512 * block + 512 ≤ pages) × (taken_pages ps block ≡ 0)
+whole_parts pages ps block is =
+    let both = and_parts (nat_le (512 * block + 512) pages) (taken_pages ps block == 0) is in
+    (leb-true (512 * block + 512) pages both.0, eqb-true (taken_pages ps block) 0 both.1)
+
+-- by whether a block is whole
+by_form : {A : Type 0} (b : Bool) {c : Bool} → c ≡ b → (c ≡ true → A) → (c ≡ false → A) → A
+by_form true is whole parted = whole is
+by_form false is whole parted = parted is
+
 -- the tables of a tree below another lie in front of that one's
 pub in_front : (a b t : ℕ) → a < b → a * t + t ≤ b * t
 in_front a b t l =
     let one : (a + 1) * t ≡ a * t + t = omega arith in
     let more : (a + 1) * t ≤ b * t = mul-le-mul_right t (omega arith) in omega arith
 
-low : (trees tree t i : ℕ) → tree < trees → trees ≤ 66 → t ≤ 512 → i < t → 5 * trees + tree * t + i < 2 ^ 44
+pub low : (trees tree t i : ℕ) → tree < trees → trees ≤ 66 → t ≤ 512 → i < t → 5 * trees + tree * t + i < 2 ^ 44
 low trees tree t i l few few_tables h =
     let front = in_front tree trees t l in
     let most : trees * t ≤ 66 * t = mul-le-mul_right t few in omega arith
@@ -124,18 +167,34 @@ module _ (read : ℕ → Option ℕ) (pages t n trees : ℕ) (sights : ℕ → S
       let few = h.few_trees in
       step_on read grants i2 (i1 ∷ i0 ∷ []) (root_of hgatp) gpa (4 * trees + tree) (first l ∙ ap Some (root_two trees tree i2 same)) (omega arith)
 
-  second : read (middle + 8 * i1) ≡ Some (middle_word trees t tree i1)
+  abbrev whole : Bool
+  whole = is_whole pages ps i1
+
+  second : read (middle + 8 * i1) ≡ Some (middle_word trees t n (sights tree) tree i1 whole)
   second =
       let place : middle + 8 * i1 ≡ 8 * (512 * (4 * trees + tree) + i1) = omega arith in
       ap read place ∙ h.middles tree i1 there (omega arith)
 
   no_table : t ≤ i1 → walk read grants (i1 ∷ i0 ∷ []) middle gpa ≡ PageFault
-  no_table none = step_zero read grants i1 (i0 ∷ []) middle gpa (second ∙ ap Some (middle_past trees t tree i1 none))
+  no_table none = step_zero read grants i1 (i0 ∷ []) middle gpa (second ∙ ap Some (middle_past trees t n (sights tree) tree i1 whole none))
 
-  one_table : i1 < t → walk read grants (i1 ∷ i0 ∷ []) middle gpa ≡ walk read grants (i0 ∷ []) last gpa
-  one_table some =
-      step_on read grants i1 (i0 ∷ []) middle gpa (5 * trees + tree * t + i1) (second ∙ ap Some (middle_there trees t tree i1 some))
+  one_table : i1 < t → whole ≡ false → walk read grants (i1 ∷ i0 ∷ []) middle gpa ≡ walk read grants (i0 ∷ []) last gpa
+  one_table some parted =
+      step_on read grants i1 (i0 ∷ []) middle gpa (5 * trees + tree * t + i1) (second ∙ ap Some (middle_there trees t n (sights tree) tree i1 whole some parted))
       (low trees tree t i1 there h.few_trees h.few_tables some)
+
+  -- a whole block: each of its pages lies in RAM and is free
+  one_leaf : i1 < t → 0x80000000 ≤ gpa → gpa < 0xC0000000 → whole ≡ true → walk read grants (i1 ∷ i0 ∷ []) middle gpa ≡ leads (4096 * n) pages (sights tree) ps gpa access
+  one_leaf some above high is =
+      let few = h.few_pages in
+      let aligned = h.aligned in
+      let parts = whole_parts pages ps i1 is in
+      let fits : 512 * i1 + 512 ≤ pages = parts.0 in
+      let page : 512 * i1 + i0 ≡ (gpa - 0x80000000) / 4096 = omega arith in
+      let free : ps (512 * i1 + i0) ≡ Free = block_free ps i1 parts.1 i0 (omega arith) in
+      step_block read access i1 i0 middle gpa (n + 512 * i1) (sights tree) (512 * i1) Free
+      (second ∙ ap Some (middle_whole trees t n (sights tree) tree i1 whole some is)) (omega arith) (omega arith)
+      ∙ in_block pages n (sights tree) ps gpa i1 (512 * i1 + i0) access (within pages gpa above (omega arith)) above high page refl free
 
   third : i1 < t → read (last + 8 * i0) ≡ Some (leaf_word pages n (sights tree) ps (512 * i1 + i0))
   third some =
@@ -168,10 +227,10 @@ module _ (read : ℕ → Option ℕ) (pages t n trees : ℕ) (sights : ℕ → S
                 | inr none ↦ no_table none ∙ outside (4096 * n) pages (sights tree) ps gpa access (not_past pages gpa above (omega arith))
                 | inl some ↦
                     let is : 512 * i1 + i0 ≡ (gpa - 0x80000000) / 4096 = omega arith in
-                    one_table some ∙ elim (lt_or_le (512 * i1 + i0) pages) [
+                    by_form (is_whole pages ps i1) refl (one_leaf some above near) (λ parted. one_table some parted ∙ elim (lt_or_le (512 * i1 + i0) pages) [
                       | inl below ↦ mapped some below ∙ inside pages n (sights tree) ps gpa (512 * i1 + i0) access (within pages gpa above (omega arith)) above is
                       | inr beyond ↦ past some beyond ∙ outside (4096 * n) pages (sights tree) ps gpa access (not_past pages gpa above (omega arith))
-                    ]
+                    ])
               ]
         ]
       ]
@@ -180,17 +239,23 @@ module _ (read : ℕ → Option ℕ) (pages t n trees : ℕ) (sights : ℕ → S
 
 -- every word of the trees lies in the tables
 module _ (trees t : ℕ) where
-  root_fits : (tree i : ℕ) → tree < trees → i < 2048 → 8 * (512 * (4 * tree) + i) + 8 ≤ 4096 * (5 * trees + trees * t)
+  abbrev size : ℕ
+  size = 4096 * (512 * ((5 * trees + trees * t + 511) / 512))
+
+  root_fits : (tree i : ℕ) → tree < trees → i < 2048 → 8 * (512 * (4 * tree) + i) + 8 ≤ size
   root_fits tree i l h = omega arith
 
-  middle_fits : (tree i : ℕ) → tree < trees → i < 512 → 8 * (512 * (4 * trees + tree) + i) + 8 ≤ 4096 * (5 * trees + trees * t)
+  middle_fits : (tree i : ℕ) → tree < trees → i < 512 → 8 * (512 * (4 * trees + tree) + i) + 8 ≤ size
   middle_fits tree i l h = omega arith
 
-  leaf_fits : (tree p : ℕ) → tree < trees → p < 512 * t → 8 * (512 * (5 * trees + tree * t) + p) + 8 ≤ 4096 * (5 * trees + trees * t)
+  leaf_fits : (tree p : ℕ) → tree < trees → p < 512 * t → 8 * (512 * (5 * trees + tree * t) + p) + 8 ≤ size
   leaf_fits tree p l h = let front = in_front tree trees t l in omega arith
 
-few_table_pages : (trees t : ℕ) → trees ≤ 66 → t ≤ 512 → 5 * trees + trees * t ≤ 34122
+pub few_table_pages : (trees t : ℕ) → trees ≤ 66 → t ≤ 512 → 512 * ((5 * trees + trees * t + 511) / 512) ≤ 34304
 few_table_pages trees t few few_tables = let most : trees * t ≤ 66 * t = mul-le-mul_right t few in omega arith
+
+pub block_multiple : (k : ℕ) → 512 * k % 512 ≡ 0
+block_multiple k = omega arith
 
 -- a reader that gives what stands in the tables
 module _ (read : ℕ → Option ℕ) (tables : List ℕ) (pages : ℕ) (bound : List ℕ) (ps : ℕ → Protection) (h : HoldsTrees tables pages bound ps)
@@ -201,7 +266,7 @@ module _ (read : ℕ → Option ℕ) (tables : List ℕ) (pages : ℕ) (bound : 
   abbrev t : ℕ
   t = leaf_tables pages
 
-  given : (at value : ℕ) → at + 8 ≤ 4096 * (5 * trees + trees * t) → word tables at 8 ≡ value → read at ≡ Some value
+  given : (at value : ℕ) → at + 8 ≤ size trees t → word tables at 8 ≡ value → read at ≡ Some value
   given at value fits is = gives at (subst (λ (size : ℕ). at + 8 ≤ size) (sym h.size) fits) ∙ ap Some is
 
   pub holds_reads : Reads read pages t (table_pages pages (length bound)) trees (sight_in bound) ps
@@ -215,6 +280,7 @@ module _ (read : ℕ → Option ℕ) (tables : List ℕ) (pages : ℕ) (bound : 
         few_tables = few_tables;
         few_trees = few_trees;
         few_pages = few_table_pages trees t few_trees few_tables;
+        aligned = block_multiple ((5 * trees + trees * t + 511) / 512);
         roots = λ tree i l k. given _ _ (root_fits trees t tree i l k) (h.roots tree i l k);
         middles = λ tree i l k. given _ _ (middle_fits trees t tree i l k) (h.middles tree i l k);
         leaves = λ tree p l k. given _ _ (leaf_fits trees t tree p l k) (h.leaves tree p l k);

@@ -1,23 +1,18 @@
 -- What writes of words leave of the trees.
 use Rattle.std.proofs.Common.{◌≡◌, ◌≢◌, ℕ, ◌+◌, ◌*◌, ◌/◌, ◌%◌, ◌^◌, ◌<◌, ◌≤◌, inl, inr, true, false, List, length, refl, sym, ap, subst, ◌∙◌, arith}
-use Rattle.std.specs.Prelude.{nat_lt, ◌==◌}
+use Rattle.std.specs.Prelude.{Bool, ◌==◌, ◌&&◌}
 use borrow.Author.Tests.{ne_eqb, eq-eqb}
 use Rattle.sv_types.specs.Bytes.{word, write_word}
 use Rattle.sv_types.specs.Regions.{Region}
 use Rattle.sv_types.specs.SecondStage.{Sight, protect, all_free}
 use Rattle.sv_types.specs.declared.wires.Protection.{Protection}
 use Rattle.sv_types.proofs.ByteLemmas.{lt_or_le, word_written, word_elsewhere, length_write_word}
-use Rattle.gstage_tables.specs.Layout.{leaf_tables, table_size, table_pages, tree_count, sight_in, leaf, root_word, middle_word, leaf_word, HoldsTrees}
+use Rattle.gstage_tables.specs.Blocks.{is_whole, lies_in_ram}
+use Rattle.gstage_tables.specs.Layout.{leaf_tables, table_pages, tree_count, sight_in, leaf, root_word, middle_word, leaf_word, HoldsTrees}
 use Rattle.gstage_tables.specs.Written.{Wrote}
+use Rattle.gstage_tables.proofs.Counts.{equal, unequal, same_or_not, block_none, block_kept}
 use Rattle.gstage_tables.proofs.Places.{leaf_there}
 use Rattle.gstage_tables.proofs.Walks.{in_front}
-
-pub data Same (a b : ℕ) : Type 0 where
-  equal : a ≡ b → Same a b
-  unequal : a ≢ b → Same a b
-
-pub same_or_not : (a b : ℕ) → Same a b
-same_or_not a b = elim (lt_or_le a b) [ inl l ↦ unequal (omega arith) | inr le ↦ elim (lt_or_le b a) [ inl l ↦ unequal (omega arith) | inr ge ↦ equal (omega arith) ] ]
 
 -- ---- words
 
@@ -67,9 +62,14 @@ pub wrote_all : {before after : List ℕ} {n count : ℕ} {place value : ℕ →
 wrote_all {before} {after} {n} {count} {place} {value} so e = subst (λ (m : ℕ). Wrote before after m place value) e so
 
 -- a tree's level-0 word lies in the tables
-pub leaf_inside : (trees t tree p first size now : ℕ) → now ≡ size → size ≡ 4096 * (5 * trees + trees * t) → first ≡ 5 * trees + tree * t → tree < trees → p < 512 * t
+pub leaf_inside : (trees t tree p first size now : ℕ) → now ≡ size → size ≡ 4096 * (512 * ((5 * trees + trees * t + 511) / 512)) → first ≡ 5 * trees + tree * t → tree < trees → p < 512 * t
     → 8 * (512 * first + p) + 8 ≤ now
 leaf_inside trees t tree p first size now same is at l h = let front = in_front tree trees t l in omega arith
+
+-- a level-1 word lies in the tables
+pub row_inside : (trees t k first size now : ℕ) → now ≡ size → size ≡ 4096 * (512 * ((5 * trees + trees * t + 511) / 512)) → first ≡ 2048 * trees → k < 512 * trees
+    → 8 * (first + k) + 8 ≤ now
+row_inside trees t k first size now same is at l = omega arith
 
 -- places of a row, and places of the same page in several trees
 pub row_apart : (a m p : ℕ) → m < p → a + m ≢ a + p
@@ -90,9 +90,18 @@ root_place tree i l = (omega arith, omega arith)
 middle_place : (tree i : ℕ) → i < 512 → ((512 * tree + i) / 512 ≡ tree) × ((512 * tree + i) % 512 ≡ i)
 middle_place tree i l = (omega arith, omega arith)
 
-module _ (trees t : ℕ) (first second third fourth : List ℕ)
+and_true : (b : Bool) → b && true ≡ b
+and_true true = refl
+and_true false = refl
+
+-- where all pages are free, a block is whole that lies in RAM
+whole_at_first : (pages block : ℕ) → lies_in_ram pages block ≡ is_whole pages all_free block
+whole_at_first pages block = rw (block_none block) (sym (and_true (lies_in_ram pages block)))
+
+module _ (pages t n trees : ℕ) (sights : ℕ → Sight) (first second third fourth : List ℕ)
     (roots : Wrote first second (2048 * trees) (λ k. k) (λ k. root_word trees (k / 2048) (k % 2048)))
-    (middles : Wrote second third (512 * trees) (λ k. 2048 * trees + k) (λ k. middle_word trees t (k / 512) (k % 512)))
+    (middles : Wrote second third (512 * trees) (λ k. 2048 * trees + k)
+    (λ k. middle_word trees t n (sights (k / 512)) (k / 512) (k % 512) (lies_in_ram pages (k % 512))))
     (below : (k : ℕ) → k < 2560 * trees → word fourth (8 * k) 8 ≡ word third (8 * k) 8) where
   pub roots_filled : (tree i : ℕ) → tree < trees → i < 2048 → word fourth (8 * (512 * (4 * tree) + i)) 8 ≡ root_word trees tree i
   roots_filled tree i l h =
@@ -102,14 +111,17 @@ module _ (trees t : ℕ) (first second third fourth : List ℕ)
       below k (omega arith) ∙ middles.kept k (λ n less. omega arith) ∙ roots.written k inside
       ∙ ap (λ (v : ℕ). root_word trees v (k % 2048)) at.0 ∙ ap (root_word trees tree) at.1
 
-  pub middles_filled : (tree i : ℕ) → tree < trees → i < 512 → word fourth (8 * (512 * (4 * trees + tree) + i)) 8 ≡ middle_word trees t tree i
+  pub middles_filled : (tree i : ℕ) → tree < trees → i < 512
+      → word fourth (8 * (512 * (4 * trees + tree) + i)) 8 ≡ middle_word trees t n (sights tree) tree i (is_whole pages all_free i)
   middles_filled tree i l h =
       let k : ℕ = 512 * tree + i in
       let at = middle_place tree i h in
       let inside : k < 512 * trees = omega arith in
       let same : 512 * (4 * trees + tree) + i ≡ 2048 * trees + k = omega arith in
       ap (λ (j : ℕ). word fourth (8 * j) 8) same ∙ below (2048 * trees + k) (omega arith) ∙ middles.written k inside
-      ∙ ap (λ (v : ℕ). middle_word trees t v (k % 512)) at.0 ∙ ap (middle_word trees t tree) at.1
+      ∙ ap (λ (v : ℕ). middle_word trees t n (sights v) v (k % 512) (lies_in_ram pages (k % 512))) at.0
+      ∙ ap (λ (j : ℕ). middle_word trees t n (sights tree) tree j (lies_in_ram pages j)) at.1
+      ∙ ap (middle_word trees t n (sights tree) tree i) (whole_at_first pages i)
 
 -- ---- the trees where a page's entry was written in each
 
@@ -153,23 +165,106 @@ module _ (before after : List ℕ) (pages t n trees page : ℕ) (sights : ℕ �
         ∙ old tree p l h ∙ sym (leaf_kept (sights tree) p ne)
   ]
 
-pub holds_set : (before after : List ℕ) (pages : ℕ) (bound : List ℕ) (ps : ℕ → Protection) (page : ℕ) (protection : Protection) → HoldsTrees before pages bound ps → page < pages
-    → Wrote before after (tree_count (length bound)) (λ tree. 512 * (5 * tree_count (length bound) + tree * leaf_tables pages) + page)
-    (λ tree. leaf (sight_in bound tree) page protection (table_pages pages (length bound) + page))
-    → HoldsTrees after pages bound (protect ps page protection)
-holds_set before after pages bound ps page protection h inside so =
-    let t : ℕ = leaf_tables pages in
-    let n : ℕ = table_pages pages (length bound) in
-    let trees : ℕ = tree_count (length bound) in
-    let covers : pages ≤ 512 * t = omega arith in
-    record {
-      size = so.size ∙ h.size;
-      most = h.most;
-      few = h.few;
-      roots = λ tree i l k. roots_kept before after pages t n trees page (sight_in bound) ps protection so inside covers tree i l k ∙ h.roots tree i l k;
-      middles = λ tree i l k. middles_kept before after pages t n trees page (sight_in bound) ps protection so inside covers tree i l k ∙ h.middles tree i l k;
-      leaves = leaves_set before after pages t n trees page (sight_in bound) ps protection so inside covers h.leaves;
-    }
+-- ---- the trees where a block's entry was written in each
+
+module _ (before after : List ℕ) (pages t n trees block : ℕ) (sights : ℕ → Sight) (whole : Bool)
+    (so : Wrote before after trees (λ tree. 512 * (4 * trees + tree) + block) (λ tree. middle_word trees t n (sights tree) tree block whole))
+    (reach : block < 512) where
+  pub roots_stay : (tree i : ℕ) → tree < trees → i < 2048 → word after (8 * (512 * (4 * tree) + i)) 8 ≡ word before (8 * (512 * (4 * tree) + i)) 8
+  roots_stay tree i l h = so.kept (512 * (4 * tree) + i) (λ other less. omega arith)
+
+  pub leaves_stay : (tree p : ℕ) → tree < trees → p < 512 * t → word after (8 * (512 * (5 * trees + tree * t) + p)) 8 ≡ word before (8 * (512 * (5 * trees + tree * t) + p)) 8
+  leaves_stay tree p l h = so.kept (512 * (5 * trees + tree * t) + p) (λ other less. omega arith)
+
+  pub middle_set : (tree : ℕ) → tree < trees → word after (8 * (512 * (4 * trees + tree) + block)) 8 ≡ middle_word trees t n (sights tree) tree block whole
+  middle_set tree l = so.written tree l
+
+  pub middle_stays : (tree i : ℕ) → tree < trees → i < 512 → i ≢ block → word after (8 * (512 * (4 * trees + tree) + i)) 8 ≡ word before (8 * (512 * (4 * trees + tree) + i)) 8
+  middle_stays tree i l h ne = so.kept (512 * (4 * trees + tree) + i) (λ other less. omega arith)
+
+-- ---- one page's protection set
+
+-- another block is whole as before
+whole_kept : (pages : ℕ) (ps : ℕ → Protection) (page : ℕ) (x : Protection) (block : ℕ) → page / 512 ≢ block
+    → is_whole pages ps block ≡ is_whole pages (protect ps page x) block
+whole_kept pages ps page x block ne = ap (λ (count : ℕ). lies_in_ram pages block && count == 0) (sym (block_kept ps page x block ne))
+
+module _ (before pages_set : List ℕ) (pages : ℕ) (bound : List ℕ) (ps : ℕ → Protection) (page : ℕ) (x : Protection) (h : HoldsTrees before pages bound ps) (inside : page < pages)
+    (so : Wrote before pages_set (tree_count (length bound)) (λ tree. 512 * (5 * tree_count (length bound) + tree * leaf_tables pages) + page)
+    (λ tree. leaf (sight_in bound tree) page x (table_pages pages (length bound) + page))) where
+  abbrev t1 : ℕ
+  t1 = leaf_tables pages
+
+  abbrev n1 : ℕ
+  n1 = table_pages pages (length bound)
+
+  abbrev trees1 : ℕ
+  trees1 = tree_count (length bound)
+
+  covers1 : pages ≤ 512 * t1
+  covers1 = omega arith
+
+  -- where its block stays as it was, whole or not
+  pub holds_page : is_whole pages ps (page / 512) ≡ is_whole pages (protect ps page x) (page / 512) → HoldsTrees pages_set pages bound (protect ps page x)
+  holds_page same = record {
+    size = so.size ∙ h.size;
+    most = h.most;
+    few = h.few;
+    roots = λ tree i l k. roots_kept before pages_set pages t1 n1 trees1 page (sight_in bound) ps x so inside covers1 tree i l k ∙ h.roots tree i l k;
+    middles = λ tree i l k. middles_kept before pages_set pages t1 n1 trees1 page (sight_in bound) ps x so inside covers1 tree i l k ∙ h.middles tree i l k
+        ∙ ap (middle_word trees1 t1 n1 (sight_in bound tree) tree i) (elim (same_or_not (page / 512) i) [
+          | equal e ↦ subst (λ (block : ℕ). is_whole pages ps block ≡ is_whole pages (protect ps page x) block) e same
+          | unequal ne ↦ whole_kept pages ps page x i ne
+        ]);
+    leaves = leaves_set before pages_set pages t1 n1 trees1 page (sight_in bound) ps x so inside covers1 h.leaves;
+  }
+
+  -- where its block's entry was written too
+  pub holds_block : (after : List ℕ) → Wrote pages_set after trees1 (λ tree. 512 * (4 * trees1 + tree) + page / 512)
+      (λ tree. middle_word trees1 t1 n1 (sight_in bound tree) tree (page / 512) (is_whole pages (protect ps page x) (page / 512)))
+      → HoldsTrees after pages bound (protect ps page x)
+  holds_block after then_so =
+      let most = h.most in
+      let reach : page / 512 < 512 = omega arith in
+      let whole : Bool = is_whole pages (protect ps page x) (page / 512) in
+      record {
+        size = then_so.size ∙ so.size ∙ h.size;
+        most = h.most;
+        few = h.few;
+        roots = λ tree i l k. roots_stay pages_set after pages t1 n1 trees1 (page / 512) (sight_in bound) whole then_so reach tree i l k
+            ∙ roots_kept before pages_set pages t1 n1 trees1 page (sight_in bound) ps x so inside covers1 tree i l k ∙ h.roots tree i l k;
+        middles = λ tree i l k. elim (same_or_not (page / 512) i) [
+          | equal e ↦ subst (λ (block : ℕ). word after (8 * (512 * (4 * trees1 + tree) + block)) 8
+              ≡ middle_word trees1 t1 n1 (sight_in bound tree) tree block (is_whole pages (protect ps page x) block)) e (then_so.written tree l)
+          | unequal ne ↦ middle_stays pages_set after pages t1 n1 trees1 (page / 512) (sight_in bound) whole then_so reach tree i l k (λ same. ne (sym same))
+              ∙ middles_kept before pages_set pages t1 n1 trees1 page (sight_in bound) ps x so inside covers1 tree i l k ∙ h.middles tree i l k
+              ∙ ap (middle_word trees1 t1 n1 (sight_in bound tree) tree i) (whole_kept pages ps page x i ne)
+        ];
+        leaves = λ tree p l k. leaves_stay pages_set after pages t1 n1 trees1 (page / 512) (sight_in bound) whole then_so reach tree p l k
+            ∙ leaves_set before pages_set pages t1 n1 trees1 page (sight_in bound) ps x so inside covers1 h.leaves tree p l k;
+      }
+
+pub holds_pages_set : (before middle after : List ℕ) (pages : ℕ) (bound : List ℕ) (ps : ℕ → Protection) (page : ℕ) (x : Protection) (was now : Bool)
+    → HoldsTrees before pages bound ps → page < pages
+    → Wrote before middle (tree_count (length bound)) (λ tree. 512 * (5 * tree_count (length bound) + tree * leaf_tables pages) + page)
+    (λ tree. leaf (sight_in bound tree) page x (table_pages pages (length bound) + page))
+    → was ≡ is_whole pages ps (page / 512) → now ≡ is_whole pages (protect ps page x) (page / 512)
+    → (was ≡ now → after ≡ middle)
+    → (was ≢ now → Wrote middle after (tree_count (length bound)) (λ tree. 512 * (4 * tree_count (length bound) + tree) + page / 512)
+    (λ tree. middle_word (tree_count (length bound)) (leaf_tables pages) (table_pages pages (length bound)) (sight_in bound tree) tree (page / 512) now))
+    → HoldsTrees after pages bound (protect ps page x)
+holds_pages_set before middle after pages bound ps page x true true h inside so was now same changed =
+    subst (λ (tables : List ℕ). HoldsTrees tables pages bound (protect ps page x)) (sym (same refl)) (holds_page before middle pages bound ps page x h inside so (sym was ∙ now))
+holds_pages_set before middle after pages bound ps page x false false h inside so was now same changed =
+    subst (λ (tables : List ℕ). HoldsTrees tables pages bound (protect ps page x)) (sym (same refl)) (holds_page before middle pages bound ps page x h inside so (sym was ∙ now))
+holds_pages_set before middle after pages bound ps page x true false h inside so was now same changed =
+    holds_block before middle pages bound ps page x h inside so after
+    (subst (λ (whole : Bool). Wrote middle after (tree_count (length bound)) (λ tree. 512 * (4 * tree_count (length bound) + tree) + page / 512)
+    (λ tree. middle_word (tree_count (length bound)) (leaf_tables pages) (table_pages pages (length bound)) (sight_in bound tree) tree (page / 512) whole)) now (changed (λ e. cc)))
+holds_pages_set before middle after pages bound ps page x false true h inside so was now same changed =
+    holds_block before middle pages bound ps page x h inside so after
+    (subst (λ (whole : Bool). Wrote middle after (tree_count (length bound)) (λ tree. 512 * (4 * tree_count (length bound) + tree) + page / 512)
+    (λ tree. middle_word (tree_count (length bound)) (leaf_tables pages) (table_pages pages (length bound)) (sight_in bound tree) tree (page / 512) whole)) now (changed (λ e. cc)))
 
 -- ---- a tree's level-0 tables filled behind those of others
 

@@ -1,15 +1,19 @@
 -- How the trees of second-stage tables lie in the table part: the roots of all trees, of four pages each, then a level-1
 -- table of each tree, then the level-0 tables of one tree after the other. Tree 0 shows kernel mode's memory, tree 1 user
--- mode's, and tree 2 + i what is seen in entry i.
+-- mode's, and tree 2 + i what is seen in entry i. A block of 2 MiB whose pages are all free is one leaf of level 1; its
+-- level-0 table is kept right while it isn't used.
 -- RISC-V Privileged manual, H extension, "Guest Physical Address Translation"; the places are this project's own.
 use Rattle.std.specs.Prelude.{◌≡◌, ℕ, ◌+◌, ◌-◌, ◌*◌, ◌/◌, ◌<◌, ◌≤◌, ◌==◌, Bool, if◌then◌else◌, nat_lt, List, length, slice_index_or}
 use Rattle.sv_types.specs.Bytes.{word, page_size}
 use Rattle.sv_types.specs.Regions.{most_ram_pages}
+use Rattle.sv_types.specs.Translation.{is_leaf}
 use Rattle.sv_types.specs.SecondStage.{Sight, OfKernel, OfUser, OfEntry, view_permits}
 use Rattle.sv_types.specs.declared.wires.Access.TheVariants.{Fetch, Store}
 use Rattle.sv_types.specs.declared.wires.Protection.{Protection}
+use Rattle.sv_types.specs.declared.wires.Protection.TheVariants.{Free}
 use Rattle.sv_types.specs.declared.wires.View.{View}
 use Rattle.sv_types.specs.declared.wires.View.TheVariants.{Kernel, User, Entry}
+use Rattle.gstage_tables.specs.Blocks.{is_whole, taken_pages}
 
 -- ---- the trees
 
@@ -17,10 +21,12 @@ use Rattle.sv_types.specs.declared.wires.View.TheVariants.{Kernel, User, Entry}
 abbrev pub most_bound : ℕ
 most_bound = 64
 
--- what the trees are made for: the pages of RAM, and the page that each entry is bound to
+-- what contracts see of trees: the pages of RAM, the page that each entry is bound to, and how many pages of each block are
+-- taken
 pub record Shape : Type 0 where
   pub ram_pages : ℕ
   pub bound : List ℕ
+  pub counts : List ℕ
 
 -- the trees for so many entries
 abbrev pub tree_count : ℕ → ℕ
@@ -55,9 +61,10 @@ middle_table trees tree = 4 * trees + tree
 abbrev pub leaf_table : (trees leaf_tables tree : ℕ) → ℕ
 leaf_table trees leaf_tables tree = 5 * trees + tree * leaf_tables
 
--- the pages of all tables
+-- the pages of all tables, and of what lies behind them up to the next 2 MiB, so that a block of RAM lies at a multiple of
+-- its size
 abbrev pub table_pages : (ram_pages bound : ℕ) → ℕ
-table_pages ram_pages bound = leaf_table (tree_count bound) (leaf_tables ram_pages) (tree_count bound)
+table_pages ram_pages bound = 512 * ((leaf_table (tree_count bound) (leaf_tables ram_pages) (tree_count bound) + 511) / 512)
 
 abbrev pub table_size : (ram_pages bound : ℕ) → ℕ
 table_size ram_pages bound = page_size * table_pages ram_pages bound
@@ -80,9 +87,12 @@ leaf sight page protection host = 1024 * host + flags (view_permits sight page p
 unfoldable pub root_word : (trees tree i : ℕ) → ℕ
 root_word trees tree i = if i == 2 then pointer (middle_table trees tree) else 0
 
--- entry i of a level-1 table
-unfoldable pub middle_word : (trees leaf_tables tree i : ℕ) → ℕ
-middle_word trees leaf_tables tree i = if nat_lt i leaf_tables then pointer (leaf_table trees leaf_tables tree + i) else 0
+-- entry i of a level-1 table: it maps a block that is whole, and names the level-0 table of another
+unfoldable pub middle_word : (trees leaf_tables table_pages : ℕ) → Sight → (tree i : ℕ) → (whole : Bool) → ℕ
+middle_word trees leaf_tables table_pages sight tree i whole =
+    if nat_lt i leaf_tables
+    then (if whole then leaf sight (512 * i) Free (table_pages + 512 * i) else pointer (leaf_table trees leaf_tables tree + i))
+    else 0
 
 -- the entry for page p of RAM, which lies behind the tables, and 0 past its end
 unfoldable pub leaf_word : (ram_pages table_pages : ℕ) → Sight → (ℕ → Protection) → (p : ℕ) → ℕ
@@ -100,7 +110,13 @@ pub record HoldsTrees (tables : List ℕ) (ram_pages : ℕ) (bound : List ℕ) (
       → word tables (8 * (512 * root_table tree + i)) 8 ≡ root_word (tree_count (length bound)) tree i
   pub middles : (tree i : ℕ) → tree < tree_count (length bound) → i < 512
       → word tables (8 * (512 * middle_table (tree_count (length bound)) tree + i)) 8
-      ≡ middle_word (tree_count (length bound)) (leaf_tables ram_pages) tree i
+      ≡ middle_word (tree_count (length bound)) (leaf_tables ram_pages) (table_pages ram_pages (length bound)) (sight_in bound tree) tree i
+      (is_whole ram_pages protections i)
   pub leaves : (tree p : ℕ) → tree < tree_count (length bound) → p < 512 * leaf_tables ram_pages
       → word tables (8 * (512 * leaf_table (tree_count (length bound)) (leaf_tables ram_pages) tree + p)) 8
       ≡ leaf_word ram_pages (table_pages ram_pages (length bound)) (sight_in bound tree) protections p
+
+-- each block that lies in RAM is one leaf of level 1 in each tree exactly where all its pages are free
+pub record MapsBlocks (tables : List ℕ) (ram_pages : ℕ) (bound : List ℕ) (protections : ℕ → Protection) : Type 0 where
+  pub each : (tree block : ℕ) → tree < tree_count (length bound) → 512 * block + 512 ≤ ram_pages
+      → is_leaf 1 (word tables (8 * (512 * middle_table (tree_count (length bound)) tree + block)) 8) ≡ (taken_pages protections block == 0)

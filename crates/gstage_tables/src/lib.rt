@@ -2,32 +2,36 @@
 //! page.
 #![tactic(auto)]
 
-ghost use Rattle.std.specs.Prelude.{◌≡◌, ℕ, ◌+◌, ◌*◌, ◌/◌, ◌<◌, ◌≤◌, ◌^◌, length, IsSome, Some, true};
+ghost use Rattle.std.specs.Prelude.{◌≡◌, ℕ, ◌+◌, ◌*◌, ◌/◌, ◌%◌, ◌<◌, ◌≤◌, ◌^◌, ◌≢◌, ◌==◌, ◌&&◌, length, replicate, slice_set, slice_index_or, IsSome, Some, true};
 ghost use Rattle.sv_types.specs.Bytes.{page_size, word};
 ghost use Rattle.sv_types.specs.Regions.{most_ram_pages};
 ghost use Rattle.sv_types.specs.SecondStage.{AreViews, sight_of, view_hgatp, view_permits, protect, all_free};
 ghost use Rattle.sv_types.specs.declared.wires.Access.TheVariants.{Fetch};
 ghost use Rattle.sv_types.specs.declared.wires.Protection.{Protection as Kind};
-ghost use Rattle.gstage_tables.specs.Layout.{most_bound, tree_count, sight_in, leaf_tables, leaf_table, table_pages, table_size, leaf, leaf_word, HoldsTrees};
+ghost use Rattle.gstage_tables.specs.Blocks.{is_free, lies_in_ram, is_whole_by, recounted, CountsTaken};
+ghost use Rattle.gstage_tables.specs.Layout.{most_bound, tree_count, sight_in, leaf_tables, middle_table, leaf_table, table_pages, table_size, leaf, middle_word, leaf_word, HoldsTrees, MapsBlocks};
 ghost use Rattle.gstage_tables.specs.Written.{Wrote};
 
 mod fill;
 mod words;
 
-use crate::fill::{fill_middles, fill_roots, put, put_counted};
-use crate::words::{leaf_table, leaf_tables, mapping};
+use crate::fill::{entry_at, fill_roots, put, put_counted};
+use crate::words::{leaf_table, leaf_tables, mapping, pointer, up_to_blocks};
 use arrayvec::ArrayVec;
 use host_mem::HostMem;
 use std::marker::{Brand, Model};
 use std::sync::ledger::{Blank, Ledger};
 use sv_types::{Protection, Steps, View};
 
-/// The trees in the table part of a region. Contracts see how many pages of RAM they map, and the page that each entry is
-/// bound to.
+/// The pages of a block of 2 MiB, which one level-0 table maps, or one leaf of level 1.
+const BLOCK_PAGES: u64 = 512;
+
+/// The trees in the table part of a region, and how many pages of each block aren't free. Contracts see the `Shape`.
 #[derive(Drop)]
 pub struct Trees {
     ram_pages: u64,
     bound: ArrayVec<u32, 64>,
+    counts: [u16; 512],
 }
 
 impl Model for Trees {
@@ -35,13 +39,13 @@ impl Model for Trees {
 
     ghost Value = { Shape };
 
-    ghost use Rattle.std.specs.Prelude.{◌≤◌, length};
+    ghost use Rattle.std.specs.Prelude.{◌≡◌, ◌≤◌, length};
     ghost use Rattle.sv_types.specs.Regions.{most_ram_pages};
     ghost use Rattle.gstage_tables.specs.Layout.{most_bound};
 
-    ghost view = { λ t. record { ram_pages = t.ram_pages; bound = t.bound.items } };
+    ghost view = { λ t. record { ram_pages = t.ram_pages; bound = t.bound.items; counts = t.counts } };
 
-    ghost invariant = { λ t. (t.ram_pages ≤ most_ram_pages) × (length t.bound.items ≤ most_bound) };
+    ghost invariant = { λ t. (t.ram_pages ≤ most_ram_pages) × ((length t.bound.items ≤ most_bound) × (length t.counts ≡ 512)) };
 }
 
 impl Trees {
@@ -52,7 +56,8 @@ impl Trees {
         ensures { result ≡ table_size ram_pages bound }
     {
         let trees = 2 + bound as u64;
-        4096 * leaf_table(trees, leaf_tables(ram_pages as u64), trees) as usize
+        let tables = leaf_table(trees, leaf_tables(ram_pages as u64), trees);
+        4096 * up_to_blocks(tables) as usize
     }
 
     /// Trees in which all pages are free, one for each entry beside those of the two modes: `bound` has the pages that the
@@ -64,12 +69,14 @@ impl Trees {
         ensures bound { result.bound ≡ bound.now }
         ensures ram { mem.new.ram ≡ mem.old.ram }
         ensures holds { HoldsTrees mem.new.tables result.ram_pages result.bound all_free }
+        ensures counts { CountsTaken result.counts result.ram_pages all_free }
         ensures views { AreViews mem.new.tables result.ram_pages result.bound all_free }
+        ensures blocks { MapsBlocks mem.new.tables result.ram_pages result.bound all_free }
     {
         let trees = Trees::made(mem.ram_pages() as u64, bound);
         let count = trees.count();
         fill_roots(mem, count);
-        fill_middles(mem, count, trees.leaf_tables());
+        trees.fill_middles(mem);
         trees.fill_leaves(mem);
         trees
     }
@@ -79,6 +86,7 @@ impl Trees {
         requires few { length bound.now ≤ most_bound }
         ensures pages { result.ram_pages ≡ ram_pages }
         ensures bound { result.bound ≡ bound.now }
+        ensures counts { result.counts ≡ replicate 512 0 }
     {
         let mut pages = ArrayVec::new();
         let Ok(()) = pages.try_extend_from_slice(bound) else {
@@ -87,6 +95,7 @@ impl Trees {
         Trees {
             ram_pages,
             bound: pages,
+            counts: none_taken(),
         }
     }
 
@@ -94,10 +103,16 @@ impl Trees {
     pub fn set(&mut self, mem: &mut HostMem, page: u32, protection: Protection)
         requires page { page < self.old.ram_pages }
         requires size { length mem.old.tables ≡ table_size self.old.ram_pages (length self.old.bound) }
-        ensures same { self.new ≡ self.old }
+        ensures same { self.new ≡ record self.old { counts = self.new.counts } }
         ensures ram { mem.new.ram ≡ mem.old.ram }
-        ensures holds { (old : ℕ → Kind) → HoldsTrees mem.old.tables self.old.ram_pages self.old.bound old → HoldsTrees mem.new.tables self.old.ram_pages self.old.bound (protect old page protection) }
-        ensures views { (old : ℕ → Kind) → HoldsTrees mem.old.tables self.old.ram_pages self.old.bound old → AreViews mem.new.tables self.old.ram_pages self.old.bound (protect old page protection) }
+        ensures holds { (old : ℕ → Kind) → HoldsTrees mem.old.tables self.old.ram_pages self.old.bound old → CountsTaken self.old.counts self.old.ram_pages old
+            → HoldsTrees mem.new.tables self.old.ram_pages self.old.bound (protect old page protection) }
+        ensures counts { (old : ℕ → Kind) → HoldsTrees mem.old.tables self.old.ram_pages self.old.bound old → CountsTaken self.old.counts self.old.ram_pages old
+            → CountsTaken self.new.counts self.old.ram_pages (protect old page protection) }
+        ensures views { (old : ℕ → Kind) → HoldsTrees mem.old.tables self.old.ram_pages self.old.bound old → CountsTaken self.old.counts self.old.ram_pages old
+            → AreViews mem.new.tables self.old.ram_pages self.old.bound (protect old page protection) }
+        ensures blocks { (old : ℕ → Kind) → HoldsTrees mem.old.tables self.old.ram_pages self.old.bound old → CountsTaken self.old.counts self.old.ram_pages old
+            → MapsBlocks mem.new.tables self.old.ram_pages self.old.bound (protect old page protection) }
     {
         self.set_on::<Brand>(mem, page, protection, Blank::new(1));
     }
@@ -115,16 +130,22 @@ impl Trees {
         requires some { 0 < blank.parts }
         requires page { page < self.old.ram_pages }
         requires size { length mem.old.tables ≡ table_size self.old.ram_pages (length self.old.bound) }
-        ensures same { self.new ≡ self.old }
+        ensures same { self.new ≡ record self.old { counts = self.new.counts } }
         ensures ram { mem.new.ram ≡ mem.old.ram }
-        ensures holds { (old : ℕ → Kind) → HoldsTrees mem.old.tables self.old.ram_pages self.old.bound old → HoldsTrees mem.new.tables self.old.ram_pages self.old.bound (protect old page protection) }
-        ensures views { (old : ℕ → Kind) → HoldsTrees mem.old.tables self.old.ram_pages self.old.bound old → AreViews mem.new.tables self.old.ram_pages self.old.bound (protect old page protection) }
+        ensures holds { (old : ℕ → Kind) → HoldsTrees mem.old.tables self.old.ram_pages self.old.bound old → CountsTaken self.old.counts self.old.ram_pages old
+            → HoldsTrees mem.new.tables self.old.ram_pages self.old.bound (protect old page protection) }
+        ensures counts { (old : ℕ → Kind) → HoldsTrees mem.old.tables self.old.ram_pages self.old.bound old → CountsTaken self.old.counts self.old.ram_pages old
+            → CountsTaken self.new.counts self.old.ram_pages (protect old page protection) }
+        ensures views { (old : ℕ → Kind) → HoldsTrees mem.old.tables self.old.ram_pages self.old.bound old → CountsTaken self.old.counts self.old.ram_pages old
+            → AreViews mem.new.tables self.old.ram_pages self.old.bound (protect old page protection) }
+        ensures blocks { (old : ℕ → Kind) → HoldsTrees mem.old.tables self.old.ram_pages self.old.bound old → CountsTaken self.old.counts self.old.ram_pages old
+            → MapsBlocks mem.new.tables self.old.ram_pages self.old.bound (protect old page protection) }
     {
         let mut steps = Steps::<L>::new(blank);
         self.set_counted(mem, page, protection, &mut steps);
     }
 
-    /// `set`, which counts the table words that it writes: at most 514 in each tree.
+    /// `set`, which counts the table words that it writes: at most two in each tree.
     pub fn set_counted<L: Ledger>(
         &mut self,
         mem: &mut HostMem,
@@ -134,13 +155,26 @@ impl Trees {
     )
         requires page { page < self.old.ram_pages }
         requires size { length mem.old.tables ≡ table_size self.old.ram_pages (length self.old.bound) }
-        ensures same { self.new ≡ self.old }
+        ensures same { self.new ≡ record self.old { counts = self.new.counts } }
         ensures ram { mem.new.ram ≡ mem.old.ram }
-        ensures holds { (old : ℕ → Kind) → HoldsTrees mem.old.tables self.old.ram_pages self.old.bound old → HoldsTrees mem.new.tables self.old.ram_pages self.old.bound (protect old page protection) }
-        ensures views { (old : ℕ → Kind) → HoldsTrees mem.old.tables self.old.ram_pages self.old.bound old → AreViews mem.new.tables self.old.ram_pages self.old.bound (protect old page protection) }
-        ensures cost { steps.new ≤ steps.old + 514 * tree_count (length self.old.bound) }
+        ensures holds { (old : ℕ → Kind) → HoldsTrees mem.old.tables self.old.ram_pages self.old.bound old → CountsTaken self.old.counts self.old.ram_pages old
+            → HoldsTrees mem.new.tables self.old.ram_pages self.old.bound (protect old page protection) }
+        ensures counts { (old : ℕ → Kind) → HoldsTrees mem.old.tables self.old.ram_pages self.old.bound old → CountsTaken self.old.counts self.old.ram_pages old
+            → CountsTaken self.new.counts self.old.ram_pages (protect old page protection) }
+        ensures views { (old : ℕ → Kind) → HoldsTrees mem.old.tables self.old.ram_pages self.old.bound old → CountsTaken self.old.counts self.old.ram_pages old
+            → AreViews mem.new.tables self.old.ram_pages self.old.bound (protect old page protection) }
+        ensures blocks { (old : ℕ → Kind) → HoldsTrees mem.old.tables self.old.ram_pages self.old.bound old → CountsTaken self.old.counts self.old.ram_pages old
+            → MapsBlocks mem.new.tables self.old.ram_pages self.old.bound (protect old page protection) }
+        ensures cost { steps.new ≤ steps.old + 2 * tree_count (length self.old.bound) }
     {
+        let block = self.block_of(page);
+        let was_free = self.is_free(mem, page);
+        let count = recounted(self.counts[block as usize], was_free, is_free(protection));
+        let before = self.is_whole(block);
+        let after = self.is_whole_with(block, count);
         self.set_leaves(mem, page, protection, steps);
+        self.set_block(mem, block, before, after, steps);
+        self.counts[block as usize] = count;
     }
 
     /// The `hgatp` value of a view's root, of one that there is. Its VMID is 1 for the kernel view, 2 for the user view, and
@@ -181,6 +215,61 @@ impl Trees {
         leaf_table(self.count(), self.leaf_tables(), tree)
     }
 
+    // The pages of the table part.
+    fn table_pages(&self) -> u64
+        ensures value { result ≡ table_pages self.now.ram_pages (length self.now.bound) }
+        ensures few { result ≤ 34304 }
+    {
+        up_to_blocks(self.leaf_table(self.count()))
+    }
+
+    // Whether a block lies in RAM with all its pages.
+    fn lies_in_ram(&self, block: u64) -> bool
+        requires { block < 512 }
+        ensures { result ≡ lies_in_ram self.now.ram_pages block }
+    {
+        BLOCK_PAGES * block + BLOCK_PAGES <= self.ram_pages
+    }
+
+    // Whether one leaf maps a block, by the counts.
+    fn is_whole(&self, block: u64) -> bool
+        requires { block < 512 }
+        ensures { result ≡ is_whole_by self.now.counts self.now.ram_pages block }
+    {
+        self.is_whole_with(block, self.counts[block as usize])
+    }
+
+    // The same with another count.
+    fn is_whole_with(&self, block: u64, count: u16) -> bool
+        requires { block < 512 }
+        ensures { result ≡ (lies_in_ram self.now.ram_pages block && count == 0) }
+    {
+        self.lies_in_ram(block) && count == 0
+    }
+
+    // The block of a page of RAM.
+    fn block_of(&self, page: u32) -> u64
+        requires { page < self.now.ram_pages }
+        ensures value { result ≡ page / 512 }
+        ensures few { result < 512 }
+        ensures counted { result < length self.now.counts }
+    {
+        // The trees' invariant bounds the pages, and is known once a field was read.
+        let _pages = self.ram_pages;
+        page as u64 / BLOCK_PAGES
+    }
+
+    // Whether a page is free, by its entry in kernel mode's tree.
+    fn is_free(&self, mem: &HostMem, page: u32) -> bool
+        requires page { page < self.now.ram_pages }
+        requires size { length mem.now.tables ≡ table_size self.now.ram_pages (length self.now.bound) }
+        ensures { (old : ℕ → Kind) → HoldsTrees mem.now.tables self.now.ram_pages self.now.bound old → result ≡ is_free (old page) }
+    {
+        let page = page as u64;
+        let entry = entry_at(mem, 512 * self.leaf_table(0) + page);
+        entry == self.leaf(0, page, Protection::Free)
+    }
+
     // Whether a page may be fetched from by what a tree shows.
     fn may_fetch(&self, tree: u64, page: u64, protection: Protection) -> bool
         requires { tree < tree_count (length self.now.bound) }
@@ -202,9 +291,8 @@ impl Trees {
         requires page { page < 2 ^ 32 }
         ensures { result ≡ leaf (sight_in self.now.bound tree) page protection (table_pages self.now.ram_pages (length self.now.bound) + page) }
     {
-        let store = matches!(protection, Protection::Free);
         let fetch = self.may_fetch(tree, page, protection);
-        mapping(self.leaf_table(self.count()) + page, store, fetch)
+        mapping(self.table_pages() + page, is_free(protection), fetch)
     }
 
     // The entry for page `p` of RAM in a tree, where all pages are free.
@@ -218,6 +306,44 @@ impl Trees {
             self.leaf(tree, p, Protection::Free)
         } else {
             0
+        }
+    }
+
+    // Entry `i` of a tree's level-1 table: the leaf of a whole block, or the level-0 table of another.
+    #[tactic(auto, unfolding(crate::specs::Layout::middle_word))]
+    fn middle(&self, tree: u64, i: u64, whole: bool) -> u64
+        requires tree { tree < tree_count (length self.now.bound) }
+        requires entry { i < 512 }
+        ensures { result ≡ middle_word (tree_count (length self.now.bound)) (leaf_tables self.now.ram_pages) (table_pages self.now.ram_pages (length self.now.bound)) (sight_in self.now.bound tree) tree i whole }
+    {
+        if i < self.leaf_tables() {
+            if whole {
+                self.leaf(tree, BLOCK_PAGES * i, Protection::Free)
+            } else {
+                pointer(self.leaf_table(tree) + i)
+            }
+        } else {
+            0
+        }
+    }
+
+    // Writes the level-1 tables, where all pages are free.
+    fn fill_middles(&self, mem: &mut HostMem)
+        requires size { length mem.old.tables ≡ table_size self.now.ram_pages (length self.now.bound) }
+        ensures ram { mem.new.ram ≡ mem.old.ram }
+        ensures words { Wrote mem.old.tables mem.new.tables (512 * tree_count (length self.now.bound))
+            (λ k. 2048 * tree_count (length self.now.bound) + k)
+            (λ k. middle_word (tree_count (length self.now.bound)) (leaf_tables self.now.ram_pages) (table_pages self.now.ram_pages (length self.now.bound))
+            (sight_in self.now.bound (k / 512)) (k / 512) (k % 512) (lies_in_ram self.now.ram_pages (k % 512))) }
+    {
+        let first = 2048 * self.count();
+        for k in 0..512 * self.count() {
+            let block = k % 512;
+            put(
+                mem,
+                first + k,
+                self.middle(k / 512, block, self.lies_in_ram(block)),
+            );
         }
     }
 
@@ -272,4 +398,79 @@ impl Trees {
             put_counted(mem, at, self.leaf(tree, page as u64, protection), steps);
         }
     }
+
+    // Writes a block's entry of level 1 in each tree, one step each.
+    fn set_middles<L: Ledger>(
+        &self,
+        mem: &mut HostMem,
+        block: u64,
+        whole: bool,
+        steps: &mut Steps<L>,
+    )
+        requires block { block < 512 }
+        requires size { length mem.old.tables ≡ table_size self.now.ram_pages (length self.now.bound) }
+        ensures ram { mem.new.ram ≡ mem.old.ram }
+        ensures words { Wrote mem.old.tables mem.new.tables (tree_count (length self.now.bound))
+            (λ tree. 512 * middle_table (tree_count (length self.now.bound)) tree + block)
+            (λ tree. middle_word (tree_count (length self.now.bound)) (leaf_tables self.now.ram_pages) (table_pages self.now.ram_pages (length self.now.bound))
+            (sight_in self.now.bound tree) tree block whole) }
+        ensures cost { steps.new ≡ steps.old + tree_count (length self.now.bound) }
+    {
+        let first = 2048 * self.count() + block;
+        for tree in 0..self.count() {
+            put_counted(
+                mem,
+                first + 512 * tree,
+                self.middle(tree, block, whole),
+                steps,
+            );
+        }
+    }
+
+    // `set_middles`, where the block is mapped otherwise than before.
+    fn set_block<L: Ledger>(
+        &self,
+        mem: &mut HostMem,
+        block: u64,
+        before: bool,
+        after: bool,
+        steps: &mut Steps<L>,
+    )
+        requires block { block < 512 }
+        requires size { length mem.old.tables ≡ table_size self.now.ram_pages (length self.now.bound) }
+        ensures ram { mem.new.ram ≡ mem.old.ram }
+        ensures same { before ≡ after → mem.new ≡ mem.old }
+        ensures words { before ≢ after → Wrote mem.old.tables mem.new.tables (tree_count (length self.now.bound))
+            (λ tree. 512 * middle_table (tree_count (length self.now.bound)) tree + block)
+            (λ tree. middle_word (tree_count (length self.now.bound)) (leaf_tables self.now.ram_pages) (table_pages self.now.ram_pages (length self.now.bound))
+            (sight_in self.now.bound tree) tree block after) }
+        ensures cost { steps.new ≤ steps.old + tree_count (length self.now.bound) }
+    {
+        if before != after {
+            self.set_middles(mem, block, after, steps);
+        }
+    }
+}
+
+// The count of a block's taken pages, where one was free before or not, and now is or isn't.
+fn recounted(count: u16, before: bool, after: bool) -> u16
+    ensures { result ≡ recounted count before after }
+{
+    match (before, after) {
+        (true, false) => count.saturating_add(1),
+        (false, true) => count.saturating_sub(1),
+        _ => count,
+    }
+}
+
+fn is_free(protection: Protection) -> bool
+    ensures { result ≡ is_free protection }
+{
+    matches!(protection, Protection::Free)
+}
+
+fn none_taken() -> [u16; 512]
+    ensures { result ≡ replicate 512 0 }
+{
+    [0; 512]
 }

@@ -1,8 +1,8 @@
 // Entries of the tables, and where the tables lie.
 
-ghost use Rattle.std.specs.Prelude.{◌≡◌, ◌+◌, ◌*◌, ◌<◌, ◌≤◌, ◌^◌};
+ghost use Rattle.std.specs.Prelude.{◌≡◌, ◌+◌, ◌*◌, ◌/◌, ◌<◌, ◌≤◌, ◌^◌};
 ghost use Rattle.sv_types.specs.Regions.{most_ram_pages};
-ghost use Rattle.gstage_tables.specs.Layout.{leaf_tables, leaf_table, pointer, flags, root_word, middle_word};
+ghost use Rattle.gstage_tables.specs.Layout.{leaf_tables, leaf_table, pointer, flags, root_word};
 
 use bitflags::Flags;
 use sv_types::PteBits;
@@ -26,6 +26,15 @@ pub(crate) fn leaf_table(trees: u64, tables: u64, tree: u64) -> u64
     ensures few { result ≤ 34122 }
 {
     5 * trees + tree * tables
+}
+
+/// So many pages and those behind them up to a whole number of blocks.
+pub(crate) fn up_to_blocks(pages: u64) -> u64
+    requires { pages ≤ 34122 }
+    ensures value { result ≡ 512 * ((pages + 511) / 512) }
+    ensures few { result ≤ 34304 }
+{
+    512 * pages.div_ceil(512)
 }
 
 // The flags of a page that may be read.
@@ -66,8 +75,8 @@ pub(crate) fn mapping(host: u64, store: bool, fetch: bool) -> u64
     1024 * host + flags(store, fetch).bits()
 }
 
-// The entry that names the next table.
-fn pointer(page: u64) -> u64
+/// The entry that names the next table.
+pub(crate) fn pointer(page: u64) -> u64
     requires { page < 2 ^ 44 }
     ensures { result ≡ pointer page }
 {
@@ -82,19 +91,4 @@ pub(crate) fn root_word(trees: u64, tree: u64, i: u64) -> u64
     ensures { result ≡ root_word trees tree i }
 {
     if i == 2 { pointer(4 * trees + tree) } else { 0 }
-}
-
-/// Entry `i` of a tree's level-1 table.
-#[tactic(auto, unfolding(crate::specs::Layout::middle_word))]
-pub(crate) fn middle_word(trees: u64, tables: u64, tree: u64, i: u64) -> u64
-    requires trees { trees ≤ 66 }
-    requires tables { tables ≤ 512 }
-    requires tree { tree < trees }
-    ensures { result ≡ middle_word trees tables tree i }
-{
-    if i < tables {
-        pointer(leaf_table(trees, tables, tree) + i)
-    } else {
-        0
-    }
 }

@@ -1,14 +1,25 @@
-use Rattle.std.proofs.Common.{◌≡◌, ℕ, ◌+◌, ◌*◌, ◌/◌, ◌%◌, ◌≤◌, ◌∙◌, List, length, sym, ap, subst, arith}
-use Rattle.sv_types.specs.Regions.{most_ram_pages}
+use Rattle.std.proofs.Common.{◌≡◌, ℕ, ◌*◌, ◌/◌, ◌%◌, ◌≤◌, ◌∙◌, List, length, sym, ap, subst, arith}
 use Rattle.sv_types.specs.SecondStage.{all_free}
-use Rattle.gstage_tables.specs.Layout.{leaf_tables, tree_count, table_size, most_bound, root_word, middle_word}
+use Rattle.gstage_tables.specs.Blocks.{CountsTaken}
+use Rattle.gstage_tables.specs.Layout.{leaf_tables, tree_count, table_pages, table_size, sight_in, most_bound, root_word}
 use Rattle.gstage_tables.specs.Written.{Wrote}
+use Rattle.gstage_tables.proofs.Counts.{counts_first}
+use Rattle.gstage_tables.proofs.MapsBlocks.{maps_blocks}
 use Rattle.gstage_tables.proofs.Walks.{are_views}
 use Rattle.gstage_tables.proofs.Writes.{roots_filled, middles_filled}
 use Rattle.gstage_tables.proofs.Trees.new.Goals as goal
 
 pages_of : (size pages ram : ℕ) → ram ≡ pages → 4096 * pages ≡ size → size / 4096 ≡ ram
 pages_of size pages ram e f = omega arith
+
+pub fill_leaves-requires : goal.fill_leaves-requires
+fill_leaves-requires c =
+    let pages : ℕ = c.made-trees.result.ram_pages in
+    let whole : length c.args.mem.now.ram / 4096 ≡ pages = pages_of (length c.args.mem.now.ram) c.ram_pages.result pages c.made-trees.ensures.pages c.ram_pages.ensures.value in
+    record {
+      size = c.fill_middles.ensures.words.size ∙ c.fill_roots.ensures.words.size ∙ c.requires.size ∙ ap (λ (n : ℕ). table_size n (length c.args.bound.now)) whole
+          ∙ ap (λ (list : List ℕ). table_size pages (length list)) (sym c.made-trees.ensures.bound);
+    }
 
 pub returns-clause-holds : goal.returns-clause-holds
 returns-clause-holds c =
@@ -20,19 +31,23 @@ returns-clause-holds c =
     let d : List ℕ = c.fill_middles.new.mem.tables in
     let roots : Wrote a b (2048 * tree_count (length bound)) (λ k. k) (λ k. root_word (tree_count (length bound)) (k / 2048) (k % 2048)) =
     subst (λ (trees : ℕ). Wrote a b (2048 * trees) (λ k. k) (λ k. root_word trees (k / 2048) (k % 2048))) count c.fill_roots.ensures.words in
-    let middles : Wrote b d (512 * tree_count (length bound)) (λ k. 2048 * tree_count (length bound) + k) (λ k. middle_word (tree_count (length bound)) (leaf_tables pages) (k / 512) (k % 512)) =
-    subst (λ (t : ℕ). Wrote b d (512 * tree_count (length bound)) (λ k. 2048 * tree_count (length bound) + k) (λ k. middle_word (tree_count (length bound)) t (k / 512) (k % 512))) c.leaf_tables.ensures.value
-    (subst (λ (trees : ℕ). Wrote b d (512 * trees) (λ k. 2048 * trees + k) (λ k. middle_word trees c.leaf_tables.result (k / 512) (k % 512))) count c.fill_middles.ensures.words) in
     let whole : length c.args.mem.now.ram / 4096 ≡ pages = pages_of (length c.args.mem.now.ram) c.ram_pages.result pages c.made-trees.ensures.pages c.ram_pages.ensures.value in
     record {
-      size = c.fill_leaves.ensures.size ∙ middles.size ∙ roots.size ∙ c.requires.size ∙ ap (λ (n : ℕ). table_size n (length c.args.bound.now)) whole
+      size = c.fill_leaves.ensures.size ∙ c.fill_middles.ensures.words.size ∙ roots.size ∙ c.requires.size ∙ ap (λ (n : ℕ). table_size n (length c.args.bound.now)) whole
           ∙ ap (λ (list : List ℕ). table_size pages (length list)) (sym c.made-trees.ensures.bound);
       most = omega (arith, c.made-trees.ensures.pages, c.ram_pages.ensures.value, c.ram_pages.ensures.region.most);
       few = subst (λ (list : List ℕ). length list ≤ most_bound) (sym c.made-trees.ensures.bound) c.requires.few;
-      roots = roots_filled (tree_count (length bound)) (leaf_tables pages) a b d c.fill_leaves.new.mem.tables roots middles c.fill_leaves.ensures.below;
-      middles = middles_filled (tree_count (length bound)) (leaf_tables pages) a b d c.fill_leaves.new.mem.tables roots middles c.fill_leaves.ensures.below;
+      roots = roots_filled pages (leaf_tables pages) (table_pages pages (length bound)) (tree_count (length bound)) (sight_in bound) a b d c.fill_leaves.new.mem.tables roots c.fill_middles.ensures.words c.fill_leaves.ensures.below;
+      middles = middles_filled pages (leaf_tables pages) (table_pages pages (length bound)) (tree_count (length bound)) (sight_in bound) a b d c.fill_leaves.new.mem.tables roots c.fill_middles.ensures.words c.fill_leaves.ensures.below;
       leaves = c.fill_leaves.ensures.leaves;
     }
 
 pub returns-clause-views : goal.returns-clause-views
 returns-clause-views c = are_views c.fill_leaves.new.mem.tables c.made-trees.result.ram_pages c.made-trees.result.bound all_free (returns-clause-holds c)
+
+pub returns-clause-blocks : goal.returns-clause-blocks
+returns-clause-blocks c = maps_blocks c.fill_leaves.new.mem.tables c.made-trees.result.ram_pages c.made-trees.result.bound all_free (returns-clause-holds c)
+
+pub returns-clause-counts : goal.returns-clause-counts
+returns-clause-counts c =
+    subst (λ (counts : List ℕ). CountsTaken counts c.made-trees.result.ram_pages all_free) (sym c.made-trees.ensures.counts) (counts_first c.made-trees.result.ram_pages 512)

@@ -1,12 +1,62 @@
+use Rattle.std.proofs.Common.{◌≡◌, ℕ, ◌+◌, ◌*◌, ◌/◌, ◌<◌, ◌∙◌, Bool, List, length, sym, ap, subst}
+use Rattle.std.specs.Prelude.{◌==◌, ◌&&◌, slice_set, slice_index_or}
+use Rattle.sv_types.specs.Regions.{Region}
 use Rattle.sv_types.specs.SecondStage.{protect}
+use Rattle.gstage_tables.specs.Blocks.{is_free, is_whole_by, lies_in_ram, recounted, CountsTaken}
+use Rattle.gstage_tables.specs.Layout.{Shape, leaf_tables, tree_count, table_pages, sight_in, middle_word}
+use Rattle.gstage_tables.specs.Written.{Wrote}
+use Rattle.gstage_tables.proofs.Counts.{whole_by_counts, whole_after, counts_set}
+use Rattle.gstage_tables.proofs.MapsBlocks.{maps_blocks}
 use Rattle.gstage_tables.proofs.Walks.{are_views}
-use Rattle.gstage_tables.proofs.Writes.{holds_set}
+use Rattle.gstage_tables.proofs.Writes.{holds_pages_set}
 use Rattle.gstage_tables.proofs.Trees.set_counted.Goals as goal
 
+-- the count as the definition has it
+count_is : (count block page : ℕ) (was x w y : Bool) (counts : List ℕ) → count ≡ recounted (slice_index_or counts block 0) w y → block ≡ page / 512 → w ≡ was → y ≡ x
+    → count ≡ recounted (slice_index_or counts (page / 512) 0) was x
+count_is count block page was x w y counts e b f g =
+    e ∙ ap (λ (i : ℕ). recounted (slice_index_or counts i 0) w y) b ∙ ap (λ (v : Bool). recounted (slice_index_or counts (page / 512) 0) v y) f
+    ∙ ap (recounted (slice_index_or counts (page / 512) 0) was) g
+
 pub returns-clause-holds : goal.returns-clause-holds
-returns-clause-holds g c = λ old h.
-    holds_set c.args.mem.now.tables c.set_leaves.new.mem.tables c.args.self.now.ram_pages c.args.self.now.bound old c.args.page c.args.protection h c.requires.page c.set_leaves.ensures.words
+returns-clause-holds g c = λ old h k.
+    let pages : ℕ = c.args.self.now.ram_pages in
+    let bound : List ℕ = c.args.self.now.bound in
+    let counts : List ℕ = c.args.self.now.counts in
+    let page : ℕ = c.args.page in
+    let block = c.block_of-block.ensures.value in
+    let seen : c.self.inside.counts ≡ counts = ap (λ (trees : Shape). trees.counts) c.self.view_is in
+    let reach : page / 512 < length counts = subst (λ (b : ℕ). b < length counts) block c.block_of-block.ensures.counted in
+    let count = count_is c.recounted-count.result c.block_of-block.result page (is_free (old page)) (is_free c.args.protection) c.is_free-was_free.result c.is_free.result counts
+    (c.recounted-count.ensures ∙ ap (λ (list : List ℕ). recounted (slice_index_or list c.block_of-block.result 0) c.is_free-was_free.result c.is_free.result) seen) block (c.is_free-was_free.ensures old h) c.is_free.ensures in
+    holds_pages_set c.args.mem.now.tables c.set_leaves.new.mem.tables c.set_block.new.mem.tables pages bound old page c.args.protection
+    c.is_whole-before.result c.is_whole_with-after.result h c.requires.page c.set_leaves.ensures.words
+    (c.is_whole-before.ensures ∙ ap (is_whole_by counts pages) block ∙ whole_by_counts counts pages old (page / 512) k)
+    (c.is_whole_with-after.ensures ∙ ap (λ (b : ℕ). lies_in_ram pages b && c.recounted-count.result == 0) block
+    ∙ ap (λ (n : ℕ). lies_in_ram pages (page / 512) && n == 0) count ∙ whole_after counts pages old page c.args.protection k reach)
+    (λ e. ap (λ (r : Region). r.tables) (c.set_block.ensures.same e))
+    (λ ne. subst (λ (b : ℕ). Wrote c.set_leaves.new.mem.tables c.set_block.new.mem.tables (tree_count (length bound)) (λ tree. 512 * (4 * tree_count (length bound) + tree) + b)
+    (λ tree. middle_word (tree_count (length bound)) (leaf_tables pages) (table_pages pages (length bound)) (sight_in bound tree) tree b c.is_whole_with-after.result)) block (c.set_block.ensures.words ne))
+
+pub returns-clause-counts : goal.returns-clause-counts
+returns-clause-counts g c = λ old h k.
+    let pages : ℕ = c.args.self.now.ram_pages in
+    let counts : List ℕ = c.args.self.now.counts in
+    let page : ℕ = c.args.page in
+    let block = c.block_of-block.ensures.value in
+    let seen : c.self.inside.counts ≡ counts = ap (λ (trees : Shape). trees.counts) c.self.view_is in
+    let reach : page / 512 < length counts = subst (λ (b : ℕ). b < length counts) block c.block_of-block.ensures.counted in
+    let count = count_is c.recounted-count.result c.block_of-block.result page (is_free (old page)) (is_free c.args.protection) c.is_free-was_free.result c.is_free.result counts
+    (c.recounted-count.ensures ∙ ap (λ (list : List ℕ). recounted (slice_index_or list c.block_of-block.result 0) c.is_free-was_free.result c.is_free.result) seen) block (c.is_free-was_free.ensures old h) c.is_free.ensures in
+    subst (λ (list : List ℕ). CountsTaken (slice_set list c.block_of-block.result c.recounted-count.result) pages (protect old page c.args.protection)) (sym seen)
+    (subst (λ (b : ℕ). CountsTaken (slice_set counts b c.recounted-count.result) pages (protect old page c.args.protection)) (sym block)
+    (subst (λ (n : ℕ). CountsTaken (slice_set counts (page / 512) n) pages (protect old page c.args.protection)) (sym count)
+    (counts_set counts pages old page c.args.protection k reach)))
 
 pub returns-clause-views : goal.returns-clause-views
-returns-clause-views g c = λ old h.
-    are_views c.set_leaves.new.mem.tables c.args.self.now.ram_pages c.args.self.now.bound (protect old c.args.page c.args.protection) (returns-clause-holds g c old h)
+returns-clause-views g c = λ old h k.
+    are_views c.set_block.new.mem.tables c.args.self.now.ram_pages c.args.self.now.bound (protect old c.args.page c.args.protection) (returns-clause-holds g c old h k)
+
+pub returns-clause-blocks : goal.returns-clause-blocks
+returns-clause-blocks g c = λ old h k.
+    maps_blocks c.set_block.new.mem.tables c.args.self.now.ram_pages c.args.self.now.bound (protect old c.args.page c.args.protection) (returns-clause-holds g c old h k)

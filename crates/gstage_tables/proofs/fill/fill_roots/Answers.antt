@@ -1,4 +1,4 @@
-use Rattle.std.proofs.Common.{◌≡◌, ◌≢◌, ℕ, ◌+◌, ◌*◌, ◌/◌, ◌%◌, ◌<◌, ◌≤◌, ◌∙◌, List, length, refl, ap, arith, rules}
+use Rattle.std.proofs.Common.{◌+◌, ◌*◌, ◌/◌, ◌%◌, ◌<◌, ◌≤◌, ◌∙◌, length, refl, ap, arith, rules}
 use Rattle.sv_types.specs.Regions.{Region}
 use Rattle.gstage_tables.specs.Layout.{root_word}
 use Rattle.gstage_tables.proofs.Writes.{wrote_none, wrote_more}

@@ -1,0 +1,48 @@
+-- Blocks of RAM of 2 MiB, each of 512 pages: what one level-0 table maps, or one level-1 leaf.
+-- RISC-V Privileged manual, "Sv39: Page-Based 39-bit Virtual-Memory System": megapages.
+use Rattle.std.specs.Prelude.{◌≡◌, ℕ, zero, suc, ◌+◌, ◌-◌, ◌*◌, ◌≤◌, min, Bool, true, false, ◌&&◌, ◌==◌, if◌then◌else◌, nat_le, List, slice_index_or}
+use Rattle.sv_types.specs.declared.wires.Protection.{Protection}
+use Rattle.sv_types.specs.declared.wires.Protection.TheVariants.{Free, Held, Approved}
+
+abbrev pub is_free : Protection → Bool
+is_free Free = true
+is_free Held = false
+is_free Approved = false
+
+-- a page that isn't free is taken: it counts as one
+abbrev pub taken : Protection → ℕ
+taken protection = if is_free protection then 0 else 1
+
+-- how many of so many pages from the first on are taken
+unfoldable pub taken_among : (ℕ → Protection) → (first count : ℕ) → ℕ
+taken_among protections first zero = 0
+taken_among protections first (suc count) = taken_among protections first count + taken (protections (first + count))
+
+-- how many pages of a block are taken
+unfoldable pub taken_pages : (ℕ → Protection) → (block : ℕ) → ℕ
+taken_pages protections block = taken_among protections (512 * block) 512
+
+-- a block lies in RAM with all its pages
+abbrev pub lies_in_ram : (ram_pages block : ℕ) → Bool
+lies_in_ram ram_pages block = nat_le (512 * block + 512) ram_pages
+
+-- a block that one leaf maps: it lies in RAM, and none of its pages is taken
+abbrev pub is_whole : (ram_pages : ℕ) → (ℕ → Protection) → (block : ℕ) → Bool
+is_whole ram_pages protections block = lies_in_ram ram_pages block && taken_pages protections block == 0
+
+-- ---- counts of taken pages, by block
+
+-- whether one leaf maps a block, by the counts
+abbrev pub is_whole_by : (counts : List ℕ) → (ram_pages block : ℕ) → Bool
+is_whole_by counts ram_pages block = lies_in_ram ram_pages block && slice_index_or counts block 0 == 0
+
+-- a count where a page was free before or not, and now is or isn't
+abbrev pub recounted : (count : ℕ) → (before after : Bool) → ℕ
+recounted count true true = count
+recounted count true false = min (count + 1) 65535
+recounted count false true = count - 1
+recounted count false false = count
+
+-- the counts of taken pages are right for each block that lies in RAM
+pub record CountsTaken (counts : List ℕ) (ram_pages : ℕ) (protections : ℕ → Protection) : Type 0 where
+  pub each : (block : ℕ) → 512 * block + 512 ≤ ram_pages → slice_index_or counts block 0 ≡ taken_pages protections block
