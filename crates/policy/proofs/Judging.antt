@@ -1,7 +1,9 @@
 -- Steps that may refuse, and limits.
-use Rattle.std.proofs.Common.{◌≡◌, Bool, true, false, ◌&&◌, Ok, Err, if◌then◌else◌, refl}
+use Rattle.std.proofs.Common.{◌≡◌, Bool, true, false, ◌&&◌, Ok, Err, if◌then◌else◌, refl, ap}
+use Rattle.policy_limits.specs.declared.policy_fault.PolicyFault.{PolicyFault}
 use Rattle.policy.specs.declared.refusal.PolicyRefusal.{PolicyRefusal}
-use Rattle.policy.specs.Refusals.{Judged, ◌>>=◌}
+use Rattle.policy.specs.declared.refusal.PolicyRefusal.TheVariants.{Fault}
+use Rattle.policy.specs.Refusals.{Judged, ◌>>=◌, answered}
 use Rattle.policy.specs.Values.{limited}
 
 pub then_ok : {A B : Type 0} (r : Judged A) (f : A → Judged B) (a : A) (b : Judged B) → r ≡ Ok a → f a ≡ b → (r >>= f) ≡ b
@@ -16,6 +18,12 @@ pub after : {A B P : Type 0} (r : Judged A) (f : A → Judged B) (b : B) → (r 
 after (Ok a) f b h next = next a refl h
 after (Err e) f b h next = cc h
 
+-- why the first step refused is why the two do
+pub refused_on : {A B : Type 0} (judged : Judged A) (f : A → Judged B) (e : PolicyRefusal) → answered judged ≡ Err e → answered (judged >>= f) ≡ Err e
+refused_on (Ok a) f e is = cc is
+refused_on (Err fault) f e is =
+    let same : Fault fault ≡ e = cc is in ap (λ (x : PolicyRefusal). Err x) same
+
 pub ok_same : {A : Type 0} (a b : A) → ◌≡◌ {A = Judged A} (Ok a) (Ok b) → a ≡ b
 ok_same a b h = cc h
 
@@ -29,6 +37,6 @@ limited_ok false a b h = cc h
 pub both_true : {a b : Bool} → a ≡ true → b ≡ true → (a && b) ≡ true
 both_true x y = rw (x, y) refl
 
-pub if_ok : {A : Type 0} (b : Bool) (a c : A) (e : PolicyRefusal) → ◌≡◌ {A = Judged A} (if b then Ok a else Err e) (Ok c) → (b ≡ true) × (a ≡ c)
+pub if_ok : {A : Type 0} (b : Bool) (a c : A) (e : PolicyFault) → ◌≡◌ {A = Judged A} (if b then Ok a else Err e) (Ok c) → (b ≡ true) × (a ≡ c)
 if_ok true a c e h = (refl, ok_same a c h)
 if_ok false a c e h = cc h

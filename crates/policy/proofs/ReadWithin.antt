@@ -3,15 +3,17 @@ use Rattle.std.proofs.Common.{◌≡◌, ℕ, nat_le, ◌==◌, ℤ, pos, negsuc
 use Rattle.std.proofs.lemmas.Bool.{and_parts}
 use Rattle.toml.specs.Data.{Data, Items, no_items, item, Members, get_member}
 use Rattle.sv_types.specs.Bytes.{ram_base}
-use Rattle.sv_types.specs.Policies.{Rules, ModuleRule, format_within, harts_within, ram_pages_within, entry_within, entries_count_within, entries_within, exports_count_within, export_within, exports_within, bound_within, is_exported, span_within, init_within, place_within, kind_within, is_aligned, base_within, anchor_within, is_behind, next_site_within, sites_within, sites_count_within, sites_of, module_within, modules_within, modules_count_within, is_module, module_pages_within, rules_within}
+use Rattle.sv_types.specs.Policies.{Rules, ModuleRule, format_within, harts_within, ram_pages_within, entry_within, entries_count_within, entries_within, exports_count_within, export_within, exports_within, bound_within, is_exported, span_within, init_within, place_within, is_aligned, base_within, anchor_within, is_behind, next_site_within, sites_within, sites_count_within, sites_of, module_within, modules_within, modules_count_within, is_module, module_pages_within, rules_within}
 use Rattle.sv_types.specs.declared.module.Span.{Span}
 use Rattle.sv_types.specs.declared.module.Site.{Site}
+use Rattle.sv_types.specs.declared.relocation_kind.RelocationKind.{RelocationKind}
 use Rattle.sv_types.specs.declared.policy.Export.{Export}
-use Rattle.policy.specs.Refusals.{◌>>=◌, not_ascending, other_format}
+use Rattle.policy.specs.Refusals.{◌>>=◌}
 use Rattle.policy.specs.Values.{required, integer_of, members_in, with_known, limited, number_of, natural_of, items_in, address_of, name_of}
 use Rattle.policy.specs.Text.{kernel_of, key_name, key_pages, key_measure, key_harts, key_ram_pages, key_entries, known_keys, module_keys, module_pages_of, module_rule_of, format_number, format_of, entry_of, entries_of, export_of_two, export_of, export_of_items, exports_of, unrepeated, page_span, page_address_of, page_count_of, init_of_two, init_of_items, init_of, kernel_rule, fitting, offset_of, kind_of, base_of, anchor_of, site_of_five, site_of_items, site_of, sites_in, module_of_members, module_of, modules_of, rules_of_members}
 use Rattle.policy.proofs.ReadLists.{limited_read}
 use Rattle.policy.proofs.Judging.{bind_ok, after, ok_same, limited_ok, both_true, if_ok}
+use Rattle.policy_limits.specs.declared.policy_fault.PolicyFault.{PolicyFault}
 
 -- ---- numbers
 
@@ -27,7 +29,7 @@ unrepeated_ok false a c h = (refl, ok_same a c h)
 
 number_read : (z : ℤ) (n : ℕ) → format_number z ≡ Ok n → format_within n ≡ true
 number_read (pos m) n h =
-    let one = if_ok (m == 1) 1 n other_format h in
+    let one = if_ok (m == 1) 1 n PolicyFault.OtherFormat h in
     subst (λ (x : ℕ). format_within x ≡ true) one.1 refl
 number_read (negsuc m) n h = cc h
 
@@ -98,11 +100,11 @@ kernel_read ram_pages ms kernel read =
 
 -- ---- modules
 
-next_site_true : (pages exports : ℕ) (before : List Site) (s : Site) → place_within pages s.offset ≡ true → kind_within s.kind ≡ true →
+next_site_true : (pages exports : ℕ) (before : List Site) (s : Site) → place_within pages s.offset ≡ true →
     is_aligned s.kind s.offset ≡ true → base_within exports s.base ≡ true → anchor_within pages s.kind s.offset s.anchor ≡ true →
     is_behind before s ≡ true → next_site_within pages exports before s ≡ true
-next_site_true pages exports before s placed known aligned based anchored behind =
-    both_true (both_true (both_true (both_true (both_true placed known) aligned) based) anchored) behind
+next_site_true pages exports before s placed aligned based anchored behind =
+    both_true (both_true (both_true (both_true placed aligned) based) anchored) behind
 
 five_read : (pages exports : ℕ) (before : List Site) (offset kind base addend anchor : Data) (s : Site) →
     site_of_five pages exports before offset kind base addend anchor ≡ Ok s → next_site_within pages exports before s ≡ true
@@ -116,12 +118,11 @@ five_read pages exports before offset kind base addend anchor s read =
     after (anchor_of pages fit at anchor) _ s read λ to to_is read.
     let aligned = limited_ok (is_aligned any at) any fit fit_is in
     let site : Site = record { offset = at; kind = fit; base = from; addend = plus; anchor = to } in
-    let behind = if_ok (is_behind before site) site s not_ascending read in
+    let behind = if_ok (is_behind before site) site s PolicyFault.NotAscending read in
     subst (λ (x : Site). next_site_within pages exports before x ≡ true) behind.1
     (next_site_true pages exports before site
     (number_within (place_within pages) offset at at_is)
-    (subst (λ (k : ℕ). kind_within k ≡ true) aligned.1 (number_within kind_within kind any any_is))
-    (subst (λ (k : ℕ). is_aligned k at ≡ true) aligned.1 aligned.0)
+    (subst (λ (k : RelocationKind). is_aligned k at ≡ true) aligned.1 aligned.0)
     (number_within (base_within exports) base from from_is)
     (number_within (anchor_within pages fit at) anchor to to_is)
     behind.0)

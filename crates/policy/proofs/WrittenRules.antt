@@ -6,10 +6,13 @@ use Rattle.std.proofs.lemmas.Bool.Decides.{nat_tests}
 use Rattle.std.specs.List.{All}
 use Rattle.toml.specs.Data.{Members, get_member}
 use Rattle.sv_types.specs.Bytes.{ram_base}
-use Rattle.sv_types.specs.Policies.{Rules, ModuleRule, each_within, entry_within, entries_count_within, exports_count_within, export_within, is_exported, span_within, init_within, next_site_within, site_within, place_within, kind_within, is_aligned, base_within, anchor_within, is_behind, sites_within, sites_count_within, sites_of, module_within, modules_within, modules_count_within, is_module, module_pages_within, format_within, harts_within, ram_pages_within, entries_within, exports_within, bound_within, numbers_within, lists_within, rules_within}
+use Rattle.sv_types.specs.Policies.{Rules, ModuleRule, each_within, entry_within, entries_count_within, exports_count_within, export_within, is_exported, span_within, init_within, next_site_within, site_within, place_within, is_aligned, base_within, anchor_within, is_behind, sites_within, sites_count_within, sites_of, module_within, modules_within, modules_count_within, is_module, module_pages_within, format_within, harts_within, ram_pages_within, entries_within, exports_within, bound_within, numbers_within, lists_within, rules_within}
+use Rattle.sv_types.specs.RelocationKinds as kinds
 use Rattle.sv_types.specs.declared.module.Span.{Span}
 use Rattle.sv_types.specs.declared.module.Site.{Site}
 use Rattle.sv_types.specs.declared.policy.Export.{Export}
+use Rattle.sv_types.specs.declared.relocation_kind.RelocationKind.{RelocationKind}
+use Rattle.sv_types.specs.declared.relocation_kind.RelocationKind.TheVariants.{Word64, Branch, Jal, PcrelHi20, PcrelLo12I, PcrelLo12S, Hi20, Lo12I, Lo12S}
 use Rattle.policy.specs.Values.{limited}
 use Rattle.policy.specs.Text.{format_number, entry_of, entries_of, export_of_two, export_of, some_exports_of, span_at, init_of_two, init_of, kernel_rule, site_of_five, site_of, sites_in, module_of_members, module_of, some_modules_of, rules_of_members, rules_of_text, table_of_text}
 use Rattle.policy.specs.Printed.{address_data, entries_data, export_data, exports_data, span_data, site_data, sites_data, module_data, modules_data, kernel_data, rules_members}
@@ -79,6 +82,17 @@ init_back ram_pages kernel (Some span) ms at digest within few =
 
 -- ---- modules
 
+kind_back : (kind : RelocationKind) → kinds.kind_of (kinds.kind_number kind) ≡ Some kind
+kind_back Word64 = refl
+kind_back Branch = refl
+kind_back Jal = refl
+kind_back PcrelHi20 = refl
+kind_back PcrelLo12I = refl
+kind_back PcrelLo12S = refl
+kind_back Hi20 = refl
+kind_back Lo12I = refl
+kind_back Lo12S = refl
+
 site_back : (pages exports : ℕ) (before : List Site) (s : Site) → next_site_within pages exports before s ≡ true →
     site_of pages exports before (site_data s) ≡ Ok s
 unfolding site_data site_of_five
@@ -86,9 +100,8 @@ site_back pages exports before s within =
     let behind = and_parts (site_within pages exports s) (is_behind before s) within in
     let anchor = and_parts _ (anchor_within pages s.kind s.offset s.anchor) behind.0 in
     let base = and_parts _ (base_within exports s.base) anchor.0 in
-    let aligned = and_parts _ (is_aligned s.kind s.offset) base.0 in
-    let kind = and_parts (place_within pages s.offset) (kind_within s.kind) aligned.0 in
-    rw (kind.0, kind.1, aligned.1, base.1, anchor.1, behind.1) refl
+    let aligned = and_parts (place_within pages s.offset) (is_aligned s.kind s.offset) base.0 in
+    rw (aligned.0, kind_back s.kind, aligned.1, base.1, anchor.1, behind.1) refl
 
 sites_back : (pages exports before : ℕ) (sites : List Site) → sites_count_within before (length sites) ≡ true → sites_within pages exports sites ≡ true →
     sites_in pages exports before (sites_data sites) ≡ Ok sites

@@ -9,6 +9,7 @@ use Rattle.toml.specs.View.{items_of}
 use Rattle.sv_types.specs.Bytes.{ram_base}
 use Rattle.sv_types.specs.Output.{address_text}
 use Rattle.sv_types.specs.Policies.{Rules, ModuleRule}
+use Rattle.sv_types.specs.RelocationKinds.{kind_number}
 use Rattle.sv_types.specs.declared.module.Span.{Span}
 use Rattle.sv_types.specs.declared.module.Site.{Site}
 use Rattle.sv_types.specs.declared.policy.Export.{Export}
@@ -36,7 +37,7 @@ span_data span = array (items_of (address_data (ram_base + 4096 * span.first) �
 
 unfoldable pub site_data : Site → Data
 site_data site =
-    array (items_of (number_data site.offset ∷ number_data site.kind ∷ number_data site.base ∷ integer site.addend ∷ number_data site.anchor ∷ []))
+    array (items_of (number_data site.offset ∷ number_data (kind_number site.kind) ∷ number_data site.base ∷ integer site.addend ∷ number_data site.anchor ∷ []))
 
 abbrev pub entries_data : List ℕ → Data
 entries_data entries = array (items_of (map address_data entries))

@@ -6,17 +6,20 @@ use Rattle.std.specs.Str.{is_utf8}
 use Rattle.toml.specs.Data.{Data, Items, no_items, item, Members, get_member}
 use Rattle.toml.specs.Parse.{parse_document}
 use Rattle.sv_types.specs.Bytes.{ram_base}
-use Rattle.sv_types.specs.Policies.{Rules, ModuleRule, harts_within, ram_pages_within, entries_count_within, exports_count_within, modules_count_within, module_pages_within, sites_count_within, entry_within, is_exported, span_within, kind_within, place_within, is_aligned, base_within, anchor_within, is_behind, is_module, sites_of}
+use Rattle.sv_types.specs.Policies.{Rules, ModuleRule, harts_within, ram_pages_within, entries_count_within, exports_count_within, modules_count_within, module_pages_within, sites_count_within, entry_within, is_exported, span_within, place_within, is_aligned, base_within, anchor_within, is_behind, is_module, sites_of}
+use Rattle.sv_types.specs.RelocationKinds as kinds
 use Rattle.sv_types.specs.declared.module.Span.{Span}
 use Rattle.sv_types.specs.declared.module.Site.{Site}
 use Rattle.sv_types.specs.declared.policy.Export.{Export}
-use Rattle.policy.specs.Refusals.{Judged, ◌>>=◌, not_toml, wrong_kind, repeated_name, other_format, not_ascending}
-use Rattle.policy.specs.Values.{required, integer_of, members_in, items_in, limited, number_of, name_of, address_of, measure_of, with_known, items_length, each_item}
+use Rattle.sv_types.specs.declared.relocation_kind.RelocationKind.{RelocationKind}
+use Rattle.policy.specs.Refusals.{Judged, ◌>>=◌}
+use Rattle.policy.specs.Values.{required, integer_of, natural_of, members_in, items_in, limited, number_of, name_of, address_of, measure_of, with_known, items_length, each_item}
+use Rattle.policy_limits.specs.declared.policy_fault.PolicyFault.{PolicyFault}
 
 -- ---- format
 
 abbrev pub format_number : ℤ → Judged ℕ
-format_number z = elim z [ pos n ↦ (if n == 1 then Ok 1 else Err other_format) | negsuc n ↦ Err other_format ]
+format_number z = elim z [ pos n ↦ (if n == 1 then Ok 1 else Err PolicyFault.OtherFormat) | negsuc n ↦ Err PolicyFault.OtherFormat ]
 
 abbrev pub format_of : Members → Judged ℕ
 format_of members = required (codes "format") members >>= integer_of >>= format_number
@@ -33,7 +36,7 @@ abbrev pub entries_of : Data → Judged (List ℕ)
 entries_of d = items_in d >>= λ items. limited (entries_count_within (items_length items)) items >>= each_entry []
 
 abbrev pub unrepeated : {A : Type 0} → Bool → A → Judged A
-unrepeated true a = Err repeated_name
+unrepeated true a = Err PolicyFault.RepeatedName
 unrepeated false a = Ok a
 
 unfoldable pub export_of_two : List Export → Data → Data → Judged Export
@@ -44,7 +47,7 @@ export_of_two before name addr = do
 
 abbrev pub export_of_items : List Export → Items → Judged Export
 export_of_items before (item name (item addr no_items)) = export_of_two before name addr
-export_of_items before _ = Err wrong_kind
+export_of_items before _ = Err PolicyFault.WrongKind
 
 abbrev pub export_of : List Export → Data → Judged Export
 export_of before d = items_in d >>= export_of_items before
@@ -88,7 +91,7 @@ init_of_two ram_pages address count = do
 
 abbrev pub init_of_items : ℕ → Items → Judged Span
 init_of_items ram_pages (item address (item count no_items)) = init_of_two ram_pages address count
-init_of_items ram_pages _ = Err wrong_kind
+init_of_items ram_pages _ = Err PolicyFault.WrongKind
 
 abbrev pub some_of : {A : Type 0} → Judged A → Judged (Option A)
 some_of judged = judged >>= λ a. Ok (Some a)
@@ -108,22 +111,22 @@ kernel_of members = required (codes "kernel") members >>= members_in >>= with_kn
 
 -- a site that stands behind those before it
 abbrev pub in_order : List Site → Site → Judged Site
-in_order before site = if is_behind before site then Ok site else Err not_ascending
+in_order before site = if is_behind before site then Ok site else Err PolicyFault.NotAscending
 
 abbrev pub offset_of : ℕ → Data → Judged ℕ
 offset_of pages = number_of (place_within pages)
 
-abbrev pub kind_of : Data → Judged ℕ
-kind_of = number_of kind_within
+abbrev pub kind_of : Data → Judged RelocationKind
+kind_of d = natural_of d >>= λ number. ok_or (kinds.kind_of number) PolicyFault.BeyondLimit
 
 -- the kind, if its field may stand at the offset
-abbrev pub fitting : ℕ → ℕ → Judged ℕ
+abbrev pub fitting : RelocationKind → ℕ → Judged RelocationKind
 fitting kind offset = limited (is_aligned kind offset) kind
 
 abbrev pub base_of : ℕ → Data → Judged ℕ
 base_of exports = number_of (base_within exports)
 
-abbrev pub anchor_of : ℕ → ℕ → ℕ → Data → Judged ℕ
+abbrev pub anchor_of : ℕ → RelocationKind → ℕ → Data → Judged ℕ
 anchor_of pages kind offset = number_of (anchor_within pages kind offset)
 
 unfoldable pub site_of_five : ℕ → ℕ → List Site → Data → Data → Data → Data → Data → Judged Site
@@ -139,7 +142,7 @@ site_of_five pages exports before offset kind base addend anchor = do
 abbrev pub site_of_items : ℕ → ℕ → List Site → Items → Judged Site
 site_of_items pages exports before (item offset (item kind (item base (item addend (item anchor no_items))))) =
     site_of_five pages exports before offset kind base addend anchor
-site_of_items pages exports before _ = Err wrong_kind
+site_of_items pages exports before _ = Err PolicyFault.WrongKind
 
 abbrev pub site_of : ℕ → ℕ → List Site → Data → Judged Site
 site_of pages exports before d = items_in d >>= site_of_items pages exports before
@@ -233,7 +236,7 @@ rules_of_members members = do
 
 -- the table of a text
 abbrev pub table_of_text : List ℕ → Judged Members
-table_of_text bytes = if is_utf8 bytes then ok_or (parse_document bytes) not_toml else Err not_toml
+table_of_text bytes = if is_utf8 bytes then ok_or (parse_document bytes) PolicyFault.NotToml else Err PolicyFault.NotToml
 
 -- the whole rule on a text
 abbrev pub rules_of_text : List ℕ → Judged Rules

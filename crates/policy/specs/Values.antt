@@ -6,31 +6,32 @@ use Rattle.std.specs.Str.{bytes_eq}
 use Rattle.toml.specs.Data.{Data, Items, no_items, item, Members, no_members, member, get_member, as_integer, as_str, as_array, as_table}
 use Rattle.sv_types.specs.Numbers.{digest_of}
 use Rattle.text_numbers.specs.Addresses as addresses
-use Rattle.policy.specs.Refusals.{Judged, ◌>>=◌, missing_key, unknown_key, wrong_kind, bad_hexadecimal, beyond_limit}
+use Rattle.policy.specs.Refusals.{Judged, ◌>>=◌}
+use Rattle.policy_limits.specs.declared.policy_fault.PolicyFault.{PolicyFault}
 
 abbrev pub required : List ℕ → Members → Judged Data
-required key members = ok_or (get_member key members) missing_key
+required key members = ok_or (get_member key members) PolicyFault.MissingKey
 
 abbrev pub integer_of : Data → Judged ℤ
-integer_of d = ok_or (as_integer d) wrong_kind
+integer_of d = ok_or (as_integer d) PolicyFault.WrongKind
 
 abbrev pub text_of : Data → Judged (List ℕ)
-text_of d = ok_or (as_str d) wrong_kind
+text_of d = ok_or (as_str d) PolicyFault.WrongKind
 
 abbrev pub items_in : Data → Judged Items
-items_in d = ok_or (as_array d) wrong_kind
+items_in d = ok_or (as_array d) PolicyFault.WrongKind
 
 abbrev pub members_in : Data → Judged Members
-members_in d = ok_or (as_table d) wrong_kind
+members_in d = ok_or (as_table d) PolicyFault.WrongKind
 
 -- the value, if it passes its limit
 abbrev pub limited : {A : Type 0} → Bool → A → Judged A
 limited true a = Ok a
-limited false a = Err beyond_limit
+limited false a = Err PolicyFault.BeyondLimit
 
 abbrev pub whole : ℤ → Judged ℕ
 whole (pos n) = Ok n
-whole (negsuc n) = Err beyond_limit
+whole (negsuc n) = Err PolicyFault.BeyondLimit
 
 abbrev pub natural_of : Data → Judged ℕ
 natural_of d = integer_of d >>= whole
@@ -46,11 +47,11 @@ abbrev pub name_of : Data → Judged (List ℕ)
 name_of d = text_of d >>= λ text. limited (name_within text) text
 
 abbrev pub address_of : Data → Judged ℕ
-address_of d = text_of d >>= λ text. ok_or (addresses.address_of text) bad_hexadecimal
+address_of d = text_of d >>= λ text. ok_or (addresses.address_of text) PolicyFault.BadHexadecimal
 
 -- a digest's bytes
 abbrev pub measure_of : Data → Judged (List ℕ)
-measure_of d = text_of d >>= λ text. ok_or (digest_of text) bad_hexadecimal
+measure_of d = text_of d >>= λ text. ok_or (digest_of text) PolicyFault.BadHexadecimal
 
 -- some key is none of these
 abbrev pub has_unknown : List (List ℕ) → Members → Bool
@@ -59,7 +60,7 @@ has_unknown keys (member key d members) = not (list_any (bytes_eq key) keys) || 
 
 -- the members, if each key is one of these
 abbrev pub with_known : List (List ℕ) → Members → Judged Members
-with_known keys members = if has_unknown keys members then Err unknown_key else Ok members
+with_known keys members = if has_unknown keys members then Err PolicyFault.UnknownKey else Ok members
 
 abbrev pub items_length : Items → ℕ
 items_length no_items = 0

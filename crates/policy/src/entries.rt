@@ -7,20 +7,20 @@ ghost use Rattle.policy.specs.ExportNames.{HasNames};
 ghost use Rattle.sv_types.specs.declared.policy.Export.{Export as ExportData};
 ghost use Rattle.policy.specs.Text as spec;
 
-use crate::refusal::{BEYOND_LIMIT, PolicyRefusal, REPEATED_NAME, WRONG_KIND};
+use crate::refusal::PolicyRefusal;
 use crate::values::{address, items, name};
-use policy_limits::{MOST_ENTRIES, MOST_EXPORTS};
+use policy_limits::{MOST_ENTRIES, MOST_EXPORTS, PolicyFault};
 use std::alloc::Global;
 use std::collections::BTreeSet;
 use sv_types::Export;
 use toml::Value;
 
-fn entry(value: &Value) -> Result<u64, PolicyRefusal>
+fn entry(value: &Value) -> Result<u64, PolicyFault>
     ensures { result ≡ spec.entry_of (view value.now) }
 {
     let address = address(value)?;
     if address % 4 != 0 {
-        return Err(BEYOND_LIMIT);
+        return Err(PolicyFault::BeyondLimit);
     }
     Ok(address)
 }
@@ -44,7 +44,7 @@ pub fn entries(alloc: Global, value: &Value) -> Result<Vec<u64>, PolicyRefusal>
 {
     let items = items(value)?;
     if items.len() < 1 || items.len() > MOST_ENTRIES {
-        return Err(BEYOND_LIMIT);
+        return Err(PolicyRefusal::Fault(PolicyFault::BeyondLimit));
     }
     each_entry(alloc, items)
 }
@@ -55,27 +55,27 @@ fn export_of_two(
     names: &BTreeSet<String>,
     name_value: &Value,
     addr_value: &Value,
-) -> Result<Export, PolicyRefusal>
+) -> Result<Export, PolicyFault>
     ensures { (before : List ExportData) → HasNames names.now before → result ≡ spec.export_of_two before (view name_value.now) (view addr_value.now) }
 {
     let name = name(name_value)?;
     let addr = address(addr_value)?;
     if names.contains(name.text()) {
-        return Err(REPEATED_NAME);
+        return Err(PolicyFault::RepeatedName);
     }
     Ok(Export { name, addr })
 }
 
-fn export_of_items(names: &BTreeSet<String>, items: &[Value]) -> Result<Export, PolicyRefusal>
+fn export_of_items(names: &BTreeSet<String>, items: &[Value]) -> Result<Export, PolicyFault>
     ensures { (before : List ExportData) → HasNames names.now before → result ≡ spec.export_of_items before (items_view items.now) }
 {
     match items {
         [name, addr] => export_of_two(names, name, addr),
-        _ => Err(WRONG_KIND),
+        _ => Err(PolicyFault::WrongKind),
     }
 }
 
-fn export(names: &BTreeSet<String>, value: &Value) -> Result<Export, PolicyRefusal>
+fn export(names: &BTreeSet<String>, value: &Value) -> Result<Export, PolicyFault>
     ensures { (before : List ExportData) → HasNames names.now before → result ≡ spec.export_of before (view value.now) }
 {
     let items = items(value)?;
@@ -105,7 +105,7 @@ fn some_exports(alloc: Global, value: &Value) -> Result<Vec<Export>, PolicyRefus
 {
     let items = items(value)?;
     if items.len() > MOST_EXPORTS {
-        return Err(BEYOND_LIMIT);
+        return Err(PolicyRefusal::Fault(PolicyFault::BeyondLimit));
     }
     each_export(alloc, items)
 }

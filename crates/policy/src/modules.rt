@@ -6,33 +6,33 @@ ghost use Rattle.toml.specs.View.{view, table_view, items_view};
 ghost use Rattle.policy.specs.Refusals.{Refuses, judged_map};
 ghost use Rattle.policy.specs.Text as spec;
 
-use crate::refusal::{BEYOND_LIMIT, PolicyRefusal, REPEATED_NAME};
+use crate::refusal::PolicyRefusal;
 use crate::sites::{Bounds, sites};
 use crate::values::{items, measure, members, name, natural, required, with_known};
-use policy_limits::{MOST_MODULE_PAGES, MOST_MODULES, is_module};
+use policy_limits::{MOST_MODULE_PAGES, MOST_MODULES, PolicyFault, is_module};
 use std::alloc::Global;
 use sv_types::{ModulePolicy, Name};
 use toml::{Table, Value};
 
-fn module_pages(value: &Value) -> Result<u32, PolicyRefusal>
+fn module_pages(value: &Value) -> Result<u32, PolicyFault>
     ensures value { result ≡ spec.module_pages_of (view value.now) }
     ensures within { IfOk result (λ pages. pages ≤ 1024) }
 {
     let pages = natural(value)?;
     if pages < 1 || pages > u64::from(MOST_MODULE_PAGES) {
-        return Err(BEYOND_LIMIT);
+        return Err(PolicyFault::BeyondLimit);
     }
     Ok(pages as u32)
 }
 
-fn key_name(table: &Table) -> Result<Name, PolicyRefusal>
+fn key_name(table: &Table) -> Result<Name, PolicyFault>
     ensures { result ≡ spec.key_name (table_view table.now) }
 {
     let value = required(table, "name")?;
     name(value)
 }
 
-fn key_pages(table: &Table) -> Result<u32, PolicyRefusal>
+fn key_pages(table: &Table) -> Result<u32, PolicyFault>
     ensures value { result ≡ spec.key_pages (table_view table.now) }
     ensures within { IfOk result (λ pages. pages ≤ 1024) }
 {
@@ -40,26 +40,23 @@ fn key_pages(table: &Table) -> Result<u32, PolicyRefusal>
     module_pages(value)
 }
 
-pub fn key_measure(table: &Table) -> Result<[u8; 32], PolicyRefusal>
+pub fn key_measure(table: &Table) -> Result<[u8; 32], PolicyFault>
     ensures { result ≡ spec.key_measure (table_view table.now) }
 {
     let value = required(table, "measure")?;
     measure(value)
 }
 
-fn unrepeated(
-    before: &[ModulePolicy],
-    candidate: ModulePolicy,
-) -> Result<ModulePolicy, PolicyRefusal>
+fn unrepeated(before: &[ModulePolicy], candidate: ModulePolicy) -> Result<ModulePolicy, PolicyFault>
     ensures { judged_map limits.module_rule result ≡ spec.unrepeated_module (map limits.module_rule before.now) (limits.module_rule candidate) }
 {
     if is_module(&candidate.name, before) {
-        return Err(REPEATED_NAME);
+        return Err(PolicyFault::RepeatedName);
     }
     Ok(candidate)
 }
 
-#[tactic(auto, unfolding(crate::specs::Text::module_of_members))]
+#[tactic(auto, unfolding(crate::specs::Text::module_of_members), using(crate::proofs::Judging::refused_on))]
 fn module_of_members(
     alloc: Global,
     exports: usize,
@@ -81,15 +78,13 @@ fn module_of_members(
     let measure = key_measure(table)?;
     let list = required(table, "sites")?;
     let sites = sites(alloc, Bounds { pages, exports }, sites_before, list)?;
-    unrepeated(
-        before,
-        ModulePolicy {
-            name,
-            pages,
-            measure,
-            sites,
-        },
-    )
+    let module = ModulePolicy {
+        name,
+        pages,
+        measure,
+        sites,
+    };
+    Ok(unrepeated(before, module)?)
 }
 
 fn module(
@@ -112,6 +107,7 @@ fn module(
     module_of_members(alloc, exports, before, sites_before, table)
 }
 
+#[tactic(auto, using(crate::proofs::Judging::refused_on))]
 fn each_module(
     alloc: Global,
     exports: usize,
@@ -144,7 +140,7 @@ fn some_modules(
 {
     let items = items(value)?;
     if items.len() > MOST_MODULES {
-        return Err(BEYOND_LIMIT);
+        return Err(PolicyRefusal::Fault(PolicyFault::BeyondLimit));
     }
     each_module(alloc, exports, items)
 }

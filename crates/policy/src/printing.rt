@@ -86,7 +86,7 @@ fn site(alloc: Global, site: &Site) -> Result<Value, AllocError>
     ensures { IfOk result (λ v. view v ≡ spec.site_data site.now) }
 {
     let offset = number(site.offset);
-    let kind = number(u32::from(site.kind));
+    let kind = number(u32::from(site.kind.number()));
     let base = number(u32::from(site.base));
     let addend = Value::from(site.addend);
     let anchor = number(site.anchor);

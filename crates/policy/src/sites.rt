@@ -5,13 +5,13 @@ ghost use Rattle.toml.specs.View.{view, items_view};
 ghost use Rattle.policy.specs.Refusals.{Refuses};
 ghost use Rattle.policy.specs.Text as spec;
 
-use crate::refusal::{BEYOND_LIMIT, NOT_ASCENDING, PolicyRefusal, WRONG_KIND};
+use crate::refusal::PolicyRefusal;
 use crate::values::{integer, items, natural};
 use policy_limits::{
-    MOST_MODULE_SITES, MOST_SITES, is_aligned, is_anchor, is_behind, is_kind, is_place,
+    MOST_MODULE_SITES, MOST_SITES, PolicyFault, is_aligned, is_anchor, is_behind, is_place,
 };
 use std::alloc::Global;
-use sv_types::Site;
+use sv_types::{RelocationKind, Site};
 use toml::Value;
 
 /// What the sites of a module are judged by: its pages, and the number of exports.
@@ -23,65 +23,65 @@ pub struct Bounds {
     ghost few_exports: { exports ≤ 4096 },
 }
 
-fn offset(pages: u32, value: &Value) -> Result<u32, PolicyRefusal>
+fn offset(pages: u32, value: &Value) -> Result<u32, PolicyFault>
     requires { pages ≤ 1024 }
     ensures { result ≡ spec.offset_of pages (view value.now) }
 {
     let offset = natural(value)?;
     if !is_place(pages, offset) {
-        return Err(BEYOND_LIMIT);
+        return Err(PolicyFault::BeyondLimit);
     }
     Ok(offset as u32)
 }
 
-fn kind(value: &Value) -> Result<u8, PolicyRefusal>
+fn kind(value: &Value) -> Result<RelocationKind, PolicyFault>
     ensures { result ≡ spec.kind_of (view value.now) }
 {
-    let kind = natural(value)?;
-    if !is_kind(kind) {
-        return Err(BEYOND_LIMIT);
+    let number = natural(value)?;
+    match RelocationKind::of(number) {
+        Some(kind) => Ok(kind),
+        None => Err(PolicyFault::BeyondLimit),
     }
-    Ok(kind as u8)
 }
 
-fn fitting(kind: u8, offset: u32) -> Result<u8, PolicyRefusal>
+fn fitting(kind: RelocationKind, offset: u32) -> Result<RelocationKind, PolicyFault>
     ensures { result ≡ spec.fitting kind offset }
 {
     if !is_aligned(kind, offset) {
-        return Err(BEYOND_LIMIT);
+        return Err(PolicyFault::BeyondLimit);
     }
     Ok(kind)
 }
 
-fn base(exports: usize, value: &Value) -> Result<u16, PolicyRefusal>
+fn base(exports: usize, value: &Value) -> Result<u16, PolicyFault>
     requires { exports ≤ 4096 }
     ensures { result ≡ spec.base_of exports (view value.now) }
 {
     let base = natural(value)?;
     if base >= 3 + exports as u64 {
-        return Err(BEYOND_LIMIT);
+        return Err(PolicyFault::BeyondLimit);
     }
     Ok(base as u16)
 }
 
-fn anchor(pages: u32, kind: u8, offset: u32, value: &Value) -> Result<u32, PolicyRefusal>
+fn anchor(pages: u32, kind: RelocationKind, offset: u32, value: &Value) -> Result<u32, PolicyFault>
     requires { pages ≤ 1024 }
     ensures { result ≡ spec.anchor_of pages kind offset (view value.now) }
 {
     let anchor = natural(value)?;
     if !is_anchor(pages, kind, offset, anchor) {
-        return Err(BEYOND_LIMIT);
+        return Err(PolicyFault::BeyondLimit);
     }
     Ok(anchor as u32)
 }
 
-fn in_order(before: &[Site], site: Site) -> Result<Site, PolicyRefusal>
+fn in_order(before: &[Site], site: Site) -> Result<Site, PolicyFault>
     ensures { result ≡ spec.in_order before.now site }
 {
     if is_behind(before, &site) {
         Ok(site)
     } else {
-        Err(NOT_ASCENDING)
+        Err(PolicyFault::NotAscending)
     }
 }
 
@@ -94,7 +94,7 @@ fn site_of_five(
     base_value: &Value,
     addend_value: &Value,
     anchor_value: &Value,
-) -> Result<Site, PolicyRefusal>
+) -> Result<Site, PolicyFault>
     ensures { result
         ≡ spec.site_of_five bounds.pages bounds.exports before.now (view offset_value.now) (view kind_value.now)
         (view base_value.now) (view addend_value.now) (view anchor_value.now) }
@@ -115,18 +115,18 @@ fn site_of_five(
     in_order(before, site)
 }
 
-fn site_of_items(bounds: Bounds, before: &[Site], items: &[Value]) -> Result<Site, PolicyRefusal>
+fn site_of_items(bounds: Bounds, before: &[Site], items: &[Value]) -> Result<Site, PolicyFault>
     ensures { result ≡ spec.site_of_items bounds.pages bounds.exports before.now (items_view items.now) }
 {
     match items {
         [offset, kind, base, addend, anchor] => site_of_five(
             bounds, before, offset, kind, base, addend, anchor,
         ),
-        _ => Err(WRONG_KIND),
+        _ => Err(PolicyFault::WrongKind),
     }
 }
 
-fn site(bounds: Bounds, before: &[Site], value: &Value) -> Result<Site, PolicyRefusal>
+fn site(bounds: Bounds, before: &[Site], value: &Value) -> Result<Site, PolicyFault>
     ensures { result ≡ spec.site_of bounds.pages bounds.exports before.now (view value.now) }
 {
     let items = items(value)?;
@@ -161,7 +161,7 @@ pub fn sites(
 {
     let items = items(value)?;
     if items.len() > MOST_MODULE_SITES || before + items.len() > MOST_SITES {
-        return Err(BEYOND_LIMIT);
+        return Err(PolicyRefusal::Fault(PolicyFault::BeyondLimit));
     }
     each_site(alloc, bounds, items)
 }

@@ -9,15 +9,15 @@ ghost use Rattle.policy.specs.Text as spec;
 use crate::entries::{entries, exports};
 use crate::kernel::{init, kernel};
 use crate::modules::{key_measure, modules};
-use crate::refusal::{BEYOND_LIMIT, NOT_TOML, OTHER_FORMAT, PolicyRefusal};
+use crate::refusal::PolicyRefusal;
 use crate::values::{integer, natural, optional, required, with_known};
-use policy_limits::{FEWEST_RAM_PAGES, MOST_HARTS, MOST_RAM_PAGES};
+use policy_limits::{FEWEST_RAM_PAGES, MOST_HARTS, MOST_RAM_PAGES, PolicyFault};
 use std::alloc::Global;
 use std::str;
 use sv_types::{Policy, Span};
 use toml::Table;
 
-fn format(table: &Table) -> Result<u8, PolicyRefusal>
+fn format(table: &Table) -> Result<u8, PolicyFault>
     ensures { result ≡ spec.format_of (table_view table.now) }
 {
     let value = required(table, "format")?;
@@ -25,28 +25,28 @@ fn format(table: &Table) -> Result<u8, PolicyRefusal>
     if number == 1 {
         Ok(1)
     } else {
-        Err(OTHER_FORMAT)
+        Err(PolicyFault::OtherFormat)
     }
 }
 
-fn harts(table: &Table) -> Result<u8, PolicyRefusal>
+fn harts(table: &Table) -> Result<u8, PolicyFault>
     ensures { result ≡ spec.key_harts (table_view table.now) }
 {
     let value = required(table, "harts")?;
     let harts = natural(value)?;
     if harts < 1 || harts > u64::from(MOST_HARTS) {
-        return Err(BEYOND_LIMIT);
+        return Err(PolicyFault::BeyondLimit);
     }
     Ok(harts as u8)
 }
 
-fn ram_pages(table: &Table) -> Result<u32, PolicyRefusal>
+fn ram_pages(table: &Table) -> Result<u32, PolicyFault>
     ensures { result ≡ spec.key_ram_pages (table_view table.now) }
 {
     let value = required(table, "ram_pages")?;
     let pages = natural(value)?;
     if pages < u64::from(FEWEST_RAM_PAGES) || pages > u64::from(MOST_RAM_PAGES) {
-        return Err(BEYOND_LIMIT);
+        return Err(PolicyFault::BeyondLimit);
     }
     Ok(pages as u32)
 }
@@ -59,7 +59,7 @@ fn key_entries(alloc: Global, table: &Table) -> Result<Vec<u64>, PolicyRefusal>
     entries(alloc, value)
 }
 
-fn known_keys(table: &Table) -> Result<&Table, PolicyRefusal>
+fn known_keys(table: &Table) -> Result<&Table, PolicyFault>
     ensures { judged_map (λ m. table_view m.now) result ≡ spec.known_keys (table_view table.now) }
 {
     let keys = [
@@ -75,7 +75,7 @@ fn known_keys(table: &Table) -> Result<&Table, PolicyRefusal>
 }
 
 // The kernel's digest and its init pages.
-fn kernel_rule(ram_pages: u32, table: &Table) -> Result<([u8; 32], Option<Span>), PolicyRefusal>
+fn kernel_rule(ram_pages: u32, table: &Table) -> Result<([u8; 32], Option<Span>), PolicyFault>
     ensures { result ≡ spec.kernel_rule ram_pages (table_view table.now) }
 {
     let kernel = kernel(table)?;
@@ -84,7 +84,7 @@ fn kernel_rule(ram_pages: u32, table: &Table) -> Result<([u8; 32], Option<Span>)
     Ok((measure, init))
 }
 
-#[tactic(auto, unfolding(crate::specs::Text::rules_of_members))]
+#[tactic(auto, unfolding(crate::specs::Text::rules_of_members), using(crate::proofs::Judging::refused_on))]
 fn read_table(alloc: Global, table: &Table) -> Result<Policy, PolicyRefusal>
     ensures ok { IfOk result (λ policy. spec.rules_of_members (table_view table.now) ≡ Ok (rules_of policy)) }
     ensures refused { IfErr result (Refuses (spec.rules_of_members (table_view table.now))) }
@@ -118,7 +118,7 @@ fn table(alloc: Global, bytes: &[u8]) -> Result<Table, PolicyRefusal>
 {
     let text = match str::from_utf8(bytes) {
         Ok(text) => text,
-        Err(_) => return Err(NOT_TOML),
+        Err(_) => return Err(PolicyRefusal::Fault(PolicyFault::NotToml)),
     };
     match toml::table_from_str(alloc, text) {
         Ok(table) => Ok(table),
@@ -126,7 +126,7 @@ fn table(alloc: Global, bytes: &[u8]) -> Result<Table, PolicyRefusal>
             if e.is_memory() {
                 Err(PolicyRefusal::Memory)
             } else {
-                Err(NOT_TOML)
+                Err(PolicyRefusal::Fault(PolicyFault::NotToml))
             }
         }
     }
@@ -134,6 +134,7 @@ fn table(alloc: Global, bytes: &[u8]) -> Result<Table, PolicyRefusal>
 
 /// Reads a policy's text. `Ok` exactly for the texts within the format, and else the first refusal in its order, but
 /// for want of memory, which comes only where the bytes are UTF-8. A policy that is read is within the limits.
+#[tactic(auto, using(crate::proofs::Judging::refused_on))]
 pub fn read(alloc: Global, bytes: &[u8]) -> Result<Policy, PolicyRefusal>
     ensures ok { IfOk result (λ policy. spec.rules_of_text bytes.now ≡ Ok (rules_of policy)) }
     ensures within { IfOk result (λ policy. rules_within (rules_of policy) ≡ true) }

@@ -8,9 +8,7 @@ ghost use Rattle.toml.specs.View.{view, table_view, items_view};
 ghost use Rattle.policy.specs.Refusals.{judged_map};
 ghost use Rattle.policy.specs.Values as spec;
 
-use crate::refusal::{
-    BAD_HEXADECIMAL, BEYOND_LIMIT, MISSING_KEY, PolicyRefusal, UNKNOWN_KEY, WRONG_KIND,
-};
+use policy_limits::PolicyFault;
 use sv_types::Name;
 use text_numbers::{address_of, digest_of};
 use toml::{Table, Value};
@@ -22,90 +20,90 @@ pub fn optional<'a>(table: &'a Table, key: &str) -> Option<&'a Value>
     table.get(key)
 }
 
-pub fn required<'a>(table: &'a Table, key: &str) -> Result<&'a Value, PolicyRefusal>
+pub fn required<'a>(table: &'a Table, key: &str) -> Result<&'a Value, PolicyFault>
     ensures { judged_map (λ v. view v.now) result ≡ spec.required key.now (table_view table.now) }
 {
     match optional(table, key) {
         Some(value) => Ok(value),
-        None => Err(MISSING_KEY),
+        None => Err(PolicyFault::MissingKey),
     }
 }
 
-pub fn integer(value: &Value) -> Result<i64, PolicyRefusal>
+pub fn integer(value: &Value) -> Result<i64, PolicyFault>
     ensures { result ≡ spec.integer_of (view value.now) }
 {
     match value.as_integer() {
         Some(number) => Ok(number),
-        None => Err(WRONG_KIND),
+        None => Err(PolicyFault::WrongKind),
     }
 }
 
-fn text(value: &Value) -> Result<&str, PolicyRefusal>
+fn text(value: &Value) -> Result<&str, PolicyFault>
     ensures { judged_map (λ t. t.now) result ≡ spec.text_of (view value.now) }
 {
     match value.as_str() {
         Some(text) => Ok(text),
-        None => Err(WRONG_KIND),
+        None => Err(PolicyFault::WrongKind),
     }
 }
 
-pub fn items(value: &Value) -> Result<&[Value], PolicyRefusal>
+pub fn items(value: &Value) -> Result<&[Value], PolicyFault>
     ensures { judged_map (λ items. items_view items.now) result ≡ spec.items_in (view value.now) }
 {
     match value.as_array() {
         Some(items) => Ok(items.as_slice()),
-        None => Err(WRONG_KIND),
+        None => Err(PolicyFault::WrongKind),
     }
 }
 
-pub fn members(value: &Value) -> Result<&Table, PolicyRefusal>
+pub fn members(value: &Value) -> Result<&Table, PolicyFault>
     ensures { judged_map (λ m. table_view m.now) result ≡ spec.members_in (view value.now) }
 {
     match value.as_table() {
         Some(table) => Ok(table),
-        None => Err(WRONG_KIND),
+        None => Err(PolicyFault::WrongKind),
     }
 }
 
 /// A number that is not negative.
-pub fn natural(value: &Value) -> Result<u64, PolicyRefusal>
+pub fn natural(value: &Value) -> Result<u64, PolicyFault>
     ensures { result ≡ spec.natural_of (view value.now) }
 {
     let number = integer(value)?;
     if number < 0 {
-        return Err(BEYOND_LIMIT);
+        return Err(PolicyFault::BeyondLimit);
     }
     Ok(number as u64)
 }
 
-pub fn name(value: &Value) -> Result<Name, PolicyRefusal>
+pub fn name(value: &Value) -> Result<Name, PolicyFault>
     ensures { result ≡ spec.name_of (view value.now) }
 {
     let text = text(value)?;
     match Name::new(text) {
         Some(name) => Ok(name),
-        None => Err(BEYOND_LIMIT),
+        None => Err(PolicyFault::BeyondLimit),
     }
 }
 
-pub fn address(value: &Value) -> Result<u64, PolicyRefusal>
+pub fn address(value: &Value) -> Result<u64, PolicyFault>
     ensures { result ≡ spec.address_of (view value.now) }
 {
     let text = text(value)?;
     match address_of(text) {
         Some(address) => Ok(address),
-        None => Err(BAD_HEXADECIMAL),
+        None => Err(PolicyFault::BadHexadecimal),
     }
 }
 
 /// The 32 bytes of a digest.
-pub fn measure(value: &Value) -> Result<[u8; 32], PolicyRefusal>
+pub fn measure(value: &Value) -> Result<[u8; 32], PolicyFault>
     ensures { result ≡ spec.measure_of (view value.now) }
 {
     let text = text(value)?;
     match digest_of(text) {
         Some(digest) => Ok(digest),
-        None => Err(BAD_HEXADECIMAL),
+        None => Err(PolicyFault::BadHexadecimal),
     }
 }
 
@@ -133,11 +131,11 @@ fn has_unknown(keys: &[&str], table: &Table) -> bool
 }
 
 /// The members, if each key is one of these.
-pub fn with_known<'a>(keys: &[&str], table: &'a Table) -> Result<&'a Table, PolicyRefusal>
+pub fn with_known<'a>(keys: &[&str], table: &'a Table) -> Result<&'a Table, PolicyFault>
     ensures { judged_map (λ m. table_view m.now) result ≡ spec.with_known (map (λ k. k.now) keys.now) (table_view table.now) }
 {
     if has_unknown(keys, table) {
-        Err(UNKNOWN_KEY)
+        Err(PolicyFault::UnknownKey)
     } else {
         Ok(table)
     }
