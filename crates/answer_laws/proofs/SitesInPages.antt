@@ -31,15 +31,15 @@ abbrev pub AllLieIn : ℕ → List Site → Type 0
 AllLieIn bytes [] = Unit {0}
 AllLieIn bytes (site ∷ sites) = LiesIn bytes site × AllLieIn bytes sites
 
-lies_by : (pages : ℕ) (site : Site) (size : ℕ) → width_of site ≡ size → (size ≡ 4) ⊎ (size ≡ 8) → site.offset % 4 ≡ 0 → site.offset < 4096 * pages → site.offset % size ≡ 0 → LiesIn (4096 * pages) site
-lies_by pages site size w (inl e) four below aligned =
-    let width : width_of site ≡ 4 = w ∙ e in
-    let whole : site.offset % 4 ≡ 0 = four in
-    record { below = below; inside = rw width (omega arith); whole = rw width (grind arith) }
-lies_by pages site size w (inr e) four below aligned =
-    let width : width_of site ≡ 8 = w ∙ e in
-    let whole : site.offset % 8 ≡ 0 = subst (λ (n : ℕ). site.offset % n ≡ 0) e aligned in
-    record { below = below; inside = rw width (omega arith); whole = rw width (grind arith) }
+lies_four : (pages : ℕ) (site : Site) → width_of site ≡ 4 → site.offset % 4 ≡ 0 → site.offset < 4096 * pages → LiesIn (4096 * pages) site
+lies_four pages site w aligned below = record { below = below; inside = rw w (omega arith); whole = rw w (grind arith) }
+
+lies_eight : (pages : ℕ) (site : Site) → width_of site ≡ 8 → site.offset % 8 ≡ 0 → site.offset < 4096 * pages → LiesIn (4096 * pages) site
+lies_eight pages site w aligned below = record { below = below; inside = rw w (omega arith); whole = rw w (grind arith) }
+
+lies_by : (pages : ℕ) (site : Site) (size : ℕ) → (size ≡ 4) ⊎ (size ≡ 8) → width_of site ≡ size → site.offset % size ≡ 0 → site.offset < 4096 * pages → LiesIn (4096 * pages) site
+lies_by pages site size (inl four) w aligned below = lies_four pages site (w ∙ four) (subst (λ (n : ℕ). site.offset % n ≡ 0) four aligned) below
+lies_by pages site size (inr eight) w aligned below = lies_eight pages site (w ∙ eight) (subst (λ (n : ℕ). site.offset % n ≡ 0) eight aligned) below
 
 lies : (pages exports : ℕ) (site : Site) → site_within pages exports site ≡ true → LiesIn (4096 * pages) site
 lies pages exports site e =
@@ -47,9 +47,8 @@ lies pages exports site e =
     let b = and_first (place_within pages site.offset && is_aligned site.kind site.offset) (base_within exports site.base) a in
     let d = and_first (place_within pages site.offset) (is_aligned site.kind site.offset) b in
     let aligned = and_second (place_within pages site.offset) (is_aligned site.kind site.offset) b in
-    let four : site.offset % 4 ≡ 0 = eqb-true (site.offset % 4) 0 (and_first (site.offset % 4 == 0) (nat_lt site.offset (4096 * pages)) d) in
     let lower = and_second (site.offset % 4 == 0) (nat_lt site.offset (4096 * pages)) d in
-    lies_by pages site (site_size site.kind) (width_by site.kind) (sizes site.kind) four (grind (arith, nat_tests)) (eqb-true (site.offset % site_size site.kind) 0 aligned)
+    lies_by pages site (site_size site.kind) (sizes site.kind) (width_by site.kind) (eqb-true (site.offset % site_size site.kind) 0 aligned) (grind (arith, nat_tests))
 
 all_lie : (pages exports : ℕ) (before sites : List Site) → each_within (next_site_within pages exports) before sites ≡ true → AllLieIn (4096 * pages) sites
 all_lie pages exports before [] e = tt

@@ -11,7 +11,7 @@ use Rattle.sv_types.specs.Kernel.{first_refusal, header_checks, header_entry, se
 use Rattle.sv_types.specs.Policies.{Rules, rules_within, format_within, harts_within, ram_pages_within, lists_within, init_within, modules_count_within, modules_within}
 use Rattle.sv_types.specs.ApprovedPages.{approved_bytes, approved_pages, numbers_from}
 use Rattle.sv_types.specs.Regions.{most_ram_pages}
-use Rattle.sv_types.specs.declared.image_fault.ImageFault.TheVariants.{OutsideFile, OutsideRam, ShortMemory, WritableText, TextInsidePage}
+use Rattle.sv_types.specs.declared.image_fault.ImageFault.{ImageFault}
 use Rattle.sv_types.specs.declared.kernel.ProgramHeader.{ProgramHeader}
 use Rattle.sv_types.proofs.ByteLemmas.{length_overwrite}
 use Rattle.sv_types.specs.declared.saved.SavedModule.{SavedModule}
@@ -145,7 +145,7 @@ flat_can pages digest fits = record {
 
 -- ---- images
 
-both_passed : {F : Type 0} → (first rest : List (F × Bool)) → first_refusal (first ++ rest) ≡ None → (first_refusal first ≡ None) × (first_refusal rest ≡ None)
+both_passed : {F : Type 0} (first rest : List (F × Bool)) → first_refusal (first ++ rest) ≡ None → (first_refusal first ≡ None) × (first_refusal rest ≡ None)
 both_passed [] rest e = (refl, e)
 both_passed ((n, true) ∷ checks) rest e = absurd (cc)
 both_passed ((n, false) ∷ checks) rest e = both_passed checks rest e
@@ -155,7 +155,7 @@ record IsGoodSegment (ram_pages : ℕ) (h : ProgramHeader) : Type 0 where
   in_ram : memory_in_ram ram_pages h ≡ true
   short : nat_lt h.memory_size h.file_size ≡ false
 
-two_passed : (a b c d e : Bool) → first_refusal ((OutsideFile, a) ∷ (OutsideRam, b) ∷ (ShortMemory, c) ∷ (WritableText, d) ∷ (TextInsidePage, e) ∷ []) ≡ None → (b ≡ false) × (c ≡ false)
+two_passed : (a b c d e : Bool) → first_refusal ((ImageFault.OutsideFile, a) ∷ (ImageFault.OutsideRam, b) ∷ (ImageFault.ShortMemory, c) ∷ (ImageFault.WritableText, d) ∷ (ImageFault.TextInsidePage, e) ∷ []) ≡ None → (b ≡ false) × (c ≡ false)
 two_passed true b c d e none = absurd (cc)
 two_passed false true c d e none = absurd (cc)
 two_passed false false true d e none = absurd (cc)
