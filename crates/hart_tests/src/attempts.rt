@@ -114,7 +114,7 @@ fn core_with(address: u64) -> Core {
     core.regs.set(2, 7);
     let _tvec = core.csrs.write(&regs, 0x105, 0x8000_0100);
     let _enabled = core.csrs.write(&regs, 0x104, 0x222);
-    core.reservation = Some(0xE000);
+    core.reservation = Some(0x20_2000);
     core
 }
 
@@ -136,8 +136,8 @@ fn wrote(hpa: u64, width: u8) -> Outcome {
 
 const DONE: Outcome = Outcome::Retired { wrote: None };
 
-// Where the tables end: ten pages and a level-0 table of each tree.
-const TABLES: u64 = 0xC000;
+// Where the table part ends: its tables take twelve pages, and a block of RAM begins at a multiple of 2 MiB.
+const TABLES: u64 = 0x20_0000;
 
 // Each row: the mode, the instruction, x1, and what comes of it: the outcome, x3, and whether the reservation stands.
 #[test]

@@ -41,14 +41,14 @@ fn an_approved_page_is_read_in_both_views_and_fetched_in_one(
     rt: HostRuntime,
 ) -> Result<(), AllocError> {
     let size = Trees::table_bytes(RAM_PAGES, 0);
-    assert_eq!(rt; size, 49152);
+    assert_eq!(rt; size, 0x20_0000);
     let mut mem = HostMem::new(rt.alloc(), size, RAM_PAGES)?;
     assert_eq!(rt; mem.table_bytes(), size);
     assert_eq!(rt; mem.ram_pages(), RAM_PAGES);
     let mut trees = Trees::new(&mut mem, &[]);
     assert_eq!(rt; trees.root(View::Kernel), 0x8000_1000_0000_0000);
     assert_eq!(rt; trees.root(View::User), 0x8000_2000_0000_0004);
-    let place = Some(0xF000);
+    let place = Some(0x20_3000);
     expect(
         &rt,
         &mem,
@@ -118,7 +118,7 @@ const POINTER: u64 = 0x2000_0C01;
 fn bad_entries_and_addresses_fault(rt: HostRuntime) -> Result<(), AllocError> {
     let place = Ok(Place {
         gpa: 0x8000_0123,
-        hpa: 0xC123,
+        hpa: 0x20_0123,
     });
     let beyond = Err(Fault::Guest {
         gpa: 0x200_0000_0000,

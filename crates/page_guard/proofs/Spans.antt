@@ -107,11 +107,15 @@ pub free_bits : (n : ℕ) → map is_free (replicate n Free) ≡ replicate n tru
 free_bits zero = refl
 free_bits (suc n) = ap (λ (bits : List Bool). true ∷ bits) (free_bits n)
 
+-- the list of free pages is the protections of which all are free
+pub none_held : (n : ℕ) → all_free ≡ protection_at (replicate n Free)
+none_held n = λ i page. sym (all_free_at n page) i
+
 pub new_theirs : (r : Region) (n : ℕ) → length r.ram ≡ page_size * n → AreViews r.tables n [] all_free → HoldsTrees r.tables n [] all_free
     → IsTheirs r (replicate n Free)
 new_theirs r n ram views trees =
     let size : n ≡ length (replicate n Free) = sym (length-replicate n Free) in
-    let same : all_free ≡ protection_at (replicate n Free) = λ i page. sym (all_free_at n page) i in record {
+    let same : all_free ≡ protection_at (replicate n Free) = none_held n in record {
       ram = ram ∙ ap (λ (n : ℕ). page_size * n) size;
       views = subst (λ (k : ℕ). AreViews r.tables k [] (protection_at (replicate n Free))) size (subst (AreViews r.tables n []) same views);
       trees = subst (λ (k : ℕ). HoldsTrees r.tables k [] (protection_at (replicate n Free))) size (subst (HoldsTrees r.tables n []) same trees);

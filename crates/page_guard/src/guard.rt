@@ -33,11 +33,12 @@ impl Model for Guard {
 
     ghost use Rattle.std.specs.Prelude.{◌≡◌, ◌≤◌, length, map, []};
     ghost use Rattle.sv_types.specs.Regions.{most_ram_pages};
-    ghost use Rattle.reference.specs.Protections.{is_free};
+    ghost use Rattle.gstage_tables.specs.Blocks.{CountsTaken};
+    ghost use Rattle.reference.specs.Protections.{is_free, protection_at};
 
     ghost view = { λ g. g.protections.items };
 
-    ghost invariant = { λ g. (g.trees.ram_pages ≡ length g.protections.items) × ((g.trees.bound ≡ []) × ((g.dma ≡ map is_free g.protections.items) × (length g.protections.items ≤ most_ram_pages))) };
+    ghost invariant = { λ g. (g.trees.ram_pages ≡ length g.protections.items) × ((g.trees.bound ≡ []) × (CountsTaken g.trees.counts (length g.protections.items) (protection_at g.protections.items) × ((g.dma ≡ map is_free g.protections.items) × (length g.protections.items ≤ most_ram_pages)))) };
 }
 
 /// Pages that are held, until they are approved or released. It can't be dropped. Contracts see the span.

@@ -2,10 +2,12 @@ use Rattle.std.proofs.Common.{rules, ◌≡◌, ◌≤◌, ◌∙◌, sym, ap, a
 use Rattle.sv_types.specs.Regions.{most_ram_pages}
 use Rattle.sv_types.specs.SecondStage.{AreViews, all_free}
 use Rattle.sv_types.specs.declared.wires.Protection.TheVariants.{Free}
+use Rattle.sv_types.specs.declared.wires.Protection.{Protection}
+use Rattle.gstage_tables.specs.Blocks.{CountsTaken}
 use Rattle.gstage_tables.specs.Layout.{HoldsTrees}
-use Rattle.reference.specs.Protections.{is_free}
+use Rattle.reference.specs.Protections.{is_free, protection_at}
 use Rattle.page_guard.specs.Guarded.{IsTheirs}
-use Rattle.page_guard.proofs.Spans.{free_bits, new_theirs}
+use Rattle.page_guard.proofs.Spans.{free_bits, new_theirs, none_held}
 use Rattle.page_guard.proofs.guard.Guard.new.Goals as goal
 
 pub invariant_of-result : goal.invariant_of-result
@@ -16,7 +18,13 @@ invariant_of-result c =
     let pages : c.new-trees.result.ram_pages ≡ c.ram_pages-pages.result = omega (arith, c.new-trees.ensures.pages, c.ram_pages-pages.ensures.value, ram) in
     let most : c.ram_pages-pages.result ≤ most_ram_pages = omega (arith, c.ram_pages-pages.ensures.value, c.ram_pages-pages.ensures.region.most) in
     let bits : c.in_ok-dma.dma ≡ map is_free (replicate c.ram_pages-pages.result Free) = c.in_ok-dma.ensures ∙ sym (free_bits c.ram_pages-pages.result) in
-    (pages ∙ sym size, (c.new-trees.ensures.bound, (bits ∙ ap (map is_free) (sym items), rw size most)))
+    let counts : CountsTaken c.new-trees.result.counts c.ram_pages-pages.result (protection_at (replicate c.ram_pages-pages.result Free)) =
+    subst (λ (n : ℕ). CountsTaken c.new-trees.result.counts n (protection_at (replicate c.ram_pages-pages.result Free))) pages
+    (subst (CountsTaken c.new-trees.result.counts c.new-trees.result.ram_pages) (none_held c.ram_pages-pages.result) c.new-trees.ensures.counts) in
+    let counted : CountsTaken c.new-trees.result.counts (length c.in_ok-protections.protections.items) (protection_at c.in_ok-protections.protections.items) =
+    subst (λ (n : ℕ). CountsTaken c.new-trees.result.counts n (protection_at c.in_ok-protections.protections.items)) (sym size)
+    (subst (λ (list : List Protection). CountsTaken c.new-trees.result.counts c.ram_pages-pages.result (protection_at list)) (sym items) counts) in
+    (pages ∙ sym size, (c.new-trees.ensures.bound, (counted, (bits ∙ ap (map is_free) (sym items), rw size most))))
 
 pub returns-clause-theirs : goal.returns-clause-theirs
 returns-clause-theirs c =
