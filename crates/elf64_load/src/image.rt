@@ -2,6 +2,7 @@
 
 ghost use Rattle.std.specs.Prelude.{◌≡◌, ℕ, ◌≤◌, ◌<◌, ◌&&◌, ◌++◌, nat_le, nat_lt, map, Some, length, replicate, slice_index, if◌then◌else◌, IfOk, OnOk};
 ghost use Rattle.sv_types.specs.Kernel.{is_text_of, filled_part, text_page, text_page_in, text_of};
+ghost use Rattle.sv_types.specs.Regions.{most_ram_pages};
 ghost use Rattle.elf64_load.specs.Images.{segment_of, segments_of, text_owner};
 
 use elf64_sections::push_zeros;
@@ -48,8 +49,8 @@ impl KernelImage<'_> {
     /// For each page the number of the first executable segment in which it lies, or of all segments where there is none.
     /// Fails where memory is wanting.
     pub fn page_owners(&self, alloc: Global) -> Result<Vec<usize>, AllocError>
-        ensures pages { IfOk result (λ owners. length owners.items ≡ 65536) }
-        ensures owners { IfOk result (λ owners. (page : ℕ) → page < 65536 → slice_index owners.items page ≡ text_owner page (segments_of self.now)) }
+        ensures pages { IfOk result (λ owners. length owners.items ≡ most_ram_pages) }
+        ensures owners { IfOk result (λ owners. (page : ℕ) → page < most_ram_pages → slice_index owners.items page ≡ text_owner page (segments_of self.now)) }
     {
         text_owners(alloc, &self.segments)
     }
@@ -65,8 +66,8 @@ struct PageRange {
 // The pages of a segment's text.
 fn text_range(segment: &Segment) -> PageRange
     ensures ordered { result.first ≤ result.end }
-    ensures within { result.end ≤ 65536 }
-    ensures text { (page : ℕ) → page < 65536 → is_text_of page (segment_of segment.now) ≡ (nat_le result.first page && nat_lt page result.end) }
+    ensures within { result.end ≤ most_ram_pages }
+    ensures text { (page : ℕ) → page < most_ram_pages → is_text_of page (segment_of segment.now) ≡ (nat_le result.first page && nat_lt page result.end) }
 {
     if !segment.executable {
         return PageRange { first: 0, end: 0 };
@@ -81,8 +82,8 @@ fn text_range(segment: &Segment) -> PageRange
 
 // Writes a segment's number at the pages of its text.
 fn claim_pages(owners: &mut [usize], segment: &Segment, number: usize)
-    requires { length owners.old ≡ 65536 }
-    ensures { (page : ℕ) → page < 65536 → slice_index owners.new page ≡ (if is_text_of page (segment_of segment.now) then number else slice_index owners.old page) }
+    requires { length owners.old ≡ most_ram_pages }
+    ensures { (page : ℕ) → page < most_ram_pages → slice_index owners.new page ≡ (if is_text_of page (segment_of segment.now) then number else slice_index owners.old page) }
 {
     let range = text_range(segment);
     owners[range.first..range.end].fill(number);
@@ -97,8 +98,8 @@ fn pages_of_none(alloc: Global, pages: usize, number: usize) -> Result<Vec<usize
 
 // For each page the number of the first executable segment in which it lies, or of all segments where there is none.
 fn text_owners(alloc: Global, segments: &[Segment]) -> Result<Vec<usize>, AllocError>
-    ensures pages { IfOk result (λ owners. length owners.items ≡ 65536) }
-    ensures owners { IfOk result (λ owners. (page : ℕ) → page < 65536 → slice_index owners.items page ≡ text_owner page (map segment_of segments.now)) }
+    ensures pages { IfOk result (λ owners. length owners.items ≡ most_ram_pages) }
+    ensures owners { IfOk result (λ owners. (page : ℕ) → page < most_ram_pages → slice_index owners.items page ≡ text_owner page (map segment_of segments.now)) }
 {
     let mut owners = pages_of_none(alloc, MOST_RAM_PAGES as usize, segments.len())?;
     'segments: for i in (0..segments.len()).rev() {
@@ -109,7 +110,7 @@ fn text_owners(alloc: Global, segments: &[Segment]) -> Result<Vec<usize>, AllocE
 
 // The bytes of a page of a segment's that lie in the file.
 fn filled_part<'a>(page: usize, segment: &Segment<'a>) -> &'a [u8]
-    requires { page ≤ 65536 }
+    requires { page ≤ most_ram_pages }
     ensures part { result.now ≡ filled_part page (segment_of segment.now) }
     ensures short { length result.now ≤ 4096 }
 {
@@ -128,7 +129,7 @@ fn push_text_page(
     segments: &[Segment],
     owner: usize,
 ) -> Result<(), AllocError>
-    requires page { page ≤ 65536 }
+    requires page { page ≤ most_ram_pages }
     requires owner { owner ≡ text_owner page (map segment_of segments.now) }
     ensures { OnOk result (text.new.items ≡ text.old.items ++ text_page (map segment_of segments.now) page) }
 {
@@ -140,7 +141,7 @@ fn push_text_page(
 
 // Adds a page of a segment's.
 fn push_filled_page(text: &mut Vec<u8>, page: usize, segment: &Segment) -> Result<(), AllocError>
-    requires { page ≤ 65536 }
+    requires { page ≤ most_ram_pages }
     ensures { OnOk result (text.new.items ≡ text.old.items ++ text_page_in page (Some (segment_of segment.now))) }
 {
     let filled = filled_part(page, segment);
