@@ -4,11 +4,13 @@ use Rattle.std.specs.Prelude.{◌==◌, nat_lt, if◌then◌else◌}
 use Rattle.std.proofs.lemmas.Bool.{eqb-true}
 use Rattle.std.proofs.lemmas.List.{append_assoc, append-nil, map-append}
 use Rattle.sv_types.specs.Kernel.{first_refusal, file_checks}
+use Rattle.sv_types.specs.declared.image_fault.HeaderFault.{HeaderFault}
+use Rattle.sv_types.specs.declared.image_fault.ImageFault.{ImageFault}
 use Rattle.sv_types.specs.declared.policy.Export.{Export}
 use Rattle.elf64_sections.specs.Judged.{◌>>=◌, each}
 use Rattle.elf64_sections.specs.Sections.{Tables}
 use Rattle.elf64_load.specs.Exports as images
-use Rattle.elf64_load.specs.declared.read.ElfRefusal.TheVariants.{Number}
+use Rattle.elf64_load.specs.Refusals as refusals
 use Rattle.policy_making.specs.Making.{exports_for}
 use Rattle.policy_making.specs.Refusals.{in_image}
 
@@ -20,7 +22,7 @@ one_name name None export e = absurd (cc e)
 one_name name (Some addr) export e =
     let same : record { name = name; addr = addr } ≡ export = cc e in sym (ap (λ (x : Export). x.name) same)
 
-each_name_by : (tables : Tables) (before exports : List Export) (name : List ℕ) (names : List (List ℕ)) (judged : images.Judged Export) → images.export_of tables name ≡ judged
+each_name_by : (tables : Tables) (before exports : List Export) (name : List ℕ) (names : List (List ℕ)) (judged : refusals.Judged Export) → images.export_of tables name ≡ judged
     → ((b : Export) → each (images.export_of tables) (before ++ b ∷ []) names ≡ Ok exports → names_of exports ≡ names_of (before ++ b ∷ []) ++ names)
     → (judged >>= λ b. each (images.export_of tables) (before ++ b ∷ []) names) ≡ Ok exports → names_of exports ≡ names_of before ++ (name ∷ names)
 each_name_by tables before exports name names (Ok b) is rest e =
@@ -36,11 +38,11 @@ each_name tables before exports [] e =
 each_name tables before exports (name ∷ names) e =
     each_name_by tables before exports name names (images.export_of tables name) refl (λ b. each_name tables (before ++ b ∷ []) exports names) e
 
-few : (b : Bool) (exports found : List Export) → ◌≡◌ {A = images.Judged (List Export)} (if b then Err (Number 18) else Ok exports) (Ok found) → exports ≡ found
+few : (b : Bool) (exports found : List Export) → ◌≡◌ {A = refusals.Judged (List Export)} (if b then Err ImageFault.TooManyNames else Ok exports) (Ok found) → exports ≡ found
 few true exports found e = absurd (cc e)
 few false exports found e = cc e
 
-few_of : (tables : Tables) (names : List (List ℕ)) (judged : images.Judged (List Export)) (found : List Export) → each (images.export_of tables) [] names ≡ judged
+few_of : (tables : Tables) (names : List (List ℕ)) (judged : refusals.Judged (List Export)) (found : List Export) → each (images.export_of tables) [] names ≡ judged
     → (judged >>= images.if_few) ≡ Ok found → names_of found ≡ names
 few_of tables names (Ok exports) found is e =
     subst (λ (l : List Export). names_of l ≡ names) (few (nat_lt 4096 (length exports)) exports found e) (each_name tables [] exports names is)
@@ -50,7 +52,7 @@ names_in : (o : Option Tables) (names : List (List ℕ)) (found : List Export) �
 names_in None names found e = absurd (cc e)
 names_in (Some tables) names found e = few_of tables names (each (images.export_of tables) [] names) found refl e
 
-names_judged : (fault : Option ℕ) (file : List ℕ) (names : List (List ℕ)) (found : List Export) → images.exports_of_file fault file names ≡ Ok found → names_of found ≡ names
+names_judged : (fault : Option HeaderFault) (file : List ℕ) (names : List (List ℕ)) (found : List Export) → images.exports_of_file fault file names ≡ Ok found → names_of found ≡ names
 names_judged (Some number) file names found e = absurd (cc e)
 names_judged None file names found e = names_in (images.kernel_tables file) names found e
 
@@ -58,7 +60,7 @@ judged_names : (file : List ℕ) (names : List (List ℕ)) (found : List Export)
 unfolding images.exports_judged
 judged_names file names found e = names_judged (first_refusal (file_checks 2 file)) file names found e
 
-passed : (file : List ℕ) (names : List (List ℕ)) (judged : images.Judged (List Export)) (found : List Export) → images.exports_judged file names ≡ judged → in_image judged ≡ Ok found → names_of found ≡ names
+passed : (file : List ℕ) (names : List (List ℕ)) (judged : refusals.Judged (List Export)) (found : List Export) → images.exports_judged file names ≡ judged → in_image judged ≡ Ok found → names_of found ≡ names
 passed file names (Ok exports) found e same =
     let is : exports ≡ found = cc same in
     judged_names file names found (e ∙ ap (λ (l : List Export). Ok l) is)

@@ -3,22 +3,24 @@ use Rattle.std.proofs.Common.{◌≡◌, ℕ, ◌≤◌, Bool, true, false, List
 use Rattle.std.specs.Prelude.{◌==◌, nat_lt, if◌then◌else◌}
 use Rattle.std.proofs.lemmas.Bool.Decides.{nat_tests}
 use Rattle.sv_types.specs.Kernel.{first_refusal, file_checks}
+use Rattle.sv_types.specs.declared.image_fault.HeaderFault.{HeaderFault}
+use Rattle.sv_types.specs.declared.image_fault.ImageFault.{ImageFault}
 use Rattle.sv_types.specs.declared.policy.Export.{Export}
 use Rattle.elf64_sections.specs.Judged.{◌>>=◌, each}
 use Rattle.elf64_sections.specs.Sections.{Tables}
 use Rattle.elf64_load.specs.Exports as images
-use Rattle.elf64_load.specs.declared.read.ElfRefusal.TheVariants.{Number}
+use Rattle.elf64_load.specs.Refusals as refusals
 use Rattle.policy_making.specs.Making.{exports_for}
 use Rattle.policy_making.specs.Refusals.{in_image}
 
-few : (b : Bool) (exports found : List Export) → nat_lt 4096 (length exports) ≡ b → ◌≡◌ {A = images.Judged (List Export)} (if b then Err (Number 18) else Ok exports) (Ok found) → length found ≤ 4096
+few : (b : Bool) (exports found : List Export) → nat_lt 4096 (length exports) ≡ b → ◌≡◌ {A = refusals.Judged (List Export)} (if b then Err ImageFault.TooManyNames else Ok exports) (Ok found) → length found ≤ 4096
 few true exports found e same = absurd (cc same)
 few false exports found e same =
     let is : exports ≡ found = cc same in
     let small : length exports ≤ 4096 = grind (arith, nat_tests) in
     subst (λ (l : List Export). length l ≤ 4096) is small
 
-few_of : (judged : images.Judged (List Export)) (found : List Export) → (judged >>= images.if_few) ≡ Ok found → length found ≤ 4096
+few_of : (judged : refusals.Judged (List Export)) (found : List Export) → (judged >>= images.if_few) ≡ Ok found → length found ≤ 4096
 few_of (Ok exports) found e = few (nat_lt 4096 (length exports)) exports found refl e
 few_of (Err x) found e = absurd (cc e)
 
@@ -26,7 +28,7 @@ few_in : (o : Option Tables) (names : List (List ℕ)) (found : List Export) →
 few_in None names found e = absurd (cc e)
 few_in (Some tables) names found e = few_of (each (images.export_of tables) [] names) found e
 
-few_judged : (fault : Option ℕ) (file : List ℕ) (names : List (List ℕ)) (found : List Export) → images.exports_of_file fault file names ≡ Ok found → length found ≤ 4096
+few_judged : (fault : Option HeaderFault) (file : List ℕ) (names : List (List ℕ)) (found : List Export) → images.exports_of_file fault file names ≡ Ok found → length found ≤ 4096
 few_judged (Some number) file names found e = absurd (cc e)
 few_judged None file names found e = few_in (images.kernel_tables file) names found e
 
@@ -34,7 +36,7 @@ judged_few : (file : List ℕ) (names : List (List ℕ)) (found : List Export) �
 unfolding images.exports_judged
 judged_few file names found e = few_judged (first_refusal (file_checks 2 file)) file names found e
 
-passed : (file : List ℕ) (names : List (List ℕ)) (judged : images.Judged (List Export)) (found : List Export) → images.exports_judged file names ≡ judged → in_image judged ≡ Ok found → length found ≤ 4096
+passed : (file : List ℕ) (names : List (List ℕ)) (judged : refusals.Judged (List Export)) (found : List Export) → images.exports_judged file names ≡ judged → in_image judged ≡ Ok found → length found ≤ 4096
 passed file names (Ok exports) found e same =
     let is : exports ≡ found = cc same in
     judged_few file names found (e ∙ ap (λ (l : List Export). Ok l) is)

@@ -5,27 +5,16 @@ use Rattle.std.specs.List.{list_all}
 use Rattle.std.proofs.lemmas.Bool.{and_parts, eqb-true}
 use Rattle.std.proofs.lemmas.Bool.Decides.{nat_tests}
 use Rattle.std.proofs.lemmas.List.Elements.{All-nil, All-cons}
-use Rattle.sv_types.specs.Policies.{place_within, is_aligned}
+use Rattle.sv_types.specs.Policies.{place_within, is_aligned, site_size}
 use Rattle.sv_types.specs.declared.module.Site.{Site}
-use Rattle.reference.specs.Relocations.{field_width, field_of, BField, JField, UField, IField, SField}
+use Rattle.reference.proofs.FieldWidths.{width_by}
 use Rattle.relocated_fields.specs.Pieces.{piece_sites, lies_in, moved, IsAligned}
-use Rattle.policy_making.specs.Making.{site_fits, pages_of}
-
-four : (a b c d : Bool) → field_width (if a then BField else if b then JField else if c then UField else if d then IField else SField) ≡ 4
-four true b c d = refl
-four false true c d = refl
-four false false true d = refl
-four false false false true = refl
-four false false false false = refl
-
-width_by : (kind : ℕ) (b : Bool) → (kind == 2) ≡ b → field_width (field_of kind) ≡ (if b then 8 else 4)
-width_by kind true e = rw e refl
-width_by kind false e = rw e (four (kind == 16) (kind == 17) (kind == 23 || kind == 26) (kind == 24 || kind == 27))
+use Rattle.elf64_reloc.specs.Modules.{site_fits, pages_of}
 
 one_aligned : (pages : ℕ) (site : Site) → site_fits pages site ≡ true → IsAligned site
 one_aligned pages site fits =
     let aligned = (and_parts (place_within pages site.offset) (is_aligned site.kind site.offset) fits).1 in
-    subst (λ (w : ℕ). site.offset % w ≡ 0) (sym (width_by site.kind (site.kind == 2) refl)) (eqb-true (site.offset % (if site.kind == 2 then 8 else 4)) 0 aligned)
+    subst (λ (w : ℕ). site.offset % w ≡ 0) (sym (width_by site.kind)) (eqb-true (site.offset % site_size site.kind) 0 aligned)
 
 pub all_aligned : (pages : ℕ) (sites : List Site) → list_all (site_fits pages) sites ≡ true → All IsAligned sites
 all_aligned pages [] fit = All-nil IsAligned

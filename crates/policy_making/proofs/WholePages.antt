@@ -14,7 +14,8 @@ use Rattle.elf64_sections.specs.Judged.{◌>>=◌}
 use Rattle.elf64_reloc.specs.Layouts.{padding, is_good_alignment, text_size}
 use Rattle.elf64_reloc.specs.Objects.{Object, object_judged}
 use Rattle.elf64_reloc.specs.Modules.{Module, text_of, text_from, whole_pages, zeros, is_too_large, fields_overlap, ordered_sites, module_with, module_of, sites_of, module_judged}
-use Rattle.elf64_reloc.specs.Refusals.{Judged, numbered}
+use Rattle.elf64_reloc.specs.Refusals.{Judged}
+use Rattle.elf64_reloc.specs.declared.fault.ObjectFault.{ObjectFault}
 
 abbrev IsWhole : List ℕ → Type 0
 IsWhole bytes = length bytes % 4096 ≡ 0
@@ -62,7 +63,7 @@ ok_same : (m n : Module) → ◌≡◌ {A = Judged Module} (Ok m) (Ok n) → m �
 ok_same m n e = cc e
 
 by_tests : (o : Object) (a b c : Bool) (sites : List Site) (m : Module)
-    → (if a then Err (numbered 16) else if b then Err (numbered 17) else if c then Err (numbered 18) else Ok (record { text = text_of o; sites = sites })) ≡ Ok m
+    → (if a then Err ObjectFault.TooLarge else if b then Err ObjectFault.Overlap else if c then Err ObjectFault.NoText else Ok (record { text = text_of o; sites = sites })) ≡ Ok m
     → IsWhole m.text
 by_tests o true b c sites m e = absurd (cc e)
 by_tests o false true c sites m e = absurd (cc e)
@@ -70,7 +71,7 @@ by_tests o false false true sites m e = absurd (cc e)
 by_tests o false false false sites m e =
     subst (λ (n : Module). IsWhole n.text) (ok_same (record { text = text_of o; sites = sites }) m e) (object_is_whole o)
 
-by_sites : (o : Object) (good : Bool) (judged : Judged (List Site)) (m : Module) → (if good then (judged >>= module_with o) else Err (numbered 11)) ≡ Ok m → IsWhole m.text
+by_sites : (o : Object) (good : Bool) (judged : Judged (List Site)) (m : Module) → (if good then (judged >>= module_with o) else Err ObjectFault.Alignment) ≡ Ok m → IsWhole m.text
 by_sites o true (Ok sites) m e =
     by_tests o (is_too_large o.sections sites) (fields_overlap sites (ordered_sites sites)) (text_size o.sections == 0) (ordered_sites sites) m e
 by_sites o true (Err x) m e = absurd (cc e)

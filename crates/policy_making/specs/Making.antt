@@ -1,25 +1,24 @@
 -- The policy of a kernel and its modules: its exports are the names that the modules want, its digests and relocated
 -- fields those of the files. The judgements come in the order of the stages. This project's own.
-use Rattle.std.specs.Prelude.{ℕ, ◌/◌, Bool, ◌&&◌, List, [], ◌∷◌, ◌++◌, length, ◌==◌, if◌then◌else◌}
+use Rattle.std.specs.Prelude.{ℕ, List, [], ◌∷◌, ◌++◌, length, ◌==◌, if◌then◌else◌}
 use Rattle.std.specs.Prelude.{Option, Some, None, Ok, Err}
 use Rattle.std.specs.BTreeSet.{replace_key}
 use Rattle.std.specs.Cmp.Lexicographic.{slice_cmp}
-use Rattle.std.specs.List.{list_all}
 use Rattle.std.specs.Ordering.{nat_cmp}
 use Rattle.sv_types.specs.Kernel.{kernel_refusal, kernel_segments, text_of}
 use Rattle.sv_types.specs.Measure.{measure}
-use Rattle.sv_types.specs.Policies.{Rules, ModuleRule, rules_within, module_pages_within, place_within, is_aligned}
-use Rattle.sv_types.specs.declared.module.Site.{Site}
+use Rattle.sv_types.specs.Policies.{Rules, ModuleRule, rules_within}
+use Rattle.sv_types.specs.declared.image_fault.ImageFault.{ImageFault}
 use Rattle.sv_types.specs.declared.module.Span.{Span}
 use Rattle.sv_types.specs.declared.policy.Export.{Export}
 use Rattle.reference.specs.Relocations.{masked}
 use Rattle.elf64_sections.specs.Judged.{◌>>=◌, each}
 use Rattle.elf64_load.specs.Exports.{exports_judged}
-use Rattle.elf64_reloc.specs.Modules.{Module, names_judged, module_judged}
+use Rattle.elf64_reloc.specs.Modules.{Module, pages_of, names_judged, module_judged}
 use Rattle.policy_making.specs.Refusals.{Judged, in_image, in_module}
-use Rattle.policy_making.specs.declared.modules.ObjectFile.{ObjectFile}
+use Rattle.policy_making.specs.declared.object_file.ObjectFile.{ObjectFile}
 use Rattle.policy_making.specs.declared.policy.Settings.{Settings}
-use Rattle.policy_making.specs.declared.refusal.MakingRefusal.TheVariants.{Image, Limits}
+use Rattle.policy_making.specs.declared.refusal.MakingFault.TheVariants.{Image, Limits}
 
 -- ---- what is given
 
@@ -43,8 +42,8 @@ terms_of s = record { harts = s.harts; ram_pages = s.ram_pages; entries = s.entr
 
 -- ---- the kernel
 
-abbrev pub digest_behind : Option ℕ → List ℕ → Judged (List ℕ)
-digest_behind (Some number) kernel = Err (Image number)
+abbrev pub digest_behind : Option ImageFault → List ℕ → Judged (List ℕ)
+digest_behind (Some fault) kernel = Err (Image fault)
 digest_behind None kernel = Ok (measure (text_of (kernel_segments kernel)))
 
 -- the measure of its text
@@ -76,16 +75,6 @@ exports_wanted kernel names = exports_for kernel (each_once names)
 
 -- ---- modules
 
-abbrev pub pages_of : List ℕ → ℕ
-pages_of text = length text / 4096
-
--- the field begins in a module of so many pages, at a multiple of its bytes
-abbrev pub site_fits : ℕ → Site → Bool
-site_fits pages site = place_within pages site.offset && is_aligned site.kind site.offset
-
-abbrev pub module_fits : Module → Bool
-module_fits m = module_pages_within (pages_of m.text) && list_all (site_fits (pages_of m.text)) m.sites
-
 -- the measure is that of the text with each field cleared
 abbrev pub rule_of : List ℕ → Module → ModuleRule
 rule_of name m = record {
@@ -95,11 +84,8 @@ rule_of name m = record {
   sites = m.sites;
 }
 
-abbrev pub rule_within : List ℕ → Module → Judged ModuleRule
-rule_within name m = if module_fits m then Ok (rule_of name m) else Err Limits
-
 unfoldable pub module_made : List Export → ModuleFile → Judged ModuleRule
-module_made exports o = in_module (module_judged o.bytes exports) >>= rule_within o.name
+module_made exports o = in_module (module_judged o.bytes exports) >>= λ m. Ok (rule_of o.name m)
 
 abbrev pub modules_made : List Export → List ModuleFile → Judged (List ModuleRule)
 modules_made exports objects = each (module_made exports) [] objects

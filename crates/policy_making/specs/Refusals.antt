@@ -1,33 +1,43 @@
--- Why no policy is made: the first fault of the kernel, of an object, or of the policy. This project's own.
+-- Why no policy is made: the first fault of the kernel, of an object or of the policy, or want of memory.
 use Rattle.std.specs.Prelude.{◌≡◌, ◌≢◌, Result, Ok, Err}
+use Rattle.sv_types.specs.declared.image_fault.ImageFault.{ImageFault}
 use Rattle.elf64_load.specs.declared.read.ElfRefusal.{ElfRefusal}
 use Rattle.elf64_load.specs.declared.read.ElfRefusal.TheVariants as OfElf
+use Rattle.elf64_reloc.specs.declared.fault.ObjectFault.{ObjectFault}
 use Rattle.elf64_reloc.specs.declared.refusal.RelocRefusal.{RelocRefusal}
 use Rattle.elf64_reloc.specs.declared.refusal.RelocRefusal.TheVariants as OfReloc
+use Rattle.policy_making.specs.declared.refusal.MakingFault.{MakingFault}
+use Rattle.policy_making.specs.declared.refusal.MakingFault.TheVariants.{Image, Module}
 use Rattle.policy_making.specs.declared.refusal.MakingRefusal.{MakingRefusal}
-use Rattle.policy_making.specs.declared.refusal.MakingRefusal.TheVariants.{Image, Module, Memory}
+use Rattle.policy_making.specs.declared.refusal.MakingRefusal.TheVariants.{Fault, Memory}
 
--- a value, or why there is none
+-- a value, or the fault for which no policy is made
 abbrev pub Judged : Type 0 → Type 0
-Judged A = Result A MakingRefusal
+Judged A = Result A MakingFault
 
+-- what was judged of an image, and of an object
+abbrev pub in_image : {A : Type 0} → Result A ImageFault → Judged A
+in_image (Ok a) = Ok a
+in_image (Err fault) = Err (Image fault)
+
+abbrev pub in_module : {A : Type 0} → Result A ObjectFault → Judged A
+in_module (Ok a) = Ok a
+in_module (Err fault) = Err (Module fault)
+
+-- a refusal that is passed on
 abbrev pub of_image : ElfRefusal → MakingRefusal
-of_image (OfElf.Number number) = Image number
+of_image (OfElf.Fault fault) = Fault (Image fault)
 of_image OfElf.Memory = Memory
 
 abbrev pub of_module : RelocRefusal → MakingRefusal
-of_module (OfReloc.Numbered number detail) = Module number
+of_module (OfReloc.Fault fault) = Fault (Module fault)
 of_module OfReloc.Memory = Memory
 
--- what was judged of an image, and of an object
-abbrev pub in_image : {A : Type 0} → Result A ElfRefusal → Judged A
-in_image (Ok a) = Ok a
-in_image (Err e) = Err (of_image e)
-
-abbrev pub in_module : {A : Type 0} → Result A RelocRefusal → Judged A
-in_module (Ok a) = Ok a
-in_module (Err e) = Err (of_module e)
+-- what was judged, as it is answered
+abbrev pub answered : {A : Type 0} → Judged A → Result A MakingRefusal
+answered (Ok a) = Ok a
+answered (Err fault) = Err (Fault fault)
 
 -- this is why, unless it is want of memory
 abbrev pub Refuses : {A : Type 0} → Judged A → MakingRefusal → Type 0
-Refuses judged refusal = refusal ≢ Memory → judged ≡ Err refusal
+Refuses judged refusal = refusal ≢ Memory → answered judged ≡ Err refusal

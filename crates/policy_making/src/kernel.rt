@@ -25,8 +25,8 @@ fn text_digest<R: Threads + Sync>(
     measure(rt, alloc, &text, &Silent)
 }
 
-/// The digest of a kernel for a machine of so many pages of RAM: the measure of its text. Refuses an image by 1 to 15, and
-/// for want of memory.
+/// The digest of a kernel for a machine of so many pages of RAM: the measure of its text. Refuses an image for its first
+/// fault, and for want of memory.
 #[tactic(auto, unfolding(crate::specs::Making::kernel_digest), using(crate::proofs::Refused::image_refused))]
 pub fn kernel_digest<R: Threads + Sync>(
     rt: &R,

@@ -3,34 +3,21 @@
 ghost use Rattle.std.specs.Prelude.{◌≡◌, ◌≤◌, ◌%◌, ◌/◌, Ok, IsTrue, map, length, All, IfOk, IfErr};
 ghost use Rattle.std.specs.List.{list_all};
 ghost use Rattle.sv_types.specs.Measure as measures;
-ghost use Rattle.sv_types.specs.Policies.{module_rule};
+ghost use Rattle.sv_types.specs.Policies.{module_pages_within, module_rule};
 ghost use Rattle.reference.specs.Relocations.{masked};
+ghost use Rattle.elf64_reloc.specs.Modules.{pages_of, site_fits};
 ghost use Rattle.elf64_reloc.specs.ModuleViews.{module_view};
 ghost use Rattle.policy_making.specs.Making as spec;
 ghost use Rattle.policy_making.specs.Refusals.{Refuses};
 
+use crate::object_file::ObjectFile;
 use crate::refusal::{MakingRefusal, of_module};
 use elf64_reloc::{ModuleImage, read_module};
 use page_measure::{Silent, measure};
-use policy_limits::{MOST_MODULE_PAGES, is_aligned, is_place};
 use relocated_fields::mask;
 use std::alloc::{AllocError, Global};
 use std::thread::Threads;
 use sv_types::{Export, ModulePolicy, Name, PAGE_BYTES, Site};
-
-/// A module's object: its name, and the bytes of its file.
-#[derive(Drop)]
-pub struct ObjectFile {
-    pub name: Name,
-    pub bytes: Vec<u8>,
-}
-
-fn sites_fit(pages: u32, sites: &[Site]) -> bool
-    ensures { result ≡ list_all (spec.site_fits pages) sites.now }
-{
-    sites.iter().all(|site| is_place(pages, u64::from(site.offset))
-        && is_aligned(site.kind, site.offset))
-}
 
 // The measure of a text with each field cleared.
 #[tactic(auto, using(crate::proofs::FittingSites::all_lie_in, crate::proofs::FittingSites::all_aligned))]
@@ -41,7 +28,7 @@ fn masked_digest<R: Threads + Sync>(
     sites: &[Site],
 ) -> Result<[u8; 32], AllocError>
     requires whole { length text.old % 4096 ≡ 0 }
-    requires fit { IsTrue (list_all (spec.site_fits (spec.pages_of text.old)) sites.now) }
+    requires fit { IsTrue (list_all (site_fits (pages_of text.old)) sites.now) }
     ensures { IfOk result (λ digest. digest ≡ measures.measure (masked text.old sites.now)) }
 {
     mask(text, 0, sites);
@@ -49,25 +36,19 @@ fn masked_digest<R: Threads + Sync>(
 }
 
 // What a policy says of a module that was read.
-fn rule_within<R: Threads + Sync>(
+fn rule_of<R: Threads + Sync>(
     rt: &R,
     alloc: Global,
     name: Name,
     image: ModuleImage,
-) -> Result<ModulePolicy, MakingRefusal>
+) -> Result<ModulePolicy, AllocError>
     requires whole { length image.text.items % 4096 ≡ 0 }
-    ensures made { IfOk result (λ made. spec.rule_within name (module_view image) ≡ Ok (module_rule made)) }
-    ensures refused { IfErr result (Refuses (spec.rule_within name (module_view image))) }
+    requires pages { IsTrue (module_pages_within (pages_of image.text.items)) }
+    requires fit { IsTrue (list_all (site_fits (pages_of image.text.items)) image.sites.items) }
+    ensures { IfOk result (λ made. module_rule made ≡ spec.rule_of name (module_view image)) }
 {
     let ModuleImage { mut text, sites } = image;
-    let pages = text.len() / PAGE_BYTES as usize;
-    if pages < 1 || pages > MOST_MODULE_PAGES as usize {
-        return Err(MakingRefusal::Limits);
-    }
-    let pages = pages as u32;
-    if !sites_fit(pages, &sites) {
-        return Err(MakingRefusal::Limits);
-    }
+    let pages = (text.len() / PAGE_BYTES as usize) as u32;
     let measure = masked_digest(rt, alloc, &mut text, &sites)?;
     Ok(ModulePolicy {
         name,
@@ -89,14 +70,15 @@ fn made_module<R: Threads + Sync>(
     ensures refused { IfErr result (Refuses (spec.module_made exports.now (spec.file_of object.now))) }
 {
     match read_module(alloc, &object.bytes, exports) {
-        Ok(image) => rule_within(rt, alloc, object.name, image),
+        Ok(image) => Ok(rule_of(rt, alloc, object.name, image)?),
         Err(refusal) => Err(of_module(refusal)),
     }
 }
 
 /// What a policy with these exports says of modules, in the order of their objects: of each its name, its pages, its fields
-/// that relocations change, and the measure of its text with these cleared. Refuses an object by 1 to 18, a module that is
-/// beyond the limits, and for want of memory.
+/// that relocations change, and the measure of its text with these cleared. Refuses an object for its first fault, and for
+/// want of memory.
+#[tactic(auto, using(crate::proofs::Refused::refused_on))]
 pub fn made_modules<R: Threads + Sync>(
     rt: &R,
     alloc: Global,

@@ -14,8 +14,8 @@ use std::alloc::{AllocError, Global};
 use std::collections::BTreeMap;
 use sv_types::Name;
 
-/// Puts the names that an object wants behind those of the objects before it. Refuses an object by 1 to 10, by 19, and for
-/// want of memory; then the names stay as they were.
+/// Puts the names that an object wants behind those of the objects before it. Refuses an object for a fault of its header,
+/// its sections, its symbols or a name, and for want of memory; then the names stay as they were.
 #[tactic(auto, unfolding(crate::specs::Making::names_with), using(crate::proofs::Refused::object_refused))]
 pub fn want_names(alloc: Global, names: &mut Vec<Name>, object: &[u8]) -> Result<(), MakingRefusal>
     ensures names { OnOk result (spec.names_with names.old.items object.now ≡ Ok names.new.items) }

@@ -6,8 +6,9 @@ ghost use Rattle.policy_making.specs.Making as spec;
 ghost use Rattle.policy_making.specs.Refusals.{Refuses};
 
 use crate::exports::wanted_exports;
-use crate::modules::{ObjectFile, made_modules};
-use crate::refusal::MakingRefusal;
+use crate::modules::made_modules;
+use crate::object_file::ObjectFile;
+use crate::refusal::{MakingFault, MakingRefusal};
 use policy_limits::within;
 use std::alloc::Global;
 use std::thread::Threads;
@@ -30,13 +31,13 @@ fn within_limits(policy: Policy) -> Result<Policy, MakingRefusal>
     if within(&policy) {
         Ok(policy)
     } else {
-        Err(MakingRefusal::Limits)
+        Err(MakingRefusal::Fault(MakingFault::Limits))
     }
 }
 
 /// The policy of a kernel whose digest is known, and of modules, of which these names are wanted. Refuses the exports, the
 /// objects and a policy that is beyond its limits, and for want of memory. The policy is within its limits.
-#[tactic(auto, unfolding(crate::specs::Making::policy_behind))]
+#[tactic(auto, unfolding(crate::specs::Making::policy_behind), using(crate::proofs::Refused::refused_on))]
 pub fn policy_behind<R: Threads + Sync>(
     rt: &R,
     alloc: Global,

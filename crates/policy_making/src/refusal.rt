@@ -2,27 +2,41 @@
 
 ghost use Rattle.std.specs.Prelude.{◌≡◌};
 ghost use Rattle.policy_making.specs.Refusals.{of_image, of_module};
-ghost use Rattle.policy_making.specs.declared.refusal.MakingRefusal.TheVariants.{Memory};
+ghost use Rattle.policy_making.specs.declared.refusal.MakingRefusal.TheVariants.{Fault, Memory};
 
 use elf64_load::ElfRefusal;
-use elf64_reloc::RelocRefusal;
+use elf64_reloc::{ObjectFault, RelocRefusal};
 use std::alloc::{AllocError, AllocFailed};
+use sv_types::ImageFault;
 use thiserror::Error;
+
+/// What is wrong with the files of a policy, or with the policy.
+#[derive(Clone, Copy, Debug, PartialEq, Eq, Drop)]
+pub enum MakingFault {
+    /// The first fault of the kernel's image, or of the exports that are wanted of it.
+    Image(ImageFault),
+    /// The first fault of a module's object.
+    Module(ObjectFault),
+    /// A value of the policy is beyond its limit.
+    Limits,
+}
 
 /// Why no policy is made.
 #[derive(Clone, Copy, Debug, PartialEq, Eq, Drop, Error)]
 pub enum MakingRefusal {
-    /// The first fault of the kernel's image, or of the exports that are wanted of it.
-    #[error("fault {0} of the image")]
-    Image(u8),
-    /// The first fault of a module's object.
-    #[error("fault {0} of a module")]
-    Module(u8),
-    /// A value of the policy is beyond its limit.
-    #[error("a value beyond its limit")]
-    Limits,
+    /// The first fault.
+    #[error("a fault of the files or of the policy")]
+    Fault(MakingFault),
     #[error("out of memory")]
     Memory,
+}
+
+impl From<MakingFault> for MakingRefusal {
+    ghost from_gives = { λ fault e. e ≡ Fault fault };
+
+    fn from(fault: MakingFault) -> MakingRefusal {
+        MakingRefusal::Fault(fault)
+    }
 }
 
 impl From<AllocError> for MakingRefusal {
@@ -46,7 +60,7 @@ pub(crate) fn of_image(refusal: ElfRefusal) -> MakingRefusal
     ensures { result ≡ of_image refusal }
 {
     match refusal {
-        ElfRefusal::Number(number) => MakingRefusal::Image(number),
+        ElfRefusal::Fault(fault) => MakingRefusal::Fault(MakingFault::Image(fault)),
         ElfRefusal::Memory => MakingRefusal::Memory,
     }
 }
@@ -56,7 +70,7 @@ pub(crate) fn of_module(refusal: RelocRefusal) -> MakingRefusal
     ensures { result ≡ of_module refusal }
 {
     match refusal {
-        RelocRefusal::Numbered { number, .. } => MakingRefusal::Module(number),
+        RelocRefusal::Fault(fault) => MakingRefusal::Fault(MakingFault::Module(fault)),
         RelocRefusal::Memory => MakingRefusal::Memory,
     }
 }

@@ -2,10 +2,11 @@
 // other bits in the call's fields.
 
 use super::*;
+use elf64_reloc::ObjectFault;
 use std::alloc::{AllocError, Global};
 use std::test::Fail;
 use std::thread::Threads;
-use sv_types::{Name, Policy};
+use sv_types::{HeaderFault, ImageFault, Name, Policy};
 
 /// A field of a file: its place, its width in bytes and its value.
 type Field = (u16, u8, u64);
@@ -149,10 +150,11 @@ fn made<R: Threads + Sync>(
     let kernel = file(alloc, &KERNEL, KERNEL_BYTES, kernel_length)?;
     let mut objects = Vec::new(alloc);
     for length in lengths {
-        objects.push(ObjectFile {
-            name: name("a.o")?,
-            bytes: file(alloc, &OBJECT, OBJECT_BYTES, *length)?,
-        })?;
+        let name = name("a.o")?;
+        let bytes = file(alloc, &OBJECT, OBJECT_BYTES, *length)?;
+        if bytes.len() <= OBJECT_BYTES {
+            objects.push(ObjectFile { name, bytes })?;
+        }
     }
     let settings = Settings {
         harts: 1,
@@ -204,7 +206,7 @@ struct RefusedRow<'a> {
     what: &'a str,
     kernel: usize,
     objects: &'a [usize],
-    refusal: MakingRefusal,
+    fault: MakingFault,
 }
 
 #[test]
@@ -214,25 +216,25 @@ fn refused_by_the_first_stage(rt: HostRuntime) -> Result<(), Fail> {
             what: "a short kernel comes before a short object",
             kernel: 63,
             objects: &[63],
-            refusal: MakingRefusal::Image(1),
+            fault: MakingFault::Image(ImageFault::Header(HeaderFault::TooShort)),
         },
         RefusedRow {
             what: "the kernel's text is cut, and read before the objects",
             kernel: 0x18B,
             objects: &[63],
-            refusal: MakingRefusal::Image(9),
+            fault: MakingFault::Image(ImageFault::OutsideFile),
         },
         RefusedRow {
             what: "a short second object",
             kernel: KERNEL_BYTES,
             objects: &[OBJECT_BYTES, 63],
-            refusal: MakingRefusal::Module(1),
+            fault: MakingFault::Module(ObjectFault::Header(HeaderFault::TooShort)),
         },
         RefusedRow {
             what: "two modules of one name",
             kernel: KERNEL_BYTES,
             objects: &[OBJECT_BYTES, OBJECT_BYTES],
-            refusal: MakingRefusal::Limits,
+            fault: MakingFault::Limits,
         },
     ];
     for row in table {
@@ -240,7 +242,12 @@ fn refused_by_the_first_stage(rt: HostRuntime) -> Result<(), Fail> {
             Ok(_) => None,
             Err(refusal) => Some(refusal),
         };
-        assert_eq!(rt; found, Some(row.refusal), "{}", row.what);
+        assert_eq!(rt;
+            found,
+            Some(MakingRefusal::Fault(row.fault)),
+            "{}",
+            row.what
+        );
     }
     Ok(())
 }

@@ -1,7 +1,7 @@
 use Rattle.std.proofs.Common.{◌≡◌, ℕ, List, IfOk, ◌∙◌, ap, subst}
 use Rattle.sv_types.specs.Measure.{measure}
 use Rattle.reference.specs.Relocations.{masked}
-use Rattle.policy_making.specs.Making.{pages_of}
+use Rattle.elf64_reloc.specs.Modules.{pages_of}
 use Rattle.policy_making.proofs.FittingSites.{all_lie_in, all_aligned}
 use Rattle.policy_making.proofs.modules.masked_digest.Goals as goal
 
