@@ -13,7 +13,7 @@ use Rattle.sv_types.specs.declared.wires.Protection.{Protection}
 use Rattle.sv_types.specs.declared.wires.Protection.TheVariants.{Free}
 use Rattle.sv_types.specs.declared.wires.View.{View}
 use Rattle.sv_types.specs.declared.wires.View.TheVariants.{Kernel, User, Entry}
-use Rattle.gstage_tables.specs.Blocks.{is_whole, taken_pages}
+use Rattle.gstage_tables.specs.Blocks.{is_whole, taken_pages, CountsTaken}
 
 -- ---- the trees
 
@@ -120,3 +120,8 @@ pub record HoldsTrees (tables : List ℕ) (ram_pages : ℕ) (bound : List ℕ) (
 pub record MapsBlocks (tables : List ℕ) (ram_pages : ℕ) (bound : List ℕ) (protections : ℕ → Protection) : Type 0 where
   pub each : (tree block : ℕ) → tree < tree_count (length bound) → 512 * block + 512 ≤ ram_pages
       → is_leaf 1 (word tables (8 * (512 * middle_table (tree_count (length bound)) tree + block)) 8) ≡ (taken_pages protections block == 0)
+
+-- the trees for these protections lie in the tables, and count the pages that are taken
+pub record AreDrawn (tables : List ℕ) (trees : Shape) (protections : ℕ → Protection) : Type 0 where
+  pub holds : HoldsTrees tables trees.ram_pages trees.bound protections
+  pub counts : CountsTaken trees.counts trees.ram_pages protections

@@ -8,8 +8,8 @@ ghost use Rattle.sv_types.specs.Regions.{most_ram_pages};
 ghost use Rattle.sv_types.specs.SecondStage.{AreViews, sight_of, view_hgatp, view_permits, protect, all_free};
 ghost use Rattle.sv_types.specs.declared.wires.Access.TheVariants.{Fetch};
 ghost use Rattle.sv_types.specs.declared.wires.Protection.{Protection as Kind};
-ghost use Rattle.gstage_tables.specs.Blocks.{is_free, lies_in_ram, is_whole_by, recounted, CountsTaken};
-ghost use Rattle.gstage_tables.specs.Layout.{most_bound, tree_count, sight_in, leaf_tables, middle_table, leaf_table, table_pages, table_size, leaf, middle_word, leaf_word, HoldsTrees, MapsBlocks};
+ghost use Rattle.gstage_tables.specs.Blocks.{is_free, lies_in_ram, is_whole_by, recounted};
+ghost use Rattle.gstage_tables.specs.Layout.{most_bound, tree_count, sight_in, leaf_tables, middle_table, leaf_table, table_pages, table_size, leaf, middle_word, leaf_word, HoldsTrees, AreDrawn, MapsBlocks};
 ghost use Rattle.gstage_tables.specs.Written.{Wrote};
 
 mod fill;
@@ -68,8 +68,7 @@ impl Trees {
         ensures pages { page_size * result.ram_pages ≡ length mem.new.ram }
         ensures bound { result.bound ≡ bound.now }
         ensures ram { mem.new.ram ≡ mem.old.ram }
-        ensures holds { HoldsTrees mem.new.tables result.ram_pages result.bound all_free }
-        ensures counts { CountsTaken result.counts result.ram_pages all_free }
+        ensures drawn { AreDrawn mem.new.tables result all_free }
         ensures views { AreViews mem.new.tables result.ram_pages result.bound all_free }
         ensures blocks { MapsBlocks mem.new.tables result.ram_pages result.bound all_free }
     {
@@ -105,14 +104,9 @@ impl Trees {
         requires size { length mem.old.tables ≡ table_size self.old.ram_pages (length self.old.bound) }
         ensures same { self.new ≡ record self.old { counts = self.new.counts } }
         ensures ram { mem.new.ram ≡ mem.old.ram }
-        ensures holds { (old : ℕ → Kind) → HoldsTrees mem.old.tables self.old.ram_pages self.old.bound old → CountsTaken self.old.counts self.old.ram_pages old
-            → HoldsTrees mem.new.tables self.old.ram_pages self.old.bound (protect old page protection) }
-        ensures counts { (old : ℕ → Kind) → HoldsTrees mem.old.tables self.old.ram_pages self.old.bound old → CountsTaken self.old.counts self.old.ram_pages old
-            → CountsTaken self.new.counts self.old.ram_pages (protect old page protection) }
-        ensures views { (old : ℕ → Kind) → HoldsTrees mem.old.tables self.old.ram_pages self.old.bound old → CountsTaken self.old.counts self.old.ram_pages old
-            → AreViews mem.new.tables self.old.ram_pages self.old.bound (protect old page protection) }
-        ensures blocks { (old : ℕ → Kind) → HoldsTrees mem.old.tables self.old.ram_pages self.old.bound old → CountsTaken self.old.counts self.old.ram_pages old
-            → MapsBlocks mem.new.tables self.old.ram_pages self.old.bound (protect old page protection) }
+        ensures drawn { (old : ℕ → Kind) → AreDrawn mem.old.tables self.old old → AreDrawn mem.new.tables self.new (protect old page protection) }
+        ensures views { (old : ℕ → Kind) → AreDrawn mem.old.tables self.old old → AreViews mem.new.tables self.old.ram_pages self.old.bound (protect old page protection) }
+        ensures blocks { (old : ℕ → Kind) → AreDrawn mem.old.tables self.old old → MapsBlocks mem.new.tables self.old.ram_pages self.old.bound (protect old page protection) }
     {
         self.set_on::<Brand>(mem, page, protection, Blank::new(1));
     }
@@ -132,14 +126,9 @@ impl Trees {
         requires size { length mem.old.tables ≡ table_size self.old.ram_pages (length self.old.bound) }
         ensures same { self.new ≡ record self.old { counts = self.new.counts } }
         ensures ram { mem.new.ram ≡ mem.old.ram }
-        ensures holds { (old : ℕ → Kind) → HoldsTrees mem.old.tables self.old.ram_pages self.old.bound old → CountsTaken self.old.counts self.old.ram_pages old
-            → HoldsTrees mem.new.tables self.old.ram_pages self.old.bound (protect old page protection) }
-        ensures counts { (old : ℕ → Kind) → HoldsTrees mem.old.tables self.old.ram_pages self.old.bound old → CountsTaken self.old.counts self.old.ram_pages old
-            → CountsTaken self.new.counts self.old.ram_pages (protect old page protection) }
-        ensures views { (old : ℕ → Kind) → HoldsTrees mem.old.tables self.old.ram_pages self.old.bound old → CountsTaken self.old.counts self.old.ram_pages old
-            → AreViews mem.new.tables self.old.ram_pages self.old.bound (protect old page protection) }
-        ensures blocks { (old : ℕ → Kind) → HoldsTrees mem.old.tables self.old.ram_pages self.old.bound old → CountsTaken self.old.counts self.old.ram_pages old
-            → MapsBlocks mem.new.tables self.old.ram_pages self.old.bound (protect old page protection) }
+        ensures drawn { (old : ℕ → Kind) → AreDrawn mem.old.tables self.old old → AreDrawn mem.new.tables self.new (protect old page protection) }
+        ensures views { (old : ℕ → Kind) → AreDrawn mem.old.tables self.old old → AreViews mem.new.tables self.old.ram_pages self.old.bound (protect old page protection) }
+        ensures blocks { (old : ℕ → Kind) → AreDrawn mem.old.tables self.old old → MapsBlocks mem.new.tables self.old.ram_pages self.old.bound (protect old page protection) }
     {
         let mut steps = Steps::<L>::new(blank);
         self.set_counted(mem, page, protection, &mut steps);
@@ -157,14 +146,9 @@ impl Trees {
         requires size { length mem.old.tables ≡ table_size self.old.ram_pages (length self.old.bound) }
         ensures same { self.new ≡ record self.old { counts = self.new.counts } }
         ensures ram { mem.new.ram ≡ mem.old.ram }
-        ensures holds { (old : ℕ → Kind) → HoldsTrees mem.old.tables self.old.ram_pages self.old.bound old → CountsTaken self.old.counts self.old.ram_pages old
-            → HoldsTrees mem.new.tables self.old.ram_pages self.old.bound (protect old page protection) }
-        ensures counts { (old : ℕ → Kind) → HoldsTrees mem.old.tables self.old.ram_pages self.old.bound old → CountsTaken self.old.counts self.old.ram_pages old
-            → CountsTaken self.new.counts self.old.ram_pages (protect old page protection) }
-        ensures views { (old : ℕ → Kind) → HoldsTrees mem.old.tables self.old.ram_pages self.old.bound old → CountsTaken self.old.counts self.old.ram_pages old
-            → AreViews mem.new.tables self.old.ram_pages self.old.bound (protect old page protection) }
-        ensures blocks { (old : ℕ → Kind) → HoldsTrees mem.old.tables self.old.ram_pages self.old.bound old → CountsTaken self.old.counts self.old.ram_pages old
-            → MapsBlocks mem.new.tables self.old.ram_pages self.old.bound (protect old page protection) }
+        ensures drawn { (old : ℕ → Kind) → AreDrawn mem.old.tables self.old old → AreDrawn mem.new.tables self.new (protect old page protection) }
+        ensures views { (old : ℕ → Kind) → AreDrawn mem.old.tables self.old old → AreViews mem.new.tables self.old.ram_pages self.old.bound (protect old page protection) }
+        ensures blocks { (old : ℕ → Kind) → AreDrawn mem.old.tables self.old old → MapsBlocks mem.new.tables self.old.ram_pages self.old.bound (protect old page protection) }
         ensures cost { steps.new ≤ steps.old + 2 * tree_count (length self.old.bound) }
     {
         let block = self.block_of(page);

@@ -7,7 +7,8 @@ use Rattle.sv_types.specs.Regions.{Region}
 use Rattle.sv_types.specs.SecondStage.{protect, AreViews}
 use Rattle.sv_types.specs.Bytes.{page_size}
 use Rattle.sv_types.specs.declared.wires.Protection.{Protection}
-use Rattle.gstage_tables.specs.Layout.{HoldsTrees}
+use Rattle.gstage_tables.specs.Blocks.{CountsTaken}
+use Rattle.gstage_tables.specs.Layout.{Shape, HoldsTrees, AreDrawn}
 use Rattle.reference.specs.Protections.{protection_at, or_free}
 use Rattle.page_guard.specs.Guarded.{IsTheirs}
 
@@ -44,3 +45,20 @@ set_theirs r g page x below trees views ram =
       views = subst (λ (n : ℕ). AreViews r.tables n [] (protection_at (slice_set g page x))) size (subst (AreViews r.tables (length g) []) same views);
       trees = subst (λ (n : ℕ). HoldsTrees r.tables n [] (protection_at (slice_set g page x))) size (subst (HoldsTrees r.tables (length g) []) same trees);
     }
+
+-- the guard's trees are drawn for its list
+pub drawn_by : (tables : List ℕ) (trees : Shape) (guard : List Protection) → trees.ram_pages ≡ length guard → trees.bound ≡ []
+    → HoldsTrees tables (length guard) [] (protection_at guard) → CountsTaken trees.counts (length guard) (protection_at guard) → AreDrawn tables trees (protection_at guard)
+drawn_by tables trees guard pages unbound holds counts = record {
+  holds = subst (λ (bound : List ℕ). HoldsTrees tables trees.ram_pages bound (protection_at guard)) (sym unbound)
+      (subst (λ (n : ℕ). HoldsTrees tables n [] (protection_at guard)) (sym pages) holds);
+  counts = subst (λ (n : ℕ). CountsTaken trees.counts n (protection_at guard)) (sym pages) counts;
+}
+
+-- what drawn trees give, where no entry is bound
+pub drawn_plain : (tables : List ℕ) (trees : Shape) (n : ℕ) (ps : ℕ → Protection) → trees.ram_pages ≡ n → trees.bound ≡ [] → AreDrawn tables trees ps
+    → HoldsTrees tables n [] ps × CountsTaken trees.counts n ps
+drawn_plain tables trees n ps pages unbound drawn = (
+  subst (λ (bound : List ℕ). HoldsTrees tables n bound ps) unbound (subst (λ (m : ℕ). HoldsTrees tables m trees.bound ps) pages drawn.holds),
+  subst (λ (m : ℕ). CountsTaken trees.counts m ps) pages drawn.counts,
+)

@@ -21,8 +21,8 @@ fill_leaves-requires c =
           ∙ ap (λ (list : List ℕ). table_size pages (length list)) (sym c.made-trees.ensures.bound);
     }
 
-pub returns-clause-holds : goal.returns-clause-holds
-returns-clause-holds c =
+pub returns-clause-drawn : goal.returns-clause-drawn
+returns-clause-drawn c =
     let pages : ℕ = c.made-trees.result.ram_pages in
     let bound : List ℕ = c.made-trees.result.bound in
     let count = c.count-count.ensures.value in
@@ -33,21 +33,20 @@ returns-clause-holds c =
     subst (λ (trees : ℕ). Wrote a b (2048 * trees) (λ k. k) (λ k. root_word trees (k / 2048) (k % 2048))) count c.fill_roots.ensures.words in
     let whole : length c.args.mem.now.ram / 4096 ≡ pages = pages_of (length c.args.mem.now.ram) c.ram_pages.result pages c.made-trees.ensures.pages c.ram_pages.ensures.value in
     record {
-      size = c.fill_leaves.ensures.size ∙ c.fill_middles.ensures.words.size ∙ roots.size ∙ c.requires.size ∙ ap (λ (n : ℕ). table_size n (length c.args.bound.now)) whole
-          ∙ ap (λ (list : List ℕ). table_size pages (length list)) (sym c.made-trees.ensures.bound);
-      most = omega (arith, c.made-trees.ensures.pages, c.ram_pages.ensures.value, c.ram_pages.ensures.region.most);
-      few = subst (λ (list : List ℕ). length list ≤ most_bound) (sym c.made-trees.ensures.bound) c.requires.few;
-      roots = roots_filled pages (leaf_tables pages) (table_pages pages (length bound)) (tree_count (length bound)) (sight_in bound) a b d c.fill_leaves.new.mem.tables roots c.fill_middles.ensures.words c.fill_leaves.ensures.below;
-      middles = middles_filled pages (leaf_tables pages) (table_pages pages (length bound)) (tree_count (length bound)) (sight_in bound) a b d c.fill_leaves.new.mem.tables roots c.fill_middles.ensures.words c.fill_leaves.ensures.below;
-      leaves = c.fill_leaves.ensures.leaves;
+      holds = record {
+        size = c.fill_leaves.ensures.size ∙ c.fill_middles.ensures.words.size ∙ roots.size ∙ c.requires.size ∙ ap (λ (n : ℕ). table_size n (length c.args.bound.now)) whole
+            ∙ ap (λ (list : List ℕ). table_size pages (length list)) (sym c.made-trees.ensures.bound);
+        most = omega (arith, c.made-trees.ensures.pages, c.ram_pages.ensures.value, c.ram_pages.ensures.region.most);
+        few = subst (λ (list : List ℕ). length list ≤ most_bound) (sym c.made-trees.ensures.bound) c.requires.few;
+        roots = roots_filled pages (leaf_tables pages) (table_pages pages (length bound)) (tree_count (length bound)) (sight_in bound) a b d c.fill_leaves.new.mem.tables roots c.fill_middles.ensures.words c.fill_leaves.ensures.below;
+        middles = middles_filled pages (leaf_tables pages) (table_pages pages (length bound)) (tree_count (length bound)) (sight_in bound) a b d c.fill_leaves.new.mem.tables roots c.fill_middles.ensures.words c.fill_leaves.ensures.below;
+        leaves = c.fill_leaves.ensures.leaves;
+      };
+      counts = subst (λ (counts : List ℕ). CountsTaken counts c.made-trees.result.ram_pages all_free) (sym c.made-trees.ensures.counts) (counts_first c.made-trees.result.ram_pages 512);
     }
 
 pub returns-clause-views : goal.returns-clause-views
-returns-clause-views c = are_views c.fill_leaves.new.mem.tables c.made-trees.result.ram_pages c.made-trees.result.bound all_free (returns-clause-holds c)
+returns-clause-views c = are_views c.fill_leaves.new.mem.tables c.made-trees.result.ram_pages c.made-trees.result.bound all_free (returns-clause-drawn c).holds
 
 pub returns-clause-blocks : goal.returns-clause-blocks
-returns-clause-blocks c = maps_blocks c.fill_leaves.new.mem.tables c.made-trees.result.ram_pages c.made-trees.result.bound all_free (returns-clause-holds c)
-
-pub returns-clause-counts : goal.returns-clause-counts
-returns-clause-counts c =
-    subst (λ (counts : List ℕ). CountsTaken counts c.made-trees.result.ram_pages all_free) (sym c.made-trees.ensures.counts) (counts_first c.made-trees.result.ram_pages 512)
+returns-clause-blocks c = maps_blocks c.fill_leaves.new.mem.tables c.made-trees.result.ram_pages c.made-trees.result.bound all_free (returns-clause-drawn c).holds

@@ -2,8 +2,9 @@ use Rattle.std.proofs.Common.{◌≡◌, ℕ, ◌+◌, ◌*◌, ◌/◌, ◌<◌
 use Rattle.std.specs.Prelude.{◌==◌, ◌&&◌, slice_set, slice_index_or}
 use Rattle.sv_types.specs.Regions.{Region}
 use Rattle.sv_types.specs.SecondStage.{protect}
+use Rattle.sv_types.specs.declared.wires.Protection.{Protection}
 use Rattle.gstage_tables.specs.Blocks.{is_free, is_whole_by, lies_in_ram, recounted, CountsTaken}
-use Rattle.gstage_tables.specs.Layout.{Shape, leaf_tables, tree_count, table_pages, sight_in, middle_word}
+use Rattle.gstage_tables.specs.Layout.{Shape, leaf_tables, tree_count, table_pages, sight_in, middle_word, HoldsTrees}
 use Rattle.gstage_tables.specs.Written.{Wrote}
 use Rattle.gstage_tables.proofs.Counts.{whole_by_counts, whole_after, counts_set}
 use Rattle.gstage_tables.proofs.MapsBlocks.{maps_blocks}
@@ -18,8 +19,10 @@ count_is count block page was x w y counts e b f g =
     e ∙ ap (λ (i : ℕ). recounted (slice_index_or counts i 0) w y) b ∙ ap (λ (v : Bool). recounted (slice_index_or counts (page / 512) 0) v y) f
     ∙ ap (recounted (slice_index_or counts (page / 512) 0) was) g
 
-pub returns-clause-holds : goal.returns-clause-holds
-returns-clause-holds g c = λ old h k.
+pub returns-clause-drawn : goal.returns-clause-drawn
+returns-clause-drawn g c = λ old drawn.
+    let h = drawn.holds in
+    let k = drawn.counts in
     let pages : ℕ = c.args.self.now.ram_pages in
     let bound : List ℕ = c.args.self.now.bound in
     let counts : List ℕ = c.args.self.now.counts in
@@ -29,6 +32,7 @@ returns-clause-holds g c = λ old h k.
     let reach : page / 512 < length counts = subst (λ (b : ℕ). b < length counts) block c.block_of-block.ensures.counted in
     let count = count_is c.recounted-count.result c.block_of-block.result page (is_free (old page)) (is_free c.args.protection) c.is_free-was_free.result c.is_free.result counts
     (c.recounted-count.ensures ∙ ap (λ (list : List ℕ). recounted (slice_index_or list c.block_of-block.result 0) c.is_free-was_free.result c.is_free.result) seen) block (c.is_free-was_free.ensures old h) c.is_free.ensures in
+    let holds : HoldsTrees c.set_block.new.mem.tables pages bound (protect old page c.args.protection) =
     holds_pages_set c.args.mem.now.tables c.set_leaves.new.mem.tables c.set_block.new.mem.tables pages bound old page c.args.protection
     c.is_whole-before.result c.is_whole_with-after.result h c.requires.page c.set_leaves.ensures.words
     (c.is_whole-before.ensures ∙ ap (is_whole_by counts pages) block ∙ whole_by_counts counts pages old (page / 512) k)
@@ -36,27 +40,25 @@ returns-clause-holds g c = λ old h k.
     ∙ ap (λ (n : ℕ). lies_in_ram pages (page / 512) && n == 0) count ∙ whole_after counts pages old page c.args.protection k reach)
     (λ e. ap (λ (r : Region). r.tables) (c.set_block.ensures.same e))
     (λ ne. subst (λ (b : ℕ). Wrote c.set_leaves.new.mem.tables c.set_block.new.mem.tables (tree_count (length bound)) (λ tree. 512 * (4 * tree_count (length bound) + tree) + b)
-    (λ tree. middle_word (tree_count (length bound)) (leaf_tables pages) (table_pages pages (length bound)) (sight_in bound tree) tree b c.is_whole_with-after.result)) block (c.set_block.ensures.words ne))
-
-pub returns-clause-counts : goal.returns-clause-counts
-returns-clause-counts g c = λ old h k.
-    let pages : ℕ = c.args.self.now.ram_pages in
-    let counts : List ℕ = c.args.self.now.counts in
-    let page : ℕ = c.args.page in
-    let block = c.block_of-block.ensures.value in
-    let seen : c.self.inside.counts ≡ counts = ap (λ (trees : Shape). trees.counts) c.self.view_is in
-    let reach : page / 512 < length counts = subst (λ (b : ℕ). b < length counts) block c.block_of-block.ensures.counted in
-    let count = count_is c.recounted-count.result c.block_of-block.result page (is_free (old page)) (is_free c.args.protection) c.is_free-was_free.result c.is_free.result counts
-    (c.recounted-count.ensures ∙ ap (λ (list : List ℕ). recounted (slice_index_or list c.block_of-block.result 0) c.is_free-was_free.result c.is_free.result) seen) block (c.is_free-was_free.ensures old h) c.is_free.ensures in
-    subst (λ (list : List ℕ). CountsTaken (slice_set list c.block_of-block.result c.recounted-count.result) pages (protect old page c.args.protection)) (sym seen)
-    (subst (λ (b : ℕ). CountsTaken (slice_set counts b c.recounted-count.result) pages (protect old page c.args.protection)) (sym block)
+    (λ tree. middle_word (tree_count (length bound)) (leaf_tables pages) (table_pages pages (length bound)) (sight_in bound tree) tree b c.is_whole_with-after.result)) block (c.set_block.ensures.words ne)) in
+    let counted : CountsTaken (slice_set counts c.block_of-block.result c.recounted-count.result) pages (protect old page c.args.protection) =
+    subst (λ (b : ℕ). CountsTaken (slice_set counts b c.recounted-count.result) pages (protect old page c.args.protection)) (sym block)
     (subst (λ (n : ℕ). CountsTaken (slice_set counts (page / 512) n) pages (protect old page c.args.protection)) (sym count)
-    (counts_set counts pages old page c.args.protection k reach)))
+    (counts_set counts pages old page c.args.protection k reach)) in
+    record {
+      holds = subst (λ (trees : Shape). HoldsTrees c.set_block.new.mem.tables trees.ram_pages trees.bound (protect old page c.args.protection)) (sym c.self.view_is) holds;
+      counts = subst (λ (trees : Shape). CountsTaken (slice_set trees.counts c.block_of-block.result c.recounted-count.result) trees.ram_pages (protect old page c.args.protection)) (sym c.self.view_is) counted;
+    }
+
+holds_after : (trees now : Shape) (tables : List ℕ) (ps : ℕ → Protection) → trees ≡ now → HoldsTrees tables trees.ram_pages trees.bound ps → HoldsTrees tables now.ram_pages now.bound ps
+holds_after trees now tables ps e h = subst (λ (t : Shape). HoldsTrees tables t.ram_pages t.bound ps) e h
 
 pub returns-clause-views : goal.returns-clause-views
-returns-clause-views g c = λ old h k.
-    are_views c.set_block.new.mem.tables c.args.self.now.ram_pages c.args.self.now.bound (protect old c.args.page c.args.protection) (returns-clause-holds g c old h k)
+returns-clause-views g c = λ old drawn.
+    are_views c.set_block.new.mem.tables c.args.self.now.ram_pages c.args.self.now.bound (protect old c.args.page c.args.protection)
+    (holds_after _ c.args.self.now _ _ c.self.view_is (returns-clause-drawn g c old drawn).holds)
 
 pub returns-clause-blocks : goal.returns-clause-blocks
-returns-clause-blocks g c = λ old h k.
-    maps_blocks c.set_block.new.mem.tables c.args.self.now.ram_pages c.args.self.now.bound (protect old c.args.page c.args.protection) (returns-clause-holds g c old h k)
+returns-clause-blocks g c = λ old drawn.
+    maps_blocks c.set_block.new.mem.tables c.args.self.now.ram_pages c.args.self.now.bound (protect old c.args.page c.args.protection)
+    (holds_after _ c.args.self.now _ _ c.self.view_is (returns-clause-drawn g c old drawn).holds)

@@ -20,7 +20,7 @@ invariant_of-result c =
     let bits : c.in_ok-dma.dma ≡ map is_free (replicate c.ram_pages-pages.result Free) = c.in_ok-dma.ensures ∙ sym (free_bits c.ram_pages-pages.result) in
     let counts : CountsTaken c.new-trees.result.counts c.ram_pages-pages.result (protection_at (replicate c.ram_pages-pages.result Free)) =
     subst (λ (n : ℕ). CountsTaken c.new-trees.result.counts n (protection_at (replicate c.ram_pages-pages.result Free))) pages
-    (subst (CountsTaken c.new-trees.result.counts c.new-trees.result.ram_pages) (none_held c.ram_pages-pages.result) c.new-trees.ensures.counts) in
+    (subst (CountsTaken c.new-trees.result.counts c.new-trees.result.ram_pages) (none_held c.ram_pages-pages.result) c.new-trees.ensures.drawn.counts) in
     let counted : CountsTaken c.new-trees.result.counts (length c.in_ok-protections.protections.items) (protection_at c.in_ok-protections.protections.items) =
     subst (λ (n : ℕ). CountsTaken c.new-trees.result.counts n (protection_at c.in_ok-protections.protections.items)) (sym size)
     (subst (λ (list : List Protection). CountsTaken c.new-trees.result.counts c.ram_pages-pages.result (protection_at list)) (sym items) counts) in
@@ -37,4 +37,4 @@ returns-clause-theirs c =
     (subst (λ (n : ℕ). AreViews c.new-trees.new.mem.tables n [] all_free) pages
     (subst (λ (bound : List ℕ). AreViews c.new-trees.new.mem.tables c.new-trees.result.ram_pages bound all_free) c.new-trees.ensures.bound c.new-trees.ensures.views))
     (subst (λ (n : ℕ). HoldsTrees c.new-trees.new.mem.tables n [] all_free) pages
-    (subst (λ (bound : List ℕ). HoldsTrees c.new-trees.new.mem.tables c.new-trees.result.ram_pages bound all_free) c.new-trees.ensures.bound c.new-trees.ensures.holds)))
+    (subst (λ (bound : List ℕ). HoldsTrees c.new-trees.new.mem.tables c.new-trees.result.ram_pages bound all_free) c.new-trees.ensures.bound c.new-trees.ensures.drawn.holds)))

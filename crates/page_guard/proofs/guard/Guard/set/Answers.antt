@@ -1,13 +1,12 @@
 use Rattle.std.proofs.Common.{rules, ◌≡◌, length, ap, ◌∙◌, sym, subst, ℕ, List, [], slice_set, ◌<◌}
 use Rattle.std.proofs.lemmas.List.{map-set, length-set}
-use Rattle.reference.specs.Protections.{is_free}
-use Rattle.gstage_tables.specs.Blocks.{CountsTaken}
-use Rattle.gstage_tables.specs.Layout.{HoldsTrees}
 use Rattle.sv_types.specs.SecondStage.{protect, AreViews}
-use Rattle.reference.specs.Protections.{protection_at}
-use Rattle.page_guard.specs.Guarded.{IsTheirs}
 use Rattle.sv_types.specs.declared.wires.Protection.{Protection}
-use Rattle.page_guard.proofs.Sets.{set_is_protect, set_theirs}
+use Rattle.gstage_tables.specs.Blocks.{CountsTaken}
+use Rattle.gstage_tables.specs.Layout.{Shape}
+use Rattle.reference.specs.Protections.{is_free, protection_at}
+use Rattle.page_guard.specs.Guarded.{IsTheirs}
+use Rattle.page_guard.proofs.Sets.{drawn_by, drawn_plain, set_is_protect, set_theirs}
 use Rattle.page_guard.proofs.guard.Guard.set.Goals as goal
 
 -- src/guard.rt
@@ -20,41 +19,34 @@ returns-clause-theirs c =
     let trees = c.self.inside.trees in
     let pages : trees.ram_pages ≡ length guard = c.self.invariant.0 in
     let unbound : trees.bound ≡ [] = c.self.invariant.1.0 in
-    let before : HoldsTrees c.args.mem.now.tables trees.ram_pages trees.bound (protection_at guard) =
-    subst (λ (bound : List ℕ). HoldsTrees c.args.mem.now.tables trees.ram_pages bound (protection_at guard)) (sym unbound)
-    (subst (λ (n : ℕ). HoldsTrees c.args.mem.now.tables n [] (protection_at guard)) (sym pages) theirs.trees) in
-    let counted : CountsTaken trees.counts trees.ram_pages (protection_at guard) = subst (λ (n : ℕ). CountsTaken trees.counts n (protection_at guard)) (sym pages) c.self.invariant.1.1.0 in
-    let after : HoldsTrees c.set.new.mem.tables (length guard) [] (protect (protection_at guard) c.args.page c.args.protection) =
-    subst (λ (bound : List ℕ). HoldsTrees c.set.new.mem.tables (length guard) bound (protect (protection_at guard) c.args.page c.args.protection)) unbound
-    (subst (λ (n : ℕ). HoldsTrees c.set.new.mem.tables n trees.bound (protect (protection_at guard) c.args.page c.args.protection)) pages
-    (c.set.ensures.holds (protection_at guard) before counted)) in
+    let drawn = drawn_by c.args.mem.now.tables trees guard pages unbound theirs.trees c.self.invariant.1.1.0 in
+    let after = drawn_plain c.set.new.mem.tables c.set.new.self (length guard) (protect (protection_at guard) c.args.page c.args.protection)
+    (ap (λ (t : Shape). t.ram_pages) c.set.ensures.same ∙ pages) (ap (λ (t : Shape). t.bound) c.set.ensures.same ∙ unbound) (c.set.ensures.drawn (protection_at guard) drawn) in
     let views : AreViews c.set.new.mem.tables (length guard) [] (protect (protection_at guard) c.args.page c.args.protection) =
     subst (λ (bound : List ℕ). AreViews c.set.new.mem.tables (length guard) bound (protect (protection_at guard) c.args.page c.args.protection)) unbound
     (subst (λ (n : ℕ). AreViews c.set.new.mem.tables n trees.bound (protect (protection_at guard) c.args.page c.args.protection)) pages
-    (c.set.ensures.views (protection_at guard) before counted)) in
-    set_theirs c.set.new.mem guard c.args.page c.args.protection inside after views
+    (c.set.ensures.views (protection_at guard) drawn)) in
+    set_theirs c.set.new.mem guard c.args.page c.args.protection inside after.0 views
     (ap (λ (xs : List ℕ). length xs) c.set.ensures.ram ∙ theirs.ram)
 
 pub invariant_of-self : goal.invariant_of-self
 invariant_of-self c =
     let guard = c.self.inside.protections.items in
-    let trees = c.self.inside.trees in
     let theirs : IsTheirs c.args.mem.now guard = subst (IsTheirs c.args.mem.now) (sym c.self.view_is) c.requires.theirs in
     let inside : c.args.page < length guard = subst (λ (g : List Protection). c.args.page < length g) (sym c.self.view_is) c.requires.inside in
+    let trees = c.self.inside.trees in
     let pages : trees.ram_pages ≡ length guard = c.self.invariant.0 in
-    let before : HoldsTrees c.args.mem.now.tables trees.ram_pages trees.bound (protection_at guard) =
-    subst (λ (bound : List ℕ). HoldsTrees c.args.mem.now.tables trees.ram_pages bound (protection_at guard)) (sym c.self.invariant.1.0)
-    (subst (λ (n : ℕ). HoldsTrees c.args.mem.now.tables n [] (protection_at guard)) (sym pages) theirs.trees) in
-    let counted : CountsTaken trees.counts trees.ram_pages (protection_at guard) = subst (λ (n : ℕ). CountsTaken trees.counts n (protection_at guard)) (sym pages) c.self.invariant.1.1.0 in
-    let set : CountsTaken c.set.new.self.counts (length guard) (protection_at (slice_set guard c.args.page c.args.protection)) =
-    subst (CountsTaken c.set.new.self.counts (length guard)) (set_is_protect guard c.args.page c.args.protection inside)
-    (subst (λ (n : ℕ). CountsTaken c.set.new.self.counts n (protect (protection_at guard) c.args.page c.args.protection)) pages
-    (c.set.ensures.counts (protection_at guard) before counted)) in (
+    let unbound : trees.bound ≡ [] = c.self.invariant.1.0 in
+    let drawn = drawn_by c.args.mem.now.tables trees guard pages unbound theirs.trees c.self.invariant.1.1.0 in
+    let after = drawn_plain c.set.new.mem.tables c.set.new.self (length guard) (protect (protection_at guard) c.args.page c.args.protection)
+    (ap (λ (t : Shape). t.ram_pages) c.set.ensures.same ∙ pages) (ap (λ (t : Shape). t.bound) c.set.ensures.same ∙ unbound) (c.set.ensures.drawn (protection_at guard) drawn) in
+    let counts : CountsTaken c.set.new.self.counts (length guard) (protection_at (slice_set guard c.args.page c.args.protection)) =
+    subst (CountsTaken c.set.new.self.counts (length guard)) (set_is_protect guard c.args.page c.args.protection inside) after.1 in (
       search rules,
       (
         search rules,
         (
-          subst (λ (n : ℕ). CountsTaken c.set.new.self.counts n (protection_at (slice_set guard c.args.page c.args.protection))) (sym (length-set guard c.args.page c.args.protection)) set,
+          subst (λ (n : ℕ). CountsTaken c.set.new.self.counts n (protection_at (slice_set guard c.args.page c.args.protection))) (sym (length-set guard c.args.page c.args.protection)) counts,
           (
             (search rules ∙ sym (map-set is_free guard c.args.page c.args.protection)),
             search rules,
