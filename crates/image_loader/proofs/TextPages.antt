@@ -7,6 +7,7 @@ use Rattle.std.proofs.lemmas.List.Elements.{All-head, All-tail}
 use Rattle.sv_types.specs.ApprovedPages.{numbers_from}
 use Rattle.sv_types.specs.Bytes.{page_size, page_of, ram_place}
 use Rattle.sv_types.specs.Kernel.{LoadedSegment, text_pages, is_text_of}
+use Rattle.sv_types.specs.Regions.{most_ram_pages}
 use Rattle.sv_types.proofs.ByteLemmas.{lt_or_le}
 use Rattle.elf64_load.specs.Images.{text_owner}
 use Rattle.image_loader.specs.Placed.{IsPlaced, ArePlaced}
@@ -67,11 +68,11 @@ first_picked picks first (suc n) more none =
     let e : suc n + more ≡ suc (n + more) = omega arith in rw (e, first_picked picks (first + 1) n more (λ page low. none page (omega arith))) refl
 
 -- a test of the pages of RAM finds all of the text
-pub text_in_ram : (ss : List LoadedSegment) (ram_pages : ℕ) → ram_pages ≤ 65536 → ArePlaced ram_pages ss
+pub text_in_ram : (ss : List LoadedSegment) (ram_pages : ℕ) → ram_pages ≤ most_ram_pages → ArePlaced ram_pages ss
     → text_pages ss ≡ filter (λ page. list_any (is_text_of page) ss) (numbers_from 0 ram_pages)
 unfolding text_pages
 text_in_ram ss ram_pages few placed =
     let picks = λ (page : ℕ). list_any (is_text_of page) ss in
-    let e : ram_pages + (65536 - ram_pages) ≡ 65536 = omega arith in
+    let e : ram_pages + (most_ram_pages - ram_pages) ≡ most_ram_pages = omega arith in
     sym (ap (λ n. filter picks (numbers_from 0 n)) e)
-    ∙ first_picked picks 0 ram_pages (65536 - ram_pages) (λ page low. no_text (page_size * ram_pages) page ss placed (omega arith))
+    ∙ first_picked picks 0 ram_pages (most_ram_pages - ram_pages) (λ page low. no_text (page_size * ram_pages) page ss placed (omega arith))

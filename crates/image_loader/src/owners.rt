@@ -2,6 +2,7 @@
 // table of skips leads over pages that have one, so that the time is that of the segments and the pages together.
 
 ghost use Rattle.std.specs.Prelude.{◌≡◌, ℕ, ◌+◌, ◌≤◌, ◌<◌, ◌==◌, ◌&&◌, nat_le, nat_lt, map, length, slice_index, if◌then◌else◌, IfOk};
+ghost use Rattle.sv_types.specs.Regions.{most_ram_pages};
 ghost use Rattle.elf64_load.specs.Images.{segment_of};
 ghost use Rattle.image_loader.specs.Whole.{covers, IsLastWhole, SkipsOwned};
 
@@ -18,7 +19,7 @@ struct PageRange {
 
 // The pages of RAM that a segment covers whole.
 fn whole_range(segment: &Segment, pages: usize) -> PageRange
-    requires { pages ≤ 65536 }
+    requires { pages ≤ most_ram_pages }
     ensures ordered { result.first ≤ result.end }
     ensures within { result.end ≤ pages }
     ensures whole { (page : ℕ) → page < pages → covers page (segment_of segment.now) ≡ (nat_le result.first page && nat_lt page result.end) }
@@ -44,7 +45,7 @@ fn claim_page(owners: &mut [usize], page: usize, number: usize)
 // Gives the pages that a segment covers whole, and that have no owner yet, its number. Each page that it comes by skips
 // to their end from then on.
 fn claim_pages(owners: &mut [usize], skips: &mut [usize], segment: &Segment, number: usize)
-    requires few { length owners.old ≤ 65536 }
+    requires few { length owners.old ≤ most_ram_pages }
     requires number { 0 < number }
     requires skips { length skips.old ≡ length owners.old }
     requires owned { SkipsOwned owners.old skips.old }
@@ -65,7 +66,7 @@ fn claim_pages(owners: &mut [usize], skips: &mut [usize], segment: &Segment, num
 
 // Gives each page its owner, where none has one yet.
 fn claim_all(owners: &mut [usize], skips: &mut [usize], segments: &[Segment])
-    requires few { length owners.old ≤ 65536 }
+    requires few { length owners.old ≤ most_ram_pages }
     requires none { (page : ℕ) → page < length owners.old → slice_index owners.old page ≡ 0 }
     requires skips { length skips.old ≡ length owners.old }
     requires owned { SkipsOwned owners.old skips.old }
@@ -90,7 +91,7 @@ pub fn last_owners(
     segments: &[Segment],
     pages: usize,
 ) -> Result<Vec<usize>, AllocError>
-    requires { pages ≤ 65536 }
+    requires { pages ≤ most_ram_pages }
     ensures pages { IfOk result (λ owners. length owners.items ≡ pages) }
     ensures owners { IfOk result (λ owners. (page : ℕ) → page < pages → IsLastWhole (map segment_of segments.now) (length segments.now) page (slice_index owners.items page)) }
 {

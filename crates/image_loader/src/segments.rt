@@ -5,6 +5,7 @@ ghost use Rattle.std.specs.List.{All};
 ghost use Rattle.std.specs.Prelude.{◌≡◌, ℕ, ◌+◌, ◌-◌, ◌*◌, ◌/◌, ◌<◌, ◌≤◌, ◌==◌, ◌&&◌, false, nat_le, nat_lt, map, length, replicate, slice_index, slice_index_or, if◌then◌else◌, IfOk, OnErr, OnOk};
 ghost use Rattle.sv_types.specs.Bytes.{page_size, overwrite, padded, part, ram_place};
 ghost use Rattle.sv_types.specs.Kernel.{segments_ram};
+ghost use Rattle.sv_types.specs.Regions.{most_ram_pages};
 ghost use Rattle.elf64_load.specs.Images.{segment_of, segments_of};
 ghost use Rattle.image_loader.specs.Placed.{IsPlaced, ArePlaced};
 ghost use Rattle.image_loader.specs.Whole.{byte_of, covers, has_byte, loaded_byte, segment_at, IsLastWhole};
@@ -50,7 +51,7 @@ fn put_piece(mem: &mut HostMem, segment: &Segment, page: usize, zeros: &[u8])
     requires zeros { zeros.now ≡ replicate 4096 0 }
     requires placed { IsPlaced (length mem.old.ram) (segment_of segment.now) }
     requires page { page_size * page + page_size ≤ length mem.old.ram }
-    requires few { length mem.old.ram ≤ page_size * 65536 }
+    requires few { length mem.old.ram ≤ page_size * most_ram_pages }
     ensures bytes { (at : ℕ) → slice_index_or mem.new.ram at 0 ≡ (if at / page_size == page && has_byte (segment_of segment.now) at then byte_of (segment_of segment.now) at else slice_index_or mem.old.ram at 0) }
     ensures tables { mem.new.tables ≡ mem.old.tables }
     ensures size { length mem.new.ram ≡ length mem.old.ram }
@@ -100,7 +101,7 @@ fn put_owner(mem: &mut HostMem, segments: &[Segment], owner: usize, page: usize,
     requires placed { All (IsPlaced (length mem.old.ram)) (map segment_of segments.now) }
     requires owner { owner ≤ length segments.now }
     requires page { page_size * page + page_size ≤ length mem.old.ram }
-    requires few { length mem.old.ram ≤ page_size * 65536 }
+    requires few { length mem.old.ram ≤ page_size * most_ram_pages }
     ensures bytes { (at : ℕ) → slice_index_or mem.new.ram at 0 ≡ (if nat_lt 0 owner && (at / page_size == page && has_byte (segment_at (map segment_of segments.now) (owner - 1)) at) then byte_of (segment_at (map segment_of segments.now) (owner - 1)) at else slice_index_or mem.old.ram at 0) }
     ensures tables { mem.new.tables ≡ mem.old.tables }
     ensures size { length mem.new.ram ≡ length mem.old.ram }
@@ -115,7 +116,7 @@ fn put_owned(mem: &mut HostMem, segments: &[Segment], owners: &[usize], zeros: &
     requires zeros { zeros.now ≡ replicate 4096 0 }
     requires ram { length mem.old.ram ≡ page_size * length owners.now }
     requires placed { All (IsPlaced (length mem.old.ram)) (map segment_of segments.now) }
-    requires few { length owners.now ≤ 65536 }
+    requires few { length owners.now ≤ most_ram_pages }
     requires blank { (at : ℕ) → slice_index_or mem.old.ram at 0 ≡ 0 }
     requires owners { (page : ℕ) → page < length owners.now → IsLastWhole (map segment_of segments.now) (length segments.now) page (slice_index owners.now page) }
     ensures bytes { (at : ℕ) → at < length mem.old.ram → slice_index_or mem.new.ram at 0 ≡ loaded_byte (length mem.old.ram) (map segment_of segments.now) (slice_index owners.now (at / page_size)) at }
@@ -132,7 +133,7 @@ fn put_due(is_due: bool, mem: &mut HostMem, segment: &Segment, page: usize, zero
     requires zeros { zeros.now ≡ replicate 4096 0 }
     requires placed { IsPlaced (length mem.old.ram) (segment_of segment.now) }
     requires page { page_size * page + page_size ≤ length mem.old.ram }
-    requires few { length mem.old.ram ≤ page_size * 65536 }
+    requires few { length mem.old.ram ≤ page_size * most_ram_pages }
     ensures bytes { (at : ℕ) → slice_index_or mem.new.ram at 0 ≡ (if is_due && (at / page_size == page && has_byte (segment_of segment.now) at) then byte_of (segment_of segment.now) at else slice_index_or mem.old.ram at 0) }
     ensures tables { mem.new.tables ≡ mem.old.tables }
     ensures size { length mem.new.ram ≡ length mem.old.ram }
@@ -147,7 +148,7 @@ fn put_edge(mem: &mut HostMem, segment: &Segment, number: usize, owners: &[usize
     requires zeros { zeros.now ≡ replicate 4096 0 }
     requires ram { length mem.old.ram ≡ page_size * length owners.now }
     requires placed { IsPlaced (length mem.old.ram) (segment_of segment.now) }
-    requires few { length owners.now ≤ 65536 }
+    requires few { length owners.now ≤ most_ram_pages }
     requires whole { (page : ℕ) → page < length owners.now → slice_index owners.now page ≤ number → covers page (segment_of segment.now) ≡ false }
     ensures bytes { (at : ℕ) → slice_index_or mem.new.ram at 0 ≡ (if nat_le (slice_index owners.now (at / page_size)) number && has_byte (segment_of segment.now) at then byte_of (segment_of segment.now) at else slice_index_or mem.old.ram at 0) }
     ensures tables { mem.new.tables ≡ mem.old.tables }
@@ -168,7 +169,7 @@ fn put_edges(mem: &mut HostMem, segments: &[Segment], owners: &[usize], zeros: &
     requires zeros { zeros.now ≡ replicate 4096 0 }
     requires ram { length mem.old.ram ≡ page_size * length owners.now }
     requires placed { All (IsPlaced (length mem.old.ram)) (map segment_of segments.now) }
-    requires few { length owners.now ≤ 65536 }
+    requires few { length owners.now ≤ most_ram_pages }
     requires owners { (page : ℕ) → page < length owners.now → IsLastWhole (map segment_of segments.now) (length segments.now) page (slice_index owners.now page) }
     requires bytes { (at : ℕ) → at < length mem.old.ram → slice_index_or mem.old.ram at 0 ≡ loaded_byte (length mem.old.ram) (map segment_of segments.now) (slice_index owners.now (at / page_size)) at }
     ensures bytes { (at : ℕ) → at < length mem.old.ram → slice_index_or mem.new.ram at 0 ≡ loaded_byte (length mem.old.ram) (map segment_of segments.now) (length segments.now) at }

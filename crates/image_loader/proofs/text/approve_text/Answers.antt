@@ -4,6 +4,7 @@ use Rattle.std.specs.List.{list_any}
 use Rattle.std.proofs.lemmas.List.{length-map}
 use Rattle.sv_types.specs.ApprovedPages.{numbers_from}
 use Rattle.sv_types.specs.Kernel.{is_text_of}
+use Rattle.sv_types.specs.Regions.{most_ram_pages}
 use Rattle.sv_types.specs.declared.wires.Protection.{Protection}
 use Rattle.sv_types.specs.declared.wires.Protection.TheVariants.{Approved}
 use Rattle.reference.specs.Protections.{with_each}
@@ -48,6 +49,6 @@ returns-clause-guard c =
     let size = c.ram_pages-pages.ensures.value in
     let most = c.ram_pages-pages.ensures.region.most in
     let all : pages ≡ length c.args.guard.now = let whole = c.requires.theirs.ram in omega arith in
-    let few : pages ≤ 65536 = omega arith in
+    let few : pages ≤ most_ram_pages = omega arith in
     sym (last_page picks c.pages.guard c.pages.page pages (omega arith)) ∙ c.pages.invariant.0
     ∙ ap (λ (text : List ℕ). with_each c.args.guard.now text Approved) (sym (text_in_ram ss pages few (rw all c.requires.placed)))
