@@ -13,7 +13,7 @@ use Rattle.sv_types.specs.ApprovedPages.{numbers_from}
 use Rattle.sv_types.specs.Bytes.{padded}
 use Rattle.sv_types.specs.Kernel.{LoadedSegment, filled_part, header_entry, is_text_of, segments_ram, text_page, text_page_in, text_of}
 use Rattle.sv_types.specs.Policies.{Rules, bound_within, rules_within}
-use Rattle.sv_types.specs.Regions.{Region}
+use Rattle.sv_types.specs.Regions.{Region, most_ram_pages}
 use Rattle.sv_types.specs.SecondStage.{with_ram}
 use Rattle.sv_types.specs.declared.wires.Protection.{Protection}
 use Rattle.start_laws.proofs.StartsStand.{image_start_law}
@@ -57,7 +57,7 @@ pages_whole ss (page ∷ pages) =
 
 pub text_whole : (image : KernelImage) (text : List ℕ) → text ≡ text_of (segments_of image) → length text % 4096 ≡ 0
 unfolding text_of
-text_whole image text is = ap (λ (text : List ℕ). length text % 4096) is ∙ pages_whole (segments_of image) (numbers_from 0 65536)
+text_whole image text is = ap (λ (text : List ℕ). length text % 4096) is ∙ pages_whole (segments_of image) (numbers_from 0 most_ram_pages)
 
 -- ---- refusals
 
@@ -71,7 +71,7 @@ image_refused image rules text Memory is refused = refused
 pub harts_within : (rules : Rules) → IsTrue (rules_within rules) → (1 ≤ rules.harts) × (rules.harts ≤ 4)
 harts_within rules within = grind (arith, nat_tests)
 
-pub pages_within : (rules : Rules) → IsTrue (rules_within rules) → rules.ram_pages ≤ 65536
+pub pages_within : (rules : Rules) → IsTrue (rules_within rules) → rules.ram_pages ≤ most_ram_pages
 pages_within rules within = grind (arith, nat_tests)
 
 none_bound : (bound : List ℕ) → length bound ≡ 0 → bound ≡ []

@@ -8,6 +8,7 @@ use Rattle.toml.specs.Data.{Members, get_member}
 use Rattle.sv_types.specs.Bytes.{ram_base}
 use Rattle.sv_types.specs.Policies.{Rules, ModuleRule, each_within, entry_within, entries_count_within, exports_count_within, export_within, is_exported, span_within, init_within, next_site_within, site_within, place_within, is_aligned, base_within, anchor_within, is_behind, sites_within, sites_count_within, sites_of, module_within, modules_within, modules_count_within, is_module, module_pages_within, format_within, harts_within, ram_pages_within, entries_within, exports_within, bound_within, numbers_within, lists_within, rules_within}
 use Rattle.sv_types.specs.RelocationKinds as kinds
+use Rattle.sv_types.specs.Regions.{most_ram_pages}
 use Rattle.sv_types.specs.declared.module.Span.{Span}
 use Rattle.sv_types.specs.declared.module.Site.{Site}
 use Rattle.sv_types.specs.declared.policy.Export.{Export}
@@ -49,7 +50,7 @@ exports_back exports ranges count within =
 
 -- ---- the kernel
 
-first_below : (ram_pages : ℕ) (span : Span) → span_within ram_pages span ≡ true → ram_pages ≤ 65536 → span.first < 65536
+first_below : (ram_pages : ℕ) (span : Span) → span_within ram_pages span ≡ true → ram_pages ≤ most_ram_pages → span.first < most_ram_pages
 first_below ram_pages span within few = grind (arith, nat_tests)
 
 page_address : (first : ℕ) → (ram_base + 4096 * first) % 4096 ≡ 0
@@ -64,16 +65,16 @@ span_at_back ram_pages span within =
     let below : nat_le ram_base (ram_base + 4096 * span.first) ≡ true = le-leb _ _ (omega arith) in
     rw (below, page_of_address span.first, within) refl
 
-span_back : (ram_pages : ℕ) (span : Span) → span_within ram_pages span ≡ true → ram_pages ≤ 65536 →
+span_back : (ram_pages : ℕ) (span : Span) → span_within ram_pages span ≡ true → ram_pages ≤ most_ram_pages →
     init_of ram_pages (Some (span_data span)) ≡ Ok (Some span)
 unfolding init_of init_of_two span_data
 span_back ram_pages span within few =
-    let below : span.first < 65536 = first_below ram_pages span within few in
+    let below : span.first < most_ram_pages = first_below ram_pages span within few in
     let some : nat_le 1 span.count ≡ true = (and_parts (nat_le 1 span.count) _ within).0 in
     rw (address_back (ram_base + 4096 * span.first) (omega arith), page_address span.first, some, span_at_back ram_pages span within) refl
 
 init_back : (ram_pages : ℕ) (kernel : List ℕ) (init : Option Span) (ms : Members) → get_member (codes "kernel") ms ≡ Some (kernel_data kernel init) →
-    IsDigest kernel → init_within ram_pages init ≡ true → ram_pages ≤ 65536 → kernel_rule ram_pages ms ≡ Ok (kernel, init)
+    IsDigest kernel → init_within ram_pages init ≡ true → ram_pages ≤ most_ram_pages → kernel_rule ram_pages ms ≡ Ok (kernel, init)
 unfolding kernel_data
 init_back ram_pages kernel None ms at digest within few =
     rw (at, measure_back kernel digest) (unfold init_of in refl)
@@ -157,7 +158,7 @@ parts_back r is within =
     let exports = and_parts _ (exports_within r.exports) bound.0 in
     let exports_count = and_parts _ (exports_count_within (length r.exports)) exports.0 in
     let entries = and_parts (entries_count_within (length r.entries)) (entries_within r.entries) exports_count.0 in
-    let few : r.ram_pages ≤ 65536 = leb-true r.ram_pages 65536 (and_parts (nat_le 16 r.ram_pages) (nat_le r.ram_pages 65536) numbers.1).1 in
+    let few : r.ram_pages ≤ most_ram_pages = leb-true r.ram_pages most_ram_pages (and_parts (nat_le 16 r.ram_pages) (nat_le r.ram_pages most_ram_pages) numbers.1).1 in
     record {
       format = format_back r.format harts.0;
       harts = harts.1;

@@ -3,6 +3,7 @@ use Rattle.std.proofs.Common.{◌≡◌, ◌≢◌, ◌<◌, ℕ, List, [], ◌�
 use Rattle.std.specs.Option.{is_some}
 use Rattle.std.specs.Result.{is_ok}
 use Rattle.sv_types.specs.Numbers.{number_within, digest_of}
+use Rattle.sv_types.specs.Regions.{most_ram_pages}
 use Rattle.sv_types.specs.declared.module.Span.{Span}
 use Rattle.sv_types.specs.declared.status.Status.{Status}
 use Rattle.policy_making.specs.Making.{Terms}
@@ -135,7 +136,7 @@ split_no_read_fault (Some (Split.Gen calls)) = gen_no_read_fault (number_within 
 split_no_read_fault (Some (Split.Run w)) = run_no_read_fault w (source_of w.script) (number_within 0 most_events w.events)
 split_no_read_fault (Some (Split.Measure w)) =
     making_no_read_fault w (terms_judged w.ram w.harts w.entries w.init)
-    (terms_no_read_fault w.init (number_within 16 65536 w.ram) (number_within 1 4 w.harts) (entries_judged w.entries))
+    (terms_no_read_fault w.init (number_within 16 most_ram_pages w.ram) (number_within 1 4 w.harts) (entries_judged w.entries))
 
 pub words_no_read_fault : (words : List (List ℕ)) → NoReadFault (judged words)
 unfolding judged

@@ -4,6 +4,7 @@ use Rattle.std.specs.Prelude.{ℕ, ◌^◌, ◌-◌, List, if◌then◌else◌, 
 use Rattle.std.specs.Str.{bytes_eq}
 use Rattle.command_words.specs.Commands.{Split, FlatSplit, RunSplit, MeasureSplit, split_words}
 use Rattle.sv_types.specs.Numbers.{number_within, digest_of}
+use Rattle.sv_types.specs.Regions.{most_ram_pages}
 use Rattle.sv_types.specs.declared.module.Span.{Span}
 use Rattle.policy_making.specs.Making.{Terms}
 use Rattle.policy_words.specs.Ranges.{are_entries, entries_of, span_of, are_module_names}
@@ -128,7 +129,7 @@ terms_words init (Some ram_pages) (Some harts) None = Err (OutOfRange Word.Entri
 terms_words init (Some ram_pages) (Some harts) (Some entries) = terms_with ram_pages harts entries (init_of ram_pages init)
 
 abbrev pub terms_judged : (ram harts entries init : List ℕ) → Result Terms Refusal
-terms_judged ram harts entries init = terms_words init (number_within 16 65536 ram) (number_within 1 4 harts) (entries_judged entries)
+terms_judged ram harts entries init = terms_words init (number_within 16 most_ram_pages ram) (number_within 1 4 harts) (entries_judged entries)
 
 -- the modules are judged behind the other words
 unfoldable pub making_words : MeasureSplit → Result Terms Refusal → Result Command Refusal
