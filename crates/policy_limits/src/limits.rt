@@ -14,7 +14,7 @@ pub const MOST_HARTS: u8 = 4;
 pub const FEWEST_RAM_PAGES: u32 = 16;
 
 /// The most pages of RAM.
-pub const MOST_RAM_PAGES: u32 = 65_536;
+pub const MOST_RAM_PAGES: u32 = 262_144;
 
 /// The most permitted entries.
 pub const MOST_ENTRIES: usize = 64;

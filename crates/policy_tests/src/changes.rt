@@ -101,12 +101,12 @@ static CHANGES: [Change; 64] = [
     },
     Change {
         from: "ram_pages = 16",
-        to: "ram_pages = 65536",
+        to: "ram_pages = 262144",
         number: 0,
     },
     Change {
         from: "ram_pages = 16",
-        to: "ram_pages = 65537",
+        to: "ram_pages = 262145",
         number: 6,
     },
     Change {

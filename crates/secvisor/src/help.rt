@@ -20,7 +20,7 @@ How secvisor is used:
   DISK         the disk's bytes, whole sectors of 512, or none for an empty disk
   SCRIPT       a script of events, none for the harts in turn, or auto:K for a drawn order
   EVENTS       the most events, 0 to 4294967296
-  RAM          pages of 4096 bytes, 16 to 65536
+  RAM          pages of 4096 bytes, 16 to 262144
   HARTS        1 to 4
   ENTRIES      1 to 64 addresses at which user mode may enter the kernel, harts start, or the
                kernel boots, as 0x80000000,0x80000100

@@ -3,6 +3,7 @@ use Rattle.std.specs.Prelude.{ℕ, ◌+◌, ◌-◌, slice_get, ◌*◌, ◌%◌
 use Rattle.std.specs.List.{list_any}
 use Rattle.std.specs.Str.{bytes_eq}
 use Rattle.sv_types.specs.Bytes.{page_size, ram_base}
+use Rattle.sv_types.specs.Regions.{most_ram_pages}
 use Rattle.sv_types.specs.declared.module.Span.{Span}
 use Rattle.sv_types.specs.declared.module.Site.{Site}
 use Rattle.sv_types.specs.declared.policy.Export.{Export}
@@ -57,7 +58,7 @@ abbrev pub harts_within : ℕ → Bool
 harts_within = is_between 1 4
 
 abbrev pub ram_pages_within : ℕ → Bool
-ram_pages_within = is_between 16 65536
+ram_pages_within = is_between 16 most_ram_pages
 
 abbrev pub entries_count_within : ℕ → Bool
 entries_count_within = is_between 1 64

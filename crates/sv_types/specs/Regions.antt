@@ -42,7 +42,7 @@ pub record IsHostPlace (r : Region) (at n : ℕ) : Type 0 where
 
 -- the most pages of guest RAM
 abbrev pub most_ram_pages : ℕ
-most_ram_pages = 65536
+most_ram_pages = 262144
 
 -- what holds of every region: whole pages in both parts, and a number of RAM pages within the limit
 pub record IsRegion (r : Region) : Type 0 where
