@@ -8,6 +8,7 @@ mod line;
 mod live_key;
 mod memory_keys;
 mod protocol;
+mod real_keys;
 mod recording;
 #[cfg(test)]
 mod tests;
@@ -18,5 +19,6 @@ pub use keys::{Keys, Pace, Still};
 pub use line::{Fed, Feeder, KeyLine, MOST_KEYS, Taker};
 pub use live_key::LiveKey;
 pub use memory_keys::MemKeys;
+pub use real_keys::ReaderKeys;
 pub use recording::law_journal_events;
 pub use text::journal_text;

@@ -1,0 +1,69 @@
+// Keys of a reader, as standard input. They tell nothing of content.
+ghost use Rattle.std.specs.Prelude.{◌≡◌};
+ghost use Rattle.live_keys.specs.Memory.{untold_keys};
+
+use crate::keys::Keys;
+use std::io;
+use std::io::{ErrorKind, Read};
+use sv_types::Failed;
+
+/// How often a read that was interrupted is tried.
+const MOST_TRIES: u32 = 1000;
+
+/// The bytes of a reader. Behind its end nothing more is read: a terminal would go on.
+#[derive(Drop)]
+pub struct ReaderKeys<I: Read + Drop> {
+    reader: I,
+    has_ended: bool,
+    faults: u64,
+}
+
+impl<I: Read + Drop> ReaderKeys<I> {
+    pub fn new(reader: I) -> ReaderKeys<I>
+        ensures { result.faults ≡ 0 }
+    {
+        ReaderKeys {
+            reader,
+            has_ended: false,
+            faults: 0,
+        }
+    }
+}
+
+impl<I: Read + Drop> Keys for ReaderKeys<I> {
+    ghost state = { λ k. untold_keys k.faults };
+
+    fn next(&mut self) -> Result<Option<u8>, Failed> {
+        if self.has_ended {
+            return Ok(None);
+        }
+        match next_byte(&mut self.reader) {
+            Ok(Some(byte)) => Ok(Some(byte)),
+            Ok(None) => {
+                self.has_ended = true;
+                Ok(None)
+            }
+            Err(_) => {
+                self.faults += 1;
+                Err(Failed)
+            }
+        }
+    }
+}
+
+// None at the end.
+fn next_byte<I: Read>(reader: &mut I) -> io::Result<Option<u8>> {
+    let mut byte = [0u8; 1];
+    for _ in 0..MOST_TRIES {
+        match reader.read(&mut byte) {
+            Ok(0) => return Ok(None),
+            Ok(_) => return Ok(Some(byte[0])),
+            Err(error) => {
+                if error.kind() != ErrorKind::Interrupted {
+                    return Err(error);
+                }
+            }
+        }
+    }
+    Err(io::Error::from(ErrorKind::Interrupted))
+}
