@@ -16,10 +16,10 @@ use Rattle.outside.specs.Outside.{SinkState, after_taking, TookPrefix, BreaksOff
 use Rattle.outside.proofs.SinkLemmas.{after_taking-append, prefix_behind, prefix_of_front, prefix_same, breaks_behind}
 use Rattle.secvisor_cli.specs.declared.trouble.Trouble.{Trouble}
 use Rattle.secvisor_cli.specs.declared.trouble.Trouble.TheVariants.{Memory}
-use Rattle.secvisor_cli.specs.Console.{is_due, HasRun, RunBroke}
+use Rattle.console_run.specs.Console.{is_due, HasRun, RunBroke}
 use Rattle.secvisor_cli.specs.Answers.{Writes, RunsTo, is_answer}
-use Rattle.secvisor_cli.specs.Standing.{machine_output}
-use Rattle.secvisor_cli.proofs.Standing.{prints_behind, stands_printed, stands_verdict, stands_output}
+use Rattle.console_run.specs.Standing.{machine_output}
+use Rattle.console_run.proofs.Standing.{prints_behind, stands_printed, stands_verdict, stands_output}
 
 -- ---- the rest of the console, and then the report
 

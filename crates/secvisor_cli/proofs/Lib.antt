@@ -1,6 +1,4 @@
 pub mod WordLemmas
-pub mod Standing
-pub mod ConsoleLemmas
 pub mod EndLemmas
 pub mod PlanLemmas
 pub mod SaveLemmas

@@ -10,6 +10,7 @@ use Rattle.reference.specs.Counting.{CountsAtMost}
 use Rattle.reference.specs.States.{State}
 use Rattle.machine_model.specs.Machine.{Machine}
 use Rattle.machine_model.specs.Reaches.{IsNew}
+use Rattle.machine_model.specs.StandsFor.{machine_of}
 use Rattle.sv_types.specs.ApprovedPages.{numbers_from}
 use Rattle.sv_types.specs.Schedule.{Schedule, first_events}
 use Rattle.guest_gen.specs.Generated.{generated_image, generated_policy}
@@ -30,7 +31,7 @@ use Rattle.secvisor_cli.specs.declared.ready.Stop.TheVariants.{Refused, Memory}
 use Rattle.secvisor_cli.specs.CommandLine.{most_events}
 use Rattle.secvisor_cli.specs.Plans.{Due, Refuse, RunFrom, Plan, End, Judge, Found, Faulty, Missing, Longer, Held, found_plan, read_part, measure_judged, pages_judged, is_whole_pages, gen_disk, gen_due}
 use Rattle.secvisor_cli.specs.Reading.{FoundAs}
-use Rattle.secvisor_cli.proofs.Standing.{counts_are, printed_few}
+use Rattle.console_run.proofs.Standing.{counts_are, printed_few}
 use Rattle.secvisor_cli.specs.Ready.{unread, PartRead, stop_of, IsReady, IsReadyWhere, Prepares}
 
 -- ---- any plan
@@ -141,6 +142,11 @@ fresh_flat pages wanted m new = fresh_state (flat_start pages wanted) m refl ref
 pub fresh_boot : (rules : Rules) (file disk : List ℕ) (m : Machine) → IsNew m (boot_start rules file disk) → CountsAtMost 0 m.journal.counts × (m.journal.printed ≡ [])
 unfolding boot_start start
 fresh_boot rules file disk m new = fresh_state (boot_start rules file disk) m refl refl new
+
+-- the machine that boots has the policy's rules
+pub boot_rules : (rules : Rules) (file disk : List ℕ) (m : Machine) → IsNew m (boot_start rules file disk) → m.rules ≡ rules
+unfolding boot_start start machine_of
+boot_rules rules file disk m new = ap (λ (x : Machine). x.rules) new.stands.same
 
 pub booted_ready : (pages wanted : List ℕ) (events : List Event) (result : Result Ready Stop) → measure pages ≡ wanted → IsReady (RunFrom (flat_start pages wanted) events None) result →
     IsReady (measure_judged pages wanted events) result

@@ -13,9 +13,9 @@ use Rattle.secvisor_cli.specs.declared.trouble.Trouble.{Trouble}
 use Rattle.secvisor_cli.specs.declared.trouble.Trouble.TheVariants.{Write, Memory}
 use Rattle.secvisor_cli.specs.Refusals.{refusal_line, takes_memory}
 use Rattle.secvisor_cli.specs.Plans.{Due, Refuse, RunFrom, Make, measured_line, Saving, saving, policy_saving, Plan, bytes_due, status_due, saves_due}
-use Rattle.secvisor_cli.specs.Console.{is_due}
+use Rattle.console_run.specs.Console.{is_due}
 use Rattle.secvisor_cli.specs.Reading.{Follows, Saved, SaveBroke}
-use Rattle.secvisor_cli.specs.Standing.{Stands, machine_output}
+use Rattle.console_run.specs.Standing.{Stands, machine_output}
 
 -- what stands outside the program: the files, the sink, and the machine on the bench
 pub record Outside : Type 0 where

@@ -3,7 +3,5 @@ pub mod CommandLine
 pub mod Words
 pub mod Plans
 pub mod Reading
-pub mod Standing
 pub mod Answers
 pub mod Ready
-pub mod Console

@@ -35,7 +35,7 @@ use Rattle.secvisor_cli.specs.declared.ready.Stop.{Stop}
 use Rattle.secvisor_cli.specs.declared.ready.Stop.TheVariants.{Refused, Memory}
 use Rattle.secvisor_cli.specs.Plans.{Due, Refuse, RunFrom, Make, measured_line, making_refusal, Kernel, Modules, saves_due, Plan, Found, Faulty, Missing, Longer, Held}
 use Rattle.secvisor_cli.specs.Reading.{Follows, FoundAs, MayFollow, MaySave}
-use Rattle.secvisor_cli.specs.Standing.{HasState}
+use Rattle.console_run.specs.Standing.{HasState}
 
 -- the refusal of a part that isn't read
 abbrev pub unread : Part → Found → Option Refusal
@@ -69,6 +69,11 @@ pub record IsFresh (ready : Booted) : Type 0 where
   pub state : HasState ready.machine
   pub counts : CountsAtMost 0 ready.machine.journal.counts
   pub console : ready.machine.journal.printed ≡ []
+
+-- the events are drawn behind a number, for as many harts as the machine has
+abbrev pub DrawsFrom : (number : ℕ) → Ready → Type 0
+DrawsFrom number (Run booted) = booted.script ≡ Schedule.Auto booted.machine.rules.harts number
+DrawsFrom number (Save made) = ⊥
 
 -- a text that reads as the policy, under its name, and the line that is printed behind it
 pub record IsMade (name : List ℕ) (rules : Rules) (made : Made) : Type 0 where

@@ -8,7 +8,7 @@ ghost use Rattle.reference.specs.Report.{output};
 ghost use Rattle.reference.specs.Run.{run};
 ghost use Rattle.reference.specs.States.{State};
 ghost use Rattle.machine_model.specs.Reaches.{IsNew};
-ghost use Rattle.secvisor_cli.specs.Standing.{HasState, machine_output};
+ghost use Rattle.console_run.specs.Standing.{HasState, machine_output};
 ghost use Rattle.sv_types.specs.Schedule.{first_events};
 ghost use Rattle.secvisor_cli.specs.Refusals.{refusal_line, refusal_status, takes_memory};
 ghost use Rattle.secvisor_cli.specs.CommandLine.{judged};
@@ -25,11 +25,11 @@ use crate::judgement::judge;
 use crate::making::prepare_policy;
 use crate::ready::{Booted, Made, Ready, Stop};
 use crate::refusal::Refusal;
-use crate::run::run;
 use crate::save::save_disk;
 use crate::trouble::Trouble;
 use crate::words::{Command, read_words};
 use command_words::split;
+use console_run::run;
 use machine::Machine;
 use outside::{Files, Sink, write_all};
 use report::{report, status_of};
@@ -160,8 +160,8 @@ fn prepare_command<'a, R: Threads + Sync, F: Files>(
     }
 }
 
-// The line of a refusal, and its status.
-fn refuse<O: Sink>(alloc: Global, refusal: &Refusal, out: &mut O) -> Result<Status, Trouble>
+/// Writes the line of a refusal, and answers its status.
+pub fn refuse<O: Sink>(alloc: Global, refusal: &Refusal, out: &mut O) -> Result<Status, Trouble>
     requires is_open { IsTrue (O.state out.old).is_open }
     requires count { (O.state out.old).faults < 2 ^ 64 - 1 }
     ensures writes { Writes (refusal_status refusal.now) (refusal_line refusal.now) (O.state out.old) (O.state out.new) result }
@@ -292,8 +292,8 @@ fn run_and_report<O: Sink>(
     finish(alloc, machine, out)
 }
 
-// The rest of the console, and the report. Where memory is wanting, nothing is written.
-fn finish<O: Sink>(alloc: Global, machine: &Machine, out: &mut O) -> Result<Status, Trouble>
+/// Writes the rest of the console, and the report. Where memory is wanting, nothing is written.
+pub fn finish<O: Sink>(alloc: Global, machine: &Machine, out: &mut O) -> Result<Status, Trouble>
     requires is_open { IsTrue (O.state out.old).is_open }
     requires count { (O.state out.old).faults < 2 ^ 64 - 1 }
     ensures writes { Writes (run_status machine.now.journal.verdict) (machine_output machine.now) (O.state out.old) (O.state out.new) result }

@@ -1,11 +1,13 @@
 // The command `run`.
-ghost use Rattle.std.specs.Prelude.{◌≡◌, ◌<◌, ◌≤◌, ◌-◌, ◌^◌, ◌%◌, ◌==◌, IfOk, IsTrue, length};
+ghost use Rattle.std.specs.Prelude.{◌≡◌, ◌<◌, ◌≤◌, ◌-◌, ◌^◌, ◌%◌, ◌==◌, ℕ, IfOk, IsTrue, length};
 ghost use Rattle.std.specs.Option.{option_copied};
 ghost use Rattle.sv_types.specs.Policies.{rules_of, rules_within};
+ghost use Rattle.sv_types.specs.Schedule.{Schedule};
 ghost use Rattle.policy.specs.Text.{rules_of_text};
+ghost use Rattle.secvisor_cli.specs.CommandLine.{Auto};
 ghost use Rattle.secvisor_cli.specs.Plans.{policy_part, kernel_part, disk_part, text_part, script_part, boot_plan, run_plan};
 ghost use Rattle.secvisor_cli.specs.Reading.{MayFollow};
-ghost use Rattle.secvisor_cli.specs.Ready.{Prepares, Staged, MayStage, IsPolicy, IsKernel, IsScript};
+ghost use Rattle.secvisor_cli.specs.Ready.{Prepares, Staged, MayStage, DrawsFrom, IsPolicy, IsKernel, IsScript};
 ghost use Rattle.secvisor_cli.specs.Words.{source_value, run_value};
 
 use crate::parts::read_part;
@@ -40,7 +42,8 @@ pub fn prepare_run<'a, R: Threads + Sync, F: Files>(
     requires permitted { MayFollow (run_plan (run_value asked.now)) (F.state files.old) }
     requires reads { (F.state files.old).read_faults < 2 ^ 64 - 1 }
     requires events { asked.now.events ≤ 2 ^ 32 }
-    ensures { Prepares (run_plan (run_value asked.now)) (F.state files.old) (F.state files.new) result }
+    ensures prepares { Prepares (run_plan (run_value asked.now)) (F.state files.old) (F.state files.new) result }
+    ensures draws { (number : ℕ) → source_value asked.now.script ≡ Auto number → IfOk result (DrawsFrom number) }
 {
     let policy = read_policy(alloc, asked.policy, files)?;
     let file = read_part(alloc, files, Part::Image, asked.image, MOST_IMAGE_BYTES)?;
@@ -60,7 +63,8 @@ fn boot_file<'a, R: Threads + Sync, F: Files>(
     requires reads { (F.state files.old).read_faults < 2 ^ 64 - 1 }
     requires events { asked.now.events ≤ 2 ^ 32 }
     requires within { IsTrue (rules_within (rules_of policy)) }
-    ensures { Prepares (kernel_part (rules_of policy) file.now (boot_plan (run_value asked.now) (rules_of policy) file.now)) (F.state files.old) (F.state files.new) result }
+    ensures prepares { Prepares (kernel_part (rules_of policy) file.now (boot_plan (run_value asked.now) (rules_of policy) file.now)) (F.state files.old) (F.state files.new) result }
+    ensures draws { (number : ℕ) → source_value asked.now.script ≡ Auto number → IfOk result (DrawsFrom number) }
 {
     let image = judge_kernel(alloc, file, policy.ram_pages)?;
     let disk = read_disk(alloc, asked.disk, files)?;
@@ -155,7 +159,8 @@ fn read_script<F: Files>(
     requires reads { (F.state files.old).read_faults < 2 ^ 64 - 1 }
     requires some { 0 < harts }
     requires few { harts ≤ 4 }
-    ensures { Staged (script_part harts (source_value source.now)) (λ script. script) (F.state files.old) (F.state files.new) result }
+    ensures stage { Staged (script_part harts (source_value source.now)) (λ script. script) (F.state files.old) (F.state files.new) result }
+    ensures draws { (number : ℕ) → source_value source.now ≡ Auto number → IfOk result (λ script. script ≡ Schedule.Auto harts number) }
 {
     match source {
         Source::Rounds => Ok(rounds(harts)),

@@ -21,7 +21,8 @@ pub fn judge(words: &[String]) -> Result<(), Refusal>
     judge_shape(words)
 }
 
-fn any_has_dash(words: &[String]) -> bool
+/// Whether a word begins with a dash.
+pub fn any_has_dash(words: &[String]) -> bool
     ensures { result ≡ list_any (λ word. has_dash (string_bytes word)) words.now }
 {
     words.iter().any(|word| has_dash(word.as_str()))

@@ -1,4 +1,5 @@
-//! The program's one call, `secvisor`: words, files and a sink in, a status out.
+//! The program's one call, `secvisor`: words, files and a sink in, a status out. What a command is made of is given on, for
+//! commands that stand above.
 #![tactic(auto)]
 
 mod answer;
@@ -10,10 +11,15 @@ mod making;
 mod parts;
 mod ready;
 mod refusal;
-mod run;
 mod save;
 mod trouble;
 mod words;
 
-pub use answer::{Bench, secvisor};
+pub use answer::{Bench, finish, refuse, secvisor};
+pub use image_run::prepare_run;
+pub use judgement::any_has_dash;
+pub use ready::{Booted, Made, Ready, Stop};
+pub use refusal::{Part, Refusal, Word};
 pub use sv_types::Status;
+pub use trouble::Trouble;
+pub use words::{Run, Source, unless_none};

@@ -159,8 +159,8 @@ fn run_of<'a>(words: &RunWords<'a>, script: Source<'a>, events: u64) -> Run<'a>
     }
 }
 
-// The word `none` is no name.
-fn unless_none(word: &str) -> Option<&str>
+/// A name, where the word isn't `none`.
+pub fn unless_none(word: &str) -> Option<&str>
     ensures { option_copied result ≡ unless_none word.now }
 {
     if word == "none" { None } else { Some(word) }

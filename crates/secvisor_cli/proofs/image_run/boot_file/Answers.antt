@@ -1,16 +1,16 @@
-use Rattle.std.proofs.Common.{refl, Ok}
-use Rattle.sv_types.specs.Policies.{rules_of}
-use Rattle.sv_types.specs.Schedule.{first_events}
+use Rattle.std.proofs.Common.{refl, sym, ◌∙◌, ap, Ok}
+use Rattle.sv_types.specs.Policies.{Rules, rules_of}
+use Rattle.sv_types.specs.Schedule.{Schedule, first_events}
 use Rattle.secvisor_cli.specs.declared.ready.Ready.TheVariants.{Run}
 use Rattle.secvisor_cli.specs.Plans.{kernel_part, boot_plan}
 use Rattle.secvisor_cli.specs.Ready.{Prepares, IsFresh, stop_of}
 use Rattle.secvisor_cli.specs.Words.{run_value}
-use Rattle.secvisor_cli.proofs.ReadyLemmas.{err_by, fresh_boot}
+use Rattle.secvisor_cli.proofs.ReadyLemmas.{err_by, boot_rules, fresh_boot}
 use Rattle.secvisor_cli.proofs.StageLemmas.{kernel_stopped, disk_may, script_may, disk_stopped, script_stopped, script_ready, image_booted, boot_stopped}
 use Rattle.secvisor_cli.proofs.image_run.boot_file.Goals as goal
 
-pub returns-in_err-image : goal.returns-in_err-image
-returns-in_err-image g c =
+pub returns-in_err-image-clause-prepares : goal.returns-in_err-image-clause-prepares
+returns-in_err-image-clause-prepares g c =
     err_by _ c.in_err-image.field-0.0
     (λ r. Prepares (kernel_part (rules_of c.args.policy) c.args.file.now (boot_plan (run_value c.args.asked.now) (rules_of c.args.policy) c.args.file.now))
     (g.F.Files.state c.args.files.now) (g.F.Files.state c.args.files.now) r)
@@ -21,8 +21,8 @@ pub read_disk-requires-clause-permitted : goal.read_disk-requires-clause-permitt
 read_disk-requires-clause-permitted g c =
     disk_may (run_value c.args.asked.now) (rules_of c.args.policy) c.args.file.now _ c.in_ok-image.ensures.accepted c.requires.permitted
 
-pub returns-in_err-disk : goal.returns-in_err-disk
-returns-in_err-disk g c =
+pub returns-in_err-disk-clause-prepares : goal.returns-in_err-disk-clause-prepares
+returns-in_err-disk-clause-prepares g c =
     err_by _ c.in_err-disk.field-0.0
     (λ r. Prepares (kernel_part (rules_of c.args.policy) c.args.file.now (boot_plan (run_value c.args.asked.now) (rules_of c.args.policy) c.args.file.now))
     (g.F.Files.state c.args.files.now) (g.F.Files.state c.read_disk.new.files) r)
@@ -33,32 +33,38 @@ pub read_script-requires-clause-permitted : goal.read_script-requires-clause-per
 read_script-requires-clause-permitted g c =
     script_may (run_value c.args.asked.now) (rules_of c.args.policy) c.args.file.now c.in_ok-disk.disk.items _ _ c.in_ok-image.ensures.accepted c.in_ok-disk.ensures.stage c.requires.permitted
 
-pub returns-in_err-script : goal.returns-in_err-script
-returns-in_err-script g c =
+pub returns-in_err-script-clause-prepares : goal.returns-in_err-script-clause-prepares
+returns-in_err-script-clause-prepares g c =
     err_by _ c.in_err-script.field-0.0
     (λ r. Prepares (kernel_part (rules_of c.args.policy) c.args.file.now (boot_plan (run_value c.args.asked.now) (rules_of c.args.policy) c.args.file.now))
     (g.F.Files.state c.args.files.now) (g.F.Files.state c.read_script.new.files) r)
     c.from_residual-in_err-script.ensures.1
     (script_stopped (run_value c.args.asked.now) (rules_of c.args.policy) c.args.file.now c.in_ok-disk.disk.items _ _ _ c.in_err-script.field-0.0 c.in_ok-image.ensures.accepted
-    c.in_ok-disk.ensures.stage c.in_err-script.ensures)
+    c.in_ok-disk.ensures.stage c.in_err-script.ensures.stage)
 
-pub returns-in_err-machine : goal.returns-in_err-machine
-returns-in_err-machine g c =
+pub returns-in_err-machine-clause-prepares : goal.returns-in_err-machine-clause-prepares
+returns-in_err-machine-clause-prepares g c =
     err_by _ (stop_of c.in_err-machine.field-0.0)
     (λ r. Prepares (kernel_part (rules_of c.args.policy) c.args.file.now (boot_plan (run_value c.args.asked.now) (rules_of c.args.policy) c.args.file.now))
     (g.F.Files.state c.args.files.now) (g.F.Files.state c.read_script.new.files) r)
     c.from_residual-in_err-machine.ensures.1
     (script_ready (run_value c.args.asked.now) (rules_of c.args.policy) c.args.file.now c.in_ok-disk.disk.items c.in_ok-script.script _ _ _ _ c.in_ok-image.ensures.accepted
-    c.in_ok-disk.ensures.stage c.in_ok-script.ensures
+    c.in_ok-disk.ensures.stage c.in_ok-script.ensures.stage
     (boot_stopped (rules_of c.args.policy) c.args.file.now c.in_ok-disk.disk.items _ _ c.in_ok-image.image c.in_err-machine.field-0.0 c.in_ok-image.ensures c.in_err-machine.ensures.refused))
 
-pub returns : goal.returns
-returns g c =
+pub returns-clause-prepares : goal.returns-clause-prepares
+returns-clause-prepares g c =
     let new = c.in_ok-machine.ensures.new c.args.file.now c.in_ok-image.ensures in
     let fresh = fresh_boot (rules_of c.args.policy) c.args.file.now c.in_ok-disk.disk.items c.in_ok-machine.machine new in
     let it : IsFresh (record { machine = c.in_ok-machine.machine; script = c.in_ok-script.script; events = c.args.asked.now.events; save = c.args.asked.now.save }) = record { events = c.requires.events; state = record { state = _; stands = new.stands }; counts = fresh.0; console = fresh.1 } in
     script_ready (run_value c.args.asked.now) (rules_of c.args.policy) c.args.file.now c.in_ok-disk.disk.items c.in_ok-script.script _ _ _ _ c.in_ok-image.ensures.accepted
-    c.in_ok-disk.ensures.stage c.in_ok-script.ensures
+    c.in_ok-disk.ensures.stage c.in_ok-script.ensures.stage
     (image_booted (rules_of c.args.policy) c.args.file.now c.in_ok-disk.disk.items (first_events c.args.asked.now.events c.in_ok-script.script) _ c.in_ok-image.image
     (Ok (Run (record { machine = c.in_ok-machine.machine; script = c.in_ok-script.script; events = c.args.asked.now.events; save = c.args.asked.now.save })))
     c.in_ok-image.ensures c.in_ok-machine.ensures.measured c.in_ok-machine.ensures.permitted (new, refl, refl, it))
+
+pub returns-clause-draws : goal.returns-clause-draws
+returns-clause-draws g c = λ number is.
+    let new = c.in_ok-machine.ensures.new c.args.file.now c.in_ok-image.ensures in
+    c.in_ok-script.ensures.draws number is
+    ∙ ap (λ (r : Rules). Schedule.Auto r.harts number) (sym (boot_rules (rules_of c.args.policy) c.args.file.now c.in_ok-disk.disk.items c.in_ok-machine.machine new))

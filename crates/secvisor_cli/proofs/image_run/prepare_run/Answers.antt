@@ -13,9 +13,9 @@ pub read_policy-requires-clause-permitted : goal.read_policy-requires-clause-per
 unfolding run_plan
 read_policy-requires-clause-permitted g c = record { next = image_plan (run_value c.args.asked.now); may = c.requires.permitted }
 
-pub returns-in_err-policy : goal.returns-in_err-policy
+pub returns-in_err-policy-clause-prepares : goal.returns-in_err-policy-clause-prepares
 unfolding run_plan
-returns-in_err-policy g c =
+returns-in_err-policy-clause-prepares g c =
     err_by _ c.in_err-policy.field-0.0 (λ r. Prepares (run_plan (run_value c.args.asked.now)) (g.F.Files.state c.args.files.now) (g.F.Files.state c.read_policy.new.files) r)
     c.from_residual.ensures.1 (c.in_err-policy.ensures.stage (image_plan (run_value c.args.asked.now)))
 
@@ -23,9 +23,9 @@ pub read_part-requires-clause-permitted : goal.read_part-requires-clause-permitt
 unfolding run_plan image_plan
 read_part-requires-clause-permitted g c = (c.in_ok-policy.ensures.stage.may (image_plan (run_value c.args.asked.now)) c.requires.permitted).0
 
-pub returns-in_err-file : goal.returns-in_err-file
+pub returns-in_err-file-clause-prepares : goal.returns-in_err-file-clause-prepares
 unfolding run_plan image_plan
-returns-in_err-file g c =
+returns-in_err-file-clause-prepares g c =
     err_by _ c.in_err-file.field-0.0 (λ r. Prepares (run_plan (run_value c.args.asked.now)) (g.F.Files.state c.args.files.now) (g.F.Files.state c.read_part.new.files) r)
     c.from_residual-in_err-file.ensures.1
     (pass_ready (policy_part c.args.asked.now.policy.now) (rules_of c.in_ok-policy.policy) (image_plan (run_value c.args.asked.now)) _ _ _ (Err c.in_err-file.field-0.0) c.in_ok-policy.ensures.stage
@@ -41,12 +41,12 @@ boot_file-requires-clause-permitted g c κs within =
     (λ (b : List ℕ). kernel_part (rules_of c.in_ok-policy.policy) b (boot_plan (run_value c.args.asked.now) (rules_of c.in_ok-policy.policy) b)) (g.F.Files.state c.read_policy.new.files) (g.F.Files.state c.read_part.new.files) c.in_ok-file.file.items c.in_ok-file.ensures
     (c.in_ok-policy.ensures.stage.may (image_plan (run_value c.args.asked.now)) c.requires.permitted))
 
-pub returns : goal.returns
+pub returns-clause-prepares : goal.returns-clause-prepares
 unfolding run_plan image_plan
-returns g c =
+returns-clause-prepares g c =
     pass_ready (policy_part c.args.asked.now.policy.now) (rules_of c.in_ok-policy.policy) (image_plan (run_value c.args.asked.now)) _ _ _ c.boot_file.result c.in_ok-policy.ensures.stage
     (read_ready Part.Image c.args.asked.now.image.now most_image_bytes
     (λ (b : List ℕ). kernel_part (rules_of c.in_ok-policy.policy) b (boot_plan (run_value c.args.asked.now) (rules_of c.in_ok-policy.policy) b)) _ _ _ c.in_ok-file.file.items c.boot_file.result c.in_ok-file.ensures
     (subst
     (λ (b : List ℕ). Prepares (kernel_part (rules_of c.in_ok-policy.policy) b (boot_plan (run_value c.args.asked.now) (rules_of c.in_ok-policy.policy) b)) (g.F.Files.state c.read_part.new.files) (g.F.Files.state c.boot_file.new.files) c.boot_file.result)
-    c.deref.ensures.value c.boot_file.ensures))
+    c.deref.ensures.value c.boot_file.ensures.prepares))

@@ -3,9 +3,9 @@ use Rattle.sv_types.specs.declared.event.Verdict.TheVariants.{Running}
 use Rattle.outside.specs.Outside.{SinkState}
 use Rattle.outside.proofs.SinkLemmas.{on_err}
 use Rattle.sv_types.specs.Schedule.{first_events}
-use Rattle.secvisor_cli.specs.Console.{is_due, RunBrokeFromStart}
-use Rattle.secvisor_cli.proofs.ConsoleLemmas.{Steps, runs_none, runs_more, runs_broke, ran_ended, ran_out, ran_all, taken_none, taken_more, state_after, counts_after, room_after, counts_within}
-use Rattle.secvisor_cli.proofs.run.run.Goals as goal
+use Rattle.console_run.specs.Console.{is_due, RunBrokeFromStart}
+use Rattle.console_run.proofs.ConsoleLemmas.{Steps, runs_none, runs_more, runs_broke, ran_ended, ran_out, ran_all, taken_none, taken_more, state_after, counts_after, room_after, counts_within}
+use Rattle.console_run.proofs.running.run.Goals as goal
 
 pub events-init : goal.events-init
 events-init g c = record {

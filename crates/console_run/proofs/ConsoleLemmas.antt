@@ -17,9 +17,9 @@ use Rattle.machine_model.specs.StandsFor.{StandsFor}
 use Rattle.answer_laws.proofs.RunsReach.{clear_law}
 use Rattle.outside.specs.Outside.{SinkState, after_taking, BreaksOff}
 use Rattle.outside.proofs.SinkLemmas.{after_taking-append, after_taking-nil}
-use Rattle.secvisor_cli.specs.Standing.{Stands, HasState}
-use Rattle.secvisor_cli.specs.Console.{is_due, HasTaken, Flushed, HasRun, RunBroke}
-use Rattle.secvisor_cli.proofs.Standing.{stands_new, stands_step, stands_away, stands_verdict, away_counts, cleared_none, event_ended, step_counts, step_room, verdict_is}
+use Rattle.console_run.specs.Standing.{Stands, HasState}
+use Rattle.console_run.specs.Console.{is_due, HasTaken, Flushed, HasRun, RunBroke}
+use Rattle.console_run.proofs.Standing.{stands_new, stands_step, stands_away, stands_verdict, away_counts, cleared_none, event_ended, step_counts, step_room, verdict_is}
 
 -- an event of the machine, as the state that it stands for takes it
 pub record Steps (m : Machine) (e : Event) (next : Machine) : Type 0 where
@@ -29,7 +29,7 @@ pub record Steps (m : Machine) (e : Event) (next : Machine) : Type 0 where
 -- ---- the machines on the way
 
 -- one event more, and then printed bytes are taken away
-reaches_more : (first : Machine) (r : State) (done : List Event) (m next after : Machine) (e : Event) → ReachesFrom first r done m → IsEvent m e next →
+pub reaches_more : (first : Machine) (r : State) (done : List Event) (m next after : Machine) (e : Event) → ReachesFrom first r done m → IsEvent m e next →
     StandsFor next (step (run r done) e) → Cleared next after → ReachesFrom first r (done ++ e ∷ []) after
 reaches_more first r [] m next after e chain event stands cleared =
     (next, (record { ready = m; printed = chain; event = event; stands = stands }, cleared))
@@ -84,7 +84,7 @@ stands_then : (start : State) (m : Machine) (done : List Event) (event : Event) 
 stands_then start m done event stands = subst (λ (r : State). StandsFor m r) (sym (run_on start done (event ∷ []))) stands
 
 -- the same, before its bytes are flushed
-stands_next : (start : State) (m next : Machine) (done : List Event) (event : Event) (cleared : List ℕ) → Stands m cleared (run start done) → Steps m event next →
+pub stands_next : (start : State) (m next : Machine) (done : List Event) (event : Event) (cleared : List ℕ) → Stands m cleared (run start done) → Steps m event next →
     Stands next cleared (run start (done ++ event ∷ []))
 stands_next start m next done event cleared s steps =
     subst (λ (r : State). Stands next cleared r) (sym (run_on start done (event ∷ [])))

@@ -23,8 +23,8 @@ use Rattle.run_laws.proofs.StepsGrow.{grows_law}
 use Rattle.answer_laws.proofs.RunsReach.{clear_law}
 use Rattle.outside.specs.Outside.{SinkState, after_taking}
 use Rattle.outside.proofs.SinkLemmas.{after_taking-nil}
-use Rattle.secvisor_cli.specs.Console.{Flushed}
-use Rattle.secvisor_cli.specs.Standing.{Stands, TakesAway, machine_output}
+use Rattle.console_run.specs.Console.{Flushed}
+use Rattle.console_run.specs.Standing.{Stands, TakesAway, machine_output}
 
 -- ---- the journal of a machine that stands for a state
 
@@ -110,6 +110,16 @@ stays_under (Stopped rule hart at) m e ended = refl
 pub event_ended : (m : Machine) (e : Event) → m.journal.verdict ≢ Running → IsEvent m e m
 unfolding IsEvent
 event_ended m e ended = stays_under m.journal.verdict m e ended
+
+ended_under : (v : Verdict) (m : Machine) (e : Event) (after : Machine) → v ≢ Running → HappensUnder v m e after → after ≡ m
+ended_under Running m e after ended it = absurd (ended refl)
+ended_under Shutdown m e after ended it = it
+ended_under (Stopped rule hart at) m e after ended it = it
+
+-- and an event leaves no other
+pub event_stays : (m : Machine) (e : Event) (after : Machine) → m.journal.verdict ≢ Running → IsEvent m e after → after ≡ m
+unfolding IsEvent
+event_stays m e after ended it = ended_under m.journal.verdict m e after ended it
 
 -- ---- growth
 

@@ -2,9 +2,10 @@
 ghost use Rattle.std.specs.Prelude.{◌≡◌, ◌<◌, ◌≤◌, ◌-◌, ◌^◌, [], length, IsTrue, IsFalse, OnOk, OnErr};
 ghost use Rattle.reference.specs.Counting.{CountsAtMost};
 ghost use Rattle.sv_types.specs.Schedule.{first_events};
+ghost use Rattle.machine_model.specs.Reaches.{Cleared};
 ghost use Rattle.outside.specs.Outside.{BreaksOff};
-ghost use Rattle.secvisor_cli.specs.Standing.{HasState};
-ghost use Rattle.secvisor_cli.specs.Console.{is_due, Flushed, HasTaken, HasRunFromStart, RunBrokeFromStart};
+ghost use Rattle.console_run.specs.Standing.{HasState};
+ghost use Rattle.console_run.specs.Console.{is_due, Flushed, HasTaken, HasRunFromStart, RunBrokeFromStart};
 
 use machine::{Machine, PRINTED_ROOM};
 use outside::{Failed, Sink, write_all};
@@ -22,12 +23,13 @@ fn is_due(printed: &[u8]) -> bool
 }
 
 /// Writes the console's bytes where they are due.
-#[tactic(auto, using(crate::proofs::Standing::flushed_all, crate::proofs::Standing::flushed_none))]
-fn flush_due<O: Sink>(machine: &mut Machine, out: &mut O) -> Result<(), Failed>
+#[tactic(auto, using(crate::proofs::Standing::flushed_all, crate::proofs::Standing::flushed_none, crate::proofs::Standing::cleared_none))]
+pub fn flush_due<O: Sink>(machine: &mut Machine, out: &mut O) -> Result<(), Failed>
     requires is_open { IsTrue (O.state out.old).is_open }
     requires count { (O.state out.old).faults < 2 ^ 64 - 1 }
     requires room { length machine.old.journal.printed ≤ 4096 }
     ensures flushed { OnOk result (Flushed machine.old machine.new (O.state out.old) (O.state out.new)) }
+    ensures cleared { Cleared machine.old machine.new }
     ensures room { OnOk result (length machine.new.journal.printed < 4096) }
     ensures rest { OnOk result (IsFalse (is_due machine.new.journal.printed)) }
     ensures machine { OnErr result (machine.new ≡ machine.old) }

@@ -6,7 +6,7 @@ use Rattle.reference.specs.Run.{run}
 use Rattle.machine_model.specs.Machine.{Machine}
 use Rattle.machine_model.specs.Reaches.{IsNew, ReachesFrom}
 use Rattle.outside.specs.Outside.{SinkState, after_taking, BreaksOff}
-use Rattle.secvisor_cli.specs.Standing.{Stands, TakesAway}
+use Rattle.console_run.specs.Standing.{Stands, TakesAway}
 
 -- ---- when the console's bytes are written
 

@@ -3,10 +3,10 @@ use Rattle.sv_types.specs.Schedule.{first_events}
 use Rattle.reference.specs.Counting.{CountsAtMost}
 use Rattle.reference.specs.States.{State}
 use Rattle.machine_model.specs.Reaches.{IsNew}
-use Rattle.secvisor_cli.specs.Standing.{HasState}
-use Rattle.secvisor_cli.specs.Console.{is_due, HasTaken}
-use Rattle.secvisor_cli.proofs.ConsoleLemmas.{RunsOn}
-use Rattle.secvisor_cli.proofs.run.run.Given as goal
+use Rattle.console_run.specs.Standing.{HasState}
+use Rattle.console_run.specs.Console.{is_due, HasTaken}
+use Rattle.console_run.proofs.ConsoleLemmas.{RunsOn}
+use Rattle.console_run.proofs.running.run.Given as goal
 
 abbrev pub invariant-events : goal.invariant-events
 invariant-events g l = record {
