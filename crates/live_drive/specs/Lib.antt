@@ -1,0 +1,3 @@
+pub mod LiveRuns
+pub mod Drives
+pub mod Inputs
