@@ -7,7 +7,7 @@ use crate::texts::{GOOD, number_of};
 use policy::{PolicyRefusal, read, within, write};
 use std::alloc::{AllocError, Global};
 use std::test::Fail;
-use sv_types::{ModulePolicy, Name, Policy, Site};
+use sv_types::{ModulePolicy, Name, Policy, RelocationKind, Site};
 
 // A policy within the limits is read back as it was written, but for want of memory.
 fn read_back(alloc: Global, policy: &Policy) -> Result<Policy, PolicyRefusal>
@@ -26,7 +26,7 @@ fn most_sites(alloc: Global) -> Result<Vec<Site>, AllocError> {
         let offset = 4_186_112 + 4 * i;
         sites.push(Site {
             offset,
-            kind: 23,
+            kind: RelocationKind::PcrelHi20,
             base: 2,
             addend: i64::MIN,
             anchor: offset,

@@ -1,4 +1,4 @@
-// A good text, its values, and what the texts of refusals say.
+// A good text, and its values.
 use policy::{PolicyRefusal, read, within};
 use std::alloc::Global;
 use std::test::Fail;
@@ -10,7 +10,7 @@ pub(crate) static GOOD: &str =
 pub(crate) fn number_of(alloc: Global, bytes: &[u8]) -> Option<u8> {
     match read(alloc, bytes) {
         Ok(_) => Some(0),
-        Err(PolicyRefusal::Number(number)) => Some(number),
+        Err(PolicyRefusal::Fault(fault)) => Some(fault.number()),
         Err(PolicyRefusal::Memory) => None,
     }
 }
@@ -26,13 +26,5 @@ fn values(rt: HostRuntime) -> Result<(), Fail> {
     assert_eq!(rt; number_of(rt.alloc(), b""), Some(2));
     assert_eq!(rt; number_of(rt.alloc(), b"format = 3"), Some(8));
     assert_eq!(rt; number_of(rt.alloc(), b"\xff"), Some(1));
-    Ok(())
-}
-
-#[test]
-fn refusals_name_their_number(rt: HostRuntime) -> Result<(), Fail> {
-    let refusal = PolicyRefusal::Number(7);
-    let text = format!(in rt.alloc(); "{refusal}")?;
-    assert!(rt; text.as_str() == "policy refused by number 7");
     Ok(())
 }
