@@ -5,19 +5,21 @@ use Rattle.std.specs.List.{list_all}
 use Rattle.std.proofs.lemmas.Bool.{and_parts}
 use Rattle.sv_types.specs.Policies.{Rules, each_within, modules_count_within}
 use Rattle.policy_words.specs.Ranges.{is_name, is_among, is_new_name, all_new_names, are_module_names}
-use Rattle.policy_making.specs.declared.modules.ObjectFile.{ObjectFile}
+use Rattle.policy_making.specs.declared.object_file.ObjectFile.{ObjectFile}
+use Rattle.policy_making.specs.declared.refusal.MakingFault.{MakingFault}
 use Rattle.policy_making.specs.declared.refusal.MakingRefusal.{MakingRefusal}
 use Rattle.policy_making.specs.declared.refusal.MakingRefusal.TheVariants as making
-use Rattle.policy_making.specs.Refusals.{Judged, Refuses}
+use Rattle.policy_making.specs.Refusals.{Judged, Refuses, answered}
 use Rattle.policy_making.specs.Making.{ModuleFile, Terms, file_of, kernel_digest, names_with, policy_behind}
 use Rattle.outside.specs.Outside.{FilesState}
-use Rattle.secvisor_cli.specs.declared.refusal.Part.{Part}
+use Rattle.secvisor_cli.specs.declared.refusal.Refusal.TheVariants.{File}
+use Rattle.secvisor_cli.specs.declared.file_fault.Part.{Part}
 use Rattle.secvisor_cli.specs.declared.ready.Ready.TheVariants.{Save}
 use Rattle.secvisor_cli.specs.declared.ready.Made.{Made}
 use Rattle.secvisor_cli.specs.declared.ready.Stop.{Stop}
 use Rattle.secvisor_cli.specs.declared.ready.Stop.TheVariants.{Memory}
 use Rattle.secvisor_cli.specs.CommandLine.{PolicyWords}
-use Rattle.secvisor_cli.specs.Plans.{Due, Refuse, Make, Plan, End, Judge, Held, most_image_bytes, most_object_bytes, making_refusal, made_judged, made_part, Kernel, digest_part, Modules, with_module, module_part, modules_part, making_plan}
+use Rattle.secvisor_cli.specs.Plans.{Due, Refuse, Make, Plan, End, Judge, Held, most_image_bytes, most_object_bytes, making_fault, made_judged, made_part, Kernel, digest_part, Modules, with_module, module_part, modules_part, making_plan}
 use Rattle.secvisor_cli.specs.Reading.{FoundAs, Follows, MayFollow}
 use Rattle.secvisor_cli.specs.Ready.{PartRead, stop_of_making, IsMade, Prepares, Passes, MayStage}
 use Rattle.secvisor_cli.proofs.ReadyLemmas.{end_ready, judge_ready, judge_wants, read_ready, stopped_ready}
@@ -42,18 +44,18 @@ unfolding made_part
 made_may {A} part name limit judge next old now bytes value fact is may =
     subst (λ (j : Judged A). MayFollow (made_judged (next bytes) j) now) is (read_may part name limit (made_next judge next) old now bytes fact may)
 
+-- a fault that is answered was judged
+fault_judged : {A : Type 0} (judged : Judged A) (fault : MakingFault) → answered judged ≡ Err (making.Fault fault) → judged ≡ Err fault
+fault_judged (Ok value) fault is = absurd (cc is)
+fault_judged (Err found) fault is =
+    let same : found ≡ fault = cc is in ap (λ (f : MakingFault). Err f) same
+
 -- what is made of the bytes is refused
 judged_stops : {A : Type 0} (next : A → Plan) (judged : Judged A) (refused : MakingRefusal) (files : FilesState) → Refuses judged refused →
     Prepares (Judge (made_judged next judged)) files files (Err (stop_of_making refused))
-judged_stops {A} next judged (making.Image number) files why =
-    judge_ready _ files files _ (subst (λ (j : Judged A). Prepares (made_judged next j) files files (Err (stop_of_making (making.Image number)))) (sym (why (λ e. cc e)))
-    (end_ready (Refuse (making_refusal (making.Image number))) files _ refl))
-judged_stops {A} next judged (making.Module number) files why =
-    judge_ready _ files files _ (subst (λ (j : Judged A). Prepares (made_judged next j) files files (Err (stop_of_making (making.Module number)))) (sym (why (λ e. cc e)))
-    (end_ready (Refuse (making_refusal (making.Module number))) files _ refl))
-judged_stops {A} next judged making.Limits files why =
-    judge_ready _ files files _ (subst (λ (j : Judged A). Prepares (made_judged next j) files files (Err (stop_of_making making.Limits))) (sym (why (λ e. cc e)))
-    (end_ready (Refuse (making_refusal making.Limits)) files _ refl))
+judged_stops {A} next judged (making.Fault fault) files why =
+    judge_ready _ files files _ (subst (λ (j : Judged A). Prepares (made_judged next j) files files (Err (stop_of_making (making.Fault fault)))) (sym (fault_judged judged fault (why (λ e. cc e))))
+    (end_ready (Refuse (File (making_fault fault))) files _ refl))
 judged_stops next judged making.Memory files why = judge_wants _ files
 
 made_stops : {A : Type 0} (part : Part) (name : List ℕ) (limit : ℕ) (judge : List ℕ → Judged A) (next : List ℕ → A → Plan) (old now : FilesState) (bytes : List ℕ) (refused : MakingRefusal) →

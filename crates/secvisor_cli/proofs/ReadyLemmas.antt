@@ -20,7 +20,8 @@ use Rattle.reference.specs.Start.{start, flat_start, boot_start}
 use Rattle.outside.specs.Outside.{FilesState}
 use Rattle.machine.specs.declared.boot.BootRefusal.{BootRefusal}
 use Rattle.machine.specs.Boot.{RefusesFlat}
-use Rattle.secvisor_cli.specs.declared.refusal.Part.{Part}
+use Rattle.secvisor_cli.specs.declared.file_fault.FileFault.{FileFault}
+use Rattle.secvisor_cli.specs.declared.file_fault.Part.{Part}
 use Rattle.secvisor_cli.specs.declared.refusal.Refusal.{Refusal}
 use Rattle.secvisor_cli.specs.declared.refusal.Refusal.TheVariants.{ReadFault, File, Measure}
 use Rattle.secvisor_cli.specs.declared.ready.Booted.{Booted}
@@ -173,12 +174,12 @@ pub pages_ready : (bytes wanted : List ℕ) (events : List Event) (result : Resu
     IsReady (pages_judged bytes wanted events) result
 unfolding pages_judged
 pages_ready bytes wanted events result whole ready =
-    subst (λ b. IsReady (if b then measure_judged bytes wanted events else Refuse (File Part.Flat 1)) result) (sym whole) ready
+    subst (λ b. IsReady (if b then measure_judged bytes wanted events else Refuse (File FileFault.FlatPages)) result) (sym whole) ready
 
-pub part_of_pages : (bytes wanted : List ℕ) (events : List Event) → is_whole_pages bytes ≡ false → IsReady (pages_judged bytes wanted events) (Err (Refused (File Part.Flat 1)))
+pub part_of_pages : (bytes wanted : List ℕ) (events : List Event) → is_whole_pages bytes ≡ false → IsReady (pages_judged bytes wanted events) (Err (Refused (File FileFault.FlatPages)))
 unfolding pages_judged
 part_of_pages bytes wanted events part =
-    subst (λ b. IsReady (if b then measure_judged bytes wanted events else Refuse (File Part.Flat 1)) (Err (Refused (File Part.Flat 1)))) (sym part) refl
+    subst (λ b. IsReady (if b then measure_judged bytes wanted events else Refuse (File FileFault.FlatPages)) (Err (Refused (File FileFault.FlatPages)))) (sym part) refl
 
 -- ---- gen
 

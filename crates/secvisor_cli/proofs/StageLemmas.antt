@@ -18,7 +18,9 @@ use Rattle.reference.specs.States.{has_number}
 use Rattle.machine.specs.declared.boot.BootRefusal.{BootRefusal}
 use Rattle.machine.specs.Boot.{IsImageOf, RefusesImage}
 use Rattle.outside.specs.Outside.{FilesState}
-use Rattle.secvisor_cli.specs.declared.refusal.Part.{Part}
+use Rattle.sv_types.specs.declared.image_fault.ImageFault.{ImageFault}
+use Rattle.secvisor_cli.specs.declared.file_fault.Part.{Part}
+use Rattle.secvisor_cli.specs.declared.file_fault.FileFault.{FileFault}
 use Rattle.secvisor_cli.specs.declared.refusal.Refusal.{Refusal}
 use Rattle.secvisor_cli.specs.declared.refusal.Refusal.TheVariants.{File, Measure, Entry}
 use Rattle.secvisor_cli.specs.declared.ready.Ready.{Ready}
@@ -107,19 +109,19 @@ pub kernel_ready : (rules : Rules) (file : List ℕ) (next : Plan) (old new : Fi
     Prepares next old new result → Prepares (kernel_part rules file next) old new result
 unfolding kernel_part
 kernel_ready rules file next old new result accepted p =
-    judge_ready _ old new result (subst (λ (r : Option ℕ). Prepares (part_judged Part.Image next r) old new result) (sym accepted) p)
+    judge_ready _ old new result (subst (λ (r : Option ImageFault). Prepares (part_judged FileFault.Image next r) old new result) (sym accepted) p)
 
 pub kernel_may : (rules : Rules) (file : List ℕ) (next : Plan) (files : FilesState) → kernel_refusal file rules.ram_pages ≡ None → MayFollow (kernel_part rules file next) files →
     MayFollow next files
 unfolding kernel_part
-kernel_may rules file next files accepted may = subst (λ (r : Option ℕ). MayFollow (part_judged Part.Image next r) files) accepted may
+kernel_may rules file next files accepted may = subst (λ (r : Option ImageFault). MayFollow (part_judged FileFault.Image next r) files) accepted may
 
 pub kernel_stopped : (rules : Rules) (file : List ℕ) (next : Plan) (files : FilesState) (stop : Stop) → IsKernel file rules.ram_pages (Err stop) →
     Prepares (kernel_part rules file next) files files (Err stop)
 unfolding kernel_part
 kernel_stopped rules file next files (Refused refusal) it =
-    judge_ready _ files files _ (subst (λ (r : Option ℕ). Prepares (part_judged Part.Image next r) files files (Err (Refused refusal))) (sym it.1)
-    (end_ready (Refuse (File Part.Image it.0)) files _ it.2))
+    judge_ready _ files files _ (subst (λ (r : Option ImageFault). Prepares (part_judged FileFault.Image next r) files files (Err (Refused refusal))) (sym it.1)
+    (end_ready (Refuse (File (FileFault.Image it.0))) files _ it.2))
 kernel_stopped rules file next files Memory it = judge_wants _ files
 
 -- ---- the disk
@@ -133,30 +135,30 @@ no_disk disk files is = record {
 }
 
 whole_sectors : (disk : List ℕ) → (length disk % 512 == 0) ≡ true → disk_refusal disk ≡ None
-whole_sectors disk whole = ap (λ (b : Bool). if b then None else Some 1) whole
+whole_sectors disk whole = ap (λ (b : Bool). if b then None else Some FileFault.DiskSectors) whole
 
-part_sectors : (disk : List ℕ) → (length disk % 512 == 0) ≡ false → disk_refusal disk ≡ Some 1
-part_sectors disk part = ap (λ (b : Bool). if b then None else Some 1) part
+part_sectors : (disk : List ℕ) → (length disk % 512 == 0) ≡ false → disk_refusal disk ≡ Some FileFault.DiskSectors
+part_sectors disk part = ap (λ (b : Bool). if b then None else Some FileFault.DiskSectors) part
 
 pub disk_read : (name disk : List ℕ) (old new : FilesState) → FoundAs old new name most_disk_bytes (Held disk) → (length disk % 512 == 0) ≡ true → Passes (disk_part (Some name)) disk old new
 unfolding disk_part
 disk_read name disk old new fact whole = record {
   follows = λ next last reached follows.
-      read_follows Part.Disk name most_disk_bytes (λ b. part_judged Part.Disk (next b) (disk_refusal b)) old new last disk reached fact
-      (subst (λ (r : Option ℕ). Follows (part_judged Part.Disk (next disk) r) new last reached) (sym (whole_sectors disk whole)) follows);
+      read_follows Part.Disk name most_disk_bytes (λ b. part_judged (λ fault. fault) (next b) (disk_refusal b)) old new last disk reached fact
+      (subst (λ (r : Option FileFault). Follows (part_judged (λ fault. fault) (next disk) r) new last reached) (sym (whole_sectors disk whole)) follows);
   may = λ next may.
-      subst (λ (r : Option ℕ). MayFollow (part_judged Part.Disk (next disk) r) new) (whole_sectors disk whole)
-      (read_may Part.Disk name most_disk_bytes (λ b. part_judged Part.Disk (next b) (disk_refusal b)) old new disk fact may);
+      subst (λ (r : Option FileFault). MayFollow (part_judged (λ fault. fault) (next disk) r) new) (whole_sectors disk whole)
+      (read_may Part.Disk name most_disk_bytes (λ b. part_judged (λ fault. fault) (next b) (disk_refusal b)) old new disk fact may);
   faults = read_faults name most_disk_bytes old new disk fact;
 }
 
 pub disk_refused : (name disk : List ℕ) (old new : FilesState) → FoundAs old new name most_disk_bytes (Held disk) → (length disk % 512 == 0) ≡ false →
-    (next : List ℕ → Plan) → Prepares (disk_part (Some name) next) old new (Err (Refused (File Part.Disk 1)))
+    (next : List ℕ → Plan) → Prepares (disk_part (Some name) next) old new (Err (Refused (File FileFault.DiskSectors)))
 unfolding disk_part
 disk_refused name disk old new fact part = λ next.
-    read_ready Part.Disk name most_disk_bytes (λ b. part_judged Part.Disk (next b) (disk_refusal b)) old new new disk _ fact
-    (subst (λ (r : Option ℕ). Prepares (part_judged Part.Disk (next disk) r) new new (Err (Refused (File Part.Disk 1)))) (sym (part_sectors disk part))
-    (end_ready (Refuse (File Part.Disk 1)) new _ refl))
+    read_ready Part.Disk name most_disk_bytes (λ b. part_judged (λ fault. fault) (next b) (disk_refusal b)) old new new disk _ fact
+    (subst (λ (r : Option FileFault). Prepares (part_judged (λ fault. fault) (next disk) r) new new (Err (Refused (File FileFault.DiskSectors)))) (sym (part_sectors disk part))
+    (end_ready (Refuse (File FileFault.DiskSectors)) new _ refl))
 
 pub disk_unread : (name : List ℕ) (old new : FilesState) (stop : Stop) → PartRead Part.Disk name most_disk_bytes old new (Err stop) →
     (next : List ℕ → Plan) → Prepares (disk_part (Some name) next) old new (Err stop)
@@ -187,7 +189,7 @@ auto_pass harts number script files is = record {
 
 -- the plan behind a script's text
 abbrev text_next : (harts : ℕ) → (Schedule → Plan) → List ℕ → Plan
-text_next harts next bytes = Judge (part_judged Part.Script (next (Schedule.Listed (events_of_text harts bytes))) (first_refused bytes))
+text_next harts next bytes = Judge (part_judged FileFault.ScriptLine (next (Schedule.Listed (events_of_text harts bytes))) (first_refused bytes))
 
 pub text_staged : (harts : ℕ) (name bytes : List ℕ) (old new : FilesState) (result : Result Schedule Stop) → FoundAs old new name most_script_bytes (Held bytes) → IsScript harts bytes result →
     Staged (text_part harts name) (λ (s : Schedule). s) old new result
@@ -195,18 +197,18 @@ unfolding text_part
 text_staged harts name bytes old new (Ok script) fact is = record {
   follows = λ next last reached follows.
       read_follows Part.Script name most_script_bytes (text_next harts next) old new last bytes reached fact
-      (inr (subst (λ (r : Option ℕ). Follows (part_judged Part.Script (next (Schedule.Listed (events_of_text harts bytes))) r) new last reached) (sym is.1)
+      (inr (subst (λ (r : Option ℕ). Follows (part_judged FileFault.ScriptLine (next (Schedule.Listed (events_of_text harts bytes))) r) new last reached) (sym is.1)
       (subst (λ (s : Schedule). Follows (next s) new last reached) is.0 follows)));
   may = λ next may.
       subst (λ (s : Schedule). MayFollow (next s) new) (sym is.0)
-      (subst (λ (r : Option ℕ). MayFollow (part_judged Part.Script (next (Schedule.Listed (events_of_text harts bytes))) r) new) is.1
+      (subst (λ (r : Option ℕ). MayFollow (part_judged FileFault.ScriptLine (next (Schedule.Listed (events_of_text harts bytes))) r) new) is.1
       (read_may Part.Script name most_script_bytes (text_next harts next) old new bytes fact may));
   faults = read_faults name most_script_bytes old new bytes fact;
 }
 text_staged harts name bytes old new (Err (Refused refusal)) fact is = λ next.
     read_ready Part.Script name most_script_bytes (text_next harts next) old new new bytes _ fact
-    (judge_ready _ new new _ (subst (λ (r : Option ℕ). Prepares (part_judged Part.Script (next (Schedule.Listed (events_of_text harts bytes))) r) new new (Err (Refused refusal))) (sym is.1)
-    (end_ready (Refuse (File Part.Script is.0)) new _ is.2)))
+    (judge_ready _ new new _ (subst (λ (r : Option ℕ). Prepares (part_judged FileFault.ScriptLine (next (Schedule.Listed (events_of_text harts bytes))) r) new new (Err (Refused refusal))) (sym is.1)
+    (end_ready (Refuse (File (FileFault.ScriptLine is.0))) new _ is.2)))
 text_staged harts name bytes old new (Err Memory) fact is = λ next.
     read_ready Part.Script name most_script_bytes (text_next harts next) old new new bytes _ fact (judge_wants _ new)
 

@@ -23,12 +23,12 @@ use Rattle.sv_types.specs.Schedule.{Schedule, first_events}
 use Rattle.script.specs.AutoScripts.{events_of_text, first_refused}
 use Rattle.outside.specs.Outside.{FilesState, SinkState, after_taking, TookPrefix, BreaksOff}
 use Rattle.outside.proofs.SinkLemmas.{prefix_none, prefix_whole}
-use Rattle.policy_making.specs.declared.refusal.MakingRefusal.{MakingRefusal}
-use Rattle.policy_making.specs.declared.refusal.MakingRefusal.TheVariants as making
+use Rattle.policy_making.specs.declared.refusal.MakingFault.{MakingFault}
 use Rattle.policy_making.specs.Refusals.{Judged as Judging}
 use Rattle.policy_making.specs.Making.{kernel_digest, names_with, policy_behind}
+use Rattle.secvisor_cli.specs.declared.file_fault.FileFault.{FileFault}
 use Rattle.secvisor_cli.specs.declared.refusal.Refusal.{Refusal}
-use Rattle.secvisor_cli.specs.declared.refusal.Part.{Part}
+use Rattle.secvisor_cli.specs.declared.file_fault.Part.{Part}
 use Rattle.secvisor_cli.specs.declared.refusal.Refusal.TheVariants.{File, Measure, Entry}
 use Rattle.secvisor_cli.specs.declared.ready.Booted.{Booted}
 use Rattle.secvisor_cli.specs.declared.ready.Made.{Made}
@@ -41,7 +41,7 @@ use Rattle.secvisor_cli.specs.declared.trouble.Trouble.{Trouble}
 use Rattle.secvisor_cli.specs.declared.trouble.Trouble.TheVariants.{Write, Memory}
 use Rattle.secvisor_cli.specs.Refusals.{refusal_line, refusal_status, takes_memory}
 use Rattle.secvisor_cli.specs.CommandLine.{Command, Flat, Generated, Run, RunWords, Source, Rounds, Auto, Text, MakePolicy, PolicyWords, most_events, judged}
-use Rattle.secvisor_cli.specs.Plans.{Due, Refuse, RunFrom, Make, measured_line, Exactly, Saving, policy_saving, saves_due, most_image_bytes, most_object_bytes, making_refusal, made_judged, made_part, Kernel, digest_part, Modules, no_modules, with_module, module_part, modules_part, making_plan, measure_plan, Plan, End, bytes_due, status_due, found_plan, flat_plan, command_plan, plan_of, measure_judged, pages_judged, is_whole_pages, flat_events, gen_plan, gen_due, gen_disk, policy_judged, policy_part, part_judged, kernel_part, disk_refusal, disk_part, text_part, script_part, image_measure, boot_judged, boot_plan, image_plan, run_plan}
+use Rattle.secvisor_cli.specs.Plans.{Due, Refuse, RunFrom, Make, measured_line, Exactly, Saving, policy_saving, saves_due, most_image_bytes, most_object_bytes, making_fault, made_judged, made_part, Kernel, digest_part, Modules, no_modules, with_module, module_part, modules_part, making_plan, measure_plan, Plan, End, bytes_due, status_due, found_plan, flat_plan, command_plan, plan_of, measure_judged, pages_judged, is_whole_pages, flat_events, gen_plan, gen_due, gen_disk, policy_judged, policy_part, part_judged, kernel_part, disk_refusal, disk_part, text_part, script_part, image_measure, boot_judged, boot_plan, image_plan, run_plan}
 use Rattle.secvisor_cli.specs.Reading.{Follows, MayFollow, MaySave, Saved, SaveBroke, SavesUnder}
 use Rattle.secvisor_cli.specs.Ready.{IsMade, IsReady, IsReadyWhere, IsFresh, MayCarryOut, MaySaveRun, Prepares}
 use Rattle.secvisor_cli.specs.Answers.{Outside, outside, Writes, SavesAndWrites, WritesAndSaves, Answers, AnswersReached, Performs, MeetsSaves, MeetsSavesBehind, Meets, MeetsReached, Headline, BenchAfter, settled}
@@ -404,9 +404,9 @@ unfolding gen_plan gen_due
 gen_found_faults calls =
     run_no_read_fault (run (boot_start (generated_policy calls) (generated_image calls) gen_disk) (first_events most_events (Schedule.Weave 0))).journal.verdict
 
-part_found_faults : (part : Part) (next : Plan) (refused : Option ℕ) → HasFoundFaults next → HasFoundFaults (part_judged part next refused)
-part_found_faults part next None never = never
-part_found_faults part next (Some number) never = λ e. cc e
+part_found_faults : {F : Type 0} (file_fault : F → FileFault) (next : Plan) (found : Option F) → HasFoundFaults next → HasFoundFaults (part_judged file_fault next found)
+part_found_faults file_fault next None never = never
+part_found_faults file_fault next (Some fault) never = λ e. cc e
 
 policy_found_faults : (next : Rules → Plan) (judged : Judged Rules) → ((rules : Rules) → HasFoundFaults (next rules)) → HasFoundFaults (policy_judged next judged)
 policy_found_faults next (Ok rules) never = never rules
@@ -428,14 +428,14 @@ boot_no_read_fault rules file disk events save =
 disk_found_faults : (name : Option (List ℕ)) (next : List ℕ → Plan) → ((disk : List ℕ) → HasFoundFaults (next disk)) → HasFoundFaults (disk_part name next)
 unfolding disk_part found_plan
 disk_found_faults None next never = never []
-disk_found_faults (Some name) next never = (λ e. cc e, λ bytes. part_found_faults Part.Disk (next bytes) (disk_refusal bytes) (never bytes))
+disk_found_faults (Some name) next never = (λ e. cc e, λ bytes. part_found_faults (λ fault. fault) (next bytes) (disk_refusal bytes) (never bytes))
 
 script_found_faults : (harts : ℕ) (source : Source) (next : Schedule → Plan) → ((schedule : Schedule) → HasFoundFaults (next schedule)) → HasFoundFaults (script_part harts source next)
 unfolding script_part text_part found_plan
 script_found_faults harts Rounds next never = never _
 script_found_faults harts (Auto number) next never = never _
 script_found_faults harts (Text name) next never =
-    (λ e. cc e, λ bytes. part_found_faults Part.Script (next (Schedule.Listed (events_of_text harts bytes))) (first_refused bytes) (never _))
+    (λ e. cc e, λ bytes. part_found_faults FileFault.ScriptLine (next (Schedule.Listed (events_of_text harts bytes))) (first_refused bytes) (never _))
 
 boot_found_faults : (words : RunWords) (rules : Rules) (file : List ℕ) → HasFoundFaults (boot_plan words rules file)
 unfolding boot_plan
@@ -445,17 +445,14 @@ boot_found_faults words rules file =
 image_found_faults : (words : RunWords) (rules : Rules) → HasFoundFaults (image_plan words rules)
 unfolding image_plan kernel_part found_plan
 image_found_faults words rules =
-    (λ e. cc e, λ file. part_found_faults Part.Image (boot_plan words rules file) (kernel_refusal file rules.ram_pages) (boot_found_faults words rules file))
+    (λ e. cc e, λ file. part_found_faults FileFault.Image (boot_plan words rules file) (kernel_refusal file rules.ram_pages) (boot_found_faults words rules file))
 
 run_found_faults : (words : RunWords) → HasFoundFaults (run_plan words)
 unfolding run_plan policy_part found_plan
 run_found_faults words = (λ e. cc e, λ bytes. policy_found_faults (image_plan words) (rules_of_text bytes) (image_found_faults words))
 
-making_no_read_fault : (refused : MakingRefusal) → status_due (Refuse (making_refusal refused)) ≢ Status.ReadFault
-making_no_read_fault (making.Image number) = λ e. cc e
-making_no_read_fault (making.Module number) = λ e. cc e
-making_no_read_fault making.Limits = λ e. cc e
-making_no_read_fault making.Memory = λ e. cc e
+making_no_read_fault : (fault : MakingFault) → status_due (Refuse (File (making_fault fault))) ≢ Status.ReadFault
+making_no_read_fault fault = λ e. cc e
 
 made_found_faults : {A : Type 0} (next : A → Plan) (made : Judging A) → ((value : A) → HasFoundFaults (next value)) → HasFoundFaults (made_judged next made)
 made_found_faults next (Ok value) never = never value

@@ -8,8 +8,7 @@ use Rattle.sv_types.specs.Bytes.{page_size}
 use Rattle.sv_types.specs.Boot.{flat_ram_pages}
 use Rattle.sv_types.specs.ApprovedPages.{numbers_from}
 use Rattle.guest_gen.specs.Generated.{generated_image, generated_policy}
-use Rattle.policy.specs.declared.refusal.PolicyRefusal.{PolicyRefusal}
-use Rattle.policy.specs.declared.refusal.PolicyRefusal.TheVariants as refusal
+use Rattle.policy_limits.specs.declared.policy_fault.PolicyFault.{PolicyFault}
 use Rattle.policy.specs.Refusals.{Judged}
 use Rattle.policy.specs.Text.{rules_of_text}
 use Rattle.sv_types.specs.Kernel.{header_entry, kernel_refusal, kernel_segments, text_of}
@@ -22,11 +21,12 @@ use Rattle.reference.specs.States.{State, has_number}
 use Rattle.reference.specs.Run.{run}
 use Rattle.sv_types.specs.Schedule.{Schedule, first_events}
 use Rattle.script.specs.AutoScripts.{events_of_text, first_refused}
-use Rattle.policy_making.specs.declared.refusal.MakingRefusal.{MakingRefusal}
-use Rattle.policy_making.specs.declared.refusal.MakingRefusal.TheVariants as making
+use Rattle.policy_making.specs.declared.refusal.MakingFault.{MakingFault}
+use Rattle.policy_making.specs.declared.refusal.MakingFault.TheVariants as making
 use Rattle.policy_making.specs.Refusals.{Judged as Made}
 use Rattle.policy_making.specs.Making.{ModuleFile, kernel_digest, names_with, policy_behind}
-use Rattle.secvisor_cli.specs.declared.refusal.Part.{Part}
+use Rattle.secvisor_cli.specs.declared.file_fault.Part.{Part}
+use Rattle.secvisor_cli.specs.declared.file_fault.FileFault.{FileFault}
 use Rattle.secvisor_cli.specs.declared.refusal.Refusal.{Refusal}
 use Rattle.secvisor_cli.specs.declared.refusal.Refusal.TheVariants.{ReadFault, File, Measure, Entry}
 use Rattle.secvisor_cli.specs.Refusals.{refusal_line, refusal_status}
@@ -104,7 +104,7 @@ pub data Plan : Type 0 where
 unfoldable pub found_plan : Part → (List ℕ → Plan) → Found → Plan
 found_plan part next Faulty = End (Refuse (ReadFault part))
 found_plan part next Missing = End (Refuse (ReadFault part))
-found_plan part next Longer = End (Refuse (File part 0))
+found_plan part next Longer = End (Refuse (File (FileFault.Longer part)))
 found_plan part next (Held bytes) = next bytes
 
 abbrev pub read_part : Part → (name : List ℕ) → (limit : ℕ) → (List ℕ → Plan) → Plan
@@ -122,7 +122,7 @@ abbrev pub is_whole_pages : List ℕ → Bool
 is_whole_pages bytes = nat_lt 0 (length bytes) && length bytes % page_size == 0
 
 unfoldable pub pages_judged : List ℕ → List ℕ → List Event → Due
-pages_judged bytes wanted events = if is_whole_pages bytes then measure_judged bytes wanted events else Refuse (File Part.Flat 1)
+pages_judged bytes wanted events = if is_whole_pages bytes then measure_judged bytes wanted events else Refuse (File FileFault.FlatPages)
 
 -- turns of the one hart
 abbrev pub flat_events : ℕ → List Event
@@ -160,44 +160,39 @@ most_disk_bytes = 64 * 2 ^ 20
 abbrev pub most_script_bytes : ℕ
 most_script_bytes = 2 ^ 20
 
--- the number of a refusal. Want of memory is none of them
-abbrev pub policy_number : PolicyRefusal → ℕ
-policy_number (refusal.Number number) = number
-policy_number refusal.Memory = 0
-
 abbrev pub policy_judged : (Rules → Plan) → Judged Rules → Plan
 policy_judged next (Ok rules) = next rules
-policy_judged next (Err refused) = End (Refuse (File Part.Policy (policy_number refused)))
+policy_judged next (Err fault) = End (Refuse (File (FileFault.Policy fault)))
 
 unfoldable pub policy_part : (name : List ℕ) → (Rules → Plan) → Plan
 policy_part name next =
     read_part Part.Policy name most_policy_bytes (λ bytes. Judge (policy_judged next (rules_of_text bytes)))
 
--- a part without a refusal's number is good
-abbrev pub part_judged : Part → Plan → Option ℕ → Plan
-part_judged part next None = next
-part_judged part next (Some number) = End (Refuse (File part number))
+-- a part without a fault is good
+abbrev pub part_judged : {F : Type 0} → (F → FileFault) → Plan → Option F → Plan
+part_judged file_fault next None = next
+part_judged file_fault next (Some fault) = End (Refuse (File (file_fault fault)))
 
 -- what holds of a file of the image, under rules
 unfoldable pub kernel_part : Rules → (file : List ℕ) → Plan → Plan
-kernel_part rules file next = Judge (part_judged Part.Image next (kernel_refusal file rules.ram_pages))
+kernel_part rules file next = Judge (part_judged FileFault.Image next (kernel_refusal file rules.ram_pages))
 
 abbrev pub image_part : Rules → (name : List ℕ) → (List ℕ → Plan) → Plan
 image_part rules name next = read_part Part.Image name most_image_bytes (λ file. kernel_part rules file (next file))
 
 -- whole sectors
-abbrev pub disk_refusal : List ℕ → Option ℕ
-disk_refusal bytes = if length bytes % 512 == 0 then None else Some 1
+abbrev pub disk_refusal : List ℕ → Option FileFault
+disk_refusal bytes = if length bytes % 512 == 0 then None else Some FileFault.DiskSectors
 
 unfoldable pub disk_part : Option (List ℕ) → (List ℕ → Plan) → Plan
 disk_part None next = next []
 disk_part (Some name) next =
-    read_part Part.Disk name most_disk_bytes (λ bytes. part_judged Part.Disk (next bytes) (disk_refusal bytes))
+    read_part Part.Disk name most_disk_bytes (λ bytes. part_judged (λ fault. fault) (next bytes) (disk_refusal bytes))
 
 unfoldable pub text_part : (harts : ℕ) (name : List ℕ) → (Schedule → Plan) → Plan
 text_part harts name next =
     read_part Part.Script name most_script_bytes
-    (λ bytes. Judge (part_judged Part.Script (next (Schedule.Listed (events_of_text harts bytes))) (first_refused bytes)))
+    (λ bytes. Judge (part_judged FileFault.ScriptLine (next (Schedule.Listed (events_of_text harts bytes))) (first_refused bytes)))
 
 unfoldable pub script_part : (harts : ℕ) → Source → (Schedule → Plan) → Plan
 script_part harts Rounds next = next (Schedule.Rounds harts 0)
@@ -232,16 +227,15 @@ run_plan words = policy_part words.policy (image_plan words)
 abbrev pub most_object_bytes : ℕ
 most_object_bytes = 16 * 2 ^ 20
 
--- the number of all modules' relocated fields is judged last. Want of memory is no refusal
-abbrev pub making_refusal : MakingRefusal → Refusal
-making_refusal (making.Image number) = File Part.Image number
-making_refusal (making.Module number) = File Part.Module number
-making_refusal making.Limits = File Part.Policy 6
-making_refusal making.Memory = File Part.Policy 0
+-- the number of all modules' relocated fields is judged last
+abbrev pub making_fault : MakingFault → FileFault
+making_fault (making.Image fault) = FileFault.Image fault
+making_fault (making.Module fault) = FileFault.Module fault
+making_fault making.Limits = FileFault.Policy PolicyFault.BeyondLimit
 
 abbrev pub made_judged : {A : Type 0} → (A → Plan) → Made A → Plan
 made_judged next (Ok value) = next value
-made_judged next (Err refused) = End (Refuse (making_refusal refused))
+made_judged next (Err fault) = End (Refuse (File (making_fault fault)))
 
 -- a part is read, and what is made of it decides
 unfoldable pub made_part : {A : Type 0} → Part → (name : List ℕ) → (limit : ℕ) → (List ℕ → Made A) → (List ℕ → A → Plan) → Plan

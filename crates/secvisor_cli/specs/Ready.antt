@@ -11,8 +11,9 @@ use Rattle.sv_types.specs.Schedule.{Schedule, first_events}
 use Rattle.script.specs.AutoScripts.{events_of_text, first_refused}
 use Rattle.sv_types.specs.Kernel.{kernel_refusal}
 use Rattle.sv_types.specs.Policies.{Rules, rules_of}
+use Rattle.sv_types.specs.declared.image_fault.ImageFault.{ImageFault}
 use Rattle.sv_types.specs.declared.policy.Policy.{Policy}
-use Rattle.policy.specs.declared.refusal.PolicyRefusal.TheVariants.{Number as PolicyNumber}
+use Rattle.policy_limits.specs.declared.policy_fault.PolicyFault.{PolicyFault}
 use Rattle.policy.specs.Refusals.{Judged}
 use Rattle.policy.specs.Text.{rules_of_text}
 use Rattle.policy_making.specs.Making.{file_of}
@@ -22,7 +23,8 @@ use Rattle.elf64_load.specs.declared.image.KernelImage.{KernelImage}
 use Rattle.machine.specs.Boot.{IsImageOf}
 use Rattle.outside.specs.Outside.{FilesState, after_asking}
 use Rattle.machine.specs.declared.boot.BootRefusal.{BootRefusal}
-use Rattle.secvisor_cli.specs.declared.refusal.Part.{Part}
+use Rattle.secvisor_cli.specs.declared.file_fault.Part.{Part}
+use Rattle.secvisor_cli.specs.declared.file_fault.FileFault.{FileFault}
 use Rattle.secvisor_cli.specs.declared.refusal.Refusal.{Refusal}
 use Rattle.secvisor_cli.specs.declared.refusal.Refusal.TheVariants.{ReadFault, File}
 use Rattle.secvisor_cli.specs.declared.ready.Ready.{Ready}
@@ -33,7 +35,7 @@ use Rattle.secvisor_cli.specs.declared.making.MeasuredKernel.{MeasuredKernel}
 use Rattle.secvisor_cli.specs.declared.making.WantingModules.{WantingModules}
 use Rattle.secvisor_cli.specs.declared.ready.Stop.{Stop}
 use Rattle.secvisor_cli.specs.declared.ready.Stop.TheVariants.{Refused, Memory}
-use Rattle.secvisor_cli.specs.Plans.{Due, Refuse, RunFrom, Make, measured_line, making_refusal, Kernel, Modules, saves_due, Plan, Found, Faulty, Missing, Longer, Held}
+use Rattle.secvisor_cli.specs.Plans.{Due, Refuse, RunFrom, Make, measured_line, making_fault, Kernel, Modules, saves_due, Plan, Found, Faulty, Missing, Longer, Held}
 use Rattle.secvisor_cli.specs.Reading.{Follows, FoundAs, MayFollow, MaySave}
 use Rattle.console_run.specs.Standing.{HasState}
 
@@ -41,7 +43,7 @@ use Rattle.console_run.specs.Standing.{HasState}
 abbrev pub unread : Part → Found → Option Refusal
 unread part Faulty = Some (ReadFault part)
 unread part Missing = Some (ReadFault part)
-unread part Longer = Some (File part 0)
+unread part Longer = Some (File (FileFault.Longer part))
 unread part (Held bytes) = None
 
 -- a part was read, once
@@ -58,9 +60,7 @@ stop_of BootRefusal.Memory = Memory
 
 -- a policy that isn't made
 abbrev pub stop_of_making : MakingRefusal → Stop
-stop_of_making (making.Image number) = Refused (making_refusal (making.Image number))
-stop_of_making (making.Module number) = Refused (making_refusal (making.Module number))
-stop_of_making making.Limits = Refused (making_refusal making.Limits)
+stop_of_making (making.Fault fault) = Refused (File (making_fault fault))
 stop_of_making making.Memory = Memory
 
 -- a machine that has made no event, and the events that it is to make
@@ -147,23 +147,23 @@ modules_value m = record { names = m.names.items; objects = map file_of m.object
 
 -- ---- the parts of a run, judged
 
--- the rules of a policy's text, or the number of its refusal
+-- the rules of a policy's text, or its fault
 abbrev pub IsPolicy : Judged Rules → Result Policy Stop → Type 0
 IsPolicy judged (Ok policy) = judged ≡ Ok (rules_of policy)
 IsPolicy judged (Err (Refused refusal)) =
-    (number : ℕ) × (judged ≡ Err (PolicyNumber number)) × (refusal ≡ File Part.Policy number)
+    (fault : PolicyFault) × (judged ≡ Err fault) × (refusal ≡ File (FileFault.Policy fault))
 IsPolicy judged (Err Memory) = Unit {0}
 
--- the image of a kernel's file, or the number of its refusal
+-- the image of a kernel's file, or its fault
 abbrev pub IsKernel : (file : List ℕ) → (ram_pages : ℕ) → Result KernelImage Stop → Type 0
 IsKernel file ram_pages (Ok image) = IsImageOf file ram_pages image
 IsKernel file ram_pages (Err (Refused refusal)) =
-    (number : ℕ) × (kernel_refusal file ram_pages ≡ Some number) × (refusal ≡ File Part.Image number)
+    (fault : ImageFault) × (kernel_refusal file ram_pages ≡ Some fault) × (refusal ≡ File (FileFault.Image fault))
 IsKernel file ram_pages (Err Memory) = Unit {0}
 
 -- the events of a script's text, or the number of the line that refuses it
 abbrev pub IsScript : (harts : ℕ) → List ℕ → Result Schedule Stop → Type 0
 IsScript harts text (Ok script) = (script ≡ Schedule.Listed (events_of_text harts text)) × (first_refused text ≡ None)
 IsScript harts text (Err (Refused refusal)) =
-    (line : ℕ) × (first_refused text ≡ Some line) × (refusal ≡ File Part.Script line)
+    (line : ℕ) × (first_refused text ≡ Some line) × (refusal ≡ File (FileFault.ScriptLine line))
 IsScript harts text (Err Memory) = Unit {0}

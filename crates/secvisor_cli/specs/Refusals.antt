@@ -3,7 +3,12 @@ use Rattle.std.specs.Prelude.{ℕ, List, ◌++◌, Bool, true, false, codes}
 use Rattle.std.specs.Fmt.{decimal}
 use Rattle.sv_types.specs.Output.{line_feed, hexadecimal_bytes, address_text}
 use Rattle.sv_types.specs.declared.status.Status.{Status}
-use Rattle.secvisor_cli.specs.declared.refusal.Part.{Part}
+use Rattle.sv_types.specs.ImageFaults.{image_fault_number}
+use Rattle.policy_limits.specs.PolicyFaults.{policy_fault_number}
+use Rattle.elf64_reloc.specs.ObjectFaults.{object_fault_number}
+use Rattle.secvisor_cli.specs.declared.file_fault.Part.{Part}
+use Rattle.secvisor_cli.specs.declared.file_fault.FileFault.{FileFault}
+use Rattle.secvisor_cli.specs.declared.file_fault.FileFault.TheVariants.{Longer, FlatPages, DiskSectors, ScriptLine}
 use Rattle.secvisor_cli.specs.declared.refusal.Word.{Word}
 use Rattle.secvisor_cli.specs.declared.refusal.Refusal.{Refusal}
 use Rattle.secvisor_cli.specs.declared.refusal.Refusal.TheVariants.{NoCommand, OutOfRange, ReadFault, File, Measure, Entry}
@@ -27,11 +32,31 @@ word_name Word.Entries = codes "ENTRIES"
 word_name Word.Init = codes "INIT"
 word_name Word.Modules = codes "MODULES"
 
+-- the part whose file has a fault, and the fault's number
+abbrev pub fault_part : FileFault → Part
+fault_part (Longer part) = part
+fault_part FlatPages = Part.Flat
+fault_part (FileFault.Policy fault) = Part.Policy
+fault_part (FileFault.Image fault) = Part.Image
+fault_part (FileFault.Module fault) = Part.Module
+fault_part DiskSectors = Part.Disk
+fault_part (ScriptLine line) = Part.Script
+
+abbrev pub fault_number : FileFault → ℕ
+fault_number (Longer part) = 0
+fault_number FlatPages = 1
+fault_number (FileFault.Policy fault) = policy_fault_number fault
+fault_number (FileFault.Image fault) = image_fault_number fault
+fault_number (FileFault.Module fault) = object_fault_number fault
+fault_number DiskSectors = 1
+fault_number (ScriptLine line) = line
+
 unfoldable pub refusal_line : Refusal → List ℕ
 refusal_line NoCommand = codes "usage" ++ line_feed
 refusal_line (OutOfRange word) = codes "usage " ++ (word_name word ++ line_feed)
 refusal_line (ReadFault part) = codes "read fault " ++ (part_name part ++ line_feed)
-refusal_line (File part number) = codes "refused " ++ (part_name part ++ (codes " " ++ (decimal number ++ line_feed)))
+refusal_line (File fault) =
+    codes "refused " ++ (part_name (fault_part fault) ++ (codes " " ++ (decimal (fault_number fault) ++ line_feed)))
 refusal_line (Measure found wanted) =
     codes "refused measure found " ++ (hexadecimal_bytes found ++ (codes " wanted " ++ (hexadecimal_bytes wanted ++ line_feed)))
 refusal_line (Entry entry) = codes "refused entry " ++ (address_text entry ++ line_feed)
@@ -40,7 +65,7 @@ abbrev pub refusal_status : Refusal → Status
 refusal_status NoCommand = Status.Usage
 refusal_status (OutOfRange word) = Status.Usage
 refusal_status (ReadFault part) = Status.ReadFault
-refusal_status (File part number) = Status.Refused
+refusal_status (File fault) = Status.Refused
 refusal_status (Measure found wanted) = Status.Refused
 refusal_status (Entry entry) = Status.Refused
 
@@ -49,6 +74,6 @@ abbrev pub takes_memory : Refusal → Bool
 takes_memory NoCommand = false
 takes_memory (OutOfRange word) = false
 takes_memory (ReadFault part) = true
-takes_memory (File part number) = true
+takes_memory (File fault) = true
 takes_memory (Measure found wanted) = true
 takes_memory (Entry entry) = true

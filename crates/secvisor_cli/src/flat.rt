@@ -4,9 +4,10 @@ ghost use Rattle.secvisor_cli.specs.Plans.{flat_plan, flat_events, is_whole_page
 ghost use Rattle.secvisor_cli.specs.Reading.{MayFollow};
 ghost use Rattle.secvisor_cli.specs.Ready.{IsReady, Prepares};
 
+use crate::file_fault::{FileFault, Part};
 use crate::parts::read_part;
 use crate::ready::{Booted, Ready, Stop};
-use crate::refusal::{Part, Refusal};
+use crate::refusal::Refusal;
 use crate::words::Flat;
 use machine::Machine;
 use outside::Files;
@@ -32,8 +33,7 @@ pub fn prepare_flat<R: Threads + Sync, F: Files>(
     let bytes = read_part(alloc, files, Part::Flat, flat.file, MOST_FLAT_BYTES)?;
     if !is_whole_pages(&bytes) {
         return Err(Stop::Refused(Refusal::File {
-            part: Part::Flat,
-            number: 1,
+            fault: FileFault::FlatPages,
         }));
     }
     boot(rt, alloc, &bytes, flat.wanted, flat.events)

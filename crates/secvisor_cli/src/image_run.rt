@@ -10,9 +10,10 @@ ghost use Rattle.secvisor_cli.specs.Reading.{MayFollow};
 ghost use Rattle.secvisor_cli.specs.Ready.{Prepares, Staged, MayStage, DrawsFrom, IsPolicy, IsKernel, IsScript};
 ghost use Rattle.secvisor_cli.specs.Words.{source_value, run_value};
 
+use crate::file_fault::{FileFault, Part};
 use crate::parts::read_part;
 use crate::ready::{Booted, Ready, Stop};
-use crate::refusal::{Part, Refusal};
+use crate::refusal::Refusal;
 use crate::words::{Run, Source};
 use elf64_load::{ElfRefusal, KernelImage, read_kernel};
 use machine::{Machine, SECTOR_BYTES};
@@ -96,9 +97,8 @@ fn judge_policy(alloc: Global, text: &[u8]) -> Result<Policy, Stop>
 {
     match policy::read(alloc, text) {
         Ok(policy) => Ok(policy),
-        Err(PolicyRefusal::Number(number)) => Err(Stop::Refused(Refusal::File {
-            part: Part::Policy,
-            number: u64::from(number),
+        Err(PolicyRefusal::Fault(fault)) => Err(Stop::Refused(Refusal::File {
+            fault: FileFault::Policy(fault),
         })),
         Err(PolicyRefusal::Memory) => Err(Stop::Memory),
     }
@@ -111,9 +111,8 @@ fn judge_kernel(alloc: Global, file: &[u8], ram_pages: u32) -> Result<KernelImag
 {
     match read_kernel(alloc, file, ram_pages) {
         Ok(image) => Ok(image),
-        Err(ElfRefusal::Number(number)) => Err(Stop::Refused(Refusal::File {
-            part: Part::Image,
-            number: u64::from(number),
+        Err(ElfRefusal::Fault(fault)) => Err(Stop::Refused(Refusal::File {
+            fault: FileFault::Image(fault),
         })),
         Err(ElfRefusal::Memory) => Err(Stop::Memory),
     }
@@ -133,8 +132,7 @@ fn read_disk<F: Files>(alloc: Global, name: Option<&str>, files: &mut F) -> Resu
     let disk = read_part(alloc, files, Part::Disk, name, MOST_DISK_BYTES)?;
     if !is_whole_sectors(&disk) {
         return Err(Stop::Refused(Refusal::File {
-            part: Part::Disk,
-            number: 1,
+            fault: FileFault::DiskSectors,
         }));
     }
     Ok(disk)
@@ -188,8 +186,7 @@ fn judge_script(alloc: Global, text: &[u8], harts: u8) -> Result<Script, Stop>
     match script::read(alloc, text, harts) {
         Ok(script) => Ok(script),
         Err(ScriptRefusal::Line { line }) => Err(Stop::Refused(Refusal::File {
-            part: Part::Script,
-            number: line,
+            fault: FileFault::ScriptLine { line },
         })),
         Err(ScriptRefusal::Memory) => Err(Stop::Memory),
     }

@@ -3,6 +3,7 @@
 #![tactic(auto)]
 
 mod answer;
+mod file_fault;
 mod flat;
 mod generated;
 mod image_run;

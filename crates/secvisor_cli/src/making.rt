@@ -10,10 +10,10 @@ ghost use Rattle.secvisor_cli.specs.Reading.{MayFollow};
 ghost use Rattle.secvisor_cli.specs.Ready.{IsMade, Prepares, Passes, Staged, MayStage, kernel_value, modules_value};
 ghost use Rattle.secvisor_cli.specs.Words.{policy_value, terms_value};
 
+use crate::file_fault::Part;
 use crate::image_run::MOST_IMAGE_BYTES;
 use crate::parts::read_part;
 use crate::ready::{Made, Ready, Stop};
-use crate::refusal::Part;
 use crate::words::{MakePolicy, Terms};
 use outside::Files;
 use policy_making::{ObjectFile, Settings, kernel_digest, policy_behind, want_names};

@@ -2,8 +2,9 @@
 ghost use Rattle.std.specs.Prelude.{◌≡◌, ◌<◌, ◌-◌, ◌^◌, [], ◌∷◌, IsTrue};
 ghost use Rattle.secvisor_cli.specs.Ready.{PartRead};
 
+use crate::file_fault::{FileFault, Part};
 use crate::ready::Stop;
-use crate::refusal::{Part, Refusal};
+use crate::refusal::Refusal;
 use outside::{FileRefusal, Files};
 use std::alloc::Global;
 
@@ -24,7 +25,9 @@ pub fn read_part<F: Files>(
         Err(FileRefusal::Absent) | Err(FileRefusal::Failed) => {
             Err(Stop::Refused(Refusal::ReadFault { part }))
         }
-        Err(FileRefusal::TooLong) => Err(Stop::Refused(Refusal::File { part, number: 0 })),
+        Err(FileRefusal::TooLong) => Err(Stop::Refused(Refusal::File {
+            fault: FileFault::Longer { part },
+        })),
         Err(FileRefusal::Memory) => Err(Stop::Memory),
     }
 }

@@ -1,16 +1,16 @@
 // What is made ready of a command, before anything is written.
 ghost use Rattle.std.specs.Prelude.{◌≡◌};
 ghost use Rattle.secvisor_cli.specs.declared.ready.Stop.TheVariants.{Refused, Memory};
+ghost use Rattle.secvisor_cli.specs.Plans.{making_fault};
 ghost use Rattle.secvisor_cli.specs.Ready.{stop_of, stop_of_making};
 
-use crate::refusal::{Part, Refusal};
+use crate::file_fault::FileFault;
+use crate::refusal::Refusal;
 use machine::{BootRefusal, Machine};
-use policy_making::MakingRefusal;
+use policy_limits::PolicyFault;
+use policy_making::{MakingFault, MakingRefusal};
 use script::Script;
 use std::alloc::{AllocError, AllocFailed};
-
-// The number of a policy's refusal for a value beyond its limit.
-const BEYOND_LIMITS: u64 = 6;
 
 /// What is ready of a command.
 #[derive(Drop)]
@@ -69,22 +69,24 @@ impl<T: Drop> From<AllocFailed<T>> for Stop {
     }
 }
 
+// The fault of the file for which no policy is made.
+fn file_fault(fault: MakingFault) -> FileFault
+    ensures { result ≡ making_fault fault }
+{
+    match fault {
+        MakingFault::Image(fault) => FileFault::Image(fault),
+        MakingFault::Module(fault) => FileFault::Module(fault),
+        MakingFault::Limits => FileFault::Policy(PolicyFault::BeyondLimit),
+    }
+}
+
 impl From<MakingRefusal> for Stop {
     ghost from_gives = { λ r s. s ≡ stop_of_making r };
 
     fn from(refusal: MakingRefusal) -> Self {
         match refusal {
-            MakingRefusal::Image(number) => Stop::Refused(Refusal::File {
-                part: Part::Image,
-                number: u64::from(number),
-            }),
-            MakingRefusal::Module(number) => Stop::Refused(Refusal::File {
-                part: Part::Module,
-                number: u64::from(number),
-            }),
-            MakingRefusal::Limits => Stop::Refused(Refusal::File {
-                part: Part::Policy,
-                number: BEYOND_LIMITS,
+            MakingRefusal::Fault(fault) => Stop::Refused(Refusal::File {
+                fault: file_fault(fault),
             }),
             MakingRefusal::Memory => Stop::Memory,
         }

@@ -1,24 +1,14 @@
 // Why a command isn't carried out.
 ghost use Rattle.std.specs.Prelude.{◌≡◌, ◌<◌, ◌-◌, ◌^◌, IsTrue, IsErrOf, OnOk, IfOk, string_bytes};
 ghost use Rattle.outside.specs.Outside.{after_taking, BreaksOff};
-ghost use Rattle.secvisor_cli.specs.Refusals.{part_name, refusal_line, refusal_status, takes_memory};
+ghost use Rattle.secvisor_cli.specs.Refusals.{refusal_line, refusal_status, takes_memory};
 
+use crate::file_fault::{FileFault, Part};
 use crate::trouble::Trouble;
 use outside::{Sink, write_all};
 use std::alloc::{AllocError, Global};
 use sv_types::Status;
 use text_numbers::{address_text, digest_text};
-
-/// A file by what it is for.
-#[derive(Clone, Copy, Debug, PartialEq, Eq, Drop)]
-pub enum Part {
-    Flat,
-    Policy,
-    Image,
-    Disk,
-    Script,
-    Module,
-}
 
 /// A word by its name.
 #[derive(Clone, Copy, Debug, PartialEq, Eq, Drop)]
@@ -43,27 +33,12 @@ pub enum Refusal {
     OutOfRange { word: Word },
     /// A read failed, or the file isn't held.
     ReadFault { part: Part },
-    /// A file is refused by a number, by 0 where it is longer than its limit.
-    File { part: Part, number: u64 },
+    /// A file is refused.
+    File { fault: FileFault },
     /// The text measures to another digest than the one that is wanted.
     Measure { found: [u8; 32], wanted: [u8; 32] },
     /// The machine would begin at an address that isn't permitted.
     Entry { entry: u64 },
-}
-
-impl Part {
-    fn name(self) -> &'static str
-        ensures { result.now ≡ part_name self }
-    {
-        match self {
-            Part::Flat => "flat",
-            Part::Policy => "policy",
-            Part::Image => "image",
-            Part::Disk => "disk",
-            Part::Script => "script",
-            Part::Module => "module",
-        }
-    }
 }
 
 impl Word {
@@ -94,7 +69,7 @@ impl Refusal {
         match self {
             Refusal::NoCommand | Refusal::OutOfRange { word: _ } => Status::Usage,
             Refusal::ReadFault { part: _ } => Status::ReadFault,
-            Refusal::File { part: _, number: _ }
+            Refusal::File { fault: _ }
             | Refusal::Measure {
                 found: _,
                 wanted: _,
@@ -119,8 +94,8 @@ impl Refusal {
                 let line = read_fault_line(alloc, *part)?;
                 Ok(write_all(out, line.as_str().as_bytes())?)
             }
-            Refusal::File { part, number } => {
-                let line = file_line(alloc, *part, *number)?;
+            Refusal::File { fault } => {
+                let line = file_line(alloc, *fault)?;
                 Ok(write_all(out, line.as_str().as_bytes())?)
             }
             Refusal::Measure { found, wanted } => {
@@ -151,10 +126,11 @@ fn read_fault_line(alloc: Global, part: Part) -> Result<String, AllocError>
 }
 
 #[tactic(auto, unfolding(crate::specs::Refusals::refusal_line))]
-fn file_line(alloc: Global, part: Part, number: u64) -> Result<String, AllocError>
-    ensures { IfOk result (λ t. string_bytes t ≡ refusal_line (Refusal.File part number)) }
+fn file_line(alloc: Global, fault: FileFault) -> Result<String, AllocError>
+    ensures { IfOk result (λ t. string_bytes t ≡ refusal_line (Refusal.File fault)) }
 {
-    let name = part.name();
+    let name = fault.part().name();
+    let number = fault.number();
     format!(in alloc; "refused {name} {number}\n")
 }
 

@@ -1,6 +1,6 @@
 use Rattle.std.proofs.Common.{ℕ, List, subst, sym, Err}
 use Rattle.sv_types.specs.Policies.{rules_of}
-use Rattle.secvisor_cli.specs.declared.refusal.Part.{Part}
+use Rattle.secvisor_cli.specs.declared.file_fault.Part.{Part}
 use Rattle.secvisor_cli.specs.Plans.{most_image_bytes, policy_part, kernel_part, boot_plan, image_plan, run_plan}
 use Rattle.secvisor_cli.specs.Reading.{MayFollow}
 use Rattle.secvisor_cli.specs.Ready.{Prepares}

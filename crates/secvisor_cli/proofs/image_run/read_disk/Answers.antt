@@ -1,7 +1,8 @@
 use Rattle.std.proofs.Common.{◌≡◌, ◌==◌, ◌%◌, List, ℕ, length, true, false, Option, Some, Err, Vec, Global, subst, sym, ◌∙◌}
 use Rattle.std.specs.Borrow.{Bor}
 use Rattle.std.specs.Option.{option_copied}
-use Rattle.secvisor_cli.specs.declared.refusal.Part.{Part}
+use Rattle.secvisor_cli.specs.declared.file_fault.FileFault.{FileFault}
+use Rattle.secvisor_cli.specs.declared.file_fault.Part.{Part}
 use Rattle.secvisor_cli.specs.declared.refusal.Refusal.TheVariants.{File}
 use Rattle.secvisor_cli.specs.declared.ready.Stop.TheVariants.{Refused}
 use Rattle.secvisor_cli.specs.Plans.{disk_part}
@@ -32,7 +33,7 @@ returns-in_err-disk-clause-stage g c =
 pub returns-then-not-is_whole_sectors-clause-stage : goal.returns-then-not-is_whole_sectors-clause-stage
 returns-then-not-is_whole_sectors-clause-stage g c =
     let part : (length c.deref.result.now % 512 == 0) ≡ false = sym c.is_whole_sectors.ensures.value ∙ c.if-not-is_whole_sectors.true in λ next.
-    subst (λ (n : Option (Bor (List ℕ))). Prepares (disk_part (option_copied n) next) (g.F.Files.state c.args.files.now) (g.F.Files.state c.read_part.new.files) (Err (Refused (File Part.Disk 1))))
+    subst (λ (n : Option (Bor (List ℕ))). Prepares (disk_part (option_copied n) next) (g.F.Files.state c.args.files.now) (g.F.Files.state c.read_part.new.files) (Err (Refused (File FileFault.DiskSectors))))
     (sym c.in-Some.is)
     (disk_refused c.in-Some.name.now c.in_ok-disk.disk.items _ _ c.in_ok-disk.ensures (subst (λ (b : List ℕ). (length b % 512 == 0) ≡ false) c.deref.ensures.value part) next)
 

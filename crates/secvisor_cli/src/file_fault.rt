@@ -1,0 +1,84 @@
+// Why a file is refused.
+ghost use Rattle.std.specs.Prelude.{◌≡◌};
+ghost use Rattle.secvisor_cli.specs.Refusals.{fault_number, fault_part, part_name};
+
+use elf64_reloc::ObjectFault;
+use policy_limits::PolicyFault;
+use sv_types::ImageFault;
+
+/// A file by what it is for.
+#[derive(Clone, Copy, Debug, PartialEq, Eq, Drop)]
+pub enum Part {
+    Flat,
+    Policy,
+    Image,
+    Disk,
+    Script,
+    Module,
+}
+
+/// What is wrong with a file.
+#[derive(Clone, Copy, Debug, PartialEq, Eq, Drop)]
+pub enum FileFault {
+    /// It is longer than its part may be.
+    Longer { part: Part },
+    /// A flat text isn't whole pages.
+    FlatPages,
+    /// The first fault of a policy.
+    Policy(PolicyFault),
+    /// The first fault of a kernel's image.
+    Image(ImageFault),
+    /// The first fault of a module's object.
+    Module(ObjectFault),
+    /// A disk isn't whole sectors.
+    DiskSectors,
+    /// The first line of a script that is none.
+    ScriptLine { line: u64 },
+}
+
+impl Part {
+    /// The part's name in a line.
+    pub fn name(self) -> &'static str
+        ensures { result.now ≡ part_name self }
+    {
+        match self {
+            Part::Flat => "flat",
+            Part::Policy => "policy",
+            Part::Image => "image",
+            Part::Disk => "disk",
+            Part::Script => "script",
+            Part::Module => "module",
+        }
+    }
+}
+
+impl FileFault {
+    /// The part whose file has the fault.
+    pub fn part(self) -> Part
+        ensures { result ≡ fault_part self }
+    {
+        match self {
+            FileFault::Longer { part } => part,
+            FileFault::FlatPages => Part::Flat,
+            FileFault::Policy(_) => Part::Policy,
+            FileFault::Image(_) => Part::Image,
+            FileFault::Module(_) => Part::Module,
+            FileFault::DiskSectors => Part::Disk,
+            FileFault::ScriptLine { line: _ } => Part::Script,
+        }
+    }
+
+    /// The fault's number in the line that refuses the file.
+    pub fn number(self) -> u64
+        ensures { result ≡ fault_number self }
+    {
+        match self {
+            FileFault::Longer { part: _ } => 0,
+            FileFault::FlatPages | FileFault::DiskSectors => 1,
+            FileFault::Policy(fault) => u64::from(fault.number()),
+            FileFault::Image(fault) => u64::from(fault.number()),
+            FileFault::Module(fault) => u64::from(fault.number()),
+            FileFault::ScriptLine { line } => line,
+        }
+    }
+}
