@@ -1,0 +1,4 @@
+pub mod WordLemmas
+pub mod ReadyLemmas
+pub mod LiveLemmas
+pub mod AnswerLemmas

@@ -1,0 +1,3 @@
+pub mod LiveWords
+pub mod LiveReady
+pub mod LiveAnswers

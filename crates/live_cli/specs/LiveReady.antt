@@ -1,0 +1,54 @@
+-- What is made ready of `live`, before anything is written.
+use Rattle.std.specs.Prelude.{◌≡◌, ◌≤◌, ◌^◌, ℕ, List, [], ◌∷◌, IsTrue, Option, Some, None, Result, Ok, Err, IsErrOf}
+use Rattle.sv_types.specs.Schedule.{first_events}
+use Rattle.machine_model.specs.Reaches.{IsNew}
+use Rattle.outside.specs.Outside.{FilesState}
+use Rattle.live_drive.specs.LiveRuns.{harts_of, IsUnderWay}
+use Rattle.secvisor_cli.specs.declared.refusal.Refusal.{Refusal}
+use Rattle.secvisor_cli.specs.declared.ready.Stop.{Stop}
+use Rattle.secvisor_cli.specs.declared.ready.Stop.TheVariants.{Refused, Memory}
+use Rattle.secvisor_cli.specs.Plans.{Due, Refuse, RunFrom, Make, Plan}
+use Rattle.secvisor_cli.specs.Reading.{Follows}
+use Rattle.live_cli.specs.LiveWords.{LiveWords}
+use Rattle.live_cli.specs.declared.ready.LiveReady.{LiveReady}
+
+-- a live run that has made no event, with a line that has carried no key
+pub record IsLiveFresh (ready : LiveReady) : Type 0 where
+  pub way : IsUnderWay ready.live
+  pub keys : ready.live.journal.keys.items ≡ []
+  pub autos : ready.live.journal.autos ≡ 0
+  pub harts : harts_of ready.live.script ≡ ready.live.machine.rules.harts
+  pub console : ready.live.machine.journal.printed ≡ []
+  pub events : ready.live.events ≤ 2 ^ 32
+  pub line : ready.live.taker.line ≡ ready.source.line
+  pub feeder : (ready.source.feeder.line ≡ ready.source.line) × (ready.source.feeder.bytes ≡ [])
+
+-- what is due is ready, or refused, or memory was wanting
+abbrev pub IsLiveReady : Due → Result LiveReady Stop → Type 0
+IsLiveReady (RunFrom start events save) (Ok ready) =
+    IsNew ready.live.machine start × (first_events ready.live.events ready.live.script ≡ events) × IsLiveFresh ready
+IsLiveReady (Make name rules) (Ok ready) = ⊥
+IsLiveReady (Refuse refusal) (Ok ready) = ⊥
+IsLiveReady (Refuse refusal) (Err (Refused given)) = given ≡ refusal
+IsLiveReady (RunFrom start events save) (Err (Refused given)) = ⊥
+IsLiveReady (Make name rules) (Err (Refused given)) = ⊥
+IsLiveReady due (Err Memory) = ⊥
+
+-- where memory was wanting, the end of the plan wasn't reached
+abbrev pub IsLiveReadyWhere : Option Due → Result LiveReady Stop → Type 0
+IsLiveReadyWhere None result = IsErrOf result Memory
+IsLiveReadyWhere (Some due) result = IsLiveReady due result
+
+pub record PreparesLive (plan : Plan) (old new : FilesState) (result : Result LiveReady Stop) : Type 0 where
+  pub reached : Option Due
+  pub follows : Follows plan old new reached
+  pub ready : IsLiveReadyWhere reached result
+
+-- the name that the script is saved under
+abbrev pub out_of : Result LiveWords Refusal → List ℕ
+out_of (Ok words) = words.out
+out_of (Err refusal) = []
+
+-- any text may be saved under the name, once
+abbrev pub MaySaveUnder : (name : List ℕ) → FilesState → Type 0
+MaySaveUnder name files = (text : List ℕ) → IsTrue (files.permits_save ((name, text) ∷ []))

@@ -1,0 +1,67 @@
+-- The words of `live`: what they ask for, or the first one that is out of its range. This project's own.
+use Rattle.std.specs.Prelude.{◌≡◌, ◌≤◌, ◌^◌, ◌-◌, ℕ, List, [], ◌∷◌, if◌then◌else◌, Option, Some, None, Result, Ok, Err, codes}
+use Rattle.std.specs.List.{list_any}
+use Rattle.std.specs.Str.{bytes_eq}
+use Rattle.sv_types.specs.Numbers.{number_within}
+use Rattle.command_words.specs.Commands.{has_dash}
+use Rattle.secvisor_cli.specs.declared.refusal.Word.{Word}
+use Rattle.secvisor_cli.specs.declared.refusal.Refusal.{Refusal}
+use Rattle.secvisor_cli.specs.declared.refusal.Refusal.TheVariants.{NoCommand, OutOfRange}
+use Rattle.secvisor_cli.specs.CommandLine.{RunWords, Auto, unless_none}
+use Rattle.secvisor_cli.specs.Plans.{Refuse, Plan, End, Judge, run_plan}
+use Rattle.secvisor_cli.specs.Words.{source_value, run_value}
+use Rattle.live_cli.specs.declared.words.Live.{Live}
+
+-- a run whose events are drawn, and the name that its script is saved under
+pub record LiveWords : Type 0 where
+  pub run : RunWords
+  pub out : List ℕ
+
+-- with every key these are at most 2^32 events
+abbrev pub most_live_events : ℕ
+most_live_events = 2 ^ 32 - 16384
+
+-- ---- live IMAGE POLICY DISK EVENTS OUT
+
+abbrev pub drawn_run : (image policy disk : List ℕ) → (events : ℕ) → RunWords
+drawn_run image policy disk events = record {
+  image = image;
+  policy = policy;
+  disk = unless_none disk;
+  script = Auto 0;
+  events = events;
+  save = None;
+}
+
+unfoldable pub live_words : (image policy disk out : List ℕ) → Option ℕ → Result LiveWords Refusal
+live_words image policy disk out None = Err (OutOfRange Word.Events)
+live_words image policy disk out (Some events) = Ok (record { run = drawn_run image policy disk events; out = out })
+
+abbrev pub live_split : List (List ℕ) → Result LiveWords Refusal
+live_split (image ∷ policy ∷ disk ∷ events ∷ out ∷ []) = live_words image policy disk out (number_within 0 most_live_events events)
+live_split _ = Err NoCommand
+
+abbrev pub live_named : List ℕ → List (List ℕ) → Result LiveWords Refusal
+live_named name rest = if bytes_eq name (codes "live") then live_split rest else Err NoCommand
+
+abbrev pub live_shape : List (List ℕ) → Result LiveWords Refusal
+live_shape [] = Err NoCommand
+live_shape (name ∷ rest) = live_named name rest
+
+unfoldable pub live_judged : List (List ℕ) → Result LiveWords Refusal
+live_judged words = if list_any has_dash words then Err NoCommand else live_shape words
+
+-- ---- what they ask for
+
+-- what `run` reads and judges for the same words
+unfoldable pub live_plan : Result LiveWords Refusal → Plan
+live_plan (Err refusal) = End (Refuse refusal)
+live_plan (Ok words) = Judge (run_plan words.run)
+
+-- the values of the words
+abbrev pub live_value : Live → LiveWords
+live_value live = record { run = run_value live.run; out = live.out.now }
+
+abbrev pub IsLive : Result LiveWords Refusal → Result Live Refusal → Type 0
+IsLive due (Ok live) = (due ≡ Ok (live_value live)) × (live.run.events ≤ most_live_events) × (source_value live.run.script ≡ Auto 0)
+IsLive due (Err refusal) = due ≡ Err refusal

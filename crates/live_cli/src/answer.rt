@@ -1,0 +1,195 @@
+// The answer to the words of `live`.
+ghost use Rattle.std.specs.Prelude.{◌≡◌, ◌<◌, ◌≤◌, ◌-◌, ◌^◌, ◌∷◌, [], false, List, map, string_bytes, Result, Some, IsTrue};
+ghost use Rattle.sv_types.specs.Schedule.{first_events};
+ghost use Rattle.reference.specs.States.{State};
+ghost use Rattle.machine_model.specs.Reaches.{IsNew};
+ghost use Rattle.sv_types.specs.Output.{run_status};
+ghost use Rattle.console_run.specs.Standing.{machine_output};
+ghost use Rattle.live_drive.specs.LiveRuns.{harts_of, events_made, IsUnderWay};
+ghost use Rattle.secvisor_cli.specs.Answers.{Writes, AfterSave, settled};
+ghost use Rattle.secvisor_cli.specs.Plans.{Exactly};
+ghost use Rattle.secvisor_cli.specs.Reading.{MayFollow};
+ghost use Rattle.secvisor_cli.specs.declared.trouble.Trouble.{Trouble as Ending};
+ghost use Rattle.sv_types.specs.declared.status.Status.{Status as Answer};
+ghost use Rattle.live_cli.specs.LiveWords.{live_judged, live_plan};
+ghost use Rattle.live_cli.specs.LiveReady.{IsLiveFresh, out_of, MaySaveUnder};
+ghost use Rattle.live_cli.specs.LiveAnswers.{live_outside, SavesScript, after_reading, Reports, RunsLive, PerformsLive, LiveHeadline};
+
+use crate::ready::{LiveReady, prepare_live};
+use live_drive::{LiveEnd, LiveRun};
+use live_keys::{Keys, Pace, journal_text};
+use outside::{Files, Sink};
+use secvisor_cli::{Bench, Status, Stop, Trouble, finish, refuse};
+use std::alloc::Global;
+use std::sync::Wait;
+use std::thread::Threads;
+
+// The report, and then the script. Where memory is wanting, nothing is written.
+fn report_and_save<F: Files, O: Sink>(
+    alloc: Global,
+    live: &LiveRun,
+    name: &str,
+    files: &mut F,
+    out: &mut O,
+) -> Result<Status, Trouble>
+    requires is_open { IsTrue (O.state out.old).is_open }
+    requires count { (O.state out.old).faults < 2 ^ 64 - 1 }
+    requires saves { (F.state files.old).save_faults < 2 ^ 64 - 1 }
+    requires permitted { MaySaveUnder name.now (F.state files.old) }
+    requires way { IsUnderWay live.now }
+    requires autos { live.now.journal.autos ≤ 2 ^ 32 }
+    ensures { (written : Result Answer Ending) × Writes (run_status live.now.machine.journal.verdict) (machine_output live.now.machine) (O.state out.old) (O.state out.new) written
+        × SavesScript (harts_of live.now.script) (events_made live.now) name.now (F.state files.old) (F.state files.new) written result }
+{
+    let text = journal_text(alloc, &live.journal)?;
+    let status = finish(alloc, &live.machine, out)?;
+    save_text(name, text.as_str(), files)?;
+    Ok(status)
+}
+
+#[tactic(auto, using(secvisor_cli::proofs::SaveLemmas::saved_exactly, secvisor_cli::proofs::SaveLemmas::broke_exactly))]
+fn save_text<F: Files>(name: &str, text: &str, files: &mut F) -> Result<(), Trouble>
+    requires permitted { IsTrue ((F.state files.old).permits_save ((name.now, text.now) ∷ [])) }
+    requires count { (F.state files.old).save_faults < 2 ^ 64 - 1 }
+    ensures { AfterSave (Some (record { name = name.now; content = Exactly text.now })) (F.state files.old) (F.state files.new) result }
+{
+    Ok(files.save(name, text.as_bytes())?)
+}
+
+fn after_reading(failed: bool, saved: Result<Status, Trouble>) -> Result<Status, Trouble>
+    ensures { result ≡ after_reading failed saved }
+{
+    match saved {
+        Ok(status) => Ok(if failed { Status::ReadFault } else { status }),
+        Err(trouble) => Err(trouble),
+    }
+}
+
+// The run, its report and its script. Behind a write that failed nothing more is written.
+fn report<F: Files, O: Sink>(
+    alloc: Global,
+    live: &LiveRun,
+    end: LiveEnd,
+    name: &str,
+    files: &mut F,
+    out: &mut O,
+) -> Result<Status, Trouble>
+    requires is_open { end.write_failed ≡ false → IsTrue (O.state out.old).is_open }
+    requires count { end.write_failed ≡ false → (O.state out.old).faults < 2 ^ 64 - 1 }
+    requires saves { (F.state files.old).save_faults < 2 ^ 64 - 1 }
+    requires permitted { MaySaveUnder name.now (F.state files.old) }
+    requires way { IsUnderWay live.now }
+    requires autos { live.now.journal.autos ≤ 2 ^ 32 }
+    ensures { Reports live.now end name.now (F.state files.old) (F.state files.new) (O.state out.old) (O.state out.new) result }
+{
+    if end.write_failed {
+        return Err(Trouble::Write);
+    }
+    let saved = report_and_save(alloc, live, name, files, out);
+    after_reading(end.read_failed, saved)
+}
+
+// What is ready is run, with its keys, and the machine stands on the bench from then on. Each parameter is a thing of its own
+// outside of the program.
+fn carry_out<R: Threads + Wait + Sync, F: Files, K: Keys + Send, O: Sink, P: Pace + Sync>(
+    rt: &R,
+    alloc: Global,
+    ready: LiveReady<'_>,
+    files: &mut F,
+    keys: &mut K,
+    out: &mut O,
+    pace: &P,
+    bench: &mut Bench,
+) -> Result<Status, Trouble>
+    requires fresh { IsLiveFresh ready }
+    requires state { (start : State) × IsNew ready.live.machine start }
+    requires is_open { IsTrue (O.state out.old).is_open }
+    requires count { (O.state out.old).faults < 2 ^ 64 - 1 }
+    requires reads { (K.state keys.old).faults < 2 ^ 64 - 1 }
+    requires saves { (F.state files.old).save_faults < 2 ^ 64 - 1 }
+    requires permitted { MaySaveUnder ready.out.now (F.state files.old) }
+    ensures { (start : State) → IsNew ready.entry.live.machine start → RunsLive start (first_events ready.entry.live.events ready.entry.live.script) ready.entry.out.now
+        (live_outside (F.state files.old) (O.state out.old) (K.state keys.old) bench.old.machine)
+        (live_outside (F.state files.new) (O.state out.new) (K.state keys.new) bench.new.machine) result }
+{
+    let LiveReady {
+        mut live,
+        source,
+        out: name,
+    } = ready;
+    let end = live.run(rt, source, keys, out, pace);
+    let result = report(alloc, &live, end, name, files, out);
+    let LiveRun { machine, .. } = live;
+    bench.machine = Some(machine);
+    result
+}
+
+// What the words ask for is made ready and run, or refused.
+fn answer<R: Threads + Wait + Sync, F: Files, K: Keys + Send, O: Sink, P: Pace + Sync>(
+    rt: &R,
+    alloc: Global,
+    words: &[String],
+    files: &mut F,
+    keys: &mut K,
+    out: &mut O,
+    pace: &P,
+    bench: &mut Bench,
+) -> Result<Status, Trouble>
+    requires permitted { MayFollow (live_plan (live_judged (map string_bytes words.now))) (F.state files.old) }
+    requires script { MaySaveUnder (out_of (live_judged (map string_bytes words.now))) (F.state files.old) }
+    requires is_open { IsTrue (O.state out.old).is_open }
+    requires reads { (F.state files.old).read_faults < 2 ^ 64 - 1 }
+    requires saves { (F.state files.old).save_faults < 2 ^ 64 - 1 }
+    requires keys { (K.state keys.old).faults < 2 ^ 64 - 1 }
+    requires writes { (O.state out.old).faults < 2 ^ 64 - 1 }
+    ensures { PerformsLive (live_judged (map string_bytes words.now))
+        (live_outside (F.state files.old) (O.state out.old) (K.state keys.old) bench.old.machine)
+        (live_outside (F.state files.new) (O.state out.new) (K.state keys.new) bench.new.machine) result }
+{
+    match prepare_live(rt, alloc, words, files) {
+        Ok(ready) => carry_out(rt, alloc, ready, files, keys, out, pace, bench),
+        Err(Stop::Refused(refusal)) => refuse(alloc, &refusal, out),
+        Err(Stop::Memory) => Err(Trouble::Memory),
+    }
+}
+
+/// Does all that `live` does: judges the words, reads the files that they name, runs the machine while a second thread reads the
+/// keys, writes the report, and saves the events as a script. It returns when the keys have ended, too. Each parameter is a
+/// thing of its own outside of the program.
+pub fn secvisor_live<R: Threads + Wait + Sync, F: Files, K: Keys + Send, O: Sink, P: Pace + Sync>(
+    rt: &R,
+    alloc: Global,
+    words: &[String],
+    files: &mut F,
+    keys: &mut K,
+    out: &mut O,
+    pace: &P,
+    bench: &mut Bench,
+) -> Status
+    // Nothing but what the words name may be asked for, in its order, each part once and up to its limit; and one text may be
+    // saved under the last of them.
+    requires permitted { MayFollow (live_plan (live_judged (map string_bytes words.now))) (F.state files.old) }
+    requires script { MaySaveUnder (out_of (live_judged (map string_bytes words.now))) (F.state files.old) }
+    requires is_open { IsTrue (O.state out.old).is_open }
+    requires reads { (F.state files.old).read_faults < 2 ^ 64 - 1 }
+    requires saves { (F.state files.old).save_faults < 2 ^ 64 - 1 }
+    requires keys { (K.state keys.old).faults < 2 ^ 64 - 1 }
+    requires writes { (O.state out.old).faults < 2 ^ 64 - 1 }
+    // For every file, words, number of events and keys, and however the threads run, there is one list of events of which all that
+    // was written and saved is.
+    ensures headline { LiveHeadline (live_judged (map string_bytes words.now))
+        (live_outside (F.state files.old) (O.state out.old) (K.state keys.old) bench.old.machine)
+        (live_outside (F.state files.new) (O.state out.new) (K.state keys.new) bench.new.machine) result }
+{
+    settled(answer(rt, alloc, words, files, keys, out, pace, bench))
+}
+
+fn settled(answer: Result<Status, Trouble>) -> Status
+    ensures { result ≡ settled answer }
+{
+    match answer {
+        Ok(status) => status,
+        Err(Trouble::Write) => Status::WriteFault,
+        Err(Trouble::Memory) => Status::Memory,
+    }
+}
