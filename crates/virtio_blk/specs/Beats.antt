@@ -1,0 +1,135 @@
+-- A beat: one move of the request under way, or a look for the next request. VIRTIO 1.2, "Split Virtqueues" and "Device
+-- Operation" of the block device; that a beat moves at most 64 bytes is this project's own. The chain is read at the
+-- beat that accepts it, and every other word at the beat that reads it. A beat is told RAM and which pages may be written.
+use Rattle.std.specs.Prelude.{ℕ, ◌+◌, ◌%◌, ◌^◌, Bool, true, false, not, ◌&&◌, ◌==◌, bit_or, List, [], ◌∷◌, ◌++◌, length, filter, nat_lt, if◌then◌else◌, Option, Some, None}
+use Rattle.sv_types.specs.Bytes.{part, overwrite, low_bytes, in_ram, ram_place, page_of}
+use Rattle.reference.specs.Disk.{Move, Idle, FromRam, IntoRam, DeniedAt, OutsideRam}
+use Rattle.virtio_blk.specs.Device.{Device, Request, driver_ok, is_broken}
+use Rattle.virtio_blk.specs.Stores.{needs_reset}
+use Rattle.virtio_blk.specs.Queue.{rings_in_ram, available_index, next_head, waiting}
+use Rattle.virtio_blk.specs.Chain.{chain, most_parts, is_good, data_of, result_of}
+use Rattle.virtio_blk.specs.Requests.{type_of, sector_of, result_by, moves_by, last_moves}
+use Rattle.virtio_blk.specs.declared.state.VirtioMove.{VirtioMove}
+use Rattle.virtio_blk.specs.declared.state.VirtioPart.{VirtioPart}
+
+-- the device after a beat, and what it moved
+pub record Beat : Type 0 where
+  pub device : Device
+  pub move : Move
+
+abbrev pub nothing : Device → Beat
+nothing d = record { device = d; move = Idle }
+
+-- the device is broken until its reset, which the driver is told by an interrupt; no request is under way any more
+abbrev pub broken : Device → Move → Beat
+broken d move = record {
+  device = record d { status = bit_or d.status needs_reset; interrupt = bit_or d.interrupt 2; request = None };
+  move = move;
+}
+
+-- ---- moves
+
+abbrev pub with_request : Device → Request → Device
+with_request d q = record d { request = Some q }
+
+abbrev pub is_last : VirtioMove → Bool
+is_last (VirtioMove.ToMemory gpa place size) = false
+is_last (VirtioMove.ToDisk gpa place size) = false
+is_last _ = true
+
+-- a request whose data may not be written makes its last moves alone
+abbrev pub refused : Request → Request
+refused q = record q { moves = filter is_last q.moves; result = 1 }
+
+abbrev pub with_written : Request → ℕ → Request
+with_written q size = record q { written = (q.written + size) % 2 ^ 32 }
+
+-- bytes of the disk into memory
+unfoldable pub to_memory : Device → Request → (gpa place size : ℕ) → List ℕ → (ℕ → Bool) → Beat
+to_memory d q gpa place size ram may_write =
+    if not (in_ram ram gpa size) then broken d OutsideRam
+    else if may_write (page_of gpa)
+    then record { device = with_request d (with_written q size); move = IntoRam gpa (part d.bytes place size) }
+    else record { device = with_request d (refused q); move = DeniedAt gpa }
+
+-- bytes of memory onto the disk
+unfoldable pub to_disk : Device → Request → (gpa place size : ℕ) → List ℕ → Beat
+to_disk d q gpa place size ram =
+    if not (in_ram ram gpa size) then broken d OutsideRam
+    else record {
+      device = record d { request = Some q; bytes = overwrite d.bytes place (part ram (ram_place gpa) size) };
+      move = FromRam gpa;
+    }
+
+-- one of the last moves writes bytes, or breaks the device
+unfoldable pub put_last : Device → Device → ℕ → List ℕ → List ℕ → (ℕ → Bool) → Beat
+put_last d next gpa bytes ram may_write =
+    if not (in_ram ram gpa (length bytes)) then broken d OutsideRam
+    else if may_write (page_of gpa) then record { device = next; move = IntoRam gpa bytes }
+    else broken d (DeniedAt gpa)
+
+-- the request is done, which the driver is told by an interrupt
+abbrev pub finished : Device → Device
+finished d = record d { request = None; interrupt = bit_or d.interrupt 1 }
+
+-- a move, where the request has the moves behind it
+unfoldable pub make : Device → Request → VirtioMove → List ℕ → (ℕ → Bool) → Beat
+make d q (VirtioMove.ToMemory gpa place size) ram may_write = to_memory d q gpa place size ram may_write
+make d q (VirtioMove.ToDisk gpa place size) ram may_write = to_disk d q gpa place size ram
+make d q (VirtioMove.PutResult gpa) ram may_write = put_last d (with_request d q) gpa (low_bytes 1 q.result) ram may_write
+make d q (VirtioMove.PutHead gpa head) ram may_write = put_last d (with_request d q) gpa (low_bytes 4 head) ram may_write
+make d q (VirtioMove.PutLength gpa) ram may_write = put_last d (with_request d q) gpa (low_bytes 4 (q.written + 1)) ram may_write
+make d q (VirtioMove.PutIndex gpa index) ram may_write = put_last d (finished d) gpa (low_bytes 2 index) ram may_write
+
+-- the first of the moves that are left
+abbrev pub make_first : Device → Request → List VirtioMove → List ℕ → (ℕ → Bool) → Beat
+make_first d q [] ram may_write = nothing d
+make_first d q (move ∷ moves) ram may_write = make d (record q { moves = moves }) move ram may_write
+
+-- ---- the next request
+
+-- the request that a chain asks for, as the device accepts it
+abbrev pub request_by : (result sector : ℕ) → Device → (head accepted : ℕ) → List VirtioPart → Request
+request_by result sector d head accepted parts = record {
+  moves = moves_by result sector (data_of parts) ++ last_moves (result_of parts).gpa d.used d.size head accepted;
+  result = result;
+  written = 0;
+}
+
+abbrev pub next_count : Device → ℕ
+next_count d = (d.accepted + 1) % 65536
+
+abbrev pub result_in : Device → List ℕ → List VirtioPart → ℕ
+result_in d ram parts = result_by ram (length d.bytes) (type_of ram parts) (sector_of ram parts) (data_of parts)
+
+unfoldable pub accepted : Device → List ℕ → (head : ℕ) → List VirtioPart → Device
+accepted d ram head parts = record d {
+  accepted = next_count d;
+  request = Some (request_by (result_in d ram parts) (sector_of ram parts) d head (next_count d) parts);
+}
+
+unfoldable pub accept : Device → List ℕ → (head : ℕ) → Option (List VirtioPart) → Beat
+accept d ram head None = broken d OutsideRam
+accept d ram head (Some parts) =
+    if is_good ram parts then record { device = accepted d ram head parts; move = Idle } else broken d OutsideRam
+
+-- a head that isn't in the table has no chain
+unfoldable pub look : Device → List ℕ → Beat
+look d ram =
+    if not (rings_in_ram d ram) then broken d OutsideRam
+    else if available_index d ram == d.accepted then nothing d
+    else if nat_lt d.size (waiting d ram) then broken d OutsideRam
+    else accept d ram (next_head d ram) (chain most_parts ram (ram_place d.descriptors) d.size (next_head d ram))
+
+-- ---- beats
+
+abbrev pub go_on : Device → Option Request → List ℕ → (ℕ → Bool) → Beat
+go_on d None ram may_write = look d ram
+go_on d (Some q) ram may_write = make_first d q q.moves ram may_write
+
+-- the driver is ready, the queue in use, and the device not broken
+abbrev pub is_live : Device → Bool
+is_live d = driver_ok d && d.ready && not (is_broken d)
+
+unfoldable pub virtio_beat : Device → List ℕ → (ℕ → Bool) → Beat
+virtio_beat d ram may_write = if is_live d then go_on d d.request ram may_write else nothing d

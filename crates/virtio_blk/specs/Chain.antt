@@ -1,0 +1,66 @@
+-- Chains of descriptors. VIRTIO 1.2, "The Virtqueue Descriptor Table": a descriptor has an address (8 bytes), a length
+-- (4), flags (2: NEXT 1, WRITE 2, INDIRECT 4) and the next one's place in the table (2).
+use Rattle.std.specs.Prelude.{ℕ, zero, suc, ◌+◌, ◌-◌, ◌*◌, Bool, false, not, ◌&&◌, ◌==◌, List, [], ◌∷◌, length, take, drop, get_or, nat_le, nat_lt, if◌then◌else◌, Option, Some, None, option_map}
+use Rattle.sv_types.specs.Bits.{bit}
+use Rattle.sv_types.specs.Bytes.{word, in_ram}
+use Rattle.virtio_blk.specs.declared.chain.Descriptor.{Descriptor}
+use Rattle.virtio_blk.specs.declared.state.VirtioPart.{VirtioPart}
+
+-- the descriptor at a place in RAM
+unfoldable pub descriptor_at : List ℕ → ℕ → Descriptor
+descriptor_at ram at = record {
+  part = record { gpa = word ram at 8; len = word ram (at + 8) 4; write = bit (word ram (at + 12) 2) 1 };
+  goes_on = bit (word ram (at + 12) 2) 0;
+  is_indirect = bit (word ram (at + 12) 2) 2;
+  next = word ram (at + 14) 2;
+}
+
+-- ---- chains
+
+-- what a descriptor says, and behind it what those say that it leads to; none where it has a table of its own
+unfoldable pub with_rest : Descriptor → Option (List VirtioPart) → Option (List VirtioPart)
+with_rest d rest =
+    if d.is_indirect then None
+    else if d.goes_on then option_map (λ parts. d.part ∷ parts) rest
+    else Some (d.part ∷ [])
+
+-- what the chain of at most n descriptors says that begins at one of a table; none where one isn't in the table or has
+-- a table of its own, or there are more
+unfoldable pub chain : ℕ → List ℕ → (table size index : ℕ) → Option (List VirtioPart)
+chain zero ram table size index = None
+chain (suc n) ram table size index =
+    if nat_lt index size
+    then with_rest (descriptor_at ram (table + 16 * index)) (chain n ram table size (descriptor_at ram (table + 16 * index)).next)
+    else None
+
+-- the header, at most 32 descriptors of data, and the result
+abbrev pub most_parts : ℕ
+most_parts = 34
+
+-- ---- "Device Operation" of the block device: the header is read, then come the data, then the result is written
+
+abbrev pub no_part : VirtioPart
+no_part = record { gpa = 0; len = 0; write = false }
+
+abbrev pub header_of : List VirtioPart → VirtioPart
+header_of parts = get_or parts 0 no_part
+
+abbrev pub result_of : List VirtioPart → VirtioPart
+result_of parts = get_or parts (length parts - 1) no_part
+
+-- those from one place up to another
+abbrev pub between : List VirtioPart → (from to : ℕ) → List VirtioPart
+between parts from to = take (to - from) (drop from parts)
+
+abbrev pub data_of : List VirtioPart → List VirtioPart
+data_of parts = between parts 1 (length parts - 1)
+
+-- the header has 16 bytes that the device reads, the result 1 that it writes
+abbrev pub is_header : List ℕ → VirtioPart → Bool
+is_header ram part = part.len == 16 && not part.write && in_ram ram part.gpa 16
+
+abbrev pub is_result : VirtioPart → Bool
+is_result part = part.len == 1 && part.write
+
+unfoldable pub is_good : List ℕ → List VirtioPart → Bool
+is_good ram parts = nat_le 2 (length parts) && is_header ram (header_of parts) && is_result (result_of parts)

@@ -1,0 +1,55 @@
+-- The virtio block device as plain data: its registers, its queue, the request under way and the disk.
+-- Virtual I/O Device (VIRTIO) Version 1.2, "MMIO Device Register Layout", "Split Virtqueues" and "Block Device".
+use Rattle.std.specs.Prelude.{ℕ, ◌-◌, ◌^◌, Bool, ◌==◌, bit_and, List, Option}
+use Rattle.sv_types.specs.Bits.{bit}
+use Rattle.virtio_blk.specs.declared.state.VirtioMove.{VirtioMove}
+
+-- a request that was accepted and whose moves aren't all made
+pub record Request : Type 0 where
+  -- the moves that are left, the next one first
+  pub moves : List VirtioMove
+  -- 0 done, 1 failed, 2 of a type that isn't known
+  pub result : ℕ
+  -- the bytes that its moves wrote into the driver's data, modulo 2^32
+  pub written : ℕ
+
+pub record Device : Type 0 where
+  -- which 32 features are read, and which are written
+  pub device_select : ℕ
+  pub driver_select : ℕ
+  -- the features that the driver took
+  pub driver_low : ℕ
+  pub driver_high : ℕ
+  -- which queue the queue's registers speak of; there is queue 0 alone
+  pub queue : ℕ
+  -- the queue's size, whether it is in use, and its three parts in guest memory
+  pub size : ℕ
+  pub ready : Bool
+  pub descriptors : ℕ
+  pub available : ℕ
+  pub used : ℕ
+  pub interrupt : ℕ
+  pub status : ℕ
+  -- how many requests were accepted, modulo 65,536
+  pub accepted : ℕ
+  pub request : Option Request
+  -- the disk
+  pub bytes : List ℕ
+
+-- ---- bits of registers, "Device Status Field" and "MMIO Device Register Layout" (InterruptStatus)
+
+-- a register of 32 bits without the bits of a mask
+abbrev pub cleared : ℕ → ℕ → ℕ
+cleared register mask = bit_and register (2 ^ 32 - 1 - mask)
+
+-- the driver is ready to drive the device
+abbrev pub driver_ok : Device → Bool
+driver_ok d = bit d.status 2
+
+-- the device needs a reset
+abbrev pub is_broken : Device → Bool
+is_broken d = bit d.status 6
+
+-- the queue's registers speak of the one queue
+abbrev pub is_selected : Device → Bool
+is_selected d = d.queue == 0

@@ -1,0 +1,82 @@
+-- What a chain asks for, and the moves that it makes. VIRTIO 1.2, "Device Operation" of the block device: the type is 0
+-- to read the disk and 1 to write it; the result is 0, or 1 where the request failed, or 2 where its type isn't known.
+use Rattle.std.specs.Prelude.{ℕ, zero, suc, ◌+◌, ◌-◌, ◌*◌, ◌%◌, Bool, true, false, not, ◌&&◌, ◌||◌, ◌==◌, List, [], ◌∷◌, ◌++◌, length, nat_le, if◌then◌else◌, min}
+use Rattle.std.specs.List.{list_all}
+use Rattle.sv_types.specs.Bytes.{word, in_ram, ram_place, page_size}
+use Rattle.virtio_blk.specs.Device.{Device, Request}
+use Rattle.virtio_blk.specs.Queue.{used_gpa, used_index_gpa}
+use Rattle.virtio_blk.specs.Chain.{header_of, result_of, data_of}
+use Rattle.virtio_blk.specs.declared.state.VirtioMove.{VirtioMove}
+use Rattle.virtio_blk.specs.declared.state.VirtioPart.{VirtioPart}
+
+-- ---- the header: a type, 4 bytes that nothing reads, a sector
+
+abbrev pub type_of : List ℕ → List VirtioPart → ℕ
+type_of ram parts = word ram (ram_place (header_of parts).gpa) 4
+
+abbrev pub sector_of : List ℕ → List VirtioPart → ℕ
+sector_of ram parts = word ram (ram_place (header_of parts).gpa + 8) 8
+
+-- ---- the result
+
+-- the bytes of data
+abbrev pub bytes_in : List VirtioPart → ℕ
+bytes_in [] = 0
+bytes_in (part ∷ parts) = part.len + bytes_in parts
+
+-- data lies in RAM; no bytes lie anywhere
+abbrev pub lies_in : List ℕ → VirtioPart → Bool
+lies_in ram part = part.len == 0 || in_ram ram part.gpa part.len
+
+-- the device writes the data of a request that reads the disk, and no other
+abbrev pub fits_type : ℕ → VirtioPart → Bool
+fits_type kind part = if kind == 0 then part.write else not part.write
+
+-- there are sectors, and all of them lie on the disk
+abbrev pub are_sectors : (disk_size sector size : ℕ) → Bool
+are_sectors disk_size sector size = not (size == 0) && size % 512 == 0 && nat_le (512 * sector + size) disk_size
+
+unfoldable pub can_move : List ℕ → (disk_size kind sector : ℕ) → List VirtioPart → Bool
+can_move ram disk_size kind sector parts =
+    are_sectors disk_size sector (bytes_in parts) && list_all (lies_in ram) parts && list_all (fits_type kind) parts
+
+unfoldable pub result_by : List ℕ → (disk_size kind sector : ℕ) → List VirtioPart → ℕ
+result_by ram disk_size kind sector parts =
+    if kind == 0 || kind == 1
+    then (if can_move ram disk_size kind sector parts then 0 else 1)
+    else 2
+
+-- ---- the moves
+
+-- a move ends after 64 bytes, at the page's end or at the descriptor's
+abbrev pub piece_size : (gpa len : ℕ) → ℕ
+piece_size gpa len = min 64 (min (page_size - gpa % page_size) len)
+
+abbrev pub piece : Bool → (gpa place size : ℕ) → VirtioMove
+piece write gpa place size = if write then VirtioMove.ToMemory gpa place size else VirtioMove.ToDisk gpa place size
+
+-- the moves of at most n pieces of so many bytes, between an address and a place on the disk
+unfoldable pub pieces : ℕ → Bool → (gpa place len : ℕ) → List VirtioMove
+pieces zero write gpa place len = []
+pieces (suc n) write gpa place zero = []
+pieces (suc n) write gpa place (suc m) =
+    piece write gpa place (piece_size gpa (suc m))
+    ∷ pieces n write (gpa + piece_size gpa (suc m)) (place + piece_size gpa (suc m)) (suc m - piece_size gpa (suc m))
+
+-- the moves of data, from a place on the disk on
+unfoldable pub data_moves : ℕ → List VirtioPart → List VirtioMove
+data_moves place [] = []
+data_moves place (part ∷ parts) = pieces part.len part.write part.gpa place part.len ++ data_moves (place + part.len) parts
+
+-- the last four: the result byte, the used ring's head and length, the used ring's index
+abbrev pub last_moves : (result_gpa used size head accepted : ℕ) → List VirtioMove
+last_moves result_gpa used size head accepted =
+    VirtioMove.PutResult result_gpa
+    ∷ VirtioMove.PutHead (used_gpa used size accepted) head
+    ∷ VirtioMove.PutLength (used_gpa used size accepted + 4)
+    ∷ VirtioMove.PutIndex (used_index_gpa used) accepted
+    ∷ []
+
+-- a request makes its data's moves only where its result is 0 as it is accepted
+abbrev pub moves_by : ℕ → (sector : ℕ) → List VirtioPart → List VirtioMove
+moves_by result sector parts = if result == 0 then data_moves (512 * sector) parts else []

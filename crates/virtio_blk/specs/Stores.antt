@@ -1,0 +1,136 @@
+-- What stores into the registers do. VIRTIO 1.2, "MMIO Device Register Layout", "Device Status Field", "Feature Bits".
+-- A store to a register that is only read has no effect.
+use Rattle.std.specs.Prelude.{ℕ, ◌+◌, ◌*◌, ◌/◌, ◌%◌, ◌^◌, Bool, true, false, not, ◌&&◌, ◌||◌, bit_or, List, [], ◌==◌, if◌then◌else◌, Option, None, option_map}
+use Rattle.virtio_blk.specs.Device.{Device, cleared, is_broken, is_selected}
+use Rattle.virtio_blk.specs.Registers.{register_at}
+use Rattle.virtio_blk.specs.declared.registers.VirtioRegister.{VirtioRegister}
+
+-- ---- reset
+
+-- every register is 0, the queue is not in use, no request is under way; the disk stays
+unfoldable pub reset : List ℕ → Device
+reset bytes = record {
+  device_select = 0;
+  driver_select = 0;
+  driver_low = 0;
+  driver_high = 0;
+  queue = 0;
+  size = 0;
+  ready = false;
+  descriptors = 0;
+  available = 0;
+  used = 0;
+  interrupt = 0;
+  status = 0;
+  accepted = 0;
+  request = None;
+  bytes = bytes;
+}
+
+-- ---- features and status
+
+-- features 0 to 31 by selector 0, and 32 to 63 by selector 1
+unfoldable pub with_features : Device → ℕ → Device
+with_features d value =
+    if d.driver_select == 0 then record d { driver_low = value }
+    else if d.driver_select == 1 then record d { driver_high = value }
+    else d
+
+-- the driver took the one feature that is offered, bit 32
+abbrev pub takes_features : Device → Bool
+takes_features d = d.driver_low == 0 && d.driver_high == 1
+
+-- FEATURES_OK and DEVICE_NEEDS_RESET of the status
+abbrev pub features_ok : ℕ
+features_ok = 8
+
+abbrev pub needs_reset : ℕ
+needs_reset = 64
+
+-- FEATURES_OK stays where the features fit
+abbrev pub judged_status : Device → ℕ → ℕ
+judged_status d value = if takes_features d then value else cleared value features_ok
+
+-- a store leaves DEVICE_NEEDS_RESET as it is
+unfoldable pub kept_status : Device → ℕ → ℕ
+kept_status d value = if is_broken d then bit_or (judged_status d value) needs_reset else cleared (judged_status d value) needs_reset
+
+-- a store of 0 is a reset
+unfoldable pub with_status : Device → ℕ → Device
+with_status d value = if value == 0 then reset d.bytes else record d { status = kept_status d value }
+
+-- ---- the queue
+
+-- the queue's size and places may be set while it isn't in use
+abbrev pub can_set : Device → Bool
+can_set d = is_selected d && not d.ready
+
+-- a power of two, up to 64
+abbrev pub is_size : ℕ → Bool
+is_size size = size == 1 || size == 2 || size == 4 || size == 8 || size == 16 || size == 32 || size == 64
+
+-- "Split Virtqueues": the alignments of the three parts
+abbrev pub is_aligned : Device → Bool
+is_aligned d = d.descriptors % 16 == 0 && d.available % 2 == 0 && d.used % 4 == 0
+
+abbrev pub can_be_used : Device → Bool
+can_be_used d = is_size d.size && is_aligned d
+
+-- 1 asks that the queue be used, and what is refused changes nothing; any other value ends its use
+abbrev pub ready_after : Device → ℕ → Bool
+ready_after d value = value == 1 && (d.ready || can_be_used d)
+
+unfoldable pub with_ready : Device → ℕ → Device
+with_ready d value = if is_selected d then record d { ready = ready_after d value } else d
+
+unfoldable pub with_size : Device → ℕ → Device
+with_size d value = if can_set d then record d { size = value } else d
+
+unfoldable pub with_descriptors : Device → ℕ → Device
+with_descriptors d address = if can_set d then record d { descriptors = address } else d
+
+unfoldable pub with_available : Device → ℕ → Device
+with_available d address = if can_set d then record d { available = address } else d
+
+unfoldable pub with_used : Device → ℕ → Device
+with_used d address = if can_set d then record d { used = address } else d
+
+-- an address with its lower or its upper 32 bits written
+abbrev pub with_low : ℕ → ℕ → ℕ
+with_low address value = 2 ^ 32 * (address / 2 ^ 32) + value
+
+abbrev pub with_high : ℕ → ℕ → ℕ
+with_high address value = 2 ^ 32 * value + address % 2 ^ 32
+
+-- ---- stores
+
+unfoldable pub put : Device → VirtioRegister → ℕ → Device
+put d VirtioRegister.MagicValue value = d
+put d VirtioRegister.Version value = d
+put d VirtioRegister.DeviceId value = d
+put d VirtioRegister.VendorId value = d
+put d VirtioRegister.DeviceFeatures value = d
+put d VirtioRegister.DeviceFeaturesSelect value = record d { device_select = value }
+put d VirtioRegister.DriverFeatures value = with_features d value
+put d VirtioRegister.DriverFeaturesSelect value = record d { driver_select = value }
+put d VirtioRegister.QueueSelect value = record d { queue = value }
+put d VirtioRegister.QueueSizeMax value = d
+put d VirtioRegister.QueueSize value = with_size d value
+put d VirtioRegister.QueueReady value = with_ready d value
+put d VirtioRegister.QueueNotify value = d
+put d VirtioRegister.InterruptStatus value = d
+put d VirtioRegister.InterruptAcknowledge value = record d { interrupt = cleared d.interrupt value }
+put d VirtioRegister.Status value = with_status d value
+put d VirtioRegister.DescriptorsLow value = with_descriptors d (with_low d.descriptors value)
+put d VirtioRegister.DescriptorsHigh value = with_descriptors d (with_high d.descriptors value)
+put d VirtioRegister.AvailableLow value = with_available d (with_low d.available value)
+put d VirtioRegister.AvailableHigh value = with_available d (with_high d.available value)
+put d VirtioRegister.UsedLow value = with_used d (with_low d.used value)
+put d VirtioRegister.UsedHigh value = with_used d (with_high d.used value)
+put d VirtioRegister.ConfigGeneration value = d
+put d VirtioRegister.CapacityLow value = d
+put d VirtioRegister.CapacityHigh value = d
+
+-- the device after a store of the low bytes of a value; none where no register has that offset and width
+unfoldable pub virtio_store : Device → (offset width value : ℕ) → Option Device
+virtio_store d offset width value = option_map (λ r. put d r (value % 2 ^ 32)) (register_at offset width)

@@ -1,0 +1,315 @@
+// What registers read, and what stores into them do.
+
+ghost use Rattle.std.specs.Prelude.{◌≡◌, ◌+◌, ◌-◌, ◌*◌, ◌/◌, ◌%◌, ◌^◌, ◌<◌, ◌≤◌, length, is_some, unwrap_or};
+ghost use Rattle.virtio_blk.specs.Device.{is_broken, is_selected};
+ghost use Rattle.virtio_blk.specs.Registers.{register_value, virtio_load, virtio_line};
+ghost use Rattle.virtio_blk.specs.Stores.{reset, with_features, kept_status, with_status, can_set, can_be_used, with_ready, with_size, with_descriptors, with_available, with_used, with_low, with_high, put, virtio_store};
+ghost use Rattle.virtio_blk.specs.Held.{device_of, state_at_reset};
+
+use crate::Virtio;
+use crate::registers::{VirtioRegister, register_at};
+use crate::state::VirtioState;
+use sv_types::has_bit;
+
+/// The bytes of a sector.
+const SECTOR_BYTES: u64 = 512;
+
+/// The most places of the queue.
+const MOST_PLACES: u64 = 64;
+
+/// Bits of the status: the features fit, and a reset is needed. The places of two others.
+const FEATURES_OK: u32 = 8;
+
+const NEEDS_RESET: u32 = 64;
+
+const NEEDS_RESET_PLACE: u8 = 6;
+
+/// A device after a reset.
+#[tactic(auto, unfolding(crate::specs::Held::state_at_reset))]
+fn at_reset() -> VirtioState
+    ensures { result ≡ state_at_reset }
+{
+    VirtioState {
+        device_select: 0,
+        driver_select: 0,
+        driver_low: 0,
+        driver_high: 0,
+        queue: 0,
+        size: 0,
+        ready: false,
+        interrupt: 0,
+        status: 0,
+        descriptors: 0,
+        available: 0,
+        used: 0,
+        accepted: 0,
+        request: None,
+    }
+}
+
+impl Virtio {
+    /// A device after a reset, with a disk in whole sectors of 512 bytes.
+    #[tactic(auto, unfolding(crate::specs::Held::state_at_reset, crate::specs::Stores::reset))]
+    pub fn new(disk: Vec<u8>) -> Virtio
+        requires sectors { length disk.items % 512 ≡ 0 }
+        ensures { device_of result ≡ reset disk.items }
+    {
+        Virtio {
+            state: at_reset(),
+            bytes: disk,
+        }
+    }
+
+    /// The registers and the request under way.
+    pub fn state(&self) -> VirtioState
+        ensures { result ≡ self.now.state }
+    {
+        self.state
+    }
+
+    fn is_selected(&self) -> bool
+        ensures { result ≡ is_selected (device_of self.now) }
+    {
+        self.state.queue == 0
+    }
+
+    fn is_broken(&self) -> bool
+        ensures { result ≡ is_broken (device_of self.now) }
+    {
+        has_bit(self.state.status as u64, NEEDS_RESET_PLACE)
+    }
+
+    fn sectors(&self) -> u64
+        ensures { result ≡ length self.now.bytes / 512 }
+    {
+        self.bytes.len() as u64 / SECTOR_BYTES
+    }
+
+    // What a register reads.
+    #[tactic(auto, unfolding(crate::specs::Registers::register_value))]
+    fn read(&self, register: VirtioRegister) -> u64
+        ensures { result ≡ register_value (device_of self.now) register }
+    {
+        match register {
+            VirtioRegister::MagicValue => 0x7472_6976,
+            VirtioRegister::Version | VirtioRegister::DeviceId => 2,
+            VirtioRegister::VendorId => 0x0053_4543,
+            VirtioRegister::DeviceFeatures => u64::from(self.state.device_select == 1),
+            VirtioRegister::QueueSizeMax => { if self.is_selected() { MOST_PLACES } else { 0 } }
+            VirtioRegister::QueueReady => u64::from(self.is_selected() && self.state.ready),
+            VirtioRegister::InterruptStatus => self.state.interrupt as u64,
+            VirtioRegister::Status => self.state.status as u64,
+            VirtioRegister::CapacityLow => self.sectors() % (1 << 32),
+            VirtioRegister::CapacityHigh => self.sectors() / (1 << 32),
+            VirtioRegister::DeviceFeaturesSelect
+            | VirtioRegister::DriverFeatures
+            | VirtioRegister::DriverFeaturesSelect
+            | VirtioRegister::QueueSelect
+            | VirtioRegister::QueueSize
+            | VirtioRegister::QueueNotify
+            | VirtioRegister::InterruptAcknowledge
+            | VirtioRegister::DescriptorsLow
+            | VirtioRegister::DescriptorsHigh
+            | VirtioRegister::AvailableLow
+            | VirtioRegister::AvailableHigh
+            | VirtioRegister::UsedLow
+            | VirtioRegister::UsedHigh
+            | VirtioRegister::ConfigGeneration => 0,
+        }
+    }
+
+    // The queue's size and places may be set.
+    fn can_set(&self) -> bool
+        ensures { result ≡ can_set (device_of self.now) }
+    {
+        self.is_selected() && !self.state.ready
+    }
+
+    #[tactic(auto, unfolding(crate::specs::Stores::with_features))]
+    fn put_features(&mut self, value: u32)
+        ensures { device_of self.new ≡ with_features (device_of self.old) value }
+    {
+        match self.state.driver_select {
+            0 => self.state.driver_low = value,
+            1 => self.state.driver_high = value,
+            _ => {}
+        }
+    }
+
+    // What the status keeps of a value other than 0.
+    #[tactic(auto, unfolding(crate::specs::Stores::kept_status))]
+    fn kept_status(&self, value: u32) -> u32
+        ensures { result ≡ kept_status (device_of self.now) value }
+    {
+        let takes = self.state.driver_low == 0 && self.state.driver_high == 1;
+        let judged = if takes { value } else { value & !FEATURES_OK };
+        if self.is_broken() {
+            judged | NEEDS_RESET
+        } else {
+            judged & !NEEDS_RESET
+        }
+    }
+
+    #[tactic(auto, unfolding(crate::specs::Stores::with_status, crate::specs::Stores::reset, crate::specs::Held::state_at_reset))]
+    fn put_status(&mut self, value: u32)
+        ensures { device_of self.new ≡ with_status (device_of self.old) value }
+    {
+        if value == 0 {
+            self.state = at_reset();
+        } else {
+            self.state.status = self.kept_status(value);
+        }
+    }
+
+    // The queue may be used: its size is a power of two, and its parts are aligned.
+    fn can_be_used(&self) -> bool
+        ensures { result ≡ can_be_used (device_of self.now) }
+    {
+        matches!(self.state.size, 1 | 2 | 4 | 8 | 16 | 32 | 64)
+            && self.state.descriptors % 16 == 0
+            && self.state.available % 2 == 0
+            && self.state.used % 4 == 0
+    }
+
+    #[tactic(auto, unfolding(crate::specs::Stores::with_ready))]
+    fn put_ready(&mut self, value: u32)
+        ensures { device_of self.new ≡ with_ready (device_of self.old) value }
+    {
+        if self.is_selected() {
+            self.state.ready = value == 1 && (self.state.ready || self.can_be_used());
+        }
+    }
+
+    #[tactic(auto, unfolding(crate::specs::Stores::with_size))]
+    fn put_size(&mut self, value: u32)
+        ensures { device_of self.new ≡ with_size (device_of self.old) value }
+    {
+        if self.can_set() {
+            self.state.size = value;
+        }
+    }
+
+    #[tactic(auto, unfolding(crate::specs::Stores::with_descriptors))]
+    fn put_descriptors(&mut self, address: u64)
+        ensures { device_of self.new ≡ with_descriptors (device_of self.old) address }
+    {
+        if self.can_set() {
+            self.state.descriptors = address;
+        }
+    }
+
+    #[tactic(auto, unfolding(crate::specs::Stores::with_available))]
+    fn put_available(&mut self, address: u64)
+        ensures { device_of self.new ≡ with_available (device_of self.old) address }
+    {
+        if self.can_set() {
+            self.state.available = address;
+        }
+    }
+
+    #[tactic(auto, unfolding(crate::specs::Stores::with_used))]
+    fn put_used(&mut self, address: u64)
+        ensures { device_of self.new ≡ with_used (device_of self.old) address }
+    {
+        if self.can_set() {
+            self.state.used = address;
+        }
+    }
+
+    // A store into a register.
+    #[tactic(auto, unfolding(crate::specs::Stores::put))]
+    fn put(&mut self, register: VirtioRegister, value: u32)
+        ensures { device_of self.new ≡ put (device_of self.old) register value }
+    {
+        match register {
+            VirtioRegister::DeviceFeaturesSelect => self.state.device_select = value,
+            VirtioRegister::DriverFeatures => self.put_features(value),
+            VirtioRegister::DriverFeaturesSelect => self.state.driver_select = value,
+            VirtioRegister::QueueSelect => self.state.queue = value,
+            VirtioRegister::QueueSize => self.put_size(value),
+            VirtioRegister::QueueReady => self.put_ready(value),
+            VirtioRegister::InterruptAcknowledge => self.state.interrupt &= !value,
+            VirtioRegister::Status => self.put_status(value),
+            VirtioRegister::DescriptorsLow => self.put_descriptors(with_low(
+                self.state.descriptors,
+                value,
+            )),
+            VirtioRegister::DescriptorsHigh => self.put_descriptors(with_high(
+                self.state.descriptors,
+                value,
+            )),
+            VirtioRegister::AvailableLow => self.put_available(with_low(
+                self.state.available,
+                value,
+            )),
+            VirtioRegister::AvailableHigh => self.put_available(with_high(
+                self.state.available,
+                value,
+            )),
+            VirtioRegister::UsedLow => self.put_used(with_low(self.state.used, value)),
+            VirtioRegister::UsedHigh => self.put_used(with_high(self.state.used, value)),
+            VirtioRegister::MagicValue
+            | VirtioRegister::Version
+            | VirtioRegister::DeviceId
+            | VirtioRegister::VendorId
+            | VirtioRegister::DeviceFeatures
+            | VirtioRegister::QueueSizeMax
+            | VirtioRegister::QueueNotify
+            | VirtioRegister::InterruptStatus
+            | VirtioRegister::ConfigGeneration
+            | VirtioRegister::CapacityLow
+            | VirtioRegister::CapacityHigh => {}
+        }
+    }
+
+    /// A load of `width` bytes at an offset. None where no register has that offset and width.
+    #[tactic(auto, unfolding(crate::specs::Registers::virtio_load))]
+    pub fn load(&self, offset: u64, width: u8) -> Option<u64>
+        ensures { result ≡ virtio_load (device_of self.now) offset width }
+    {
+        let register = register_at(offset, width)?;
+        Some(self.read(register))
+    }
+
+    /// A store of `width` bytes at an offset. False where no register has that offset and width; then nothing changes.
+    #[tactic(auto, unfolding(crate::specs::Stores::virtio_store))]
+    pub fn store(&mut self, offset: u64, width: u8, value: u64) -> bool
+        ensures found { result ≡ is_some (virtio_store (device_of self.old) offset width value) }
+        ensures device { device_of self.new ≡ unwrap_or (virtio_store (device_of self.old) offset width value) (device_of self.old) }
+    {
+        let Some(register) = register_at(offset, width) else {
+            return false;
+        };
+        self.put(register, (value % (1 << 32)) as u32);
+        true
+    }
+
+    /// The interrupt line.
+    #[tactic(auto, unfolding(crate::specs::Registers::virtio_line))]
+    pub fn line(&self) -> bool
+        ensures { result ≡ virtio_line (device_of self.now) }
+    {
+        self.state.interrupt != 0
+    }
+
+    /// The bytes of the disk.
+    pub fn disk(&self) -> &[u8]
+        ensures { result.now ≡ (device_of self.now).bytes }
+    {
+        &self.bytes
+    }
+}
+
+// An address with its lower 32 bits written.
+fn with_low(address: u64, value: u32) -> u64
+    ensures { result ≡ with_low address value }
+{
+    (1 << 32) * (address / (1 << 32)) + value as u64
+}
+
+// An address with its upper 32 bits written.
+fn with_high(address: u64, value: u32) -> u64
+    ensures { result ≡ with_high address value }
+{
+    (1 << 32) * value as u64 + address % (1 << 32)
+}

@@ -1,0 +1,30 @@
+//! A virtio block device over MMIO: a disk in memory that moves at most 64 bytes in each beat of a request.
+#![tactic(auto)]
+
+mod bus;
+mod chain;
+mod registers;
+mod state;
+
+pub use registers::VirtioRegister;
+pub use state::{MOST_PARTS, VirtioMove, VirtioPart, VirtioRequest, VirtioState};
+use std::marker::Model;
+
+/// A virtio block device with its disk. Contracts see the device that it stands for.
+#[derive(Drop)]
+pub struct Virtio {
+    state: VirtioState,
+    bytes: Vec<u8>,
+}
+
+impl Model for Virtio {
+    ghost use Rattle.virtio_blk.specs.Held.{Held};
+
+    ghost Value = { Held };
+
+    ghost use Rattle.virtio_blk.specs.Held.{IsSound};
+
+    ghost view = { λ v. record { state = v.state; bytes = v.bytes.items } };
+
+    ghost invariant = { λ v. IsSound (record { state = v.state; bytes = v.bytes.items }) };
+}
