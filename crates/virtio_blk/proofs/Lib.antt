@@ -1,1 +1,4 @@
 pub mod Chains
+pub mod DataMoves
+pub mod Places
+pub mod Sums

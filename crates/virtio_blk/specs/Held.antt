@@ -1,7 +1,11 @@
 -- The device as the code holds it, with a place in a chain for the moves that are left, and the device that it stands for.
-use Rattle.std.specs.Prelude.{◌≡◌, ℕ, ◌+◌, ◌-◌, ◌*◌, ◌%◌, ◌^◌, ◌<◌, ◌≤◌, Bool, true, false, List, [], ◌∷◌, ◌++◌, length, take, drop, replicate, Option, None, option_map}
+use Rattle.std.specs.Prelude.{◌≡◌, ℕ, ◌+◌, ◌-◌, ◌*◌, ◌%◌, ◌^◌, ◌<◌, ◌≤◌, Bool, true, false, List, [], ◌∷◌, ◌++◌, length, drop, replicate, get_or, Option, Some, None, IfSome, option_map}
+use Rattle.sv_types.specs.Bytes.{page_size, ram_base, ram_place}
 use Rattle.virtio_blk.specs.Device.{Device, Request}
 use Rattle.virtio_blk.specs.Stores.{is_size}
+use Rattle.virtio_blk.specs.Chain.{no_part, between, most_parts}
+use Rattle.virtio_blk.specs.Requests.{bytes_in, data_moves, last_moves}
+use Rattle.virtio_blk.specs.declared.state.VirtioMove.{VirtioMove}
 use Rattle.virtio_blk.specs.declared.state.VirtioPart.{VirtioPart}
 use Rattle.virtio_blk.specs.declared.state.VirtioRequest.{VirtioRequest}
 use Rattle.virtio_blk.specs.declared.state.VirtioState.{VirtioState}
@@ -10,8 +14,36 @@ pub record Held : Type 0 where
   pub state : VirtioState
   pub bytes : List ℕ
 
-unfoldable pub request_of : ℕ → VirtioRequest → Request
-request_of accepted q = record { moves = []; result = q.result; written = q.written }
+-- ---- the moves that are left of a request
+
+-- data without the bytes of its first part that are moved
+abbrev pub behind : ℕ → List VirtioPart → List VirtioPart
+behind offset [] = []
+behind offset (part ∷ parts) = record part { gpa = part.gpa + offset; len = part.len - offset } ∷ parts
+
+-- the place of the result in the chain, behind the data
+abbrev pub last_place : VirtioRequest → ℕ
+last_place q = q.count - 1
+
+abbrev pub part_at : VirtioRequest → ℕ → VirtioPart
+part_at q k = get_or q.parts k no_part
+
+-- the data that is left
+abbrev pub data_left : VirtioRequest → List VirtioPart
+data_left q = behind q.offset (between q.parts q.part (last_place q))
+
+-- where the next byte of data lies on the disk
+abbrev pub disk_place : VirtioRequest → ℕ
+disk_place q = 512 * q.sector + (bytes_in (between q.parts 1 q.part) + q.offset)
+
+abbrev pub last_left : ℕ → VirtioRequest → List VirtioMove
+last_left accepted q = drop q.tail (last_moves (part_at q (last_place q)).gpa q.used q.size q.head accepted)
+
+unfoldable pub moves_left : ℕ → VirtioRequest → List VirtioMove
+moves_left accepted q = data_moves (disk_place q) (data_left q) ++ last_left accepted q
+
+abbrev pub request_of : ℕ → VirtioRequest → Request
+request_of accepted q = record { moves = moves_left accepted q; result = q.result; written = q.written }
 
 -- the device that is held
 abbrev pub device_of : Held → Device
@@ -51,10 +83,74 @@ state_at_reset = record {
   request = None;
 }
 
--- what holds at each moment: the queue in use has a size and its three alignments
+-- ---- what holds at each moment
+
+-- where a request stands in its chain
+pub record IsPlaced (q : VirtioRequest) : Type 0 where
+  pub parts : length q.parts ≡ most_parts
+  pub least : 2 ≤ q.count
+  pub most : q.count ≤ most_parts
+  pub begun : 1 ≤ q.part
+  pub inside : q.part ≤ last_place q
+  pub tail : q.tail ≤ 4
+  -- the last moves are made after all data's
+  pub data_first : q.part < last_place q → q.tail ≡ 0
+  -- no more bytes of a part are moved than it has
+  pub offset : q.part < last_place q → q.offset ≤ (part_at q q.part).len
+  pub at_end : q.part ≡ last_place q → q.offset ≡ 0
+  -- the addresses of bytes don't wrap
+  pub addresses : (k : ℕ) → q.part ≤ k → k < last_place q → 0 < (part_at q k).len → (part_at q k).gpa + (part_at q k).len < 2 ^ 63
+  pub size_some : 1 ≤ q.size
+  pub size_most : q.size ≤ 64
+  pub aligned : q.used % 4 ≡ 0
+  pub used : q.used < 2 ^ 63
+
+-- the data that is left lies on the disk
+abbrev pub IsOnDisk : ℕ → VirtioRequest → Type 0
+IsOnDisk disk_size q = q.part < last_place q → disk_place q + bytes_in (data_left q) ≤ disk_size
+
+-- the queue in use has a size and its three alignments; a request is in its chain and on the disk
 pub record IsSound (h : Held) : Type 0 where
   pub accepted : h.state.accepted < 65536
   pub size : h.state.ready ≡ true → is_size h.state.size ≡ true
   pub descriptors : h.state.ready ≡ true → h.state.descriptors % 16 ≡ 0
   pub available : h.state.ready ≡ true → h.state.available % 2 ≡ 0
   pub used : h.state.ready ≡ true → h.state.used % 4 ≡ 0
+  pub placed : IfSome h.state.request IsPlaced
+  pub on_disk : IfSome h.state.request (IsOnDisk (length h.bytes))
+
+-- ---- the place in a chain, as moves are taken
+
+-- another place in the chain for the same moves
+pub record IsSame (before after : VirtioRequest) : Type 0 where
+  pub moves : (accepted : ℕ) → moves_left accepted after ≡ moves_left accepted before
+  pub disk : (disk_size : ℕ) → IsOnDisk disk_size before → IsOnDisk disk_size after
+  pub others : after ≡ record before { part = after.part; offset = after.offset }
+
+abbrev pub first_move : List VirtioMove → Option VirtioMove
+first_move [] = None
+first_move (move ∷ moves) = Some move
+
+-- a move stays in a page, and on the disk
+abbrev pub CanBeMade : ℕ → VirtioMove → Type 0
+CanBeMade disk_size (VirtioMove.ToMemory gpa place size) = (size ≤ 64) × ((gpa % page_size + size ≤ page_size) × (place + size ≤ disk_size))
+CanBeMade disk_size (VirtioMove.ToDisk gpa place size) = (size ≤ 64) × ((gpa % page_size + size ≤ page_size) × (place + size ≤ disk_size))
+CanBeMade disk_size (VirtioMove.PutResult gpa) = gpa % page_size + 1 ≤ page_size
+CanBeMade disk_size (VirtioMove.PutHead gpa head) = gpa % page_size + 4 ≤ page_size
+CanBeMade disk_size (VirtioMove.PutLength gpa) = gpa % page_size + 4 ≤ page_size
+CanBeMade disk_size (VirtioMove.PutIndex gpa index) = gpa % page_size + 2 ≤ page_size
+
+-- ---- the next request
+
+-- the parts of a chain, with empty ones behind them
+abbrev pub padded_parts : List VirtioPart → List VirtioPart
+padded_parts parts = parts ++ replicate (most_parts - length parts) no_part
+
+-- the three parts of the queue lie in RAM
+pub record HaveRings (d : Device) (ram : List ℕ) : Type 0 where
+  pub descriptors : ram_base ≤ d.descriptors
+  pub descriptors_end : ram_place d.descriptors + 16 * d.size ≤ length ram
+  pub available : ram_base ≤ d.available
+  pub available_end : ram_place d.available + (4 + 2 * d.size) ≤ length ram
+  pub used : ram_base ≤ d.used
+  pub used_end : ram_place d.used + (4 + 8 * d.size) ≤ length ram

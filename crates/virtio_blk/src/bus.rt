@@ -6,13 +6,10 @@ ghost use Rattle.virtio_blk.specs.Registers.{register_value, virtio_load, virtio
 ghost use Rattle.virtio_blk.specs.Stores.{reset, with_features, kept_status, with_status, can_set, can_be_used, with_ready, with_size, with_descriptors, with_available, with_used, with_low, with_high, put, virtio_store};
 ghost use Rattle.virtio_blk.specs.Held.{device_of, state_at_reset};
 
-use crate::Virtio;
 use crate::registers::{VirtioRegister, register_at};
 use crate::state::VirtioState;
+use crate::{SECTOR_BYTES, Virtio};
 use sv_types::has_bit;
-
-/// The bytes of a sector.
-const SECTOR_BYTES: u64 = 512;
 
 /// The most places of the queue.
 const MOST_PLACES: u64 = 64;

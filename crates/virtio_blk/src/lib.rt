@@ -3,12 +3,17 @@
 
 mod bus;
 mod chain;
+mod moves;
 mod registers;
+mod requests;
 mod state;
 
 pub use registers::VirtioRegister;
 pub use state::{MOST_PARTS, VirtioMove, VirtioPart, VirtioRequest, VirtioState};
 use std::marker::Model;
+
+/// The bytes of a sector.
+const SECTOR_BYTES: u64 = 512;
 
 /// A virtio block device with its disk. Contracts see the device that it stands for.
 #[derive(Drop)]

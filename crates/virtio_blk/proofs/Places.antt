@@ -1,0 +1,232 @@
+-- How the place in a chain goes on, as moves are taken.
+use Rattle.std.proofs.Common.{◌≡◌, ℕ, zero, suc, ◌+◌, ◌-◌, ◌*◌, ◌%◌, ◌<◌, ◌≤◌, Bool, true, false, List, [], ◌∷◌, ◌++◌, length, drop, get_or, filter, Option, Some, None, refl, ◌∙◌, sym, ap, subst, arith}
+use Rattle.std.proofs.lemmas.List.{drop-drop}
+use Rattle.virtio_blk.specs.Chain.{no_part, between}
+use Rattle.virtio_blk.specs.Requests.{bytes_in, piece_size, piece, data_moves, last_moves}
+use Rattle.virtio_blk.specs.Beats.{is_last}
+use Rattle.virtio_blk.specs.Held.{behind, part_at, last_place, data_left, disk_place, last_left, moves_left, first_move, IsPlaced, IsOnDisk, IsSame, CanBeMade}
+use Rattle.virtio_blk.proofs.DataMoves.{between_first, between_none, bytes_in_more, piece_size_most, data_moves_first, data_moves_passed, data_moves_none, data_moves_not_last, behind_none, behind_more}
+use Rattle.virtio_blk.specs.declared.state.VirtioMove.{VirtioMove}
+use Rattle.virtio_blk.specs.declared.state.VirtioPart.{VirtioPart}
+use Rattle.virtio_blk.specs.declared.state.VirtioRequest.{VirtioRequest}
+
+-- what is left begins with the part that is reached
+abbrev pub rest_of : VirtioRequest → List VirtioPart
+rest_of q = between q.parts (q.part + 1) (last_place q)
+
+left_first : (offset : ℕ) (q : VirtioRequest) → q.count ≤ 34 → length q.parts ≡ 34 → q.part < last_place q → behind offset (between q.parts q.part (last_place q)) ≡ behind offset (part_at q q.part ∷ rest_of q)
+left_first offset q most size before =
+    let inside : q.part < length q.parts = omega (arith, size, before, most) in
+    ap (behind offset) (between_first q.parts q.part (last_place q) before inside)
+
+place_more : (q : VirtioRequest) → IsPlaced q → q.part < last_place q → bytes_in (between q.parts 1 (q.part + 1)) ≡ bytes_in (between q.parts 1 q.part) + (part_at q q.part).len
+place_more q placed before =
+    let inside : q.part < length q.parts = let most = placed.most in let size = placed.parts in omega (arith, size, before, most) in
+    bytes_in_more q.parts 1 q.part placed.begun inside
+
+-- ---- a part is passed
+
+abbrev pub passed : VirtioRequest → VirtioRequest
+passed q = record q { part = q.part + 1; offset = 0 }
+
+passed_place : (q : VirtioRequest) → IsPlaced q → q.part < last_place q → q.offset ≡ (part_at q q.part).len → disk_place (passed q) ≡ disk_place q
+passed_place q placed before all =
+    let more = place_more q placed before in
+    omega (arith, more, all)
+
+passed_moves : (accepted : ℕ) (q : VirtioRequest) → IsPlaced q → q.part < last_place q → q.offset ≡ (part_at q q.part).len → moves_left accepted (passed q) ≡ moves_left accepted q
+unfolding moves_left
+passed_moves accepted q placed before all =
+    let place = passed_place q placed before all in
+    let old : data_moves (disk_place q) (data_left q) ≡ data_moves (disk_place q) (rest_of q) =
+    ap (data_moves (disk_place q)) (left_first q.offset q placed.most placed.parts before) ∙ data_moves_passed (disk_place q) q.offset (part_at q q.part) (rest_of q) (sym all) in
+    let new : data_moves (disk_place (passed q)) (data_left (passed q)) ≡ data_moves (disk_place q) (rest_of q) =
+    ap (data_moves (disk_place (passed q))) (behind_none (rest_of q)) ∙ ap (λ (n : ℕ). data_moves n (rest_of q)) place in
+    ap (λ (moves : List VirtioMove). moves ++ last_left accepted q) (new ∙ sym old)
+
+passed_disk : (n : ℕ) (q : VirtioRequest) → IsPlaced q → q.part < last_place q → q.offset ≡ (part_at q q.part).len → IsOnDisk n q → IsOnDisk n (passed q)
+passed_disk n q placed before all on next =
+    let place = passed_place q placed before all in
+    let left : bytes_in (data_left q) ≡ (part_at q q.part).len - q.offset + bytes_in (rest_of q) = ap bytes_in (left_first q.offset q placed.most placed.parts before) in
+    let new : bytes_in (data_left (passed q)) ≡ bytes_in (rest_of q) = ap bytes_in (behind_none (rest_of q)) in
+    let there = on before in
+    omega (arith, place, left, new, there)
+
+pub passed_placed : (q : VirtioRequest) → IsPlaced q → q.part < last_place q → IsPlaced (passed q)
+passed_placed q placed before = record {
+  parts = placed.parts;
+  least = placed.least;
+  most = placed.most;
+  begun = omega arith;
+  inside = omega (arith, before);
+  tail = placed.tail;
+  data_first = λ next. placed.data_first before;
+  offset = λ next. omega arith;
+  at_end = λ end. refl;
+  addresses = λ k from to some. placed.addresses k (omega (arith, from)) to some;
+  size_some = placed.size_some;
+  size_most = placed.size_most;
+  aligned = placed.aligned;
+  used = placed.used;
+}
+
+pub passed_same : (start q : VirtioRequest) → IsSame start q → IsPlaced q → q.part < last_place q → q.offset ≡ (part_at q q.part).len → IsSame start (passed q)
+passed_same start q same placed before all = record {
+  moves = λ accepted. passed_moves accepted q placed before all ∙ same.moves accepted;
+  disk = λ n on. passed_disk n q placed before all (same.disk n on);
+  others = ap (λ (r : VirtioRequest). record r { part = q.part + 1; offset = 0 }) same.others;
+}
+
+pub same_at_start : (q : VirtioRequest) → IsSame q q
+same_at_start q = record { moves = λ accepted. refl; disk = λ n on. on; others = refl }
+
+-- ---- a piece is moved
+
+abbrev pub moved : VirtioRequest → ℕ → VirtioRequest
+moved q size = record q { offset = q.offset + size }
+
+pub moved_moves : (accepted : ℕ) (q : VirtioRequest) (n : ℕ) → IsPlaced q → q.part < last_place q → q.offset < (part_at q q.part).len → n ≡ piece_size ((part_at q q.part).gpa + q.offset) ((part_at q q.part).len - q.offset) → moves_left accepted q ≡ piece (part_at q q.part).write ((part_at q q.part).gpa + q.offset) (disk_place q) n ∷ moves_left accepted (moved q n)
+unfolding moves_left
+moved_moves accepted q n placed before some is =
+    let x = part_at q q.part in
+    let cut : VirtioPart = record x { gpa = x.gpa + q.offset; len = x.len - q.offset } in
+    let first = data_moves_first (disk_place q) n cut (rest_of q) (omega (arith, some)) is in
+    let left : data_left q ≡ cut ∷ rest_of q = left_first q.offset q placed.most placed.parts before in
+    let next : behind n (cut ∷ rest_of q) ≡ data_left (moved q n) = behind_more q.offset n (x ∷ rest_of q) ∙ sym (left_first (q.offset + n) q placed.most placed.parts before) in
+    let place : disk_place q + n ≡ disk_place (moved q n) = omega arith in
+    let all_data : data_moves (disk_place q) (data_left q) ≡ piece x.write (x.gpa + q.offset) (disk_place q) n ∷ data_moves (disk_place (moved q n)) (data_left (moved q n)) =
+    ap (data_moves (disk_place q)) left ∙ first
+    ∙ ap (λ (parts : List VirtioPart). piece x.write (x.gpa + q.offset) (disk_place q) n ∷ data_moves (disk_place q + n) parts) next
+    ∙ ap (λ (at : ℕ). piece x.write (x.gpa + q.offset) (disk_place q) n ∷ data_moves at (data_left (moved q n))) place in
+    ap (λ (moves : List VirtioMove). moves ++ last_left accepted q) all_data
+
+moved_bytes : (q : VirtioRequest) (n : ℕ) → IsPlaced q → q.part < last_place q → bytes_in (data_left (moved q n)) ≡ (part_at q q.part).len - (q.offset + n) + bytes_in (rest_of q)
+moved_bytes q n placed before = ap bytes_in (left_first (q.offset + n) q placed.most placed.parts before)
+
+left_bytes : (q : VirtioRequest) → IsPlaced q → q.part < last_place q → bytes_in (data_left q) ≡ (part_at q q.part).len - q.offset + bytes_in (rest_of q)
+left_bytes q placed before = ap bytes_in (left_first q.offset q placed.most placed.parts before)
+
+pub moved_disk : (disk_size : ℕ) (q : VirtioRequest) (n : ℕ) → IsPlaced q → q.part < last_place q → n ≤ (part_at q q.part).len - q.offset → IsOnDisk disk_size q → IsOnDisk disk_size (moved q n)
+moved_disk disk_size q n placed before most on next =
+    let new = moved_bytes q n placed before in
+    let old = left_bytes q placed before in
+    let reached = placed.offset before in
+    let there = on before in
+    omega (arith, new, old, reached, there, most)
+
+-- the piece lies on the disk
+pub piece_on_disk : (disk_size : ℕ) (q : VirtioRequest) (n : ℕ) → IsPlaced q → q.part < last_place q → n ≤ (part_at q q.part).len - q.offset → IsOnDisk disk_size q → disk_place q + n ≤ disk_size
+piece_on_disk disk_size q n placed before most on =
+    let old = left_bytes q placed before in
+    let there = on before in
+    omega (arith, old, there, most)
+
+pub moved_placed : (q : VirtioRequest) (n : ℕ) → IsPlaced q → q.part < last_place q → n ≤ (part_at q q.part).len - q.offset → IsPlaced (moved q n)
+moved_placed q n placed before most = record {
+  parts = placed.parts;
+  least = placed.least;
+  most = placed.most;
+  begun = placed.begun;
+  inside = placed.inside;
+  tail = placed.tail;
+  data_first = placed.data_first;
+  offset = λ next. let reached = placed.offset before in omega (arith, reached, most);
+  at_end = λ end. absurd (omega (arith, end, before));
+  addresses = placed.addresses;
+  size_some = placed.size_some;
+  size_most = placed.size_most;
+  aligned = placed.aligned;
+  used = placed.used;
+}
+
+-- ---- behind all data
+
+pub last_moves_left : (accepted : ℕ) (q : VirtioRequest) → q.part ≡ last_place q → moves_left accepted q ≡ last_left accepted q
+unfolding moves_left
+last_moves_left accepted q end =
+    let none : between q.parts q.part (last_place q) ≡ [] = ap (λ (k : ℕ). between q.parts k (last_place q)) end ∙ between_none q.parts (last_place q) in
+    let left : data_left q ≡ [] = ap (behind q.offset) none in
+    ap (λ (parts : List VirtioPart). data_moves (disk_place q) parts ++ last_left accepted q) left
+    ∙ ap (λ (moves : List VirtioMove). moves ++ last_left accepted q) (data_moves_none (disk_place q))
+
+-- ---- data that may not be written is dropped
+
+abbrev pub without_data : VirtioRequest → VirtioRequest
+without_data q = record q { part = last_place q; offset = 0; result = 1 }
+
+pub without_data_moves : (accepted : ℕ) (q : VirtioRequest) → filter is_last (last_left accepted q) ≡ last_left accepted q → moves_left accepted (without_data q) ≡ filter is_last (moves_left accepted q)
+unfolding moves_left
+without_data_moves accepted q all =
+    last_moves_left accepted (without_data q) refl
+    ∙ sym all
+    ∙ sym (data_moves_not_last (disk_place q) (data_left q) (last_left accepted q))
+
+-- ---- moves stay in a page, and on the disk
+
+pub piece_made : (disk_size : ℕ) (write : Bool) (gpa place size len : ℕ) → size ≡ piece_size gpa len → place + size ≤ disk_size → CanBeMade disk_size (piece write gpa place size)
+piece_made disk_size true gpa place size len is on =
+    let below : gpa % 4096 < 4096 = grind arith in
+    (omega (arith, is), (omega (arith, is, below), on))
+piece_made disk_size false gpa place size len is on =
+    let below : gpa % 4096 < 4096 = grind arith in
+    (omega (arith, is), (omega (arith, is, below), on))
+
+-- a word of 4 bytes at a multiple of 4
+pub word_in_page : (gpa : ℕ) → gpa % 4 ≡ 0 → gpa % 4096 + 4 ≤ 4096
+word_in_page gpa aligned =
+    let below : gpa % 4096 < 4096 = grind arith in
+    let same : gpa % 4096 % 4 ≡ 0 = omega (arith, aligned) in
+    omega (arith, below, same)
+
+-- ---- the last moves
+
+pub tail_placed : (q : VirtioRequest) → IsPlaced q → q.part ≡ last_place q → q.tail < 4 → IsPlaced (record q { tail = q.tail + 1 })
+tail_placed q placed end more = record {
+  parts = placed.parts;
+  least = placed.least;
+  most = placed.most;
+  begun = placed.begun;
+  inside = placed.inside;
+  tail = omega (arith, more);
+  data_first = λ before. absurd (omega (arith, before, end));
+  offset = placed.offset;
+  at_end = placed.at_end;
+  addresses = placed.addresses;
+  size_some = placed.size_some;
+  size_most = placed.size_most;
+  aligned = placed.aligned;
+  used = placed.used;
+}
+
+pub last_left_more : (accepted : ℕ) (q : VirtioRequest) → last_left accepted (record q { tail = q.tail + 1 }) ≡ drop 1 (last_left accepted q)
+last_left_more accepted q = sym (drop-drop 1 q.tail (last_moves (part_at q (last_place q)).gpa q.used q.size q.head accepted))
+
+pub no_first : (moves : List VirtioMove) → None ≡ first_move moves → moves ≡ drop 1 moves
+no_first [] none = refl
+no_first (move ∷ moves) none = absurd (cc)
+
+pub first_at : (tail k : ℕ) (moves : List VirtioMove) → tail ≡ k → first_move (drop tail moves) ≡ first_move (drop k moves)
+first_at tail k moves is = ap (λ (n : ℕ). first_move (drop n moves)) is
+
+pub last_all : (accepted : ℕ) (q : VirtioRequest) → q.tail ≡ 0 → filter is_last (last_left accepted q) ≡ last_left accepted q
+last_all accepted q first =
+    let moves = last_moves (part_at q (last_place q)).gpa q.used q.size q.head accepted in
+    subst (λ (tail : ℕ). filter is_last (drop tail moves) ≡ drop tail moves) (sym first) refl
+
+pub without_data_placed : (q : VirtioRequest) → IsPlaced q → q.tail ≡ 0 → IsPlaced (without_data q)
+without_data_placed q placed first = record {
+  parts = placed.parts;
+  least = placed.least;
+  most = placed.most;
+  begun = let least = placed.least in omega (arith, least);
+  inside = omega arith;
+  tail = placed.tail;
+  data_first = λ before. first;
+  offset = λ before. omega arith;
+  at_end = λ end. refl;
+  addresses = λ k from to some. absurd (omega (arith, from, to));
+  size_some = placed.size_some;
+  size_most = placed.size_most;
+  aligned = placed.aligned;
+  used = placed.used;
+}

@@ -1,0 +1,11 @@
+-- The bytes of parts as a sum.
+use Rattle.std.proofs.Common.{◌≡◌, ℕ, ◌+◌, List, [], ◌∷◌, map, sum, refl, ◌∙◌, ap}
+use Rattle.std.proofs.lemmas.List.Sums.{sum_by-cons}
+use Rattle.virtio_blk.specs.Requests.{bytes_in}
+use Rattle.virtio_blk.specs.declared.state.VirtioPart.{VirtioPart}
+
+pub sum_of_bytes : (parts : List VirtioPart) → sum (map (λ (part : VirtioPart). part.len) parts) ≡ bytes_in parts
+sum_of_bytes [] = refl
+sum_of_bytes (part ∷ parts) =
+    sum_by-cons (λ (n : ℕ). n) part.len (map (λ (p : VirtioPart). p.len) parts)
+    ∙ ap (λ (n : ℕ). part.len + n) (sum_of_bytes parts)

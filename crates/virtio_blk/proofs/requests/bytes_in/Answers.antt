@@ -1,0 +1,9 @@
+use Rattle.std.proofs.Common.{rules, ◌≡◌, ◌∙◌, map, sum}
+use Rattle.virtio_blk.specs.declared.state.VirtioPart.{VirtioPart}
+use Rattle.virtio_blk.proofs.Sums.{sum_of_bytes}
+use Rattle.virtio_blk.proofs.requests.bytes_in.Goals as goal
+
+pub returns : goal.returns
+returns c =
+    let total : c.sum.result ≡ sum (map (λ (part : VirtioPart). part.len) c.args.parts.now) = search rules in
+    total ∙ sum_of_bytes c.args.parts.now

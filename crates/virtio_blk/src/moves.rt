@@ -1,0 +1,154 @@
+// The moves that are left of a request, taken one by one.
+
+ghost use Rattle.std.specs.Prelude.{◌≡◌, ℕ, ◌+◌, ◌-◌, ◌^◌, ◌<◌, ◌≤◌, ◌∷◌, ◌%◌, length, drop, IfSome, IsSome};
+ghost use Rattle.virtio_blk.specs.Queue.{used_gpa};
+ghost use Rattle.virtio_blk.specs.Requests.{piece_size, piece};
+ghost use Rattle.virtio_blk.specs.Held.{IsPlaced, IsOnDisk, IsSame, CanBeMade, part_at, last_place, disk_place, last_left, moves_left, first_move};
+
+use crate::SECTOR_BYTES;
+use crate::requests::bytes_in;
+use crate::state::{VirtioMove, VirtioRequest};
+use sv_types::PAGE_SIZE;
+
+/// The most bytes of a data move.
+const BEAT_BYTES: u64 = 64;
+
+/// The bytes of a page.
+const PAGE_BYTES: u64 = PAGE_SIZE as u64;
+
+// Passes over parts of which nothing is left.
+fn settle(q: &mut VirtioRequest)
+    requires { IsPlaced q.old }
+    ensures same { IsSame q.old q.new }
+    ensures placed { IsPlaced q.new }
+    ensures settled { q.new.part < last_place q.new → q.new.offset < (part_at q.new q.new.part).len }
+{
+    for index in q.part..q.count - 1 {
+        if q.offset < q.parts[index as usize].len {
+            return;
+        }
+        q.part = index + 1;
+        q.offset = 0;
+    }
+}
+
+// Where the next byte of data lies on the disk.
+fn disk_place(q: &VirtioRequest) -> u64
+    requires placed { IsPlaced q.now }
+    requires fits { disk_place q.now < 2 ^ 64 }
+    ensures { result ≡ disk_place q.now }
+{
+    SECTOR_BYTES * q.sector + (bytes_in(&q.parts[1..q.part as usize]) + q.offset as u64)
+}
+
+// The size of the next piece.
+fn piece_size(gpa: u64, len: u64) -> u64
+    ensures { result ≡ piece_size gpa len }
+{
+    BEAT_BYTES.min((PAGE_BYTES - gpa % PAGE_BYTES).min(len))
+}
+
+// A piece of data.
+fn piece(write: bool, gpa: u64, place: u64, size: u64) -> VirtioMove
+    ensures { result ≡ piece write gpa place size }
+{
+    if write {
+        VirtioMove::ToMemory { gpa, place, size }
+    } else {
+        VirtioMove::ToDisk { gpa, place, size }
+    }
+}
+
+// The next piece of data, of which there is one.
+fn take_data(q: &mut VirtioRequest) -> VirtioMove
+    requires placed { IsPlaced q.old }
+    requires on_disk { IsOnDisk (2 ^ 63) q.old }
+    requires before { q.old.part < last_place q.old }
+    requires some { q.old.offset < (part_at q.old q.old.part).len }
+    ensures moves { (accepted : ℕ) → moves_left accepted q.old ≡ result ∷ moves_left accepted q.new }
+    ensures placed { IsPlaced q.new }
+    ensures disk { (disk_size : ℕ) → IsOnDisk disk_size q.old → IsOnDisk disk_size q.new }
+    ensures made { (disk_size : ℕ) → IsOnDisk disk_size q.old → CanBeMade disk_size result }
+    ensures others { q.new ≡ record q.old { offset = q.new.offset } }
+{
+    let part = q.parts[q.part as usize];
+    let gpa = part.gpa + q.offset as u64;
+    let place = disk_place(q);
+    let size = piece_size(gpa, (part.len - q.offset) as u64);
+    q.offset += size as u32;
+    piece(part.write, gpa, place, size)
+}
+
+// The address of the used ring's place for a request.
+fn used_entry(q: &VirtioRequest, accepted: u64) -> u64
+    requires placed { IsPlaced q.now }
+    requires accepted { accepted < 65536 }
+    ensures value { result ≡ used_gpa q.now.used q.now.size accepted }
+    ensures aligned { result % 4 ≡ 0 }
+    ensures small { result < 2 ^ 63 + 1024 }
+{
+    q.used + 4 + 8 * ((accepted + 65535) % 65536 % q.size as u64)
+}
+
+// The next of the last moves, if there is one.
+#[tactic(auto, using(crate::proofs::Places::first_at, crate::proofs::Places::word_in_page))]
+fn last_move(q: &VirtioRequest, accepted: u64) -> Option<VirtioMove>
+    requires placed { IsPlaced q.now }
+    requires accepted { accepted < 65536 }
+    ensures first { result ≡ first_move (last_left accepted q.now) }
+    ensures more { IsSome result → q.now.tail < 4 }
+    ensures made { (disk_size : ℕ) → IfSome result (CanBeMade disk_size) }
+{
+    let entry = used_entry(q, accepted);
+    match q.tail {
+        0 => Some(VirtioMove::PutResult {
+            gpa: q.parts[q.count as usize - 1].gpa,
+        }),
+        1 => Some(VirtioMove::PutHead {
+            gpa: entry,
+            head: q.head,
+        }),
+        2 => Some(VirtioMove::PutLength { gpa: entry + 4 }),
+        3 => Some(VirtioMove::PutIndex {
+            gpa: q.used + 2,
+            index: accepted as u16,
+        }),
+        _ => None,
+    }
+}
+
+// The next move behind all data, if there is one.
+fn take_last(q: &mut VirtioRequest, accepted: u64) -> Option<VirtioMove>
+    requires placed { IsPlaced q.old }
+    requires ends { q.old.part ≡ last_place q.old }
+    requires accepted { accepted < 65536 }
+    ensures first { result ≡ first_move (last_left accepted q.old) }
+    ensures rest { last_left accepted q.new ≡ drop 1 (last_left accepted q.old) }
+    ensures placed { IsPlaced q.new }
+    ensures made { (disk_size : ℕ) → IfSome result (CanBeMade disk_size) }
+    ensures others { q.new ≡ record q.old { tail = q.new.tail } }
+{
+    let next = last_move(q, accepted)?;
+    q.tail += 1;
+    Some(next)
+}
+
+/// The next move of a request, if there is one, which is taken from those that are left.
+pub fn take_move(q: &mut VirtioRequest, accepted: u64) -> Option<VirtioMove>
+    requires placed { IsPlaced q.old }
+    requires on_disk { IsOnDisk (2 ^ 63) q.old }
+    requires accepted { accepted < 65536 }
+    ensures first { result ≡ first_move (moves_left accepted q.old) }
+    ensures rest { moves_left accepted q.new ≡ drop 1 (moves_left accepted q.old) }
+    ensures placed { IsPlaced q.new }
+    ensures disk { (disk_size : ℕ) → IsOnDisk disk_size q.old → IsOnDisk disk_size q.new }
+    ensures made { (disk_size : ℕ) → IsOnDisk disk_size q.old → IfSome result (CanBeMade disk_size) }
+    ensures others { q.new ≡ record q.old { part = q.new.part; offset = q.new.offset; tail = q.new.tail } }
+{
+    settle(q);
+    if q.part < q.count - 1 {
+        Some(take_data(q))
+    } else {
+        take_last(q, accepted)
+    }
+}

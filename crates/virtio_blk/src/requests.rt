@@ -1,0 +1,131 @@
+// What a chain asks for, and whether that can be done.
+
+ghost use Rattle.std.specs.Prelude.{◌≡◌, ◌+◌, ◌*◌, ◌≤◌, IsTrue, length};
+ghost use Rattle.std.specs.List.{list_all};
+ghost use Rattle.sv_types.specs.Bytes.{in_ram, ram_base, ram_place};
+ghost use Rattle.virtio_blk.specs.Chain.{header_of, result_of, is_header, is_result, is_good};
+ghost use Rattle.virtio_blk.specs.Requests.{bytes_in, lies_in, fits_type, are_sectors, can_move, result_by};
+
+use crate::SECTOR_BYTES;
+use crate::state::VirtioPart;
+use sv_types::RAM_BASE;
+
+/// The bytes of a request's header, and of its result.
+const HEADER_BYTES: u32 = 16;
+
+const RESULT_BYTES: u32 = 1;
+
+/// The types of requests: the disk is read, and written.
+const READ_DISK: u64 = 0;
+
+const WRITE_DISK: u64 = 1;
+
+/// The results: done, failed, of a type that isn't known.
+const DONE: u8 = 0;
+
+const FAILED: u8 = 1;
+
+const UNKNOWN_TYPE: u8 = 2;
+
+/// Whether so many bytes all lie in RAM. No test wraps.
+pub fn is_in_ram(ram: &[u8], gpa: u64, len: u64) -> bool
+    ensures value { result ≡ in_ram ram.now gpa len }
+    ensures begins { IsTrue result → ram_base ≤ gpa }
+    ensures ends { IsTrue result → ram_place gpa + len ≤ length ram.now }
+{
+    let size = ram.len() as u64;
+    gpa >= RAM_BASE && len <= size && gpa - RAM_BASE <= size - len
+}
+
+// Whether a part's bytes lie in RAM, where it has any.
+fn lies_in(ram: &[u8], part: &VirtioPart) -> bool
+    ensures { result ≡ lies_in ram.now part.now }
+{
+    part.len == 0 || is_in_ram(ram, part.gpa, part.len as u64)
+}
+
+// Whether the device may do to data what a type asks for.
+fn fits_type(kind: u64, part: &VirtioPart) -> bool
+    ensures { result ≡ fits_type kind part.now }
+{
+    if kind == READ_DISK {
+        part.write
+    } else {
+        !part.write
+    }
+}
+
+/// The bytes of parts.
+pub fn bytes_in(parts: &[VirtioPart]) -> u64
+    requires { length parts.now ≤ 34 }
+    ensures { result ≡ bytes_in parts.now }
+{
+    parts.iter().map(|part| part.len as u64).sum()
+}
+
+// There are sectors, and all of them lie on the disk. No test wraps.
+fn are_sectors(disk_size: usize, sector: u64, size: u64) -> bool
+    ensures { result ≡ are_sectors disk_size sector size }
+{
+    let end = SECTOR_BYTES as u128 * sector as u128 + size as u128;
+    size != 0 && size % SECTOR_BYTES == 0 && end <= disk_size as u128
+}
+
+// Whether all data lies in RAM.
+fn all_lie_in(ram: &[u8], parts: &[VirtioPart]) -> bool
+    ensures { result ≡ list_all (lies_in ram.now) parts.now }
+{
+    parts.iter().all(|part| lies_in(ram, part))
+}
+
+// Whether the device may do to all data what a type asks for.
+fn all_fit_type(kind: u64, parts: &[VirtioPart]) -> bool
+    ensures { result ≡ list_all (fits_type kind) parts.now }
+{
+    parts.iter().all(|part| fits_type(kind, part))
+}
+
+// Whether the data's moves can be made.
+#[tactic(auto, unfolding(crate::specs::Requests::can_move))]
+fn can_move(ram: &[u8], disk_size: usize, kind: u64, sector: u64, parts: &[VirtioPart]) -> bool
+    requires { length parts.now ≤ 34 }
+    ensures { result ≡ can_move ram.now disk_size kind sector parts.now }
+{
+    are_sectors(disk_size, sector, bytes_in(parts))
+        && all_lie_in(ram, parts)
+        && all_fit_type(kind, parts)
+}
+
+/// The result that a request has as it is accepted.
+#[tactic(auto, unfolding(crate::specs::Requests::result_by))]
+pub fn result_by(ram: &[u8], disk_size: usize, kind: u64, sector: u64, parts: &[VirtioPart]) -> u8
+    requires { length parts.now ≤ 34 }
+    ensures { result ≡ result_by ram.now disk_size kind sector parts.now }
+{
+    if kind != READ_DISK && kind != WRITE_DISK {
+        UNKNOWN_TYPE
+    } else if can_move(ram, disk_size, kind, sector, parts) {
+        DONE
+    } else {
+        FAILED
+    }
+}
+
+// A header of a request.
+fn is_header(ram: &[u8], part: &VirtioPart) -> bool
+    ensures { result ≡ is_header ram.now part.now }
+{
+    part.len == HEADER_BYTES && !part.write && is_in_ram(ram, part.gpa, HEADER_BYTES as u64)
+}
+
+/// Whether a chain is one of a request: a header, data, and a byte for the result.
+#[tactic(auto, unfolding(crate::specs::Chain::is_good))]
+pub fn is_good(ram: &[u8], parts: &[VirtioPart]) -> bool
+    ensures { result ≡ is_good ram.now parts.now }
+{
+    if parts.len() < 2 {
+        return false;
+    }
+    let last = parts[parts.len() - 1];
+    is_header(ram, &parts[0]) && last.len == RESULT_BYTES && last.write
+}
