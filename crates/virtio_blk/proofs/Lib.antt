@@ -1,4 +1,7 @@
+pub mod Accepting
 pub mod Chains
 pub mod DataMoves
+pub mod NewRequests
 pub mod Places
 pub mod Sums
+pub mod Writes

@@ -1,5 +1,5 @@
 -- How the place in a chain goes on, as moves are taken.
-use Rattle.std.proofs.Common.{◌≡◌, ℕ, zero, suc, ◌+◌, ◌-◌, ◌*◌, ◌%◌, ◌<◌, ◌≤◌, Bool, true, false, List, [], ◌∷◌, ◌++◌, length, drop, get_or, filter, Option, Some, None, refl, ◌∙◌, sym, ap, subst, arith}
+use Rattle.std.proofs.Common.{◌≡◌, ℕ, zero, suc, ◌+◌, ◌-◌, ◌*◌, ◌%◌, ◌<◌, ◌≤◌, Bool, true, false, List, [], ◌∷◌, ◌++◌, length, drop, get_or, filter, Option, Some, None, IfSome, refl, ◌∙◌, sym, ap, subst, arith}
 use Rattle.std.proofs.lemmas.List.{drop-drop}
 use Rattle.virtio_blk.specs.Chain.{no_part, between}
 use Rattle.virtio_blk.specs.Requests.{bytes_in, piece_size, piece, data_moves, last_moves}
@@ -230,3 +230,8 @@ without_data_placed q placed first = record {
   aligned = placed.aligned;
   used = placed.used;
 }
+
+-- the last moves are no data
+pub no_data : (move : Option VirtioMove) (tail : ℕ) → IfSome move (λ m. is_last m ≡ true) → IfSome move (λ m. is_last m ≡ false → tail ≡ 0)
+no_data None tail last = tt
+no_data (Some move) tail last = λ other. absurd (cc)

@@ -1,9 +1,9 @@
 -- The device as the code holds it, with a place in a chain for the moves that are left, and the device that it stands for.
-use Rattle.std.specs.Prelude.{◌≡◌, ℕ, ◌+◌, ◌-◌, ◌*◌, ◌%◌, ◌^◌, ◌<◌, ◌≤◌, Bool, true, false, List, [], ◌∷◌, ◌++◌, length, drop, replicate, get_or, Option, Some, None, IfSome, option_map}
+use Rattle.std.specs.Prelude.{◌≡◌, ℕ, ◌+◌, ◌-◌, ◌*◌, ◌%◌, ◌^◌, ◌<◌, ◌≤◌, Bool, true, false, ◌==◌, if◌then◌else◌, List, [], ◌∷◌, ◌++◌, length, drop, replicate, get_or, Option, Some, None, IfSome, option_map}
 use Rattle.sv_types.specs.Bytes.{page_size, ram_base, ram_place}
 use Rattle.virtio_blk.specs.Device.{Device, Request}
 use Rattle.virtio_blk.specs.Stores.{is_size}
-use Rattle.virtio_blk.specs.Chain.{no_part, between, most_parts}
+use Rattle.virtio_blk.specs.Chain.{no_part, between, most_parts, header_of}
 use Rattle.virtio_blk.specs.Requests.{bytes_in, data_moves, last_moves}
 use Rattle.virtio_blk.specs.declared.state.VirtioMove.{VirtioMove}
 use Rattle.virtio_blk.specs.declared.state.VirtioPart.{VirtioPart}
@@ -154,3 +154,29 @@ pub record HaveRings (d : Device) (ram : List ℕ) : Type 0 where
   pub available_end : ram_place d.available + (4 + 2 * d.size) ≤ length ram
   pub used : ram_base ≤ d.used
   pub used_end : ram_place d.used + (4 + 8 * d.size) ≤ length ram
+
+-- a request whose result is 0 begins with its data, any other with its last moves
+abbrev pub first_part : (result last : ℕ) → ℕ
+first_part result last = if result == 0 then 1 else last
+
+-- the request that a chain asks for, at its first move
+abbrev pub new_of : (head sector size used result : ℕ) → List VirtioPart → VirtioRequest
+new_of head sector size used result parts = record {
+  head = head;
+  sector = sector;
+  size = size;
+  used = used;
+  count = length parts;
+  parts = padded_parts parts;
+  part = first_part result (length parts - 1);
+  offset = 0;
+  tail = 0;
+  result = result;
+  written = 0;
+}
+
+-- a chain whose header lies in RAM
+pub record HasHeader (ram : List ℕ) (parts : List VirtioPart) : Type 0 where
+  pub few : 2 ≤ length parts
+  pub begins : ram_base ≤ (header_of parts).gpa
+  pub ends : ram_place (header_of parts).gpa + 16 ≤ length ram

@@ -17,7 +17,7 @@ const MOST_PLACES: u64 = 64;
 /// Bits of the status: the features fit, and a reset is needed. The places of two others.
 const FEATURES_OK: u32 = 8;
 
-const NEEDS_RESET: u32 = 64;
+pub const NEEDS_RESET: u32 = 64;
 
 const NEEDS_RESET_PLACE: u8 = 6;
 
@@ -70,7 +70,7 @@ impl Virtio {
         self.state.queue == 0
     }
 
-    fn is_broken(&self) -> bool
+    pub(crate) fn is_broken(&self) -> bool
         ensures { result ≡ is_broken (device_of self.now) }
     {
         has_bit(self.state.status as u64, NEEDS_RESET_PLACE)

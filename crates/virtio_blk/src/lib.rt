@@ -1,6 +1,8 @@
 //! A virtio block device over MMIO: a disk in memory that moves at most 64 bytes in each beat of a request.
 #![tactic(auto)]
 
+mod accept;
+mod beats;
 mod bus;
 mod chain;
 mod moves;

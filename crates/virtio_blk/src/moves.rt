@@ -1,8 +1,9 @@
 // The moves that are left of a request, taken one by one.
 
-ghost use Rattle.std.specs.Prelude.{◌≡◌, ℕ, ◌+◌, ◌-◌, ◌^◌, ◌<◌, ◌≤◌, ◌∷◌, ◌%◌, length, drop, IfSome, IsSome};
+ghost use Rattle.std.specs.Prelude.{◌≡◌, ℕ, ◌+◌, ◌-◌, ◌^◌, ◌<◌, ◌≤◌, ◌∷◌, ◌%◌, false, true, length, drop, IfSome, IsSome};
 ghost use Rattle.virtio_blk.specs.Queue.{used_gpa};
 ghost use Rattle.virtio_blk.specs.Requests.{piece_size, piece};
+ghost use Rattle.virtio_blk.specs.Beats.{is_last};
 ghost use Rattle.virtio_blk.specs.Held.{IsPlaced, IsOnDisk, IsSame, CanBeMade, part_at, last_place, disk_place, last_left, moves_left, first_move};
 
 use crate::SECTOR_BYTES;
@@ -69,6 +70,7 @@ fn take_data(q: &mut VirtioRequest) -> VirtioMove
     ensures placed { IsPlaced q.new }
     ensures disk { (disk_size : ℕ) → IsOnDisk disk_size q.old → IsOnDisk disk_size q.new }
     ensures made { (disk_size : ℕ) → IsOnDisk disk_size q.old → CanBeMade disk_size result }
+    ensures first { q.new.tail ≡ 0 }
     ensures others { q.new ≡ record q.old { offset = q.new.offset } }
 {
     let part = q.parts[q.part as usize];
@@ -98,6 +100,7 @@ fn last_move(q: &VirtioRequest, accepted: u64) -> Option<VirtioMove>
     ensures first { result ≡ first_move (last_left accepted q.now) }
     ensures more { IsSome result → q.now.tail < 4 }
     ensures made { (disk_size : ℕ) → IfSome result (CanBeMade disk_size) }
+    ensures last { IfSome result (λ move. is_last move ≡ true) }
 {
     let entry = used_entry(q, accepted);
     match q.tail {
@@ -126,6 +129,7 @@ fn take_last(q: &mut VirtioRequest, accepted: u64) -> Option<VirtioMove>
     ensures rest { last_left accepted q.new ≡ drop 1 (last_left accepted q.old) }
     ensures placed { IsPlaced q.new }
     ensures made { (disk_size : ℕ) → IfSome result (CanBeMade disk_size) }
+    ensures last { IfSome result (λ move. is_last move ≡ true) }
     ensures others { q.new ≡ record q.old { tail = q.new.tail } }
 {
     let next = last_move(q, accepted)?;
@@ -143,6 +147,7 @@ pub fn take_move(q: &mut VirtioRequest, accepted: u64) -> Option<VirtioMove>
     ensures placed { IsPlaced q.new }
     ensures disk { (disk_size : ℕ) → IsOnDisk disk_size q.old → IsOnDisk disk_size q.new }
     ensures made { (disk_size : ℕ) → IsOnDisk disk_size q.old → IfSome result (CanBeMade disk_size) }
+    ensures data_first { IfSome result (λ move. is_last move ≡ false → q.new.tail ≡ 0) }
     ensures others { q.new ≡ record q.old { part = q.new.part; offset = q.new.offset; tail = q.new.tail } }
 {
     settle(q);

@@ -4,6 +4,7 @@ ghost use Rattle.std.specs.Prelude.{◌≡◌, ◌+◌, ◌*◌, ◌≤◌, IsTr
 ghost use Rattle.std.specs.List.{list_all};
 ghost use Rattle.sv_types.specs.Bytes.{in_ram, ram_base, ram_place};
 ghost use Rattle.virtio_blk.specs.Chain.{header_of, result_of, is_header, is_result, is_good};
+ghost use Rattle.virtio_blk.specs.Held.{HasHeader};
 ghost use Rattle.virtio_blk.specs.Requests.{bytes_in, lies_in, fits_type, are_sectors, can_move, result_by};
 
 use crate::SECTOR_BYTES;
@@ -21,9 +22,9 @@ const READ_DISK: u64 = 0;
 const WRITE_DISK: u64 = 1;
 
 /// The results: done, failed, of a type that isn't known.
-const DONE: u8 = 0;
+pub const DONE: u8 = 0;
 
-const FAILED: u8 = 1;
+pub const FAILED: u8 = 1;
 
 const UNKNOWN_TYPE: u8 = 2;
 
@@ -113,7 +114,9 @@ pub fn result_by(ram: &[u8], disk_size: usize, kind: u64, sector: u64, parts: &[
 
 // A header of a request.
 fn is_header(ram: &[u8], part: &VirtioPart) -> bool
-    ensures { result ≡ is_header ram.now part.now }
+    ensures value { result ≡ is_header ram.now part.now }
+    ensures begins { IsTrue result → ram_base ≤ part.now.gpa }
+    ensures ends { IsTrue result → ram_place part.now.gpa + 16 ≤ length ram.now }
 {
     part.len == HEADER_BYTES && !part.write && is_in_ram(ram, part.gpa, HEADER_BYTES as u64)
 }
@@ -121,7 +124,8 @@ fn is_header(ram: &[u8], part: &VirtioPart) -> bool
 /// Whether a chain is one of a request: a header, data, and a byte for the result.
 #[tactic(auto, unfolding(crate::specs::Chain::is_good))]
 pub fn is_good(ram: &[u8], parts: &[VirtioPart]) -> bool
-    ensures { result ≡ is_good ram.now parts.now }
+    ensures value { result ≡ is_good ram.now parts.now }
+    ensures header { IsTrue result → HasHeader ram.now parts.now }
 {
     if parts.len() < 2 {
         return false;

@@ -1,7 +1,7 @@
 use Rattle.std.proofs.Common.{rules, ◌≡◌, ℕ, ◌+◌, ◌-◌, ◌^◌, ◌<◌, ◌≤◌, ◌∙◌, drop, sym, ap, subst, arith}
 use Rattle.virtio_blk.specs.Held.{IsOnDisk, last_place, moves_left, first_move}
 use Rattle.virtio_blk.specs.declared.state.VirtioRequest.{VirtioRequest}
-use Rattle.virtio_blk.proofs.Places.{last_moves_left}
+use Rattle.virtio_blk.proofs.Places.{last_moves_left, no_data}
 use Rattle.virtio_blk.proofs.moves.take_move.Goals as goal
 
 pub take_data-requires-clause-on_disk : goal.take_data-requires-clause-on_disk
@@ -36,3 +36,9 @@ returns-else-q-clause-rest c =
 
 pub returns-else-q-clause-made : goal.returns-else-q-clause-made
 returns-else-q-clause-made c = λ disk_size on. c.take_last.ensures.made disk_size
+
+pub returns-then-q-clause-data_first : goal.returns-then-q-clause-data_first
+returns-then-q-clause-data_first c = λ is. c.take_data.ensures.first
+
+pub returns-else-q-clause-data_first : goal.returns-else-q-clause-data_first
+returns-else-q-clause-data_first c = no_data c.take_last.result c.take_last.new.q.tail c.take_last.ensures.last

@@ -1,0 +1,112 @@
+-- A request that was just accepted is in its chain and on the disk.
+use Rattle.std.proofs.Common.{◌≡◌, ℕ, zero, suc, ◌+◌, ◌-◌, ◌*◌, ◌%◌, ◌^◌, ◌<◌, ◌≤◌, Bool, true, false, not, ◌&&◌, ◌||◌, ◌==◌, nat_le, nat_lt, if◌then◌else◌, List, [], ◌∷◌, ◌++◌, length, take, drop, replicate, get_or, refl, ◌∙◌, sym, ap, subst, length-drop, length-append, arith}
+use Rattle.std.specs.List.{list_all}
+use Rattle.std.proofs.lemmas.Bool.Decides.{nat_tests}
+use Rattle.std.proofs.lemmas.List.{get_or-drop, get_or-take, length-replicate, length-take-le}
+use Rattle.sv_types.specs.Bytes.{in_ram, ram_base, ram_place}
+use Rattle.virtio_blk.specs.Chain.{no_part, between, most_parts, data_of}
+use Rattle.virtio_blk.specs.Requests.{bytes_in, lies_in, fits_type, are_sectors, can_move, result_by}
+use Rattle.virtio_blk.specs.Held.{behind, disk_place, data_left, padded_parts, new_of, first_part, IsPlaced, IsOnDisk}
+use Rattle.virtio_blk.specs.declared.state.VirtioPart.{VirtioPart}
+use Rattle.virtio_blk.proofs.DataMoves.{between_none, behind_none}
+use Rattle.virtio_blk.specs.Stores.{is_size}
+use Rattle.virtio_blk.proofs.Accepting.{part_padded, between_padded, first_between, zero_can, all_at}
+
+all_three : (a b c : Bool) → a && b && c ≡ true → (a ≡ true) × ((b ≡ true) × (c ≡ true))
+all_three true true true is = (refl, (refl, refl))
+all_three true true false is = absurd (cc)
+all_three true false c is = absurd (cc)
+all_three false b c is = absurd (cc)
+
+-- what a result of 0 says
+can_of : (ram : List ℕ) (disk_size kind sector : ℕ) (parts : List VirtioPart) → (result_by ram disk_size kind sector parts == 0) ≡ true
+    → (are_sectors disk_size sector (bytes_in parts) ≡ true) × ((list_all (lies_in ram) parts ≡ true) × (list_all (fits_type kind) parts ≡ true))
+unfolding result_by can_move
+can_of ram disk_size kind sector parts is =
+    let sectors = are_sectors disk_size sector (bytes_in parts) in
+    let lie = list_all (lies_in ram) parts in
+    let fit = list_all (fits_type kind) parts in
+    all_three sectors lie fit (zero_can (kind == 0 || kind == 1) (sectors && lie && fit) is)
+
+address_of : (ram : List ℕ) (gpa len : ℕ) → (len == 0 || in_ram ram gpa len) ≡ true → 0 < len → length ram < 2 ^ 62 → gpa + len < 2 ^ 63
+address_of ram gpa len lies some small = grind (arith, nat_tests)
+
+data_at : (parts : List VirtioPart) (k : ℕ) → 1 ≤ k → k < length parts - 1 → get_or (data_of parts) (k - 1) no_part ≡ get_or parts k no_part
+data_at parts k from to =
+    let place : 1 + (k - 1) ≡ k = omega (arith, from) in
+    get_or-take (length parts - 1 - 1) (drop 1 parts) (k - 1) no_part (omega (arith, from, to))
+    ∙ get_or-drop 1 parts (k - 1) no_part
+    ∙ ap (λ (n : ℕ). get_or parts n no_part) place
+
+data_length : (parts : List VirtioPart) → 2 ≤ length parts → length (data_of parts) ≡ length parts - 1 - 1
+data_length parts few =
+    let size = length-drop 1 parts in
+    length-take-le (length parts - 1 - 1) (drop 1 parts) (omega (arith, size, few))
+
+addresses_by : (ram : List ℕ) (disk_size kind sector : ℕ) (parts : List VirtioPart) (k : ℕ) (done : Bool) → (result_by ram disk_size kind sector (data_of parts) == 0) ≡ done
+    → 2 ≤ length parts → length ram < 2 ^ 62 → (if done then 1 else length parts - 1) ≤ k → k < length parts - 1 → 0 < (get_or parts k no_part).len
+    → (get_or parts k no_part).gpa + (get_or parts k no_part).len < 2 ^ 63
+addresses_by ram disk_size kind sector parts k true is few small from to some =
+    let lie = (can_of ram disk_size kind sector (data_of parts) is).1.0 in
+    let size = data_length parts few in
+    let inside : k - 1 < length (data_of parts) = omega (arith, from, to, size) in
+    let there = all_at (lies_in ram) (data_of parts) (k - 1) (lies_in ram (get_or (data_of parts) (k - 1) no_part)) lie inside refl in
+    let lies : lies_in ram (get_or parts k no_part) ≡ true = subst (λ (p : VirtioPart). lies_in ram p ≡ true) (data_at parts k from to) there in
+    address_of ram (get_or parts k no_part).gpa (get_or parts k no_part).len lies some small
+addresses_by ram disk_size kind sector parts k false is few small from to some = absurd (omega (arith, from, to))
+
+pub new_placed : (ram : List ℕ) (disk_size kind head sector size used : ℕ) (parts : List VirtioPart) → 2 ≤ length parts → length parts ≤ 34 → 1 ≤ size → size ≤ 64 → used % 4 ≡ 0 → used < 2 ^ 63 → length ram < 2 ^ 62
+    → IsPlaced (new_of head sector size used (result_by ram disk_size kind sector (data_of parts)) parts)
+new_placed ram disk_size kind head sector size used parts few most some large aligned below small =
+    let result = result_by ram disk_size kind sector (data_of parts) in
+    let between = first_between (length parts - 1) (result == 0) (omega (arith, few)) in
+    let zeros = length-replicate (34 - length parts) no_part in
+    let all = length-append parts (replicate (34 - length parts) no_part) in
+    record {
+      parts = omega (arith, zeros, all, most);
+      least = few;
+      most = most;
+      begun = between.0;
+      inside = between.1;
+      tail = omega arith;
+      data_first = λ before. refl;
+      offset = λ before. omega arith;
+      at_end = λ end. refl;
+      addresses = λ k from to any.
+          let same = part_padded parts k (omega (arith, to)) in
+          subst (λ (p : VirtioPart). p.gpa + p.len < 2 ^ 63) (sym same)
+          (addresses_by ram disk_size kind sector parts k (result == 0) refl few small from to (subst (λ (p : VirtioPart). 0 < p.len) same any));
+      size_some = some;
+      size_most = large;
+      aligned = aligned;
+      used = below;
+    }
+
+-- ---- on the disk
+
+on_disk_of : (disk_size sector size : ℕ) → are_sectors disk_size sector size ≡ true → 512 * sector + size ≤ disk_size
+on_disk_of disk_size sector size is = grind (arith, nat_tests)
+
+on_disk_by : (ram : List ℕ) (disk_size kind sector : ℕ) (parts : List VirtioPart) (done : Bool) → (result_by ram disk_size kind sector (data_of parts) == 0) ≡ done → 2 ≤ length parts
+    → (if done then 1 else length parts - 1) < length parts - 1
+    → 512 * sector + (bytes_in (between (padded_parts parts) 1 (if done then 1 else length parts - 1)) + 0)
+    + bytes_in (behind 0 (between (padded_parts parts) (if done then 1 else length parts - 1) (length parts - 1))) ≤ disk_size
+on_disk_by ram disk_size kind sector parts true is few before =
+    let there = on_disk_of disk_size sector (bytes_in (data_of parts)) (can_of ram disk_size kind sector (data_of parts) is).0 in
+    let none : bytes_in (between (padded_parts parts) 1 1) ≡ 0 = ap bytes_in (between_none (padded_parts parts) 1) in
+    let left : bytes_in (behind 0 (between (padded_parts parts) 1 (length parts - 1))) ≡ bytes_in (data_of parts) =
+    ap bytes_in (behind_none (between (padded_parts parts) 1 (length parts - 1)) ∙ between_padded parts 1 (length parts - 1) (omega (arith, few)) (omega arith)) in
+    omega (arith, there, none, left)
+on_disk_by ram disk_size kind sector parts false is few before = absurd (omega (arith, before))
+
+pub new_on_disk : (ram : List ℕ) (disk_size kind head sector size used : ℕ) (parts : List VirtioPart) → 2 ≤ length parts
+    → IsOnDisk disk_size (new_of head sector size used (result_by ram disk_size kind sector (data_of parts)) parts)
+new_on_disk ram disk_size kind head sector size used parts few before =
+    on_disk_by ram disk_size kind sector parts (result_by ram disk_size kind sector (data_of parts) == 0) refl few before
+
+-- the sizes of a queue in use
+pub size_some : (size : ℕ) → is_size size ≡ true → 1 ≤ size
+size_some size is = grind (arith, nat_tests)
+
+pub size_most : (size : ℕ) → is_size size ≡ true → size ≤ 64
+size_most size is = grind (arith, nat_tests)

@@ -1,0 +1,20 @@
+use Rattle.std.proofs.Common.{rules, ◌≡◌, ◌+◌, ◌-◌, ◌<◌, ℕ, List, ap, arith}
+use Rattle.virtio_blk.specs.Device.{Request}
+use Rattle.virtio_blk.specs.declared.state.VirtioMove.{VirtioMove}
+use Rattle.virtio_blk.proofs.Places.{last_all, without_data_moves, without_data_placed}
+use Rattle.virtio_blk.proofs.beats.without_data.Goals as goal
+
+refused_with : (n : ℕ) (moves : List VirtioMove) → Request
+refused_with n moves = record { moves = moves; result = 1; written = n }
+
+pub returns-clause-request : goal.returns-clause-request
+unfolding refused_with
+returns-clause-request c = λ accepted.
+    let q = c.args.request.now in
+    ap (refused_with q.written) (without_data_moves accepted q (last_all accepted q c.requires.first))
+
+pub returns-clause-placed : goal.returns-clause-placed
+returns-clause-placed c = without_data_placed c.args.request.now c.requires.placed c.requires.first
+
+pub returns-clause-on_disk : goal.returns-clause-on_disk
+returns-clause-on_disk c = λ disk_size before. absurd (omega (arith, before))

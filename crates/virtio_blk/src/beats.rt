@@ -1,0 +1,300 @@
+// Beats: the moves of the request under way.
+
+ghost use Rattle.std.specs.Prelude.{◌≡◌, ℕ, ◌+◌, ◌%◌, ◌<◌, ◌≤◌, false, length, Some};
+ghost use Rattle.sv_types.specs.Bytes.{page_size, overwrite, low_bytes};
+ghost use Rattle.reference.specs.Disk.{is_writable};
+ghost use Rattle.reference.specs.Disk.Move.{OutsideRam};
+ghost use Rattle.dma_guard.specs.Transfers.{told, after_move};
+ghost use Rattle.virtio_blk.specs.Beats.{broken, refused, with_written, with_request, finished, is_last, make, to_memory, to_disk, put_last, is_live};
+ghost use Rattle.virtio_blk.specs.Held.{IsPlaced, IsOnDisk, CanBeMade, device_of, request_of};
+
+use crate::Virtio;
+use crate::bus::NEEDS_RESET;
+use crate::requests::{FAILED, is_in_ram};
+use crate::state::{VirtioMove, VirtioRequest};
+use dma_guard::{Beaten, DmaGuard, DmaRefused};
+use host_mem::{HostMem, put_word};
+use sv_types::{RAM_BASE, has_bit};
+
+/// The place of the status bit that says that the driver is ready.
+const DRIVER_OK_PLACE: u8 = 2;
+
+/// Interrupts: a request is done, and the device's state has changed.
+const REQUEST_DONE: u32 = 1;
+
+const STATE_CHANGED: u32 = 2;
+
+// The request after a move that wrote so many bytes into memory.
+#[tactic(auto, unfolding(crate::specs::Held::moves_left))]
+fn with_written(request: &VirtioRequest, size: u64) -> VirtioRequest
+    requires small { size ≤ 64 }
+    ensures request { (accepted : ℕ) → request_of accepted result ≡ with_written (request_of accepted request.now) size }
+    ensures others { result ≡ record request.now { written = result.written } }
+{
+    VirtioRequest {
+        written: request.written.wrapping_add(size as u32),
+        ..*request
+    }
+}
+
+// The request after its data was refused.
+fn without_data(request: &VirtioRequest) -> VirtioRequest
+    requires placed { IsPlaced request.now }
+    requires first { request.now.tail ≡ 0 }
+    ensures request { (accepted : ℕ) → request_of accepted result ≡ refused (request_of accepted request.now) }
+    ensures placed { IsPlaced result }
+    ensures on_disk { (disk_size : ℕ) → IsOnDisk disk_size result }
+{
+    VirtioRequest {
+        part: request.count - 1,
+        offset: 0,
+        result: FAILED,
+        ..*request
+    }
+}
+
+// The low bytes of a value, the lowest first.
+#[tactic(auto, unfolding(sv_types::specs::Bytes::overwrite))]
+fn low_1(value: u64) -> [u8; 1]
+    ensures { result ≡ low_bytes 1 value }
+{
+    let mut bytes = [0];
+    put_word(&mut bytes, 0, 1, value);
+    bytes
+}
+
+#[tactic(auto, unfolding(sv_types::specs::Bytes::overwrite))]
+fn low_2(value: u64) -> [u8; 2]
+    ensures { result ≡ low_bytes 2 value }
+{
+    let mut bytes = [0; 2];
+    put_word(&mut bytes, 0, 2, value);
+    bytes
+}
+
+#[tactic(auto, unfolding(sv_types::specs::Bytes::overwrite))]
+fn low_4(value: u64) -> [u8; 4]
+    ensures { result ≡ low_bytes 4 value }
+{
+    let mut bytes = [0; 4];
+    put_word(&mut bytes, 0, 4, value);
+    bytes
+}
+
+impl Virtio {
+    fn is_live(&self) -> bool
+        ensures { result ≡ is_live (device_of self.now) }
+    {
+        has_bit(self.state.status as u64, DRIVER_OK_PLACE) && self.state.ready && !self.is_broken()
+    }
+
+    // The device is broken until its reset.
+    fn break_down(&mut self)
+        ensures { device_of self.new ≡ (broken (device_of self.old) OutsideRam).device }
+    {
+        self.state.status |= NEEDS_RESET;
+        self.state.interrupt |= STATE_CHANGED;
+        self.state.request = None;
+    }
+
+    // The request goes on.
+    fn keep(&mut self, request: VirtioRequest)
+        requires placed { IsPlaced request }
+        requires on_disk { IsOnDisk (length self.old.bytes) request }
+        ensures { self.new ≡ record self.old { state = record self.old.state { request = Some request } } }
+    {
+        self.state.request = Some(request);
+    }
+
+    // The request is done.
+    fn finish(&mut self)
+        ensures { device_of self.new ≡ finished (device_of self.old) }
+    {
+        self.state.request = None;
+        self.state.interrupt |= REQUEST_DONE;
+    }
+
+    // Bytes of the disk go into memory.
+    #[tactic(auto, unfolding(crate::specs::Beats::to_memory, dma_guard::specs::Transfers::write_answer, dma_guard::specs::Transfers::after_write))]
+    fn to_memory(
+        &mut self,
+        request: &VirtioRequest,
+        gpa: u64,
+        place: u64,
+        size: u64,
+        guard: &DmaGuard,
+        mem: &mut HostMem,
+    ) -> Beaten
+        requires small { size ≤ 64 }
+        requires one_page { gpa % page_size + size ≤ page_size }
+        requires inside { place + size ≤ length self.old.bytes }
+        requires placed { IsPlaced request.now }
+        requires on_disk { IsOnDisk (length self.old.bytes) request.now }
+        requires first { request.now.tail ≡ 0 }
+        ensures device { device_of self.new ≡ (to_memory (device_of self.old) (request_of self.old.state.accepted request.now) gpa place size mem.old.ram (is_writable guard.now)).device }
+        ensures told { result ≡ told (to_memory (device_of self.old) (request_of self.old.state.accepted request.now) gpa place size mem.old.ram (is_writable guard.now)).move }
+        ensures memory { mem.new ≡ after_move mem.old (to_memory (device_of self.old) (request_of self.old.state.accepted request.now) gpa place size mem.old.ram (is_writable guard.now)).move }
+    {
+        let from = place as usize;
+        match guard.write(mem, gpa, &self.bytes[from..from + size as usize]) {
+            Ok(()) => {
+                self.keep(with_written(request, size));
+                Beaten::Wrote {
+                    gpa,
+                    len: size as u32,
+                }
+            }
+            Err(DmaRefused::Protected { page: _ }) => {
+                self.keep(without_data(request));
+                Beaten::Denied { gpa }
+            }
+            Err(DmaRefused::OutOfRam) => {
+                self.break_down();
+                Beaten::Range
+            }
+        }
+    }
+
+    // One of the last moves writes its bytes, and the request goes on; or it breaks the device.
+    #[tactic(auto, unfolding(crate::specs::Beats::put_last, dma_guard::specs::Transfers::write_answer, dma_guard::specs::Transfers::after_write))]
+    fn put_last(
+        &mut self,
+        request: &VirtioRequest,
+        gpa: u64,
+        bytes: &[u8],
+        guard: &DmaGuard,
+        mem: &mut HostMem,
+    ) -> Beaten
+        requires small { length bytes.now ≤ 4 }
+        requires one_page { gpa % page_size + length bytes.now ≤ page_size }
+        requires placed { IsPlaced request.now }
+        requires on_disk { IsOnDisk (length self.old.bytes) request.now }
+        ensures device { device_of self.new ≡ (put_last (device_of self.old) (with_request (device_of self.old) (request_of self.old.state.accepted request.now)) gpa bytes.now mem.old.ram (is_writable guard.now)).device }
+        ensures told { result ≡ told (put_last (device_of self.old) (with_request (device_of self.old) (request_of self.old.state.accepted request.now)) gpa bytes.now mem.old.ram (is_writable guard.now)).move }
+        ensures memory { mem.new ≡ after_move mem.old (put_last (device_of self.old) (with_request (device_of self.old) (request_of self.old.state.accepted request.now)) gpa bytes.now mem.old.ram (is_writable guard.now)).move }
+    {
+        match guard.write(mem, gpa, bytes) {
+            Ok(()) => {
+                self.keep(*request);
+                Beaten::Wrote {
+                    gpa,
+                    len: bytes.len() as u32,
+                }
+            }
+            Err(DmaRefused::Protected { page: _ }) => {
+                self.break_down();
+                Beaten::Denied { gpa }
+            }
+            Err(DmaRefused::OutOfRam) => {
+                self.break_down();
+                Beaten::Range
+            }
+        }
+    }
+
+    // The used ring's index is the last move: the request is done, or the device is broken.
+    #[tactic(auto, unfolding(crate::specs::Beats::put_last, dma_guard::specs::Transfers::write_answer, dma_guard::specs::Transfers::after_write))]
+    fn put_index(
+        &mut self,
+        gpa: u64,
+        bytes: &[u8; 2],
+        guard: &DmaGuard,
+        mem: &mut HostMem,
+    ) -> Beaten
+        requires one_page { gpa % page_size + 2 ≤ page_size }
+        ensures device { device_of self.new ≡ (put_last (device_of self.old) (finished (device_of self.old)) gpa bytes.now mem.old.ram (is_writable guard.now)).device }
+        ensures told { result ≡ told (put_last (device_of self.old) (finished (device_of self.old)) gpa bytes.now mem.old.ram (is_writable guard.now)).move }
+        ensures memory { mem.new ≡ after_move mem.old (put_last (device_of self.old) (finished (device_of self.old)) gpa bytes.now mem.old.ram (is_writable guard.now)).move }
+    {
+        match guard.write(mem, gpa, bytes) {
+            Ok(()) => {
+                self.finish();
+                Beaten::Wrote { gpa, len: 2 }
+            }
+            Err(DmaRefused::Protected { page: _ }) => {
+                self.break_down();
+                Beaten::Denied { gpa }
+            }
+            Err(DmaRefused::OutOfRam) => {
+                self.break_down();
+                Beaten::Range
+            }
+        }
+    }
+
+    // Bytes go onto the disk, from a place on.
+    fn keep_bytes(&mut self, place: usize, bytes: &[u8])
+        requires { place + length bytes.now ≤ length self.old.bytes }
+        ensures value { self.new ≡ record self.old { bytes = overwrite self.old.bytes place bytes.now } }
+        ensures size { length self.new.bytes ≡ length self.old.bytes }
+    {
+        self.bytes[place..place + bytes.len()].copy_from_slice(bytes);
+    }
+
+    // Bytes of memory go onto the disk. Every page of RAM may be read.
+    #[tactic(auto, unfolding(crate::specs::Beats::to_disk))]
+    fn to_disk(
+        &mut self,
+        request: &VirtioRequest,
+        gpa: u64,
+        place: u64,
+        size: u64,
+        mem: &HostMem,
+    ) -> Beaten
+        requires inside { place + size ≤ length self.old.bytes }
+        requires placed { IsPlaced request.now }
+        requires on_disk { IsOnDisk (length self.old.bytes) request.now }
+        ensures device { device_of self.new ≡ (to_disk (device_of self.old) (request_of self.old.state.accepted request.now) gpa place size mem.now.ram).device }
+        ensures told { result ≡ told (to_disk (device_of self.old) (request_of self.old.state.accepted request.now) gpa place size mem.now.ram).move }
+        ensures memory { after_move mem.now (to_disk (device_of self.old) (request_of self.old.state.accepted request.now) gpa place size mem.now.ram).move ≡ mem.now }
+    {
+        let ram = mem.ram();
+        if !is_in_ram(ram, gpa, size) {
+            self.break_down();
+            return Beaten::Range;
+        }
+        let at = (gpa - RAM_BASE) as usize;
+        self.keep_bytes(place as usize, &ram[at..at + size as usize]);
+        self.keep(*request);
+        Beaten::Read { gpa }
+    }
+
+    // One move of a request, which has the others left.
+    #[tactic(auto, unfolding(crate::specs::Beats::make))]
+    fn make(
+        &mut self,
+        request: &VirtioRequest,
+        next: VirtioMove,
+        guard: &DmaGuard,
+        mem: &mut HostMem,
+    ) -> Beaten
+        requires placed { IsPlaced request.now }
+        requires on_disk { IsOnDisk (length self.old.bytes) request.now }
+        requires made { CanBeMade (length self.old.bytes) next }
+        requires data_first { is_last next ≡ false → request.now.tail ≡ 0 }
+        ensures device { device_of self.new ≡ (make (device_of self.old) (request_of self.old.state.accepted request.now) next mem.old.ram (is_writable guard.now)).device }
+        ensures told { result ≡ told (make (device_of self.old) (request_of self.old.state.accepted request.now) next mem.old.ram (is_writable guard.now)).move }
+        ensures memory { mem.new ≡ after_move mem.old (make (device_of self.old) (request_of self.old.state.accepted request.now) next mem.old.ram (is_writable guard.now)).move }
+    {
+        match next {
+            VirtioMove::ToMemory { gpa, place, size } => {
+                self.to_memory(request, gpa, place, size, guard, mem)
+            }
+            VirtioMove::ToDisk { gpa, place, size } => {
+                self.to_disk(request, gpa, place, size, mem)
+            }
+            VirtioMove::PutResult { gpa } => {
+                self.put_last(request, gpa, &low_1(request.result as u64), guard, mem)
+            }
+            VirtioMove::PutHead { gpa, head } => {
+                self.put_last(request, gpa, &low_4(head as u64), guard, mem)
+            }
+            VirtioMove::PutLength { gpa } => {
+                self.put_last(request, gpa, &low_4(request.written as u64 + 1), guard, mem)
+            }
+            VirtioMove::PutIndex { gpa, index } => {
+                self.put_index(gpa, &low_2(index as u64), guard, mem)
+            }
+        }
+    }
+}
