@@ -1,16 +1,22 @@
 // The next request: a look into the queue, and the chain that is accepted.
 
-ghost use Rattle.std.specs.Prelude.{◌≡◌, ◌+◌, ◌-◌, ◌*◌, ◌%◌, ◌<◌, ◌≤◌, IsTrue, length, replicate};
+ghost use Rattle.std.specs.Prelude.{◌≡◌, ℕ, ◌++◌, ◌+◌, ◌-◌, ◌*◌, ◌%◌, ◌<◌, ◌≤◌, ◌^◌, IsTrue, true, length, replicate};
 ghost use Rattle.sv_types.specs.Bytes.{ram_place};
+ghost use Rattle.virtio_blk.specs.Stores.{is_size};
+ghost use Rattle.sv_types.specs.Regions.{Region};
+ghost use Rattle.dma_guard.specs.Transfers.{told, after_move};
 ghost use Rattle.virtio_blk.specs.Queue.{rings_in_ram, available_index, next_head};
-ghost use Rattle.virtio_blk.specs.Chain.{no_part, data_of};
-ghost use Rattle.virtio_blk.specs.Requests.{type_of, sector_of, result_by};
-ghost use Rattle.virtio_blk.specs.Held.{HaveRings, HasHeader, device_of, padded_parts, new_of};
+ghost use Rattle.virtio_blk.specs.Chain.{no_part, data_of, result_of, chain, most_parts};
+ghost use Rattle.virtio_blk.specs.Requests.{type_of, sector_of, result_by, moves_by, last_moves};
+ghost use Rattle.virtio_blk.specs.Beats.{accepted, accept, look};
+ghost use Rattle.virtio_blk.specs.Held.{HaveRings, HasHeader, IsPlaced, IsOnDisk, device_of, request_of, padded_parts, new_of};
 
 use crate::Virtio;
-use crate::requests::{DONE, is_in_ram, result_by};
+use crate::chain::read_chain;
+use crate::requests::{DONE, is_good, is_in_ram, result_by};
 use crate::state::{MOST_PARTS, VirtioPart, VirtioRequest};
-use host_mem::word_at;
+use dma_guard::Beaten;
+use host_mem::{HostMem, word_at};
 use sv_types::RAM_BASE;
 
 /// Indices of the queue count modulo this.
@@ -76,6 +82,29 @@ fn new_request(
     }
 }
 
+// The request that a chain asks for, in its chain and on the disk.
+fn next_request(
+    ram: &[u8],
+    disk_size: usize,
+    used: u64,
+    size: u32,
+    head: u64,
+    parts: &[VirtioPart],
+) -> VirtioRequest
+    requires header { HasHeader ram.now parts.now }
+    requires most { length parts.now ≤ 34 }
+    requires head { head < 65536 }
+    requires size { is_size size ≡ true }
+    requires aligned { used % 4 ≡ 0 }
+    requires used { used < 2 ^ 63 }
+    requires small { length ram.now < 2 ^ 62 }
+    ensures request { (accepted : ℕ) → request_of accepted result ≡ record { moves = moves_by (result_by ram.now disk_size (type_of ram.now parts.now) (sector_of ram.now parts.now) (data_of parts.now)) (sector_of ram.now parts.now) (data_of parts.now) ++ last_moves (result_of parts.now).gpa used size head accepted; result = result_by ram.now disk_size (type_of ram.now parts.now) (sector_of ram.now parts.now) (data_of parts.now); written = 0 } }
+    ensures placed { IsPlaced result }
+    ensures on_disk { IsOnDisk disk_size result }
+{
+    new_request(ram, disk_size, used, size, head, parts)
+}
+
 impl Virtio {
     // Whether the three parts of the queue lie in RAM.
     #[tactic(auto, unfolding(crate::specs::Queue::rings_in_ram))]
@@ -119,5 +148,74 @@ impl Virtio {
         ensures { result ≡ (index + 65536 - self.now.state.accepted) % 65536 }
     {
         (index + INDICES - self.state.accepted) % INDICES
+    }
+
+    // The device accepts the request that a chain asks for.
+    #[tactic(auto, unfolding(crate::specs::Beats::accepted))]
+    fn begin(&mut self, ram: &[u8], head: u64, parts: &[VirtioPart])
+        requires header { HasHeader ram.now parts.now }
+        requires most { length parts.now ≤ 34 }
+        requires head { head < 65536 }
+        requires ready { self.old.state.ready ≡ true }
+        requires rings { HaveRings (device_of self.old) ram.now }
+        requires small { length ram.now < 2 ^ 62 }
+        ensures { device_of self.new ≡ accepted (device_of self.old) ram.now head parts.now }
+    {
+        let state = &self.state;
+        let request = next_request(ram, self.bytes.len(), state.used, state.size, head, parts);
+        self.state.accepted = (self.state.accepted + 1) % INDICES;
+        self.state.request = Some(request);
+    }
+
+    // The chain that begins at a head is accepted, where it is a request's; else the device breaks.
+    #[tactic(auto, unfolding(crate::specs::Beats::accept))]
+    fn accept(&mut self, ram: &[u8], head: u64) -> Beaten
+        requires head { head < 65536 }
+        requires ready { self.old.state.ready ≡ true }
+        requires rings { HaveRings (device_of self.old) ram.now }
+        requires small { length ram.now < 2 ^ 62 }
+        ensures device { device_of self.new ≡ (accept (device_of self.old) ram.now head (chain most_parts ram.now (ram_place self.old.state.descriptors) self.old.state.size head)).device }
+        ensures told { result ≡ told (accept (device_of self.old) ram.now head (chain most_parts ram.now (ram_place self.old.state.descriptors) self.old.state.size head)).move }
+        ensures still { (region : Region) → after_move region (accept (device_of self.old) ram.now head (chain most_parts ram.now (ram_place self.old.state.descriptors) self.old.state.size head)).move ≡ region }
+    {
+        let table = (self.state.descriptors - RAM_BASE) as usize;
+        let Some(parts) = read_chain(ram, table, self.state.size as u64, head) else {
+            self.break_down();
+            return Beaten::Range;
+        };
+        let parts = parts.as_slice();
+        if !is_good(ram, parts) {
+            self.break_down();
+            return Beaten::Range;
+        }
+        self.begin(ram, head, parts);
+        Beaten::Idle
+    }
+
+    /// A look for the next request, while none is under way.
+    #[tactic(auto, unfolding(crate::specs::Beats::look))]
+    pub(crate) fn look(&mut self, mem: &HostMem) -> Beaten
+        requires ready { self.old.state.ready ≡ true }
+        ensures device { device_of self.new ≡ (look (device_of self.old) mem.now.ram).device }
+        ensures told { result ≡ told (look (device_of self.old) mem.now.ram).move }
+        ensures still { (region : Region) → after_move region (look (device_of self.old) mem.now.ram).move ≡ region }
+    {
+        // RAM's size is known after this call.
+        let _pages = mem.ram_pages();
+        let ram = mem.ram();
+        if !self.rings_in_ram(ram) {
+            self.break_down();
+            return Beaten::Range;
+        }
+        let index = self.available_index(ram);
+        if index == self.state.accepted {
+            return Beaten::Idle;
+        }
+        if self.waiting(index) > self.state.size as u64 {
+            self.break_down();
+            return Beaten::Range;
+        }
+        let head = self.next_head(ram);
+        self.accept(ram, head)
     }
 }

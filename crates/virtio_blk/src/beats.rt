@@ -1,15 +1,16 @@
 // Beats: the moves of the request under way.
 
-ghost use Rattle.std.specs.Prelude.{◌≡◌, ℕ, ◌+◌, ◌%◌, ◌<◌, ◌≤◌, false, length, Some};
+ghost use Rattle.std.specs.Prelude.{◌≡◌, ℕ, ◌+◌, ◌%◌, ◌^◌, ◌<◌, ◌≤◌, false, true, IsTrue, length, Some};
 ghost use Rattle.sv_types.specs.Bytes.{page_size, overwrite, low_bytes};
 ghost use Rattle.reference.specs.Disk.{is_writable};
 ghost use Rattle.reference.specs.Disk.Move.{OutsideRam};
 ghost use Rattle.dma_guard.specs.Transfers.{told, after_move};
-ghost use Rattle.virtio_blk.specs.Beats.{broken, refused, with_written, with_request, finished, is_last, make, to_memory, to_disk, put_last, is_live};
-ghost use Rattle.virtio_blk.specs.Held.{IsPlaced, IsOnDisk, CanBeMade, device_of, request_of};
+ghost use Rattle.virtio_blk.specs.Beats.{broken, refused, with_written, with_request, finished, is_last, make, make_first, to_memory, to_disk, put_last, is_live, virtio_beat};
+ghost use Rattle.virtio_blk.specs.Held.{IsPlaced, IsOnDisk, CanBeMade, device_of, request_of, moves_left};
 
 use crate::Virtio;
 use crate::bus::NEEDS_RESET;
+use crate::moves::take_move;
 use crate::requests::{FAILED, is_in_ram};
 use crate::state::{VirtioMove, VirtioRequest};
 use dma_guard::{Beaten, DmaGuard, DmaRefused};
@@ -83,13 +84,14 @@ fn low_4(value: u64) -> [u8; 4]
 
 impl Virtio {
     fn is_live(&self) -> bool
-        ensures { result ≡ is_live (device_of self.now) }
+        ensures value { result ≡ is_live (device_of self.now) }
+        ensures ready { IsTrue result → self.now.state.ready ≡ true }
     {
         has_bit(self.state.status as u64, DRIVER_OK_PLACE) && self.state.ready && !self.is_broken()
     }
 
     // The device is broken until its reset.
-    fn break_down(&mut self)
+    pub(crate) fn break_down(&mut self)
         ensures { device_of self.new ≡ (broken (device_of self.old) OutsideRam).device }
     {
         self.state.status |= NEEDS_RESET;
@@ -295,6 +297,38 @@ impl Virtio {
             VirtioMove::PutIndex { gpa, index } => {
                 self.put_index(gpa, &low_2(index as u64), guard, mem)
             }
+        }
+    }
+
+    // The next move of the request under way.
+    fn go_on(&mut self, mut request: VirtioRequest, guard: &DmaGuard, mem: &mut HostMem) -> Beaten
+        requires placed { IsPlaced request }
+        requires on_disk { IsOnDisk (length self.old.bytes) request }
+        requires fits { IsOnDisk (2 ^ 63) request }
+        requires under_way { self.old.state.request ≡ Some request }
+        ensures device { device_of self.new ≡ (make_first (device_of self.old) (request_of self.old.state.accepted request) (moves_left self.old.state.accepted request) mem.old.ram (is_writable guard.now)).device }
+        ensures told { result ≡ told (make_first (device_of self.old) (request_of self.old.state.accepted request) (moves_left self.old.state.accepted request) mem.old.ram (is_writable guard.now)).move }
+        ensures memory { mem.new ≡ after_move mem.old (make_first (device_of self.old) (request_of self.old.state.accepted request) (moves_left self.old.state.accepted request) mem.old.ram (is_writable guard.now)).move }
+    {
+        let Some(next) = take_move(&mut request, self.state.accepted) else {
+            return Beaten::Idle;
+        };
+        self.make(&request, next, guard, mem)
+    }
+
+    /// One beat: a move of the request under way, or a look for the next one. It writes RAM through the guard alone.
+    #[tactic(auto, unfolding(crate::specs::Beats::virtio_beat))]
+    pub fn beat(&mut self, guard: &DmaGuard, mem: &mut HostMem) -> Beaten
+        ensures device { device_of self.new ≡ (virtio_beat (device_of self.old) mem.old.ram (is_writable guard.now)).device }
+        ensures told { result ≡ told (virtio_beat (device_of self.old) mem.old.ram (is_writable guard.now)).move }
+        ensures memory { mem.new ≡ after_move mem.old (virtio_beat (device_of self.old) mem.old.ram (is_writable guard.now)).move }
+    {
+        if !self.is_live() {
+            return Beaten::Idle;
+        }
+        match self.state.request {
+            None => self.look(mem),
+            Some(request) => self.go_on(request, guard, mem),
         }
     }
 }
