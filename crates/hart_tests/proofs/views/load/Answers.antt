@@ -7,5 +7,5 @@ use Rattle.hart_tests.proofs.views.load.Goals as goal
 pub translate-requires-clause-inside : goal.translate-requires-clause-inside
 translate-requires-clause-inside g c =
     subst (λ (hgatp : ℕ). WalksInside c.new-trees.new.mem hgatp) (sym c.root.ensures)
-    (view_walks_inside c.new-trees.new.mem.tables c.new-trees.new.mem.ram c.new-trees.result (view_hgatp Kernel) all_free OfKernel
+    (view_walks_inside c.new-trees.new.mem.tables c.new-trees.new.mem.ram c.new-trees.result.ram_pages (view_hgatp Kernel) all_free OfKernel
     (c.new-trees.ensures.views.each Kernel OfKernel refl) (sym c.new-trees.ensures.pages))
