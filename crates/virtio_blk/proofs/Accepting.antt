@@ -1,16 +1,13 @@
 -- The request that a chain asks for, as the code holds it.
-use Rattle.std.proofs.Common.{◌≡◌, ℕ, zero, suc, ◌+◌, ◌-◌, ◌*◌, ◌%◌, ◌^◌, ◌<◌, ◌≤◌, Bool, true, false, not, ◌&&◌, ◌||◌, ◌==◌, nat_le, nat_lt, if◌then◌else◌, List, [], ◌∷◌, ◌++◌, length, take, drop, replicate, get_or, refl, ◌∙◌, sym, ap, subst, length-drop, length-append, arith}
+use Rattle.std.proofs.Common.{◌≡◌, ℕ, ◌+◌, ◌-◌, ◌*◌, ◌<◌, ◌≤◌, Bool, true, false, ◌==◌, if◌then◌else◌, List, [], ◌++◌, length, take, drop, replicate, get_or, refl, ◌∙◌, ap, length-drop, arith}
 use Rattle.std.specs.List.{list_all}
-use Rattle.std.proofs.lemmas.Bool.Decides.{nat_tests}
-use Rattle.std.proofs.lemmas.List.{take-append-le, drop-append-le, get_or_append_left, get_or-drop, get_or-take}
+use Rattle.std.proofs.lemmas.List.{take-append-le, drop-append-le, get_or_append_left}
 use Rattle.std.proofs.lemmas.List.Folds.{list_all_at}
-use Rattle.sv_types.specs.Bytes.{in_ram, ram_base, ram_place}
 use Rattle.virtio_blk.specs.Chain.{no_part, between, most_parts, data_of, result_of}
-use Rattle.virtio_blk.specs.Requests.{bytes_in, lies_in, fits_type, are_sectors, can_move, result_by, data_moves, moves_by, last_moves}
-use Rattle.virtio_blk.specs.Held.{behind, part_at, last_place, data_left, disk_place, moves_left, padded_parts, new_of, first_part, IsPlaced, IsOnDisk}
+use Rattle.virtio_blk.specs.Requests.{bytes_in, data_moves, moves_by, last_moves}
+use Rattle.virtio_blk.specs.Held.{behind, moves_left, padded_parts, new_of}
 use Rattle.virtio_blk.specs.declared.state.VirtioMove.{VirtioMove}
 use Rattle.virtio_blk.specs.declared.state.VirtioPart.{VirtioPart}
-use Rattle.virtio_blk.specs.declared.state.VirtioRequest.{VirtioRequest}
 use Rattle.virtio_blk.proofs.DataMoves.{between_none, behind_none, data_moves_none}
 
 -- ---- the parts with empty ones behind them

@@ -1,5 +1,5 @@
 -- A chain of which a first part is read already.
-use Rattle.std.proofs.Common.{◌≡◌, ℕ, zero, suc, ◌+◌, ◌-◌, ◌*◌, ◌<◌, ◌≤◌, Bool, true, false, nat_lt, if◌then◌else◌, List, [], ◌∷◌, ◌++◌, Option, Some, None, option_map, refl, ◌∙◌, sym, ap, append_assoc, arith}
+use Rattle.std.proofs.Common.{◌≡◌, ℕ, suc, ◌+◌, ◌-◌, ◌*◌, ◌<◌, ◌≤◌, true, false, nat_lt, List, [], ◌∷◌, ◌++◌, Option, Some, None, option_map, refl, ◌∙◌, sym, ap, append_assoc, arith}
 use Rattle.virtio_blk.specs.Chain.{descriptor_at, with_rest, chain, most_parts}
 use Rattle.virtio_blk.specs.declared.chain.Descriptor.{Descriptor}
 use Rattle.virtio_blk.specs.declared.state.VirtioPart.{VirtioPart}

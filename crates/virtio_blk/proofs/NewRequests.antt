@@ -1,12 +1,12 @@
 -- A request that was just accepted is in its chain and on the disk.
-use Rattle.std.proofs.Common.{◌≡◌, ℕ, zero, suc, ◌+◌, ◌-◌, ◌*◌, ◌%◌, ◌^◌, ◌<◌, ◌≤◌, Bool, true, false, not, ◌&&◌, ◌||◌, ◌==◌, nat_le, nat_lt, if◌then◌else◌, List, [], ◌∷◌, ◌++◌, length, take, drop, replicate, get_or, refl, ◌∙◌, sym, ap, subst, length-drop, length-append, arith}
+use Rattle.std.proofs.Common.{◌≡◌, ℕ, ◌+◌, ◌-◌, ◌*◌, ◌%◌, ◌^◌, ◌<◌, ◌≤◌, Bool, true, false, ◌&&◌, ◌||◌, ◌==◌, if◌then◌else◌, List, length, drop, replicate, get_or, refl, ◌∙◌, sym, ap, subst, length-drop, length-append, arith}
 use Rattle.std.specs.List.{list_all}
 use Rattle.std.proofs.lemmas.Bool.Decides.{nat_tests}
 use Rattle.std.proofs.lemmas.List.{get_or-drop, get_or-take, length-replicate, length-take-le}
-use Rattle.sv_types.specs.Bytes.{in_ram, ram_base, ram_place}
-use Rattle.virtio_blk.specs.Chain.{no_part, between, most_parts, data_of}
+use Rattle.sv_types.specs.Bytes.{in_ram}
+use Rattle.virtio_blk.specs.Chain.{no_part, between, data_of}
 use Rattle.virtio_blk.specs.Requests.{bytes_in, lies_in, fits_type, are_sectors, can_move, result_by}
-use Rattle.virtio_blk.specs.Held.{behind, disk_place, data_left, padded_parts, new_of, first_part, IsPlaced, IsOnDisk}
+use Rattle.virtio_blk.specs.Held.{behind, padded_parts, new_of, IsPlaced, IsOnDisk}
 use Rattle.virtio_blk.specs.declared.state.VirtioPart.{VirtioPart}
 use Rattle.virtio_blk.proofs.DataMoves.{between_none, behind_none}
 use Rattle.virtio_blk.specs.Stores.{is_size}

@@ -1,11 +1,11 @@
 -- How the place in a chain goes on, as moves are taken.
-use Rattle.std.proofs.Common.{◌≡◌, ℕ, zero, suc, ◌+◌, ◌-◌, ◌*◌, ◌%◌, ◌<◌, ◌≤◌, Bool, true, false, List, [], ◌∷◌, ◌++◌, length, drop, get_or, filter, Option, Some, None, IfSome, refl, ◌∙◌, sym, ap, subst, arith}
+use Rattle.std.proofs.Common.{◌≡◌, ℕ, ◌+◌, ◌-◌, ◌%◌, ◌<◌, ◌≤◌, Bool, true, false, List, [], ◌∷◌, ◌++◌, length, drop, filter, Option, Some, None, IfSome, refl, ◌∙◌, sym, ap, subst, arith}
 use Rattle.std.proofs.lemmas.List.{drop-drop}
-use Rattle.virtio_blk.specs.Chain.{no_part, between}
+use Rattle.virtio_blk.specs.Chain.{between}
 use Rattle.virtio_blk.specs.Requests.{bytes_in, piece_size, piece, data_moves, last_moves}
 use Rattle.virtio_blk.specs.Beats.{is_last}
 use Rattle.virtio_blk.specs.Held.{behind, part_at, last_place, data_left, disk_place, last_left, moves_left, first_move, IsPlaced, IsOnDisk, IsSame, CanBeMade}
-use Rattle.virtio_blk.proofs.DataMoves.{between_first, between_none, bytes_in_more, piece_size_most, data_moves_first, data_moves_passed, data_moves_none, data_moves_not_last, behind_none, behind_more}
+use Rattle.virtio_blk.proofs.DataMoves.{between_first, between_none, bytes_in_more, data_moves_first, data_moves_passed, data_moves_none, data_moves_not_last, behind_none, behind_more}
 use Rattle.virtio_blk.specs.declared.state.VirtioMove.{VirtioMove}
 use Rattle.virtio_blk.specs.declared.state.VirtioPart.{VirtioPart}
 use Rattle.virtio_blk.specs.declared.state.VirtioRequest.{VirtioRequest}

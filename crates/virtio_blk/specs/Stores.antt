@@ -1,6 +1,6 @@
 -- What stores into the registers do. VIRTIO 1.2, "MMIO Device Register Layout", "Device Status Field", "Feature Bits".
 -- A store to a register that is only read has no effect.
-use Rattle.std.specs.Prelude.{ℕ, ◌+◌, ◌*◌, ◌/◌, ◌%◌, ◌^◌, Bool, true, false, not, ◌&&◌, ◌||◌, bit_or, List, [], ◌==◌, if◌then◌else◌, Option, None, option_map}
+use Rattle.std.specs.Prelude.{ℕ, ◌+◌, ◌*◌, ◌/◌, ◌%◌, ◌^◌, Bool, false, not, ◌&&◌, ◌||◌, bit_or, List, ◌==◌, if◌then◌else◌, Option, None, option_map}
 use Rattle.virtio_blk.specs.Device.{Device, cleared, is_broken, is_selected}
 use Rattle.virtio_blk.specs.Registers.{register_at}
 use Rattle.virtio_blk.specs.declared.registers.VirtioRegister.{VirtioRegister}

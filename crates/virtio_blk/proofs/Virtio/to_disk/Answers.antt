@@ -1,4 +1,4 @@
-use Rattle.std.proofs.Common.{◌≡◌, ℕ, sym, subst}
+use Rattle.std.proofs.Common.{ℕ, sym, subst}
 use Rattle.virtio_blk.specs.Held.{IsOnDisk}
 use Rattle.virtio_blk.proofs.Virtio.to_disk.Goals as goal
 

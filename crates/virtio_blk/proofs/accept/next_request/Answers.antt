@@ -1,4 +1,4 @@
-use Rattle.std.proofs.Common.{◌≡◌, ◌∙◌, ℕ, List, length, sym, ap, subst}
+use Rattle.std.proofs.Common.{◌∙◌, List, sym, ap, subst}
 use Rattle.virtio_blk.specs.Device.{Request}
 use Rattle.virtio_blk.specs.Requests.{type_of, sector_of, result_by}
 use Rattle.virtio_blk.specs.Chain.{data_of}

@@ -1,4 +1,4 @@
-use Rattle.std.proofs.Common.{rules, ◌≡◌, ◌+◌, ◌-◌, ◌≤◌, ◌∙◌, ◌++◌, List, length, drop, replicate, ap}
+use Rattle.std.proofs.Common.{◌≡◌, ◌-◌, ◌∙◌, ◌++◌, List, length, drop, replicate, ap}
 use Rattle.std.proofs.lemmas.List.{drop-replicate}
 use Rattle.virtio_blk.specs.Chain.{no_part}
 use Rattle.virtio_blk.specs.declared.state.VirtioPart.{VirtioPart}

@@ -1,4 +1,4 @@
-use Rattle.std.proofs.Common.{rules, ◌≡◌, ◌+◌, ◌-◌, ◌<◌, ℕ, List, ap, arith}
+use Rattle.std.proofs.Common.{ℕ, List, ap, arith}
 use Rattle.virtio_blk.specs.Device.{Request}
 use Rattle.virtio_blk.specs.declared.state.VirtioMove.{VirtioMove}
 use Rattle.virtio_blk.proofs.Places.{last_all, without_data_moves, without_data_placed}

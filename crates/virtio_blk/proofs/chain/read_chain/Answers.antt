@@ -1,4 +1,4 @@
-use Rattle.std.proofs.Common.{rules, ◌≡◌, ◌+◌, ◌-◌, Some, ◌∙◌, sym, ap, refl, List, [], arith}
+use Rattle.std.proofs.Common.{rules, ◌≡◌, ◌+◌, ◌-◌, Some, ◌∙◌, ap, List, []}
 use Rattle.virtio_blk.specs.Chain.{chain, most_parts}
 use Rattle.virtio_blk.specs.declared.state.VirtioPart.{VirtioPart}
 use Rattle.virtio_blk.proofs.Chains.{before, before_none, chain_ends, chain_goes_on}

@@ -1,4 +1,4 @@
-use Rattle.std.proofs.Common.{◌≡◌, ◌-◌, ℕ}
+use Rattle.std.proofs.Common.{◌≡◌, ◌-◌}
 use Rattle.arrayvec.specs.ArrayVec.{array_vec_len}
 use Rattle.virtio_blk.specs.Chain.{chain, most_parts}
 use Rattle.virtio_blk.proofs.Chains.{before}

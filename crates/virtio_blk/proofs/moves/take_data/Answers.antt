@@ -1,4 +1,4 @@
-use Rattle.std.proofs.Common.{rules, ◌≡◌, ℕ, ◌+◌, ◌-◌, ◌<◌, ◌≤◌, ◌∷◌, ◌∙◌, refl, sym, ap, subst, arith}
+use Rattle.std.proofs.Common.{◌≡◌, ℕ, ◌+◌, ◌-◌, ◌∷◌, ◌∙◌, sym, ap, subst, arith}
 use Rattle.virtio_blk.specs.Requests.{piece_size, piece}
 use Rattle.virtio_blk.specs.Held.{CanBeMade, part_at, disk_place, moves_left}
 use Rattle.virtio_blk.specs.declared.state.VirtioMove.{VirtioMove}

@@ -1,5 +1,5 @@
-use Rattle.std.proofs.Common.{rules, ◌≡◌, ℕ, ◌+◌, ◌-◌, ◌^◌, ◌<◌, ◌≤◌, ◌∙◌, drop, sym, ap, subst, arith}
-use Rattle.virtio_blk.specs.Held.{IsOnDisk, last_place, moves_left, first_move}
+use Rattle.std.proofs.Common.{◌≡◌, ◌^◌, ◌∙◌, drop, sym, ap, subst, arith}
+use Rattle.virtio_blk.specs.Held.{last_place, first_move}
 use Rattle.virtio_blk.specs.declared.state.VirtioRequest.{VirtioRequest}
 use Rattle.virtio_blk.proofs.Places.{last_moves_left, no_data}
 use Rattle.virtio_blk.proofs.moves.take_move.Goals as goal
