@@ -9,6 +9,9 @@ How secvisor is used:
       makes the policy of a kernel and its modules, and saves it as OUT
   secvisor run IMAGE POLICY DISK SCRIPT EVENTS SAVE
       runs a kernel under a policy
+  secvisor live IMAGE POLICY DISK EVENTS OUT
+      runs a kernel with the keys of standard input, up to its end, and saves its events as
+      OUT, a script for run
   secvisor flat FILE MEASURE EVENTS
       runs 1 to 16 plain pages, all of them approved
   secvisor gen N
@@ -19,7 +22,7 @@ How secvisor is used:
   POLICY       what measure made, or a text like it
   DISK         the disk's bytes, whole sectors of 512, or none for an empty disk
   SCRIPT       a script of events, none for the harts in turn, or auto:K for a drawn order
-  EVENTS       the most events, 0 to 4294967296
+  EVENTS       the most events, 0 to 4294967296; with live to 4294950912, beside the keys
   RAM          pages of 4096 bytes, 16 to 262144
   HARTS        1 to 4
   ENTRIES      1 to 64 addresses at which user mode may enter the kernel, harts start, or the

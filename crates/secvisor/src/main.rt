@@ -1,9 +1,11 @@
-//! The program `secvisor`: its words, the files of the operating system and standard output.
+//! The program `secvisor`: its words, the files of the operating system, standard input and standard output.
 #![tactic(auto)]
 
 mod help;
 
 use help::help;
+use live_cli::secvisor_live;
+use live_keys::{ReaderKeys, Still};
 use outside::{RealFiles, StdSink};
 use secvisor_cli::{Bench, Status, secvisor};
 use std::alloc::AllocError;
@@ -25,11 +27,33 @@ fn main(rt: HostRuntime) -> ExitCode {
     let mut files = RealFiles::new(reading, rt.stderr().is_terminal());
     let mut out = StdSink::new(printing);
     let mut bench = Bench { machine: None };
-    let status = secvisor(&rt, rt.alloc(), &words, &mut files, &mut out, &mut bench);
+    let status = if asks_live(&words) {
+        let mut keys = ReaderKeys::new(rt.reader());
+        secvisor_live(
+            &rt,
+            rt.alloc(),
+            &words,
+            &mut files,
+            &mut keys,
+            &mut out,
+            &Still,
+            &mut bench,
+        )
+    } else {
+        secvisor(&rt, rt.alloc(), &words, &mut files, &mut out, &mut bench)
+    };
     if status == Status::Usage {
         explain(&rt);
     }
     ExitCode::from(status.number())
+}
+
+// The first word is `live`.
+fn asks_live(words: &[String]) -> bool {
+    match words {
+        [name, ..] => name.as_str() == "live",
+        [] => false,
+    }
 }
 
 // To a person at a terminal alone, so that other programs read of a refusal the one line. A failure changes nothing.

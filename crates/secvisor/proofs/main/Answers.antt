@@ -4,6 +4,7 @@ use Rattle.secvisor_cli.specs.CommandLine.{judged}
 use Rattle.secvisor_cli.specs.Plans.{plan_of}
 use Rattle.secvisor_cli.specs.Reading.{MayFollow}
 use Rattle.secvisor_cli.proofs.PlanLemmas.{may_follow}
+use Rattle.live_cli.specs.LiveWords.{live_judged, live_plan}
 use Rattle.secvisor.proofs.main.Goals as goal
 
 words_follow : (words : List (List ℕ)) (files : FilesState) → ((asked : List (List ℕ × ℕ)) → IsTrue (files.permits asked)) →
@@ -12,3 +13,10 @@ words_follow words files all saves = may_follow (plan_of (judged words)) files a
 
 pub secvisor-status-requires-clause-permitted : goal.secvisor-status-requires-clause-permitted
 secvisor-status-requires-clause-permitted g c = λ κs. words_follow _ _ (λ asked. refl) (λ saves. refl)
+
+live_follows : (words : List (List ℕ)) (files : FilesState) → ((asked : List (List ℕ × ℕ)) → IsTrue (files.permits asked)) →
+    ((saves : List (List ℕ × List ℕ)) → IsTrue (files.permits_save saves)) → MayFollow (live_plan (live_judged words)) files
+live_follows words files all saves = may_follow (live_plan (live_judged words)) files all saves
+
+pub secvisor_live-status-requires-clause-permitted : goal.secvisor_live-status-requires-clause-permitted
+secvisor_live-status-requires-clause-permitted g c = λ κs. live_follows _ _ (λ asked. refl) (λ saves. refl)
