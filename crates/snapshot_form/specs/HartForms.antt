@@ -1,0 +1,169 @@
+-- The form of a hart. This project's own; the registers are those of the RISC-V Privileged manual, "Supervisor CSRs".
+use Rattle.std.specs.Prelude.{ℕ, ◌+◌, ◌-◌, ◌*◌, ◌%◌, List, [], ◌∷◌, drop, Bool, true, false, not, ◌&&◌, ◌||◌, Option, Some, None, nat_lt, nat_le, ◌==◌, if◌then◌else◌}
+use Rattle.saved_machine.specs.declared.harts.SavedHart.{SavedHart}
+use Rattle.snapshot_form.specs.Forms.{Form, number, within, and_then, ◌⨾◌, made, always, listed}
+use Rattle.sv_types.specs.Bytes.{page_size, ram_base}
+use Rattle.sv_types.specs.Registers.{legal_status, legal_interrupts, legal_tvec, legal_counteren, legal_epc, legal_satp}
+use Rattle.sv_types.specs.declared.wires.Mode.TheVariants.{Kernel, User}
+use Rattle.sv_types.specs.declared.wires.Mode.{Mode}
+
+-- ---- small values
+
+-- 0 or 1
+abbrev pub flag_number : Bool → ℕ
+flag_number true = 1
+flag_number false = 0
+
+unfoldable pub flag : Form Bool
+flag = made (λ n. n == 1) flag_number always (within (λ n. nat_le n 1) number)
+
+-- 0 kernel, 1 user
+abbrev pub mode_of : Bool → Mode
+mode_of true = User
+mode_of false = Kernel
+
+abbrev pub is_user : Mode → Bool
+is_user Kernel = false
+is_user User = true
+
+unfoldable pub mode : Form Mode
+mode = made mode_of is_user always flag
+
+-- 0 none, else a place and 1; there are 64 places
+abbrev pub place_number : Option ℕ → ℕ
+place_number None = 0
+place_number (Some place) = place + 1
+
+abbrev pub place_of : ℕ → Option ℕ
+place_of n = if n == 0 then None else Some (n - 1)
+
+unfoldable pub place : Form (Option ℕ)
+place = made place_of place_number always (within (λ n. nat_le n 64) number)
+
+-- 0 none, else an address of RAM that is a multiple of 8
+abbrev pub address_number : Option ℕ → ℕ
+address_number None = 0
+address_number (Some address) = address
+
+abbrev pub address_of : ℕ → Option ℕ
+address_of n = if n == 0 then None else Some n
+
+abbrev pub is_nonzero : Option ℕ → Bool
+is_nonzero None = true
+is_nonzero (Some address) = not (address == 0)
+
+abbrev pub is_ram_address : ℕ → ℕ → Bool
+is_ram_address ram_pages n = nat_le ram_base n && nat_lt n (ram_base + page_size * ram_pages)
+
+abbrev pub is_reservable : ℕ → ℕ → Bool
+is_reservable ram_pages n = n == 0 || (is_ram_address ram_pages n && n % 8 == 0)
+
+unfoldable pub reservation : ℕ → Form (Option ℕ)
+reservation ram_pages = made address_of address_number is_nonzero (within (is_reservable ram_pages) number)
+
+-- a multiple of a size, as an instruction's address of 4
+unfoldable pub aligned : ℕ → Form ℕ
+aligned size = within (λ n. n % size == 0) number
+
+-- a number in which some bits alone may stand
+unfoldable pub legal : (ℕ → ℕ) → Form ℕ
+legal bits = within (λ n. bits n == n) number
+
+-- ---- a hart
+
+abbrev pub Side : Type 0
+Side = Bool × (Mode × Option ℕ)
+
+-- started, mode, entry. A stopped hart is in kernel mode, and one that is stopped or in user mode is in no entry
+unfoldable pub side : Form Side
+side = and_then flag (λ started. and_then (within (λ m. started || not (is_user m)) mode)
+    (λ m. within (λ entry. (started && not (is_user m)) || place_number entry == 0) place))
+
+-- sepc, scause, stval, sip, satp
+abbrev pub TrapStatus : Type 0
+TrapStatus = ℕ × (ℕ × (ℕ × (ℕ × ℕ)))
+
+unfoldable pub trap_status : Form TrapStatus
+trap_status = legal legal_epc ⨾ (number ⨾ (number ⨾ (within (λ n. n == 0 || n == 2) number ⨾ legal (legal_satp 0))))
+
+-- sstatus, sie, stvec, scounteren, sscratch, and those of a trap
+abbrev pub Status : Type 0
+Status = ℕ × (ℕ × (ℕ × (ℕ × (ℕ × TrapStatus))))
+
+unfoldable pub status : Form Status
+status = legal legal_status ⨾ (legal legal_interrupts ⨾ (legal legal_tvec ⨾ (legal legal_counteren ⨾ (number ⨾ trap_status))))
+
+-- x1 to x31
+unfoldable pub registers : Form (List ℕ)
+registers = listed (λ before. number) [] 31
+
+abbrev pub HartParts : Type 0
+HartParts = Side × (ℕ × (List ℕ × (Status × (Option ℕ × ℕ))))
+
+abbrev pub hart_parts : SavedHart → HartParts
+hart_parts h = (
+  (h.started, (h.mode, h.entry)),
+  (
+    h.pc,
+    (
+      drop 1 h.registers,
+      (
+        (
+          h.sstatus,
+          (
+            h.sie,
+            (
+              h.stvec,
+              (
+                h.scounteren,
+                (
+                  h.sscratch,
+                  (
+                    h.sepc,
+                    (h.scause, (h.stval, (h.sip, h.satp))),
+                  ),
+                ),
+              ),
+            ),
+          ),
+        ),
+        (h.reservation, h.timer),
+      ),
+    ),
+  ),
+)
+
+abbrev pub hart_of : HartParts → SavedHart
+hart_of x = record {
+  started = x.0.0;
+  mode = x.0.1.0;
+  pc = x.1.0;
+  registers = 0 ∷ x.1.1.0;
+  sstatus = x.1.1.1.0.0;
+  sie = x.1.1.1.0.1.0;
+  stvec = x.1.1.1.0.1.1.0;
+  scounteren = x.1.1.1.0.1.1.1.0;
+  sscratch = x.1.1.1.0.1.1.1.1.0;
+  sepc = x.1.1.1.0.1.1.1.1.1.0;
+  scause = x.1.1.1.0.1.1.1.1.1.1.0;
+  stval = x.1.1.1.0.1.1.1.1.1.1.1.0;
+  sip = x.1.1.1.0.1.1.1.1.1.1.1.1.0;
+  satp = x.1.1.1.0.1.1.1.1.1.1.1.1.1;
+  reservation = x.1.1.1.1.0;
+  entry = x.0.1.1;
+  timer = x.1.1.1.1.1;
+}
+
+-- register 0 is 0
+abbrev pub begins_with_0 : List ℕ → Bool
+begins_with_0 [] = false
+begins_with_0 (n ∷ rest) = n == 0
+
+-- started, mode, entry, pc, x1 to x31, the supervisor registers, reservation, timer
+unfoldable pub hart : ℕ → Form SavedHart
+hart ram_pages =
+    made hart_of hart_parts (λ h. begins_with_0 h.registers)
+    (side ⨾ (aligned 4 ⨾ (registers ⨾ (status ⨾ (reservation ram_pages ⨾ number)))))
+
+unfoldable pub harts : (ram_pages count : ℕ) → Form (List SavedHart)
+harts ram_pages count = listed (λ before. hart ram_pages) [] count

@@ -1,0 +1,9 @@
+pub mod Refusals
+pub mod Forms
+pub mod FormLaw
+pub mod HartForms
+pub mod PageForms
+pub mod DeviceForms
+pub mod JournalForms
+pub mod Snapshots
+pub mod SnapshotLaw

@@ -1,0 +1,126 @@
+-- The forms of what pages are, and of the modules in them. This project's own.
+use Rattle.std.specs.Prelude.{ℕ, ◌-◌, List, [], length, Bool, true, false, not, ◌&&◌, Option, Some, None, option_map, is_some, slice_get, nat_lt, nat_le, ◌==◌, if◌then◌else◌}
+use Rattle.saved_machine.specs.declared.harts.SavedHart.{SavedHart}
+use Rattle.saved_machine.specs.declared.whole.SavedLoad.{SavedLoad}
+use Rattle.snapshot_form.specs.Forms.{Form, number, byte, plain, nothing, within, and_then, ◌⨾◌, made, always, listed, counted}
+use Rattle.snapshot_form.specs.HartForms.{flag, is_user, aligned}
+use Rattle.snapshot_form.specs.declared.whole.TextPage.{TextPage}
+use Rattle.sv_types.specs.Bytes.{page_size}
+use Rattle.sv_types.specs.Policies.{modules_count_within}
+use Rattle.sv_types.specs.declared.saved.SavedModule.{SavedModule}
+use Rattle.sv_types.specs.declared.wires.Protection.TheVariants.{Free, Held, Approved}
+use Rattle.sv_types.specs.declared.wires.Protection.{Protection}
+
+-- ---- protections
+
+abbrev pub protection_number : Protection → ℕ
+protection_number Free = 0
+protection_number Held = 1
+protection_number Approved = 2
+
+abbrev pub protection_of : ℕ → Protection
+protection_of n = if n == 0 then Free else if n == 1 then Held else Approved
+
+-- one byte: 0 free, 1 held, 2 approved
+unfoldable pub protection : Form Protection
+protection = made protection_of protection_number always (within (λ n. nat_le n 2) byte)
+
+unfoldable pub protections : ℕ → Form (List Protection)
+protections ram_pages = listed (λ before. protection) [] ram_pages
+
+-- ---- text
+
+-- above the last of those before it
+abbrev pub is_above : Option ℕ → ℕ → Bool
+is_above None n = true
+is_above (Some last) n = nat_lt last n
+
+abbrev pub last_page : List TextPage → Option ℕ
+last_page before = option_map (λ (t : TextPage). t.page) (slice_get before (length before - 1))
+
+abbrev pub text_page_of : ℕ × List ℕ → TextPage
+text_page_of x = record { page = x.0; digest = x.1 }
+
+abbrev pub text_page_parts : TextPage → ℕ × List ℕ
+text_page_parts t = (t.page, t.digest)
+
+-- a page in RAM, and its digest
+unfoldable pub text_page : ℕ → List TextPage → Form TextPage
+text_page ram_pages before =
+    made text_page_of text_page_parts always
+    (within (λ n. nat_lt n ram_pages && is_above (last_page before) n) number ⨾ plain 32)
+
+-- ascending; there are no more than pages of RAM
+unfoldable pub text : ℕ → Form (List TextPage)
+text ram_pages = counted (λ n. nat_le n ram_pages) (text_page ram_pages)
+
+abbrev pub Pages : Type 0
+Pages = List Protection × List TextPage
+
+unfoldable pub pages : ℕ → Form Pages
+pages ram_pages = protections ram_pages ⨾ text ram_pages
+
+-- ---- modules
+
+abbrev pub ModuleParts : Type 0
+ModuleParts = ℕ × (ℕ × (ℕ × ℕ))
+
+abbrev pub module_of : ModuleParts → SavedModule
+module_of x = record { id = x.0; gpa = x.1.0; va = x.1.1.0; data_va = x.1.1.1 }
+
+abbrev pub module_parts : SavedModule → ModuleParts
+module_parts m = (m.id, (m.gpa, (m.va, m.data_va)))
+
+unfoldable pub module_within : (ℕ → Bool) → Form SavedModule
+module_within good = made module_of module_parts always (within good number ⨾ (aligned page_size ⨾ (aligned page_size ⨾ number)))
+
+abbrev pub last_id : List SavedModule → Option ℕ
+last_id before = option_map (λ (m : SavedModule). m.id) (slice_get before (length before - 1))
+
+abbrev pub next_module : List SavedModule → Form SavedModule
+next_module before = module_within (is_above (last_id before))
+
+-- ascending by id; there are no more than 64
+unfoldable pub modules : Form (List SavedModule)
+modules = counted modules_count_within next_module
+
+-- ---- the load under way
+
+abbrev pub load_of : ℕ × (SavedModule × ℕ) → SavedLoad
+load_of x = record { hart = x.0; «module» = x.1.0; left = x.1.1 }
+
+abbrev pub load_parts : SavedLoad → ℕ × (SavedModule × ℕ)
+load_parts load = (load.hart, (load.«module», load.left))
+
+-- it is there, started and in kernel mode
+abbrev pub may_load : Option SavedHart → Bool
+may_load None = false
+may_load (Some hart) = hart.started && not (is_user hart.mode)
+
+-- no module has more than 1,024 pages
+unfoldable pub load : List SavedHart → Form SavedLoad
+load harts =
+    made load_of load_parts always
+    (within (λ h. may_load (slice_get harts h)) number ⨾ (module_within (is_above None) ⨾ within (λ n. nat_le n 1024) number))
+
+abbrev pub some_or : {A : Type 0} → A → Option A → A
+some_or past None = past
+some_or past (Some a) = a
+
+abbrev pub nowhere : SavedLoad
+nowhere = record { hart = 0; «module» = record { id = 0; gpa = 0; va = 0; data_va = 0 }; left = 0 }
+
+-- a load where the flag before it is 1
+unfoldable pub load_behind : List SavedHart → Bool → Form (Option SavedLoad)
+load_behind harts true = made Some (some_or nowhere) is_some (load harts)
+load_behind harts false = nothing None (λ o. not (is_some o))
+
+unfoldable pub loading : List SavedHart → Form (Option SavedLoad)
+loading harts = made (λ x. x.1) (λ o. (is_some o, o)) always (and_then flag (load_behind harts))
+
+-- loaded modules, whether init pages are retired, and the load under way
+abbrev pub Gate : Type 0
+Gate = List SavedModule × (Bool × Option SavedLoad)
+
+unfoldable pub gate : List SavedHart → Form Gate
+gate harts = modules ⨾ (flag ⨾ loading harts)

@@ -1,0 +1,20 @@
+// A machine between two events, as a file keeps it.
+
+use saved_machine::Saved;
+
+/// A page of the kernel's text, and the SHA-256 of the bytes that it was approved with.
+#[derive(Clone, Copy, Debug, PartialEq, Eq, Drop)]
+pub struct TextPage {
+    pub page: u32,
+    pub digest: [u8; 32],
+}
+
+/// A machine, with what its state alone doesn't tell.
+#[derive(Debug, PartialEq, Eq, Drop)]
+pub struct Snapshot {
+    /// The events that were made while the machine ran.
+    pub events: u64,
+    pub machine: Saved,
+    /// The pages of the kernel's text, ascending.
+    pub text: Vec<TextPage>,
+}
