@@ -1,9 +1,9 @@
 -- What a load or a store at the bus makes of the machine, by whether a register is there.
 use Rattle.std.proofs.Common.{◌≡◌, ℕ, Bool, true, false, refl, ap}
 use Rattle.std.specs.Prelude.{Option, Some, None, option_map, is_some, unwrap_or}
-use Rattle.sv_types.specs.Requests.{loaded_value}
-use Rattle.sv_types.specs.declared.cause.Cause.{Cause}
-use Rattle.sv_types.specs.declared.wires.Mode.{Mode}
+use Rattle.processor.specs.Requests.{loaded_value}
+use Rattle.processor.specs.declared.cause.Cause.{Cause}
+use Rattle.processor.specs.declared.mode.Mode.{Mode}
 use Rattle.reference.specs.Counting.{counted, count_retired}
 use Rattle.reference.specs.Devices.{DeviceLoad, DeviceStore}
 use Rattle.reference.specs.States.{Devices, Journal}

@@ -1,7 +1,7 @@
 // Accesses to device registers.
 
 ghost use Rattle.std.specs.Prelude.{◌≡◌, ◌%◌, ◌<◌, length, []};
-ghost use Rattle.sv_types.specs.declared.exit.ExitCause.{ExitCause};
+ghost use Rattle.processor.specs.declared.exit.ExitCause.{ExitCause};
 ghost use Rattle.reference.specs.Counting.{MayCount};
 ghost use Rattle.reference.specs.Devices.{device_load, device_store};
 ghost use Rattle.machine_model.specs.HostHarts.{host_device_load, host_device_store};
@@ -15,7 +15,7 @@ use dma_guard::DiskPort;
 use hart_answers::{Seat, Trap, pass, set};
 use journal_records::Journal;
 use page_guard::{Entries, Guard};
-use sv_types::{Cause, ExitCause};
+use processor::{Cause, ExitCause};
 use trap_answers::guest_trap;
 
 /// A load: the register that it sets, its virtual address, how it takes the value, and the guest-physical address.

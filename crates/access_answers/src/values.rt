@@ -1,10 +1,10 @@
 // Loaded values.
 
 ghost use Rattle.std.specs.Prelude.{◌≡◌};
-ghost use Rattle.sv_types.specs.Requests.{loaded_value};
+ghost use Rattle.processor.specs.Requests.{loaded_value};
 
 /// A loaded value as a register takes it.
-#[tactic(auto, unfolding(sv_types::specs::Requests::loaded_value))]
+#[tactic(auto, unfolding(processor::specs::Requests::loaded_value))]
 pub(crate) fn loaded_value(signed: bool, width: u8, value: u64) -> u64
     ensures { result ≡ loaded_value signed width value }
 {

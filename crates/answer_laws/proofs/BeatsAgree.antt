@@ -2,8 +2,8 @@
 use Rattle.std.proofs.Common.{◌≡◌, ℕ, zero, suc, ◌+◌, ◌*◌, ◌<◌, List, [], ◌∷◌, length, map, refl, sym, ◌∙◌, ap, Bool, true, false, not, ◌&&◌, ◌||◌, arith, slice_get}
 use Rattle.std.specs.Prelude.{Option, Some, unwrap_or, option_map, if◌then◌else◌, nat_le, ◌==◌}
 use Rattle.std.proofs.lemmas.Bool.Decides.{nat_tests}
-use Rattle.sv_types.specs.Bytes.{part, overwrite, in_ram, ram_base, ram_place, page_of, page_size}
-use Rattle.sv_types.specs.declared.wires.Protection.{Protection}
+use Rattle.processor.specs.Bytes.{part, overwrite, in_ram, ram_base, ram_place, page_of, page_size}
+use Rattle.sv_types.specs.declared.protection.Protection.{Protection}
 use Rattle.reference.specs.States.{State, Disk, protection_in, protection_by, is_protected, is_approved_in, has_number}
 use Rattle.reference.specs.Disk.{disk_beat, is_writable, to_memory, to_disk, block_after_beat, beat_place, Move, Idle, FromRam, IntoRam, DeniedAt, OutsideRam, beat_gpa, beat_size, is_busy, transfer_ended}
 use Rattle.reference.specs.Devices.{beat, after_beaten, after_move, with_bytes}

@@ -4,7 +4,7 @@ use Rattle.attempt_laws.proofs.Stays.{length_set}
 use Rattle.attempt_laws.proofs.Under.{same_mode}
 use Rattle.std.proofs.Common.{◌≡◌, ℕ, zero, suc, ◌+◌, ◌≤◌, List, [], ◌∷◌, length, map, refl, sym, ◌∙◌, ap, subst, Bool, true, false, not, slice_get, slice_set}
 use Rattle.std.specs.Prelude.{Some, None, if◌then◌else◌, IsTrue}
-use Rattle.sv_types.specs.HypervisorRegisters.{HypervisorRegisters, registers_at_boot}
+use Rattle.processor.specs.HypervisorRegisters.{HypervisorRegisters, registers_at_boot}
 use Rattle.attempt_laws.specs.Agree.{IsAt}
 use Rattle.reference.specs.Answers.{replied, devices_beside, journal_beside, harts_beside, answered, call}
 use Rattle.reference.specs.Calls.{Facts, asked_by, facts_of, mask_names, interrupted, with_software, hart_at, started_hart, extension_of}

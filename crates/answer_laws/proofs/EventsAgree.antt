@@ -3,15 +3,15 @@ use Rattle.attempt_laws.proofs.Stays.{length_map}
 use Rattle.std.proofs.Common.{◌≡◌, ℕ, ◌+◌, ◌%◌, ◌<◌, ◌≤◌, List, length, map, refl, sym, ◌∙◌, ap, subst, Bool, true, false, not, arith, slice_get}
 use Rattle.std.specs.Prelude.{Some, None, option_map, if◌then◌else◌}
 use Rattle.std.proofs.lemmas.Bool.Decides.{nat_tests}
-use Rattle.sv_types.specs.Bytes.{overwrite, in_ram, page_of, ram_place}
+use Rattle.processor.specs.Bytes.{overwrite, in_ram, page_of, ram_place}
 use Rattle.sv_types.specs.Clock.{after_tick}
 use Rattle.sv_types.specs.Console.{after_key, has_room}
-use Rattle.sv_types.specs.Regions.{IsRegion}
-use Rattle.sv_types.specs.SecondStage.{with_ram}
+use Rattle.processor.specs.Regions.{IsRegion}
+use Rattle.sv_types.specs.Views.{with_ram}
 use Rattle.sv_types.specs.declared.event.Counts.{Counts}
 use Rattle.sv_types.specs.declared.event.Event.{Event}
 use Rattle.sv_types.specs.declared.event.Event.TheVariants.{Turn, Beat, Key, Tick}
-use Rattle.sv_types.proofs.ByteLemmas.{length_overwrite}
+use Rattle.processor_laws.proofs.ByteLemmas.{length_overwrite}
 use Rattle.sv_types.specs.declared.event.Note.TheVariants.{Denied}
 use Rattle.sv_types.specs.declared.event.Verdict.{Verdict}
 use Rattle.sv_types.specs.declared.event.Verdict.TheVariants.{Running}

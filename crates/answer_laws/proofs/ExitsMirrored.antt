@@ -1,18 +1,18 @@
 -- Every exit: SecVisor's answer goes with the reference machine's.
 use Rattle.std.proofs.Common.{◌≡◌, ℕ, List, length, refl, sym, ◌∙◌, ap, subst, true, false, slice_get}
 use Rattle.std.specs.Prelude.{Option, Some}
-use Rattle.sv_types.specs.HypervisorRegisters.{HypervisorRegisters}
+use Rattle.processor.specs.HypervisorRegisters.{HypervisorRegisters}
 use Rattle.sv_types.specs.Policies.{Rules}
-use Rattle.sv_types.specs.Regions.{IsRegion}
-use Rattle.sv_types.specs.SecondStage.{AreViews, with_ram}
-use Rattle.sv_types.specs.Traps.{is_interrupt, guest_number}
-use Rattle.sv_types.specs.declared.exit.Exit.{Exit}
-use Rattle.sv_types.specs.declared.wires.Mode.{Mode}
-use Rattle.sv_types.specs.declared.wires.Protection.{Protection}
+use Rattle.processor.specs.Regions.{IsRegion}
+use Rattle.sv_types.specs.Views.{AreViews, with_ram}
+use Rattle.processor.specs.Traps.{is_interrupt, guest_number}
+use Rattle.processor.specs.declared.exit.Exit.{Exit}
+use Rattle.processor.specs.declared.mode.Mode.{Mode}
+use Rattle.sv_types.specs.declared.protection.Protection.{Protection}
 use Rattle.attempt_laws.specs.Agree.{IsAt}
 use Rattle.answer_laws.specs.Laws.{MakesAttempt, TablesLaw}
 use Rattle.machine_model.specs.HardwareEvent.{attempted, left_by}
-use Rattle.sv_types.specs.declared.outcome.Outcome.{Outcome}
+use Rattle.processor.specs.declared.outcome.Outcome.{Outcome}
 use Rattle.machine_model.specs.Steps.{AreTables}
 use Rattle.machine_model.specs.HardwareEvent.{Answers}
 use Rattle.machine_model.specs.HostExits.{host_exit_answered, host_exit, served_by, served_exit, with_tables}

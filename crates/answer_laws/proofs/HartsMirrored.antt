@@ -1,14 +1,14 @@
 -- Traps, returns, demotion, accesses of devices: SecVisor's answers go with the reference machine's.
 use Rattle.std.proofs.Common.{◌≡◌, ℕ, ◌%◌, ◌≤◌, [], ◌∷◌, length, refl, sym, ap, subst, Bool, false}
 use Rattle.std.specs.Prelude.{Option, Some, None, option_map}
-use Rattle.sv_types.specs.Causes.{cause_number}
-use Rattle.sv_types.specs.HypervisorRegisters.{registers_at_trap, HypervisorRegisters, registers_at_return}
+use Rattle.processor.specs.Causes.{cause_number}
+use Rattle.processor.specs.HypervisorRegisters.{registers_at_trap, HypervisorRegisters, registers_at_return}
 use Rattle.sv_types.specs.Policies.{Rules}
-use Rattle.sv_types.specs.Requests.{loaded_value}
+use Rattle.processor.specs.Requests.{loaded_value}
 use Rattle.sv_types.specs.Console.{after_load, loaded}
-use Rattle.sv_types.specs.Traps.{supervisor_at_trap, trap_target, supervisor_at_return, mode_at_return}
-use Rattle.sv_types.specs.declared.cause.Cause.{Cause}
-use Rattle.sv_types.specs.declared.wires.Mode.{Mode}
+use Rattle.processor.specs.Traps.{supervisor_at_trap, trap_target, supervisor_at_return, mode_at_return}
+use Rattle.processor.specs.declared.cause.Cause.{Cause}
+use Rattle.processor.specs.declared.mode.Mode.{Mode}
 use Rattle.sv_types.specs.declared.event.Note.TheVariants.{Demote}
 use Rattle.sv_types.specs.declared.event.Rule.TheVariants.{Entry, Write}
 use Rattle.sv_types.specs.declared.event.Verdict.TheVariants.{Stopped}

@@ -1,10 +1,10 @@
 -- The laws of attempts.
 use Rattle.std.proofs.Common.{◌≡◌, ℕ, ◌+◌, length, refl, sym, ◌∙◌, ap, subst, Bool, true, false, slice_get, slice_set}
 use Rattle.std.specs.Prelude.{Option, Some, None, ◌==◌}
-use Rattle.sv_types.specs.Hardware.{Attempted, leave, with_region}
-use Rattle.sv_types.specs.HypervisorRegisters.{HypervisorRegisters, registers_at_exit}
-use Rattle.sv_types.specs.declared.outcome.Outcome.{Outcome}
-use Rattle.sv_types.specs.declared.exit.Exit.{Exit}
+use Rattle.processor.specs.Hardware.{Attempted, leave, with_region}
+use Rattle.processor.specs.HypervisorRegisters.{HypervisorRegisters, registers_at_exit}
+use Rattle.processor.specs.declared.outcome.Outcome.{Outcome}
+use Rattle.processor.specs.declared.exit.Exit.{Exit}
 use Rattle.reference.specs.States.{State, Hart, Loading}
 use Rattle.machine_model.specs.Machine.{Machine, HostHart, raised, after_attempt, after_quiet_attempt, all_forget, with_core}
 use Rattle.machine_model.specs.HostHarts.{with_host, host_outside, host_seen}

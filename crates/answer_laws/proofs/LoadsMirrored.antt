@@ -2,11 +2,11 @@
 use Rattle.std.proofs.Common.{◌≡◌, ℕ, zero, suc, ◌+◌, ◌-◌, ◌*◌, ◌/◌, ◌%◌, ◌<◌, ◌≤◌, List, [], ◌∷◌, ◌++◌, length, drop, refl, sym, ◌∙◌, ap, subst, Bool, true, ◌&&◌, arith, slice_get, length-drop}
 use Rattle.std.proofs.lemmas.List.{drop-take, take-take, drop-drop}
 use Rattle.std.specs.Prelude.{Option, Some, None, option_map, if◌then◌else◌, ◌==◌, filter, take}
-use Rattle.sv_types.specs.Bytes.{page_size, page_of, page_bytes, part, ram_place}
-use Rattle.sv_types.specs.HypervisorRegisters.{HypervisorRegisters}
+use Rattle.processor.specs.Bytes.{page_size, page_of, page_bytes, part, ram_place}
+use Rattle.processor.specs.HypervisorRegisters.{HypervisorRegisters}
 use Rattle.sv_types.specs.Measure.{measure, page_digest, page_digests, joined_digests}
 use Rattle.sv_types.specs.Policies.{Rules, ModuleRule}
-use Rattle.sv_types.proofs.ByteLemmas.{length_before}
+use Rattle.processor_laws.proofs.ByteLemmas.{length_before}
 use Rattle.sv_types.specs.declared.saved.SavedModule.{SavedModule}
 use Rattle.attempt_laws.specs.Agree.{IsAt}
 use Rattle.machine_model.specs.Steps.{AreTables}

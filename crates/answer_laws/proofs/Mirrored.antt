@@ -3,9 +3,9 @@ use Rattle.std.proofs.lemmas.List.{append-nil}
 use Rattle.attempt_laws.proofs.Stays.{length_set}
 use Rattle.std.proofs.Common.{◌≡◌, ℕ, zero, suc, ◌≤◌, List, [], ◌∷◌, ◌++◌, length, drop, map, refl, sym, ◌∙◌, ap, subst, Bool, true, false, slice_get, slice_set, arith}
 use Rattle.std.specs.Prelude.{Option, Some, option_map, if◌then◌else◌}
-use Rattle.sv_types.specs.HypervisorRegisters.{HypervisorRegisters}
+use Rattle.processor.specs.HypervisorRegisters.{HypervisorRegisters}
 use Rattle.sv_types.specs.ApprovedPages.{ApprovedPage}
-use Rattle.sv_types.specs.declared.wires.Protection.{Protection}
+use Rattle.sv_types.specs.declared.protection.Protection.{Protection}
 use Rattle.sv_types.specs.declared.saved.SavedModule.{SavedModule}
 use Rattle.reference.specs.States.{State, Hart, Loading, Devices, Journal}
 use Rattle.reference.specs.Protections.{is_free}

@@ -3,17 +3,17 @@ use Rattle.std.proofs.Common.{◌≡◌, ℕ, zero, suc, ◌+◌, ◌<◌, ◌�
 use Rattle.std.specs.Prelude.{Option, Some, None, if◌then◌else◌, ◌==◌}
 use Rattle.std.proofs.lemmas.Bool.{eqb-true}
 use Rattle.std.proofs.lemmas.Bool.Decides.{nat_tests}
-use Rattle.sv_types.specs.Bytes.{page_of}
+use Rattle.processor.specs.Bytes.{page_of}
 use Rattle.sv_types.specs.Policies.{Rules}
 use Rattle.sv_types.specs.ApprovedPages.{numbers_from, approved_bytes}
 use Rattle.sv_types.specs.declared.module.Span.{Span}
-use Rattle.sv_types.specs.declared.wires.Protection.{Protection}
-use Rattle.sv_types.specs.declared.wires.Protection.TheVariants.{Free, Held, Approved}
+use Rattle.sv_types.specs.declared.protection.Protection.{Protection}
+use Rattle.sv_types.specs.declared.protection.Protection.TheVariants.{Free, Held, Approved}
 use Rattle.sv_types.specs.declared.saved.SavedModule.{SavedModule}
 use Rattle.reference.specs.States.{State, Loading, protection_in, protection_by, has_number, is_approved_in, find_module, module_pages, pages_in_rule, without_pages}
 use Rattle.reference.specs.Answers.{init_text}
 use Rattle.reference.specs.Protections.{or_free, protection_at, with_pages, with_each}
-use Rattle.sv_types.specs.SecondStage.{AreViews}
+use Rattle.sv_types.specs.Views.{AreViews}
 use Rattle.machine_model.specs.StandsFor.{bound_pages, protections_of}
 use Rattle.reference.specs.Soundness.{IsSound, IsSoundLoad, HoldsModule}
 use Rattle.run_laws.proofs.Lookups.{not_true, both, is_there, same_number, numbers_bounds, approved_without}

@@ -4,14 +4,14 @@ use Rattle.std.proofs.Common.{◌≡◌, ℕ, zero, suc, ◌+◌, ◌-◌, ◌*�
 use Rattle.std.specs.Prelude.{Some, if◌then◌else◌, ◌==◌, nat_lt, IsTrue}
 use Rattle.std.proofs.lemmas.Bool.{eqb-true}
 use Rattle.std.proofs.lemmas.Bool.Decides.{nat_tests}
-use Rattle.sv_types.specs.Bits.{without}
-use Rattle.sv_types.specs.Bytes.{page_size, page_bytes, word, overwrite, write_word, low_bytes}
+use Rattle.processor.specs.Bits.{without}
+use Rattle.processor.specs.Bytes.{page_size, page_bytes, word, overwrite, write_word, low_bytes}
 use Rattle.sv_types.specs.Measure.{page_digest, page_digests}
 use Rattle.sv_types.specs.Policies.{Rules, ModuleRule, rules_within, numbers_within, lists_within, init_within, modules_count_within, modules_within, module_within, module_pages_within, sites_count_within, sites_within, sites_of, is_module, each_within, next_site_within, site_within, place_within, base_within, anchor_within, is_behind, is_aligned, site_size}
 use Rattle.sv_types.specs.declared.module.Bases.{Bases}
 use Rattle.sv_types.specs.declared.module.Site.{Site}
 use Rattle.sv_types.specs.declared.policy.Export.{Export}
-use Rattle.sv_types.proofs.ByteLemmas.{length_low_bytes, length_overwrite, length_write_word, drop_front, take_front, length_before, part_before, part_after, overwrite_behind, overwrite_in_front, word_in_page_bytes}
+use Rattle.processor_laws.proofs.ByteLemmas.{length_low_bytes, length_overwrite, length_write_word, drop_front, take_front, length_before, part_before, part_after, overwrite_behind, overwrite_in_front, word_in_page_bytes}
 use Rattle.machine_model.specs.HostExits.{moved_site, is_site_in, page_sites}
 use Rattle.reference.specs.Relocations.{field_of, field_width, field_bits, field_word, clear_field, masked, field_right, fields_right, site_value}
 use Rattle.reference.proofs.FieldWidths.{width_by, sizes}

@@ -1,13 +1,13 @@
 -- The whole turn of a machine: it stands for the state after the turn, and no more was changed than a turn may change.
 use Rattle.sv_types.specs.Policies.{Rules}
-use Rattle.sv_types.specs.declared.cause.Cause.{Cause}
-use Rattle.sv_types.specs.declared.exit.Exit.{Exit}
-use Rattle.sv_types.specs.declared.exit.ExitCause.{ExitCause}
+use Rattle.processor.specs.declared.cause.Cause.{Cause}
+use Rattle.processor.specs.declared.exit.Exit.{Exit}
+use Rattle.processor.specs.declared.exit.ExitCause.{ExitCause}
 use Rattle.std.proofs.Common.{◌≡◌, ℕ, zero, suc, List, [], ◌∷◌, slice_set, length, refl, sym, ◌∙◌, ap, subst, Bool, true, false, slice_get}
 use Rattle.std.specs.Prelude.{Option, Some, None, option_map, if◌then◌else◌, ◌==◌}
 use Rattle.sv_types.specs.declared.event.Event.{Event}
 use Rattle.sv_types.specs.declared.event.Event.TheVariants.{Turn, Beat, Key, Tick}
-use Rattle.sv_types.specs.declared.outcome.Outcome.{Outcome}
+use Rattle.processor.specs.declared.outcome.Outcome.{Outcome}
 use Rattle.sv_types.specs.declared.event.Verdict.{Verdict}
 use Rattle.sv_types.specs.declared.event.Verdict.TheVariants.{Running, Shutdown, Stopped}
 use Rattle.answer_laws.specs.Laws.{StepLaw, AgainLaw}
@@ -20,10 +20,10 @@ use Rattle.machine_model.specs.Machine.{Machine, HostHart, HostLoad, update, all
 use Rattle.machine_model.specs.HostHarts.{host_outside, host_seen, asks_again}
 use Rattle.machine_model.specs.Served.{Seen, is_implicit, exit_gpa, is_sret_word, fetch_answer, load_answer, store_answer, write_answer, virtual_answer, answer_by, plain_answer, answer_in, exit_answer, is_again}
 use Rattle.machine_model.specs.declared.exits.ExitAnswer.{ExitAnswer}
-use Rattle.sv_types.specs.Bytes.{in_ram}
-use Rattle.sv_types.specs.declared.effect.Effect.{Effect}
-use Rattle.sv_types.specs.declared.wires.Mode.{Mode}
-use Rattle.sv_types.specs.declared.wires.Mode.TheVariants.{Kernel, User}
+use Rattle.processor.specs.Bytes.{in_ram}
+use Rattle.processor.specs.declared.effect.Effect.{Effect}
+use Rattle.processor.specs.declared.mode.Mode.{Mode}
+use Rattle.processor.specs.declared.mode.Mode.TheVariants.{Kernel, User}
 use Rattle.machine_model.specs.HostEvents.{event_served}
 use Rattle.reference.specs.States.{State, Hart, Binding, Loading}
 use Rattle.reference.specs.Run.{step, happen_under}

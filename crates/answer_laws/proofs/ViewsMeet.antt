@@ -2,11 +2,11 @@
 use Rattle.std.proofs.Common.{◌≡◌, ℕ, zero, suc, ◌+◌, ◌<◌, List, length, map, refl, sym, ◌∙◌, ap, Bool, true, false, ◌&&◌, arith, slice_get}
 use Rattle.std.specs.Prelude.{Some, None, if◌then◌else◌}
 use Rattle.std.proofs.lemmas.Bool.Decides.{nat_tests}
-use Rattle.sv_types.specs.Bytes.{ram_place, page_of}
+use Rattle.processor.specs.Bytes.{ram_place, page_of}
 use Rattle.sv_types.specs.ApprovedPages.{numbers_from}
-use Rattle.sv_types.specs.SecondStage.{AreViews, IsView, Sight, page_in_ram, view_permits, view_answer, view_hgatp}
-use Rattle.sv_types.specs.declared.wires.Access.{Access}
-use Rattle.sv_types.specs.declared.wires.Protection.{Protection}
+use Rattle.sv_types.specs.Views.{AreViews, IsView, Sight, page_in_ram, view_permits, view_answer, view_hgatp}
+use Rattle.processor.specs.declared.access.Access.{Access}
+use Rattle.sv_types.specs.declared.protection.Protection.{Protection}
 
 -- two protections of the pages in RAM
 abbrev pub Meet : ℕ → (ℕ → Protection) → (ℕ → Protection) → Type 0

@@ -3,8 +3,8 @@ use Rattle.std.specs.Prelude.{◌≡◌, ℕ, true, false, List, ◌==◌, Some,
 use Rattle.sv_types.specs.declared.event.Event.{Event}
 use Rattle.sv_types.specs.declared.event.Event.TheVariants.{Turn}
 use Rattle.sv_types.specs.declared.event.Verdict.TheVariants.{Running}
-use Rattle.sv_types.specs.declared.outcome.Outcome.{Outcome}
-use Rattle.sv_types.specs.declared.exit.Exit.{Exit}
+use Rattle.processor.specs.declared.outcome.Outcome.{Outcome}
+use Rattle.processor.specs.declared.exit.Exit.{Exit}
 use Rattle.reference.specs.States.{State, Hart, Loading}
 use Rattle.reference.specs.Counting.{count, count_turn}
 use Rattle.reference.specs.Run.{step, run}

@@ -4,17 +4,17 @@ use Rattle.std.specs.Prelude.{Some, ◌==◌, bit_and, if◌then◌else◌}
 use Rattle.std.specs.Option.{option_map}
 use Rattle.std.proofs.lemmas.Bool.{eqb-true}
 use Rattle.std.proofs.lemmas.Nat.{and_assoc, and_mask, and_shr}
-use Rattle.sv_types.specs.Effects.{effect_of, register, load_width, load_signed, store_width, plus, immediate, branch_taken, branch as branch_effect}
-use Rattle.sv_types.specs.HardwareMemory.{load_htinst, store_htinst, atomic_htinst, implicit_read}
-use Rattle.sv_types.specs.Instructions.{bits, rs1, imm_i, imm_s, instruction_of, load, store}
-use Rattle.sv_types.specs.Regions.{IsWidth}
-use Rattle.sv_types.specs.declared.effect.Effect.{Effect}
-use Rattle.sv_types.specs.declared.instruction.Instr.{Instr}
-use Rattle.sv_types.specs.declared.instruction.LoadOp.{LoadOp}
-use Rattle.sv_types.specs.declared.instruction.LoadOp.TheVariants.{Lb, Lh, Lw, Ld, Lbu, Lhu, Lwu}
-use Rattle.sv_types.specs.declared.instruction.StoreOp.{StoreOp}
-use Rattle.sv_types.specs.declared.instruction.StoreOp.TheVariants.{Sb, Sh, Sw, Sd}
-use Rattle.sv_types.proofs.Decoding.{found}
+use Rattle.processor.specs.Effects.{effect_of, register, load_width, load_signed, store_width, plus, immediate, branch_taken, branch as branch_effect}
+use Rattle.processor.specs.HardwareMemory.{load_htinst, store_htinst, atomic_htinst, implicit_read}
+use Rattle.processor.specs.Instructions.{bits, rs1, imm_i, imm_s, instruction_of, load, store}
+use Rattle.processor.specs.Regions.{IsWidth}
+use Rattle.processor.specs.declared.effect.Effect.{Effect}
+use Rattle.processor.specs.declared.instruction.Instr.{Instr}
+use Rattle.processor.specs.declared.instruction.LoadOp.{LoadOp}
+use Rattle.processor.specs.declared.instruction.LoadOp.TheVariants.{Lb, Lh, Lw, Ld, Lbu, Lhu, Lwu}
+use Rattle.processor.specs.declared.instruction.StoreOp.{StoreOp}
+use Rattle.processor.specs.declared.instruction.StoreOp.TheVariants.{Sb, Sh, Sw, Sd}
+use Rattle.processor_laws.proofs.Decoding.{found}
 use Rattle.reference.specs.States.{Hart}
 use Rattle.machine_model.specs.Served.{transformed, is_sret}
 use Rattle.attempt_laws.proofs.LoadsAgree.{IsLoad}

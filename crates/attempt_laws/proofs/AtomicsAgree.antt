@@ -1,23 +1,23 @@
 -- LR, SC and atomic operations.
 use Rattle.std.proofs.Common.{◌≡◌, ℕ, ◌+◌, ◌%◌, ◌/◌, length, refl, sym, subst, Bool, true, false, arith}
 use Rattle.std.specs.Prelude.{Some, None, if◌then◌else◌, Ok, ◌==◌}
-use Rattle.sv_types.specs.Bytes.{word, write_word, low_bytes, ram_place, in_ram}
-use Rattle.sv_types.specs.Effects.{amo_value}
-use Rattle.sv_types.specs.Hardware.{Attempted, with_region}
-use Rattle.sv_types.specs.HardwareMemory.{after_load_reserved, after_store_conditional, after_amo, fault_exception, implicit_read, with_reservation, retire_with, wrote, behind_write, reached}
-use Rattle.sv_types.specs.HypervisorRegisters.{HypervisorRegisters}
-use Rattle.sv_types.specs.Regions.{IsWidth, host_word, write_host}
-use Rattle.sv_types.specs.Requests.{loaded_value, reserved_at, covers, after_write}
-use Rattle.sv_types.specs.SecondStage.{with_ram}
-use Rattle.sv_types.specs.declared.cause.Cause.{Cause}
-use Rattle.sv_types.specs.declared.exit.ExitCause.{ExitCause}
-use Rattle.sv_types.specs.declared.effect.Effect.{Effect}
-use Rattle.sv_types.specs.declared.instruction.AmoOp.{AmoOp}
-use Rattle.sv_types.specs.declared.outcome.Outcome.{Outcome}
-use Rattle.sv_types.specs.declared.translation.Fault.{Fault}
-use Rattle.sv_types.specs.declared.wires.Access.TheVariants as Access
-use Rattle.sv_types.proofs.RegionLemmas.{word_in_ram, write_in_ram}
-use Rattle.sv_types.proofs.Reservations.{after_write_behind, covers_behind}
+use Rattle.processor.specs.Bytes.{word, write_word, low_bytes, ram_place, in_ram}
+use Rattle.processor.specs.Effects.{amo_value}
+use Rattle.processor.specs.Hardware.{Attempted, with_region}
+use Rattle.processor.specs.HardwareMemory.{after_load_reserved, after_store_conditional, after_amo, fault_exception, implicit_read, with_reservation, retire_with, wrote, behind_write, reached}
+use Rattle.processor.specs.HypervisorRegisters.{HypervisorRegisters}
+use Rattle.processor.specs.Regions.{IsWidth, host_word, write_host}
+use Rattle.processor.specs.Requests.{loaded_value, reserved_at, covers, after_write}
+use Rattle.sv_types.specs.Views.{with_ram}
+use Rattle.processor.specs.declared.cause.Cause.{Cause}
+use Rattle.processor.specs.declared.exit.ExitCause.{ExitCause}
+use Rattle.processor.specs.declared.effect.Effect.{Effect}
+use Rattle.processor.specs.declared.instruction.AmoOp.{AmoOp}
+use Rattle.processor.specs.declared.outcome.Outcome.{Outcome}
+use Rattle.processor.specs.declared.translation.Fault.{Fault}
+use Rattle.processor.specs.declared.access.Access.TheVariants as Access
+use Rattle.processor_laws.proofs.RegionLemmas.{word_in_ram, write_in_ram}
+use Rattle.processor_laws.proofs.Reservations.{after_write_behind, covers_behind}
 use Rattle.reference.specs.States.{State, Hart, without_reservation}
 use Rattle.reference.specs.Devices.{hart_after_write}
 use Rattle.reference.specs.Trapping.{exception}

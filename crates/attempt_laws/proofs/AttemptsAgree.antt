@@ -1,21 +1,21 @@
 -- An attempt of the hardware's is the reference machine's: interrupts, fetches and instructions.
 use Rattle.std.proofs.Common.{◌≡◌, ℕ, zero, suc, List, [], ◌∷◌, slice_set, length, refl, sym, ◌∙◌, ap, subst, Bool, true, false, slice_get}
 use Rattle.std.specs.Prelude.{Option, Some, None, if◌then◌else◌}
-use Rattle.sv_types.specs.Bits.{bit}
-use Rattle.sv_types.specs.Effects.{effect_of}
-use Rattle.sv_types.specs.Hardware.{Step, with_region, after_interrupt, interrupt_exit, leave, guest_trap}
-use Rattle.sv_types.specs.HardwareAttempt.{after_instruction, after_word, after_pending, attempt}
-use Rattle.sv_types.specs.HypervisorRegisters.{HypervisorRegisters, pending, virtual_number}
-use Rattle.sv_types.specs.Instructions.{instruction_of}
-use Rattle.sv_types.specs.Regions.{IsWidth}
-use Rattle.sv_types.specs.Traps.{deliverable, interrupt_number}
-use Rattle.sv_types.specs.declared.cause.Cause.{Cause}
-use Rattle.sv_types.specs.declared.instruction.Instr.{Instr}
-use Rattle.sv_types.specs.declared.wires.Interrupt.{Interrupt}
-use Rattle.sv_types.specs.declared.wires.Interrupt.TheVariants.{External, Software, Timer}
-use Rattle.sv_types.specs.declared.wires.Mode.{Mode}
-use Rattle.sv_types.specs.declared.wires.Mode.TheVariants.{Kernel, User}
-use Rattle.sv_types.proofs.GuestViews.{guest_pending}
+use Rattle.processor.specs.Bits.{bit}
+use Rattle.processor.specs.Effects.{effect_of}
+use Rattle.processor.specs.Hardware.{Step, with_region, after_interrupt, interrupt_exit, leave, guest_trap}
+use Rattle.processor.specs.HardwareAttempt.{after_instruction, after_word, after_pending, attempt}
+use Rattle.processor.specs.HypervisorRegisters.{HypervisorRegisters, pending, virtual_number}
+use Rattle.processor.specs.Instructions.{instruction_of}
+use Rattle.processor.specs.Regions.{IsWidth}
+use Rattle.processor.specs.Traps.{deliverable, interrupt_number}
+use Rattle.processor.specs.declared.cause.Cause.{Cause}
+use Rattle.processor.specs.declared.instruction.Instr.{Instr}
+use Rattle.processor.specs.declared.interrupt.Interrupt.{Interrupt}
+use Rattle.processor.specs.declared.interrupt.Interrupt.TheVariants.{External, Software, Timer}
+use Rattle.processor.specs.declared.mode.Mode.{Mode}
+use Rattle.processor.specs.declared.mode.Mode.TheVariants.{Kernel, User}
+use Rattle.processor_laws.proofs.GuestViews.{guest_pending}
 use Rattle.reference.specs.States.{State, Hart, Loading}
 use Rattle.reference.specs.Devices.{lines_at}
 use Rattle.reference.specs.Trapping.{take_interrupt}
@@ -23,7 +23,7 @@ use Rattle.reference.specs.Turn.{fetch_and_act, fetch_in_entry, bound_entry, out
 use Rattle.machine_model.specs.Served.{plain_answer, exit_answered}
 use Rattle.attempt_laws.proofs.Plain.{serve_plain}
 use Rattle.machine_model.specs.StandsFor.{Unseen, hregs_in, host_core}
-use Rattle.sv_types.specs.GuestView.{with_guest, hideleg_in}
+use Rattle.processor.specs.GuestView.{with_guest, hideleg_in}
 use Rattle.attempt_laws.specs.Agree.{IsAt, Agrees, region_at, core_at, IsNotLoading}
 use Rattle.attempt_laws.proofs.Excepts.{exception_agrees, kernel_trap_agrees, leaves_agrees, other_exit}
 use Rattle.attempt_laws.proofs.StoresAgree.{FreeKeeps}

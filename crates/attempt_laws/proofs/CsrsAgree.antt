@@ -2,20 +2,20 @@
 use Rattle.std.proofs.Common.{◌≡◌, ℕ, refl, sym, ◌∙◌, ap, subst, Bool, true, false}
 use Rattle.std.specs.Prelude.{Option, Some, None, Result, Ok, Err}
 use Rattle.std.specs.Result.{result_ok}
-use Rattle.sv_types.specs.GuestView.{with_guest, hideleg_in}
-use Rattle.sv_types.specs.Hardware.{Attempted, with_region, exit_of}
-use Rattle.sv_types.specs.HardwareAttempt.{after_csr, csr_or_exception, csr_reached, virtual_instruction}
-use Rattle.sv_types.specs.HypervisorRegisters.{HypervisorRegisters, csr_access, read_virtual, write_virtual}
-use Rattle.sv_types.specs.Registers.{IsLegalSupervisor, guest_access, write_csr}
-use Rattle.sv_types.specs.Requests.{csr_value}
-use Rattle.sv_types.specs.declared.cause.Cause.{Cause}
-use Rattle.sv_types.specs.declared.csr.Csr.{Csr}
-use Rattle.sv_types.specs.declared.csr.CsrFault.{CsrFault}
-use Rattle.sv_types.specs.declared.instruction.CsrOp.{CsrOp}
-use Rattle.sv_types.specs.declared.outcome.Outcome.{Outcome}
-use Rattle.sv_types.specs.declared.wires.Mode.{Mode}
-use Rattle.sv_types.specs.declared.wires.Mode.TheVariants.{Kernel, User}
-use Rattle.sv_types.proofs.GuestViews.{guest_accesses, reached_reads, reached_writes}
+use Rattle.processor.specs.GuestView.{with_guest, hideleg_in}
+use Rattle.processor.specs.Hardware.{Attempted, with_region, exit_of}
+use Rattle.processor.specs.HardwareAttempt.{after_csr, csr_or_exception, csr_reached, virtual_instruction}
+use Rattle.processor.specs.HypervisorRegisters.{HypervisorRegisters, csr_access, read_virtual, write_virtual}
+use Rattle.processor.specs.Registers.{IsLegalSupervisor, guest_access, write_csr}
+use Rattle.processor.specs.Requests.{csr_value}
+use Rattle.processor.specs.declared.cause.Cause.{Cause}
+use Rattle.processor.specs.declared.csr.Csr.{Csr}
+use Rattle.processor.specs.declared.csr.CsrFault.{CsrFault}
+use Rattle.processor.specs.declared.instruction.CsrOp.{CsrOp}
+use Rattle.processor.specs.declared.outcome.Outcome.{Outcome}
+use Rattle.processor.specs.declared.mode.Mode.{Mode}
+use Rattle.processor.specs.declared.mode.Mode.TheVariants.{Kernel, User}
+use Rattle.processor_laws.proofs.GuestViews.{guest_accesses, reached_reads, reached_writes}
 use Rattle.reference.specs.States.{State, Hart}
 use Rattle.reference.specs.Devices.{lines_at}
 use Rattle.reference.specs.Requests.{carried_out, stepped_with, with_csr_set, csr_now, carry_out_csr, csr_asked}

@@ -1,15 +1,15 @@
 -- An instruction of the hardware's is the reference machine's.
 use Rattle.std.specs.Prelude.{Option}
 use Rattle.std.proofs.Common.{◌≡◌, ℕ, refl, sym, ap, true, false}
-use Rattle.sv_types.specs.Hardware.{with_region, raise, plain_exception, exit_of}
-use Rattle.sv_types.specs.HardwareAttempt.{after_effect, after_supervisor_only, after_sret, virtual_instruction, call_cause}
-use Rattle.sv_types.specs.HardwareMemory.{load_htinst, store_htinst, atomic_htinst}
-use Rattle.sv_types.specs.HypervisorRegisters.{HypervisorRegisters}
-use Rattle.sv_types.specs.Regions.{IsWidth}
-use Rattle.sv_types.specs.declared.cause.Cause.{Cause}
-use Rattle.sv_types.specs.declared.effect.Effect.{Effect}
-use Rattle.sv_types.specs.declared.wires.Mode.{Mode}
-use Rattle.sv_types.specs.declared.wires.Mode.TheVariants.{Kernel, User}
+use Rattle.processor.specs.Hardware.{with_region, raise, plain_exception, exit_of}
+use Rattle.processor.specs.HardwareAttempt.{after_effect, after_supervisor_only, after_sret, virtual_instruction, call_cause}
+use Rattle.processor.specs.HardwareMemory.{load_htinst, store_htinst, atomic_htinst}
+use Rattle.processor.specs.HypervisorRegisters.{HypervisorRegisters}
+use Rattle.processor.specs.Regions.{IsWidth}
+use Rattle.processor.specs.declared.cause.Cause.{Cause}
+use Rattle.processor.specs.declared.effect.Effect.{Effect}
+use Rattle.processor.specs.declared.mode.Mode.{Mode}
+use Rattle.processor.specs.declared.mode.Mode.TheVariants.{Kernel, User}
 use Rattle.reference.specs.States.{State, Hart}
 use Rattle.reference.specs.Devices.{lines_at}
 use Rattle.reference.specs.Requests.{stepped}

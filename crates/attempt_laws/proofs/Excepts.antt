@@ -2,17 +2,17 @@
 use Rattle.std.proofs.Common.{◌≡◌, ℕ, length, refl, sym, ◌∙◌, ap, subst, Bool, true, false, ◌&&◌}
 use Rattle.std.specs.Prelude.{Option, Some, None, not, if◌then◌else◌, ◌==◌}
 use Rattle.sv_types.specs.Policies.{Rules}
-use Rattle.sv_types.specs.Bits.{bit}
-use Rattle.sv_types.specs.Causes.{cause_number}
-use Rattle.sv_types.specs.Hardware.{Step, with_region, raise, guest_trap, leave, plain_exception, exit_of}
-use Rattle.sv_types.specs.HypervisorRegisters.{HypervisorRegisters, registers_at_trap}
-use Rattle.sv_types.specs.Traps.{supervisor_at_trap}
-use Rattle.sv_types.specs.declared.cause.Cause.{Cause}
-use Rattle.sv_types.specs.declared.outcome.Exception.{Exception}
-use Rattle.sv_types.specs.declared.outcome.Outcome.{Outcome}
-use Rattle.sv_types.specs.declared.exit.Exit.{Exit}
-use Rattle.sv_types.specs.declared.wires.Mode.{Mode}
-use Rattle.sv_types.specs.declared.wires.Mode.TheVariants.{Kernel, User}
+use Rattle.processor.specs.Bits.{bit}
+use Rattle.processor.specs.Causes.{cause_number}
+use Rattle.processor.specs.Hardware.{Step, with_region, raise, guest_trap, leave, plain_exception, exit_of}
+use Rattle.processor.specs.HypervisorRegisters.{HypervisorRegisters, registers_at_trap}
+use Rattle.processor.specs.Traps.{supervisor_at_trap}
+use Rattle.processor.specs.declared.cause.Cause.{Cause}
+use Rattle.processor.specs.declared.outcome.Exception.{Exception}
+use Rattle.processor.specs.declared.outcome.Outcome.{Outcome}
+use Rattle.processor.specs.declared.exit.Exit.{Exit}
+use Rattle.processor.specs.declared.mode.Mode.{Mode}
+use Rattle.processor.specs.declared.mode.Mode.TheVariants.{Kernel, User}
 use Rattle.reference.specs.States.{State, Hart, Binding, with_hart}
 use Rattle.reference.specs.Counting.{count, count_trap}
 use Rattle.reference.specs.Trapping.{hart_at_trap, trap_from, exception}

@@ -1,25 +1,26 @@
 -- A fetch of the hardware's is the reference machine's: in kernel mode it reads the approved bytes.
 use Rattle.std.proofs.Common.{◌≡◌, ℕ, ◌+◌, ◌*◌, ◌%◌, ◌/◌, ◌≤◌, inl, inr, List, length, refl, sym, ◌∙◌, ap, subst, Bool, true, false, ◌&&◌, arith}
 use Rattle.std.specs.Prelude.{Option, Some, None, is_some, if◌then◌else◌, ◌==◌}
-use Rattle.sv_types.specs.Bytes.{word, ram_place, page_of, place_in_page, in_ram}
-use Rattle.sv_types.specs.Hardware.{Attempted, with_region, raise, plain_exception, exit_of}
-use Rattle.sv_types.specs.Bits.{bit}
-use Rattle.sv_types.specs.HardwareAttempt.{after_fetch, after_word}
-use Rattle.sv_types.specs.HardwareMemory.{place_or_exception, fault_exception, implicit_read, translated}
-use Rattle.sv_types.specs.HypervisorRegisters.{HypervisorRegisters}
+use Rattle.processor.specs.Bytes.{word, ram_place, page_of, place_in_page, in_ram}
+use Rattle.processor.specs.Hardware.{Attempted, with_region, raise, plain_exception, exit_of}
+use Rattle.processor.specs.Bits.{bit}
+use Rattle.processor.specs.HardwareAttempt.{after_fetch, after_word}
+use Rattle.processor.specs.HardwareMemory.{place_or_exception, fault_exception, implicit_read, translated}
+use Rattle.processor.specs.HypervisorRegisters.{HypervisorRegisters}
 use Rattle.sv_types.specs.ApprovedPages.{approved_bytes}
-use Rattle.sv_types.specs.Regions.{host_word}
-use Rattle.sv_types.specs.SecondStage.{Sight, OfEntry, place_through, view_answer}
-use Rattle.sv_types.specs.Translation.{Destination, At, PageFault, Unreadable, place, entry_in_ram}
-use Rattle.sv_types.specs.declared.cause.Cause.{Cause}
-use Rattle.sv_types.specs.declared.exit.ExitCause.{ExitCause}
-use Rattle.sv_types.specs.declared.translation.Fault.{Fault}
-use Rattle.sv_types.specs.declared.wires.Access.TheVariants as Access
-use Rattle.sv_types.specs.declared.exit.Exit.{Exit}
-use Rattle.sv_types.specs.declared.wires.Mode.{Mode}
-use Rattle.sv_types.specs.declared.wires.Mode.TheVariants.{Kernel, User}
-use Rattle.sv_types.proofs.ByteLemmas.{word_in_page_bytes}
-use Rattle.sv_types.proofs.RegionLemmas.{word_in_ram}
+use Rattle.processor.specs.Regions.{host_word}
+use Rattle.sv_types.specs.Views.{Sight, OfEntry, view_answer}
+use Rattle.processor.specs.SecondStage.{place_through}
+use Rattle.processor.specs.Translation.{Destination, At, PageFault, Unreadable, place, entry_in_ram}
+use Rattle.processor.specs.declared.cause.Cause.{Cause}
+use Rattle.processor.specs.declared.exit.ExitCause.{ExitCause}
+use Rattle.processor.specs.declared.translation.Fault.{Fault}
+use Rattle.processor.specs.declared.access.Access.TheVariants as Access
+use Rattle.processor.specs.declared.exit.Exit.{Exit}
+use Rattle.processor.specs.declared.mode.Mode.{Mode}
+use Rattle.processor.specs.declared.mode.Mode.TheVariants.{Kernel, User}
+use Rattle.processor_laws.proofs.ByteLemmas.{word_in_page_bytes}
+use Rattle.processor_laws.proofs.RegionLemmas.{word_in_ram}
 use Rattle.attempt_laws.proofs.Everywhere.{Keeps, first_stage_keeps}
 use Rattle.reference.specs.States.{State, Hart, Binding, binding_at}
 use Rattle.reference.specs.Devices.{lines_at}

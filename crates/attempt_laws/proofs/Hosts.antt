@@ -1,8 +1,8 @@
 -- The harts of the hardware, beside those of the reference machine.
 use Rattle.std.proofs.Common.{◌≡◌, ℕ, zero, suc, ◌+◌, List, [], ◌∷◌, length, map, refl, ◌∙◌, ap, slice_get, slice_set}
 use Rattle.std.specs.Prelude.{Some, option_map}
-use Rattle.sv_types.specs.HypervisorRegisters.{HypervisorRegisters}
-use Rattle.sv_types.proofs.Reservations.{after_write_behind}
+use Rattle.processor.specs.HypervisorRegisters.{HypervisorRegisters}
+use Rattle.processor_laws.proofs.Reservations.{after_write_behind}
 use Rattle.reference.specs.States.{Hart}
 use Rattle.reference.specs.Devices.{hart_after_write}
 use Rattle.machine_model.specs.Machine.{HostHart, update, forgets}

@@ -2,21 +2,22 @@
 use Rattle.std.proofs.Common.{◌≡◌, ℕ, ◌+◌, ◌*◌, ◌%◌, ◌/◌, length, refl, sym, ◌∙◌, subst, Bool, true, false, ◌&&◌, arith}
 use Rattle.std.specs.Prelude.{Some, None, if◌then◌else◌, Err, ◌==◌}
 use Rattle.std.proofs.lemmas.Bool.Decides.{nat_tests}
-use Rattle.sv_types.specs.Bytes.{word, ram_place}
-use Rattle.sv_types.specs.Hardware.{with_region, plain_exception}
-use Rattle.sv_types.specs.HardwareMemory.{after_load, place_or_exception, fault_exception, implicit_read, retire_with, reached}
-use Rattle.sv_types.specs.HypervisorRegisters.{HypervisorRegisters}
-use Rattle.sv_types.specs.Instructions.{instruction_of, rows}
-use Rattle.sv_types.specs.Regions.{IsWidth}
-use Rattle.sv_types.specs.Requests.{loaded_value}
-use Rattle.sv_types.specs.SecondStage.{page_in_ram, place_through, view_answer}
-use Rattle.sv_types.specs.Translation.{Destination, At, PageFault, Unreadable, place, entry_in_ram}
-use Rattle.sv_types.specs.declared.cause.Cause.{Cause}
-use Rattle.sv_types.specs.declared.exit.ExitCause.{ExitCause}
-use Rattle.sv_types.specs.declared.effect.Effect.{Effect}
-use Rattle.sv_types.specs.declared.translation.Fault.{Fault}
-use Rattle.sv_types.specs.declared.wires.Access.TheVariants as Access
-use Rattle.sv_types.proofs.RegionLemmas.{word_in_ram}
+use Rattle.processor.specs.Bytes.{word, ram_place}
+use Rattle.processor.specs.Hardware.{with_region, plain_exception}
+use Rattle.processor.specs.HardwareMemory.{after_load, place_or_exception, fault_exception, implicit_read, retire_with, reached}
+use Rattle.processor.specs.HypervisorRegisters.{HypervisorRegisters}
+use Rattle.processor.specs.Instructions.{instruction_of, rows}
+use Rattle.processor.specs.Regions.{IsWidth}
+use Rattle.processor.specs.Requests.{loaded_value}
+use Rattle.sv_types.specs.Views.{page_in_ram, view_answer}
+use Rattle.processor.specs.SecondStage.{place_through}
+use Rattle.processor.specs.Translation.{Destination, At, PageFault, Unreadable, place, entry_in_ram}
+use Rattle.processor.specs.declared.cause.Cause.{Cause}
+use Rattle.processor.specs.declared.exit.ExitCause.{ExitCause}
+use Rattle.processor.specs.declared.effect.Effect.{Effect}
+use Rattle.processor.specs.declared.translation.Fault.{Fault}
+use Rattle.processor.specs.declared.access.Access.TheVariants as Access
+use Rattle.processor_laws.proofs.RegionLemmas.{word_in_ram}
 use Rattle.attempt_laws.proofs.BeyondDevices.{load_beyond}
 use Rattle.attempt_laws.proofs.Everywhere.{Keeps, first_stage_keeps}
 use Rattle.reference.specs.States.{State, Hart}

@@ -2,11 +2,11 @@
 use Rattle.std.proofs.Common.{◌≡◌, ℕ, zero, suc, ◌+◌, ◌*◌, ◌%◌, ◌/◌, ◌<◌, ◌≤◌, ◌⊎◌, inl, inr, List, length, refl, sym, ◌∙◌, ap, Bool, true, false, ◌||◌, arith}
 use Rattle.std.specs.Prelude.{Option, Some, None, option_map, ◌==◌, nat_le, slice_get, ◌&&◌}
 use Rattle.std.proofs.lemmas.Bool.Decides.{nat_tests}
-use Rattle.sv_types.specs.Bytes.{part, write_word, low_bytes, ram_base, ram_place, page_of, page_size}
+use Rattle.processor.specs.Bytes.{part, write_word, low_bytes, ram_base, ram_place, page_of, page_size}
 use Rattle.sv_types.specs.Policies.{ModuleRule}
 use Rattle.sv_types.specs.ApprovedPages.{numbers_from}
-use Rattle.sv_types.specs.Regions.{IsWidth}
-use Rattle.sv_types.proofs.ByteLemmas.{part_before, part_after, length_low_bytes, lt_or_le}
+use Rattle.processor.specs.Regions.{IsWidth}
+use Rattle.processor_laws.proofs.ByteLemmas.{part_before, part_after, length_low_bytes, lt_or_le}
 use Rattle.reference.specs.States.{State, Loading, has_number, is_protected, is_approved_in, pages_in_rule}
 use Rattle.reference.specs.Loads.{module_text}
 use Rattle.machine_model.specs.StandsFor.{load_kept_by, load_kept}

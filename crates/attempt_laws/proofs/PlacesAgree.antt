@@ -2,17 +2,18 @@
 use Rattle.attempt_laws.proofs.StoresAgree.{one_divides}
 use Rattle.std.proofs.Common.{◌≡◌, ℕ, ◌+◌, ◌%◌, inl, length, refl, Bool, true, false, not, ◌&&◌}
 use Rattle.std.specs.Prelude.{Some, None, if◌then◌else◌, Result, Ok, Err, ◌==◌}
-use Rattle.sv_types.specs.Bytes.{ram_place, page_of, in_ram}
-use Rattle.sv_types.specs.Hardware.{Attempted, plain_exception}
-use Rattle.sv_types.specs.HardwareMemory.{place_or_exception, fault_exception, reached}
-use Rattle.sv_types.specs.HypervisorRegisters.{HypervisorRegisters}
-use Rattle.sv_types.specs.Regions.{IsWidth}
-use Rattle.sv_types.specs.SecondStage.{page_in_ram, place_through, view_answer}
-use Rattle.sv_types.specs.Translation.{Destination, At, PageFault, Unreadable, place, entry_in_ram}
-use Rattle.sv_types.specs.declared.cause.Cause.{Cause}
-use Rattle.sv_types.specs.declared.outcome.Exception.{Exception}
-use Rattle.sv_types.specs.declared.translation.Fault.{Fault}
-use Rattle.sv_types.specs.declared.wires.Access.TheVariants as Access
+use Rattle.processor.specs.Bytes.{ram_place, page_of, in_ram}
+use Rattle.processor.specs.Hardware.{Attempted, plain_exception}
+use Rattle.processor.specs.HardwareMemory.{place_or_exception, fault_exception, reached}
+use Rattle.processor.specs.HypervisorRegisters.{HypervisorRegisters}
+use Rattle.processor.specs.Regions.{IsWidth}
+use Rattle.sv_types.specs.Views.{page_in_ram, view_answer}
+use Rattle.processor.specs.SecondStage.{place_through}
+use Rattle.processor.specs.Translation.{Destination, At, PageFault, Unreadable, place, entry_in_ram}
+use Rattle.processor.specs.declared.cause.Cause.{Cause}
+use Rattle.processor.specs.declared.outcome.Exception.{Exception}
+use Rattle.processor.specs.declared.translation.Fault.{Fault}
+use Rattle.processor.specs.declared.access.Access.TheVariants as Access
 use Rattle.attempt_laws.proofs.Everywhere.{Keeps, first_stage_keeps}
 use Rattle.reference.specs.States.{State, Hart, is_protected}
 use Rattle.reference.specs.Requests.{Source, FromRam, FromDevice, NoSource, source_at, load_source, source_of, Target, ToRam, ToDevice, Guarded, NoTarget, target_at, store_target, target_of, settings_of}

@@ -1,6 +1,6 @@
 -- What an exit asks for outside of an entry.
 use Rattle.std.specs.Prelude.{ℕ}
-use Rattle.sv_types.specs.declared.exit.Exit.{Exit}
+use Rattle.processor.specs.declared.exit.Exit.{Exit}
 use Rattle.reference.specs.States.{State, Hart}
 use Rattle.machine_model.specs.Served.{seen_of, plain_answer, exit_answered}
 

@@ -1,15 +1,15 @@
 -- Attempts that write no memory, and those that do: the machine after them.
 use Rattle.std.proofs.Common.{◌≡◌, ℕ, zero, suc, ◌+◌, ◌≤◌, List, [], ◌∷◌, length, map, refl, sym, ◌∙◌, ap, Bool, true, slice_set}
 use Rattle.std.specs.Prelude.{Option, Some, None, option_map, if◌then◌else◌, false}
-use Rattle.sv_types.specs.declared.wires.Mode.TheVariants.{Kernel}
-use Rattle.sv_types.specs.Bytes.{low_bytes, write_word}
-use Rattle.sv_types.specs.HypervisorRegisters.{HypervisorRegisters}
-use Rattle.sv_types.specs.Requests.{after_write, touches}
-use Rattle.sv_types.specs.SecondStage.{with_ram}
+use Rattle.processor.specs.declared.mode.Mode.TheVariants.{Kernel}
+use Rattle.processor.specs.Bytes.{low_bytes, write_word}
+use Rattle.processor.specs.HypervisorRegisters.{HypervisorRegisters}
+use Rattle.processor.specs.Requests.{after_write, touches}
+use Rattle.sv_types.specs.Views.{with_ram}
 use Rattle.sv_types.specs.declared.event.Counts.{Counts}
-use Rattle.sv_types.specs.declared.outcome.Outcome.{Outcome}
-use Rattle.sv_types.proofs.ByteLemmas.{length_low_bytes, length_write_word}
-use Rattle.sv_types.specs.Regions.{IsRegion}
+use Rattle.processor.specs.declared.outcome.Outcome.{Outcome}
+use Rattle.processor_laws.proofs.ByteLemmas.{length_low_bytes, length_write_word}
+use Rattle.processor.specs.Regions.{IsRegion}
 use Rattle.reference.specs.States.{State, Hart, with_hart}
 use Rattle.reference.specs.Counting.{count, count_retired, count_trap}
 use Rattle.reference.specs.Devices.{with_bytes, hart_after_write}

@@ -1,21 +1,22 @@
 -- A store of the hardware's is the reference machine's, wherever it leads.
 use Rattle.std.proofs.Common.{◌≡◌, ℕ, ◌+◌, ◌%◌, ◌/◌, inl, length, refl, sym, subst, Bool, true, false, not, ◌&&◌, arith}
 use Rattle.std.specs.Prelude.{Some, None, if◌then◌else◌, Err, ◌==◌}
-use Rattle.sv_types.specs.Bytes.{write_word, low_bytes, ram_place, page_of, in_ram}
-use Rattle.sv_types.specs.Hardware.{Attempted, with_region, plain_exception}
-use Rattle.sv_types.specs.HardwareMemory.{after_store, place_or_exception, fault_exception, implicit_read, retire, behind_write, wrote, reached}
-use Rattle.sv_types.specs.HypervisorRegisters.{HypervisorRegisters}
-use Rattle.sv_types.specs.Regions.{IsWidth, write_host}
-use Rattle.sv_types.specs.SecondStage.{page_in_ram, place_through, view_answer, with_ram}
-use Rattle.sv_types.specs.Translation.{Destination, At, PageFault, Unreadable, place, entry_in_ram}
-use Rattle.sv_types.specs.declared.cause.Cause.{Cause}
-use Rattle.sv_types.specs.declared.exit.ExitCause.{ExitCause}
-use Rattle.sv_types.specs.declared.effect.Effect.{Effect}
-use Rattle.sv_types.specs.declared.outcome.Outcome.{Outcome}
-use Rattle.sv_types.specs.declared.translation.Fault.{Fault}
-use Rattle.sv_types.specs.declared.wires.Access.TheVariants as Access
-use Rattle.sv_types.proofs.RegionLemmas.{write_in_ram}
-use Rattle.sv_types.proofs.Reservations.{after_write_behind}
+use Rattle.processor.specs.Bytes.{write_word, low_bytes, ram_place, page_of, in_ram}
+use Rattle.processor.specs.Hardware.{Attempted, with_region, plain_exception}
+use Rattle.processor.specs.HardwareMemory.{after_store, place_or_exception, fault_exception, implicit_read, retire, behind_write, wrote, reached}
+use Rattle.processor.specs.HypervisorRegisters.{HypervisorRegisters}
+use Rattle.processor.specs.Regions.{IsWidth, write_host}
+use Rattle.sv_types.specs.Views.{page_in_ram, view_answer, with_ram}
+use Rattle.processor.specs.SecondStage.{place_through}
+use Rattle.processor.specs.Translation.{Destination, At, PageFault, Unreadable, place, entry_in_ram}
+use Rattle.processor.specs.declared.cause.Cause.{Cause}
+use Rattle.processor.specs.declared.exit.ExitCause.{ExitCause}
+use Rattle.processor.specs.declared.effect.Effect.{Effect}
+use Rattle.processor.specs.declared.outcome.Outcome.{Outcome}
+use Rattle.processor.specs.declared.translation.Fault.{Fault}
+use Rattle.processor.specs.declared.access.Access.TheVariants as Access
+use Rattle.processor_laws.proofs.RegionLemmas.{write_in_ram}
+use Rattle.processor_laws.proofs.Reservations.{after_write_behind}
 use Rattle.attempt_laws.proofs.Everywhere.{Keeps, first_stage_keeps}
 use Rattle.reference.specs.States.{State, Hart, is_protected}
 use Rattle.reference.specs.Devices.{device_store, hart_after_write}

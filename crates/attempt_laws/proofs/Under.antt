@@ -2,20 +2,21 @@
 use Rattle.std.proofs.Common.{◌≡◌, ℕ, zero, suc, ◌+◌, ◌*◌, ◌%◌, ◌/◌, inl, inr, List, [], ◌∷◌, map, length, refl, ◌∙◌, ap, Bool, true, false, ◌&&◌, ◌||◌, arith, slice_get}
 use Rattle.std.specs.Prelude.{Option, Some, None, option_map, Result, nat_le, nat_lt, not, ◌==◌}
 use Rattle.std.proofs.lemmas.Bool.Decides.{nat_tests}
-use Rattle.sv_types.specs.Bytes.{ram_base, ram_place, page_of, in_ram}
-use Rattle.sv_types.specs.HardwareMemory.{translated, place_or_exception}
-use Rattle.sv_types.specs.HypervisorRegisters.{HypervisorRegisters}
-use Rattle.sv_types.specs.Regions.{IsWidth}
-use Rattle.sv_types.specs.SecondStage.{Sight, OfKernel, OfUser, OfEntry, sight_of, two_stages, under_view, page_in_ram, view_permits}
-use Rattle.sv_types.specs.Translation.{Destination, Settings, place}
-use Rattle.sv_types.specs.declared.translation.Place.{Place}
-use Rattle.sv_types.specs.declared.translation.Fault.{Fault}
-use Rattle.sv_types.specs.declared.wires.Access.{Access}
-use Rattle.sv_types.specs.declared.wires.Mode.{Mode}
-use Rattle.sv_types.specs.declared.wires.Mode.TheVariants.{Kernel, User}
-use Rattle.sv_types.specs.declared.wires.View.TheVariants as View
+use Rattle.processor.specs.Bytes.{ram_base, ram_place, page_of, in_ram}
+use Rattle.processor.specs.HardwareMemory.{translated, place_or_exception}
+use Rattle.processor.specs.HypervisorRegisters.{HypervisorRegisters}
+use Rattle.processor.specs.Regions.{IsWidth}
+use Rattle.sv_types.specs.Views.{Sight, OfKernel, OfUser, OfEntry, sight_of, under_view, page_in_ram, view_permits}
+use Rattle.processor.specs.SecondStage.{two_stages}
+use Rattle.processor.specs.Translation.{Destination, Settings, place}
+use Rattle.processor.specs.declared.translation.Place.{Place}
+use Rattle.processor.specs.declared.translation.Fault.{Fault}
+use Rattle.processor.specs.declared.access.Access.{Access}
+use Rattle.processor.specs.declared.mode.Mode.{Mode}
+use Rattle.processor.specs.declared.mode.Mode.TheVariants.{Kernel, User}
+use Rattle.sv_types.specs.declared.view.View.TheVariants as View
 use Rattle.sv_types.specs.Policies.{Rules}
-use Rattle.sv_types.proofs.Views.{two_stages_under_view}
+use Rattle.view_laws.proofs.Views.{two_stages_under_view}
 use Rattle.reference.specs.States.{State, Hart, Binding, binding_of, binding_at, protection_in, protection_by, is_approved_in, is_protected, has_number}
 use Rattle.reference.specs.Requests.{settings_of}
 use Rattle.machine_model.specs.StandsFor.{Unseen, IsRightFor, hregs_in, bound_pages}

@@ -3,13 +3,13 @@ use Rattle.std.proofs.Common.{◌≡◌, ℕ, ◌%◌, inl, inr, List, [], ◌�
 use Rattle.std.specs.Prelude.{find, Option, Some, IfSome, bit_and}
 use Rattle.std.specs.Option.{option_map}
 use Rattle.std.proofs.lemmas.Bool.{eqb-true}
-use Rattle.sv_types.specs.Effects.{effect_of}
-use Rattle.sv_types.specs.Instructions.{Row, bits, has_row, rows, instruction_of, instruction_in, load, store}
-use Rattle.sv_types.specs.Regions.{IsWidth}
-use Rattle.sv_types.specs.declared.instruction.Instr.{Instr}
-use Rattle.sv_types.specs.declared.instruction.LoadOp.{LoadOp}
-use Rattle.sv_types.specs.declared.instruction.StoreOp.{StoreOp}
-use Rattle.sv_types.proofs.Decoding.{IsOnlyRow}
+use Rattle.processor.specs.Effects.{effect_of}
+use Rattle.processor.specs.Instructions.{Row, bits, has_row, rows, instruction_of, instruction_in, load, store}
+use Rattle.processor.specs.Regions.{IsWidth}
+use Rattle.processor.specs.declared.instruction.Instr.{Instr}
+use Rattle.processor.specs.declared.instruction.LoadOp.{LoadOp}
+use Rattle.processor.specs.declared.instruction.StoreOp.{StoreOp}
+use Rattle.processor_laws.proofs.Decoding.{IsOnlyRow}
 use Rattle.attempt_laws.proofs.AtomicsAgree.{IsAtomic}
 
 -- ---- what a row says of its words

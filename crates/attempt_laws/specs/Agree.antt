@@ -1,11 +1,11 @@
 -- The law of attempts: one attempt of the hardware beside one turn of the reference machine. This project's own.
 use Rattle.std.specs.Prelude.{◌≡◌, ℕ, ◌+◌, length, true, false, ◌==◌, Option, Some, None, slice_get}
-use Rattle.sv_types.specs.Hardware.{Attempted, Core, leave, with_region}
-use Rattle.sv_types.specs.HardwareAttempt.{attempt}
-use Rattle.sv_types.specs.HypervisorRegisters.{HypervisorRegisters}
-use Rattle.sv_types.specs.Regions.{Region}
-use Rattle.sv_types.specs.SecondStage.{with_ram}
-use Rattle.sv_types.specs.declared.outcome.Outcome.{Outcome}
+use Rattle.processor.specs.Hardware.{Attempted, Core, leave, with_region}
+use Rattle.processor.specs.HardwareAttempt.{attempt}
+use Rattle.processor.specs.HypervisorRegisters.{HypervisorRegisters}
+use Rattle.processor.specs.Regions.{Region}
+use Rattle.sv_types.specs.Views.{with_ram}
+use Rattle.processor.specs.declared.outcome.Outcome.{Outcome}
 use Rattle.reference.specs.States.{State, Hart, Loading}
 use Rattle.reference.specs.Devices.{lines_at}
 use Rattle.reference.specs.Turn.{turn}

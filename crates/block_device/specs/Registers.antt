@@ -1,6 +1,6 @@
 -- The registers as the code names them, and what holds of the device at each moment.
 use Rattle.std.specs.Prelude.{◌≡◌, ℕ, ◌+◌, ◌*◌, ◌%◌, ◌<◌, ◌≤◌, Bool, not, if◌then◌else◌, List, length}
-use Rattle.sv_types.specs.Bytes.{in_ram}
+use Rattle.processor.specs.Bytes.{in_ram}
 use Rattle.reference.specs.States.{Disk}
 use Rattle.reference.specs.Disk.{BlockRegister, Sector, Address, Count, Command, Status, Beaten, OutsideRam, beat_size, sector_size, busy, out_of_range, beat_gpa, transfer_ended, to_memory, to_disk}
 use Rattle.block_device.specs.declared.registers.Register.{Register}

@@ -2,7 +2,7 @@
 #![tactic(auto)]
 
 ghost use Rattle.std.specs.Prelude.{◌≡◌, ◌≢◌, ◌+◌, ◌%◌, ◌^◌, ◌<◌, ◌≤◌, length, true, false};
-ghost use Rattle.sv_types.specs.Bytes.{overwrite};
+ghost use Rattle.processor.specs.Bytes.{overwrite};
 ghost use Rattle.reference.specs.Disk.{is_writable, is_busy, can_begin, block_ended, after_command, block_value, block_stored, block_after_beat, beat_gpa, beat_place, busy};
 ghost use Rattle.dma_guard.specs.Transfers.{told, after_move};
 ghost use Rattle.block_device.specs.Registers.{idle_disk, register_named, width_of, beat_to_memory, beat_to_disk};

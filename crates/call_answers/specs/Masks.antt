@@ -1,7 +1,7 @@
 -- Whether the harts exist that a mask and a base name, bit by bit. This project's own.
 use Rattle.std.specs.Prelude.{ℕ, ◌+◌, Bool, not, ◌||◌, nat_lt}
 use Rattle.std.specs.List.{list_all}
-use Rattle.sv_types.specs.Bits.{bit}
+use Rattle.processor.specs.Bits.{bit}
 use Rattle.sv_types.specs.ApprovedPages.{numbers_from}
 
 abbrev pub exists_one : (harts mask base i : ℕ) → Bool

@@ -5,7 +5,7 @@ ghost use Rattle.reference.specs.Calls.{mask_exists};
 ghost use Rattle.call_answers.specs.Masks.{all_exist, exists_one};
 
 use hart_answers::ALL_HARTS;
-use sv_types::has_bit;
+use processor::has_bit;
 
 /// Whether each hart that a mask and a base name exists.
 #[tactic(auto, using(crate::proofs::Bits::by_bits))]

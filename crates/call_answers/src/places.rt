@@ -1,7 +1,7 @@
 // One hart of all changed in its place.
 
 ghost use Rattle.std.specs.Prelude.{◌≡◌, ◌<◌, length};
-ghost use Rattle.sv_types.specs.declared.wires.Mode.{Mode as Privilege};
+ghost use Rattle.processor.specs.declared.mode.Mode.{Mode as Privilege};
 ghost use Rattle.machine_model.specs.HostHarts.{host_started};
 ghost use Rattle.machine_model.specs.HostCalls.{host_replied};
 ghost use Rattle.machine_model.specs.Machine.{update};

@@ -2,11 +2,11 @@
 
 ghost use Rattle.std.specs.Prelude.{◌≡◌, true};
 ghost use Rattle.std.specs.Result.{result_err};
-ghost use Rattle.sv_types.specs.HypervisorRegisters.{registers_at_boot, virtual_interrupt_bits, hip_value, aliased, with_alias, is_hypervisor_number, refusal, csr_access, read_virtual, write_virtual, read_answer, after_write};
-ghost use Rattle.sv_types.specs.Registers.{legal_satp};
+ghost use Rattle.processor.specs.HypervisorRegisters.{registers_at_boot, virtual_interrupt_bits, hip_value, aliased, with_alias, is_hypervisor_number, refusal, csr_access, read_virtual, write_virtual, read_answer, after_write};
+ghost use Rattle.processor.specs.Registers.{legal_satp};
 
+use processor::{Csr, CsrFault, HRegs, Lines, Mode, has_bit};
 use std::marker::Model;
-use sv_types::{Csr, CsrFault, HRegs, Lines, Mode, has_bit};
 
 /// SIE, SPIE, SPP, SUM and MXR of `vsstatus`.
 const STATUS_BITS: u64 = 1 << 1 | 1 << 5 | 1 << 8 | 1 << 18 | 1 << 19;
@@ -53,7 +53,7 @@ pub struct Csrs {
 }
 
 impl Model for Csrs {
-    ghost use Rattle.sv_types.specs.HypervisorRegisters.{HypervisorRegisters};
+    ghost use Rattle.processor.specs.HypervisorRegisters.{HypervisorRegisters};
 
     ghost Value = { HypervisorRegisters };
 
@@ -67,7 +67,7 @@ impl Model for Csrs {
 }
 
 /// Whether a number is one of the VS registers' or of the hypervisor's.
-#[tactic(auto, unfolding(sv_types::specs::HypervisorRegisters::is_hypervisor_number))]
+#[tactic(auto, unfolding(processor::specs::HypervisorRegisters::is_hypervisor_number))]
 fn is_hypervisor_number(number: u16) -> bool
     ensures { result ≡ is_hypervisor_number number }
 {
@@ -108,7 +108,7 @@ fn refusal(mode: Mode, scounteren: u64, writes: bool, csr: Csr) -> Option<CsrFau
 }
 
 /// A register of interrupts as the guest sees it.
-#[tactic(auto, unfolding(sv_types::specs::HypervisorRegisters::aliased))]
+#[tactic(auto, unfolding(processor::specs::HypervisorRegisters::aliased))]
 fn aliased(hideleg: u64, register: u64) -> u64
     ensures { result ≡ aliased hideleg register }
 {
@@ -116,7 +116,7 @@ fn aliased(hideleg: u64, register: u64) -> u64
 }
 
 /// The register with the bits that `hideleg` has, of those given, written as the guest writes them.
-#[tactic(auto, unfolding(sv_types::specs::HypervisorRegisters::with_alias))]
+#[tactic(auto, unfolding(processor::specs::HypervisorRegisters::with_alias))]
 fn with_alias(hideleg: u64, bits: u64, register: u64, value: u64) -> u64
     ensures { result ≡ with_alias hideleg bits register value }
 {
@@ -137,7 +137,7 @@ fn with_satp(old: u64, value: u64) -> u64
 
 impl Csrs {
     /// The file at boot: every register is 0.
-    #[tactic(auto, unfolding(sv_types::specs::HypervisorRegisters::registers_at_boot))]
+    #[tactic(auto, unfolding(processor::specs::HypervisorRegisters::registers_at_boot))]
     pub fn at_boot() -> Csrs
         ensures { result ≡ registers_at_boot }
     {
@@ -162,7 +162,7 @@ impl Csrs {
 
     /// The register that an access by a number reaches. An access that also writes is judged as a write. The fault is
     /// `Virtual` where supervisor mode without V would have the access, and else `Illegal`.
-    #[tactic(auto, unfolding(sv_types::specs::HypervisorRegisters::csr_access, sv_types::specs::HypervisorRegisters::reached_csr))]
+    #[tactic(auto, unfolding(processor::specs::HypervisorRegisters::csr_access, processor::specs::HypervisorRegisters::reached_csr))]
     pub fn access(&self, mode: Mode, number: u16, writes: bool) -> Result<Csr, CsrFault>
         ensures { result ≡ csr_access mode self.now number writes }
     {
@@ -180,7 +180,7 @@ impl Csrs {
     }
 
     /// The guest's interrupts that are pending, each one place higher than in `sip`: `hvip` ORed with the wires.
-    #[tactic(auto, unfolding(sv_types::specs::HypervisorRegisters::hip_value))]
+    #[tactic(auto, unfolding(processor::specs::HypervisorRegisters::hip_value))]
     pub fn hip(&self, lines: &Lines) -> u64
         ensures { result ≡ hip_value self.now.hvip lines.now }
     {
@@ -190,7 +190,7 @@ impl Csrs {
     }
 
     /// The value of a register that an access reaches, as the guest reads it.
-    #[tactic(auto, unfolding(sv_types::specs::HypervisorRegisters::read_virtual))]
+    #[tactic(auto, unfolding(processor::specs::HypervisorRegisters::read_virtual))]
     pub fn value(&self, hideleg: u64, lines: &Lines, csr: Csr) -> u64
         ensures { result ≡ read_virtual hideleg self.now lines.now csr }
     {
@@ -210,7 +210,7 @@ impl Csrs {
     }
 
     /// Writes a register that an access reaches, as the guest writes it. No access writes the time.
-    #[tactic(auto, unfolding(sv_types::specs::HypervisorRegisters::write_virtual))]
+    #[tactic(auto, unfolding(processor::specs::HypervisorRegisters::write_virtual))]
     pub fn set(&mut self, hideleg: u64, csr: Csr, value: u64)
         ensures { self.new ≡ write_virtual hideleg self.old csr value }
     {
@@ -231,7 +231,7 @@ impl Csrs {
 
     /// Reads the register of a number, as the guest's `csrr` reads it in a mode with V = 1. The fault is `Virtual`
     /// where supervisor mode without V would have the access, and else `Illegal`.
-    #[tactic(auto, unfolding(sv_types::specs::HypervisorRegisters::read_answer))]
+    #[tactic(auto, unfolding(processor::specs::HypervisorRegisters::read_answer))]
     pub fn read(&self, regs: &HRegs, lines: &Lines, number: u16) -> Result<u64, CsrFault>
         ensures { result ≡ read_answer regs.now self.now lines.now number }
     {
@@ -242,7 +242,7 @@ impl Csrs {
     /// Writes the register of a number, as the guest's `csrw` writes it in a mode with V = 1: the bits that may stand
     /// there, and nothing else of the file. The fault is as for `read`, and a write to the time is `Illegal`; then
     /// nothing changes.
-    #[tactic(auto, unfolding(sv_types::specs::HypervisorRegisters::after_write))]
+    #[tactic(auto, unfolding(processor::specs::HypervisorRegisters::after_write))]
     pub fn write(&mut self, regs: &HRegs, number: u16, value: u64) -> Result<(), CsrFault>
         ensures refused { result_err result ≡ result_err (csr_access regs.now.mode self.old number true) }
         ensures after { self.new ≡ after_write regs.now self.old number value }

@@ -7,4 +7,4 @@ mod csrs;
 mod tests;
 
 pub use csrs::Csrs;
-pub use sv_types::CsrFault;
+pub use processor::CsrFault;

@@ -1,7 +1,7 @@
 // The file against rows of the register table.
 
 use super::{CsrFault, Csrs};
-use sv_types::{HRegs, Lines, Mode};
+use processor::{HRegs, Lines, Mode};
 
 const KERNEL: HRegs = HRegs {
     mode: Mode::Kernel,

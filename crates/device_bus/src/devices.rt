@@ -12,8 +12,8 @@ use console_timer::{Clock, Console};
 use dma_guard::{Beaten, DiskPort, DmaGuard};
 use host_mem::HostMem;
 use journal_records::Journal;
+use processor::Lines;
 use std::marker::Model;
-use sv_types::Lines;
 
 /// The console, a block device and the clock. Contracts see them as the definitions' devices.
 #[derive(Drop)]

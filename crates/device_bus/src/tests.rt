@@ -4,8 +4,8 @@ use block_device::Block;
 use dma_guard::{Beaten, DmaGuard};
 use host_mem::HostMem;
 use journal_records::Journal;
+use processor::Lines;
 use std::test::Fail;
-use sv_types::Lines;
 
 // An address, a width, and the value that is loaded.
 type Load = (u64, u8, Option<u64>);

@@ -1,7 +1,7 @@
 -- What a device may do to memory: one bit for each page of RAM says whether it may be written. This project's own.
 use Rattle.std.specs.Prelude.{ℕ, Bool, List, length, if◌then◌else◌, Result, Ok, Err}
-use Rattle.sv_types.specs.Bytes.{in_ram, page_of, overwrite, part, ram_place}
-use Rattle.sv_types.specs.Regions.{Region}
+use Rattle.processor.specs.Bytes.{in_ram, page_of, overwrite, part, ram_place}
+use Rattle.processor.specs.Regions.{Region}
 use Rattle.reference.specs.Disk.{Move, is_writable}
 use Rattle.dma_guard.specs.declared.DmaRefused.{DmaRefused}
 use Rattle.dma_guard.specs.declared.port.Beaten.{Beaten}

@@ -2,8 +2,8 @@
 #![tactic(auto)]
 
 ghost use Rattle.std.specs.Prelude.{◌≡◌, ◌+◌, ◌<◌, ◌≤◌, ◌%◌, length, replicate, slice_set, IfOk, IsTrue, true};
-ghost use Rattle.sv_types.specs.Bytes.{page_size, in_ram, ram_base, ram_place};
-ghost use Rattle.sv_types.specs.Regions.{IsRegion};
+ghost use Rattle.processor.specs.Bytes.{page_size, in_ram, ram_base, ram_place};
+ghost use Rattle.processor.specs.Regions.{IsRegion};
 ghost use Rattle.reference.specs.Disk.{is_writable};
 ghost use Rattle.dma_guard.specs.Transfers.{write_answer, after_write, read_answer, after_read};
 
@@ -11,9 +11,9 @@ mod port;
 
 use host_mem::HostMem;
 pub use port::{Beaten, DiskPort};
+use processor::{PAGE_SIZE, RAM_BASE};
 use std::alloc::{AllocError, Global};
 use std::marker::Model;
-use sv_types::{PAGE_SIZE, RAM_BASE};
 
 /// Why a device's access to memory is refused.
 #[derive(Clone, Copy, Debug, PartialEq, Eq, Drop)]

@@ -3,7 +3,7 @@ use Rattle.std.proofs.Common.{◌≡◌, ℕ, suc, ◌+◌, ◌<◌, ◌≤◌, 
 use Rattle.std.proofs.Math.Seq.{drop-cons}
 use Rattle.std.specs.Prelude.{nat_lt, not, ◌==◌, ◌&&◌, ◌%◌}
 use Rattle.std.proofs.lemmas.Bool.{ltb-false, not-false, eqb-true}
-use Rattle.sv_types.specs.Bytes.{page_size}
+use Rattle.processor.specs.Bytes.{page_size}
 use Rattle.sv_types.specs.Kernel.{first_refusal, image_check, header_checks, segment_checks, image_checks, loaded_headers, kernel_refusal, memory_in_ram, is_executable, is_writable, text_is_shared}
 use Rattle.sv_types.specs.declared.image_fault.HeaderFault.{HeaderFault}
 use Rattle.sv_types.specs.declared.image_fault.ImageFault.{ImageFault}

@@ -3,9 +3,9 @@ use Rattle.std.proofs.Common.{◌≡◌, ℕ, zero, suc, ◌+◌, ◌-◌, ◌*�
 use Rattle.std.specs.Prelude.{nat_le, nat_lt, ◌&&◌}
 use Rattle.std.proofs.lemmas.Bool.Decides.{nat_tests}
 use Rattle.std.proofs.lemmas.List.{places, length-replicate, get_or-append_right, ext_get_or, get_or_past}
-use Rattle.sv_types.specs.Bytes.{overwrite, padded, part, page_bytes, page_size, ram_place}
+use Rattle.processor.specs.Bytes.{overwrite, padded, part, page_bytes, page_size, ram_place}
 use Rattle.sv_types.specs.Kernel.{LoadedSegment, with_segment}
-use Rattle.sv_types.proofs.ByteLemmas.{lt_or_le, length_overwrite}
+use Rattle.processor_laws.proofs.ByteLemmas.{lt_or_le, length_overwrite}
 
 -- ---- bytes, and zeros behind them
 

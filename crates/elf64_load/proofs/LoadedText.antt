@@ -6,10 +6,10 @@ use Rattle.std.proofs.lemmas.Bool.{cases_Bool, and_parts, leb-true}
 use Rattle.std.proofs.lemmas.Bool.Decides.{nat_tests}
 use Rattle.std.proofs.lemmas.List.{length-replicate}
 use Rattle.std.proofs.lemmas.List.Elements.{All-head, All-tail}
-use Rattle.sv_types.specs.Bytes.{padded, page_bytes, page_size, page_of, ram_base, ram_place}
+use Rattle.processor.specs.Bytes.{padded, page_bytes, page_size, page_of, ram_base, ram_place}
 use Rattle.sv_types.specs.Kernel.{LoadedSegment, with_segment, segments_ram, loaded_segment, kernel_segments, kernel_refusal, loaded_headers, table_count, segment_checks, is_executable, may_clash, text_is_shared, first_page, last_page, is_text_of, filled_part, text_page, text_page_in, text_pages, text_of}
 use Rattle.sv_types.specs.ApprovedPages.{numbers_from}
-use Rattle.sv_types.specs.Regions.{most_ram_pages}
+use Rattle.processor.specs.Regions.{most_ram_pages}
 use Rattle.sv_types.specs.declared.kernel.ProgramHeader.{ProgramHeader}
 use Rattle.elf64_load.proofs.LoadedBytes.{Lies, length_with_segment, byte_elsewhere, byte_there, same_page, length_part, zero_at}
 use Rattle.elf64_load.specs.Headers.{HasMemory}

@@ -8,8 +8,9 @@ ghost use Rattle.sv_types.specs.Kernel.{first_refusal, header_checks, table_chec
 use crate::headers::PROGRAM_HEADER_BYTES;
 use crate::shared_text::text_is_shared;
 use elf64_sections::{double, file_refusal, half};
+use processor::{PAGE_BYTES, RAM_BASE, has_bit};
 use std::alloc::{AllocError, Global};
-use sv_types::{ImageFault, PAGE_BYTES, ProgramHeader, RAM_BASE, has_bit};
+use sv_types::{ImageFault, ProgramHeader};
 
 /// The kind of an executable file.
 pub(crate) const EXECUTABLE_FILE: u16 = 2;

@@ -2,13 +2,13 @@
 
 ghost use Rattle.std.specs.Prelude.{◌≡◌, ℕ, ◌≤◌, ◌<◌, ◌&&◌, ◌++◌, nat_le, nat_lt, map, Some, length, replicate, slice_index, if◌then◌else◌, IfOk, OnOk};
 ghost use Rattle.sv_types.specs.Kernel.{is_text_of, filled_part, text_page, text_page_in, text_of};
-ghost use Rattle.sv_types.specs.Regions.{most_ram_pages};
+ghost use Rattle.processor.specs.Regions.{most_ram_pages};
 ghost use Rattle.elf64_load.specs.Images.{segment_of, segments_of, text_owner};
 
 use elf64_sections::push_zeros;
 use policy_limits::MOST_RAM_PAGES;
+use processor::{PAGE_BYTES, RAM_BASE};
 use std::alloc::{AllocError, Global};
-use sv_types::{PAGE_BYTES, RAM_BASE};
 
 /// A segment that is loaded: its bytes, which stay in the file, and zeros behind them up to the size in memory.
 #[derive(Clone, Copy, Debug, PartialEq, Eq, Drop)]

@@ -7,8 +7,9 @@ ghost use Rattle.sv_types.specs.Kernel.{first_page, last_page, text_is_shared};
 ghost use Rattle.elf64_load.specs.Headers.{HasMemory};
 
 use crate::checks::{end_of, is_executable};
+use processor::{PAGE_BYTES, RAM_BASE};
 use std::alloc::{AllocError, Global};
-use sv_types::{PAGE_BYTES, ProgramHeader, RAM_BASE};
+use sv_types::ProgramHeader;
 
 fn first_page(header: &ProgramHeader) -> u64
     ensures { result ≡ first_page header.now }

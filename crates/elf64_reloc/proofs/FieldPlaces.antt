@@ -8,7 +8,7 @@ use Rattle.std.proofs.lemmas.Bool.{eqb-true, eq-eqb, leb-true}
 use Rattle.std.proofs.lemmas.Bool.Decides.{nat_tests}
 use Rattle.std.proofs.lemmas.List.{length-replicate, length-map}
 use Rattle.sv_types.specs.ApprovedPages.{numbers_from}
-use Rattle.sv_types.specs.Effects.{plus}
+use Rattle.processor.specs.Effects.{plus}
 use Rattle.sv_types.specs.Kernel.{first_refusal, file_checks}
 use Rattle.sv_types.specs.Policies.{site_size, is_low_part, module_pages_within, place_within, is_aligned}
 use Rattle.sv_types.specs.declared.image_fault.HeaderFault.{HeaderFault}

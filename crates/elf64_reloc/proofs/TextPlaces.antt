@@ -4,9 +4,9 @@ use Rattle.std.specs.Prelude.{◌&&◌, ◌||◌, ◌==◌, nat_le, if◌then◌
 use Rattle.std.specs.List.{list_all}
 use Rattle.std.proofs.lemmas.Bool.{and_parts, eqb-true, leb-true}
 use Rattle.std.proofs.lemmas.List.{length-replicate}
-use Rattle.sv_types.specs.Bits.{bit}
+use Rattle.processor.specs.Bits.{bit}
 use Rattle.sv_types.specs.ApprovedPages.{numbers_from}
-use Rattle.sv_types.specs.Effects.{plus}
+use Rattle.processor.specs.Effects.{plus}
 use Rattle.elf64_sections.specs.Sections.{part_in_file, section_bytes}
 use Rattle.elf64_sections.specs.declared.sections.SectionHeader.{SectionHeader}
 use Rattle.elf64_reloc.specs.Layouts.{is_good_alignment, space_of, padding, place_behind, ends_with, placed_behind, ends_behind, placed_from, ends_from}

@@ -1,8 +1,8 @@
 -- Where the sections of an object lie: text and data, each behind the one before it. ELF-64 Object File Format, "Sections".
 -- Places are counted modulo 2 ^ 64.
 use Rattle.std.specs.Prelude.{ℕ, ◌-◌, ◌%◌, Bool, ◌&&◌, ◌||◌, List, [], ◌∷◌, ◌==◌, if◌then◌else◌, nat_le}
-use Rattle.sv_types.specs.Bits.{bit}
-use Rattle.sv_types.specs.Effects.{plus}
+use Rattle.processor.specs.Bits.{bit}
+use Rattle.processor.specs.Effects.{plus}
 use Rattle.elf64_sections.specs.declared.sections.SectionHeader.{SectionHeader}
 use Rattle.elf64_reloc.specs.declared.layout.Ends.{Ends}
 use Rattle.elf64_reloc.specs.declared.layout.PlacedSection.{PlacedSection}

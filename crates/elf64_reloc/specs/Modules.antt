@@ -6,7 +6,7 @@ use Rattle.std.specs.BTreeSet.{replace_key}
 use Rattle.std.specs.Cmp.Lexicographic.{slice_cmp}
 use Rattle.std.specs.List.{list_all}
 use Rattle.std.specs.Ordering.{nat_cmp}
-use Rattle.sv_types.specs.Effects.{plus, signed}
+use Rattle.processor.specs.Effects.{plus, signed}
 use Rattle.sv_types.specs.Policies.{is_low_part, site_size, is_aligned, place_within, module_pages_within}
 use Rattle.sv_types.specs.declared.module.Site.{Site}
 use Rattle.sv_types.specs.declared.policy.Export.{Export}

@@ -5,8 +5,8 @@ ghost use Rattle.std.specs.List.{list_all};
 ghost use Rattle.elf64_reloc.specs.Layouts as spec;
 
 use elf64_sections::SectionHeader;
+use processor::{PAGE_BYTES, has_bit};
 use std::alloc::{AllocError, Global};
-use sv_types::{PAGE_BYTES, has_bit};
 
 /// The kind of a section that the program gives.
 const PROGRAM: u32 = 1;

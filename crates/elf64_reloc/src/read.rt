@@ -21,9 +21,10 @@ use crate::sites::{Judging, all_fields, high_parts};
 use crate::symbols::{Names, export_bases};
 use crate::text::text_of;
 use policy_limits::{MOST_MODULE_PAGES, MOST_MODULE_SITES};
+use processor::PAGE_BYTES;
 use std::alloc::Global;
 use std::collections::BTreeMap;
-use sv_types::{Export, PAGE_BYTES, Site};
+use sv_types::{Export, Site};
 
 /// A module: its text in whole pages, and the fields of it that relocations change, in the order of their places.
 #[derive(Drop)]

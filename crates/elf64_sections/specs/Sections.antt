@@ -2,7 +2,7 @@
 use Rattle.std.specs.Prelude.{ℕ, ◌+◌, ◌*◌, ◌/◌, Bool, ◌&&◌, List, length, take, drop, map, find, ◌==◌, if◌then◌else◌, nat_le, nat_lt, Option, Some, None, slice_get}
 use Rattle.std.specs.List.{position_or_len}
 use Rattle.std.specs.Str.{is_utf8}
-use Rattle.sv_types.specs.Bytes.{word, part}
+use Rattle.processor.specs.Bytes.{word, part}
 use Rattle.sv_types.specs.Policies.{is_between}
 use Rattle.sv_types.specs.ApprovedPages.{numbers_from}
 use Rattle.elf64_sections.specs.declared.sections.SectionHeader.{SectionHeader}

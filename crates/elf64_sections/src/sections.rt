@@ -2,7 +2,7 @@
 
 ghost use Rattle.std.specs.Prelude.{◌≡◌, ◌+◌, ◌*◌, ◌≤◌, ◌++◌, length, replicate, IfOk, OnOk};
 ghost use Rattle.elf64_sections.specs.Sections as spec;
-ghost use Rattle.sv_types.specs.Bytes.{part};
+ghost use Rattle.processor.specs.Bytes.{part};
 
 use crate::fields::{double, half, word};
 use std::alloc::{AllocError, Global};

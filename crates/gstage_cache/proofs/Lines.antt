@@ -1,20 +1,21 @@
 -- Lines of a cache: what they answer, and how they are filled.
-use Rattle.std.proofs.Common.{◌≡◌, ℕ, zero, suc, ◌+◌, ◌-◌, ◌*◌, ◌/◌, ◌%◌, ◌^◌, ◌<◌, ◌⊎◌, inl, inr, List, length, get_or, set, replicate, refl, sym, ◌∙◌, ap, subst, arith, Bool, true, false, ◌&&◌}
+use Rattle.std.proofs.Common.{◌≡◌, ℕ, ◌+◌, ◌-◌, ◌*◌, ◌/◌, ◌%◌, ◌^◌, ◌<◌, ◌⊎◌, inl, inr, List, length, get_or, set, refl, sym, ◌∙◌, ap, subst, arith, Bool, true, false, ◌&&◌}
 use Rattle.std.specs.Prelude.{Option, Some, None, IfSome, if◌then◌else◌, ◌==◌}
 use Rattle.std.proofs.lemmas.Bool.Decides.{nat_tests, eqb_tells}
 use Rattle.std.proofs.lemmas.List.{get_or-set_same, get_or-set_other}
-use Rattle.sv_types.specs.Regions.{Region}
-use Rattle.sv_types.specs.Translation.{Destination, At, PageFault, Unreadable}
-use Rattle.sv_types.specs.SecondStage.{walk_guest, address_at, entry_in_region, entry_in_tables, guest_destination, permits_guest, WalksApart}
-use Rattle.sv_types.specs.CachedWalks.{UnderViews, line_permits, line_leads, line_at, LineAgrees, CacheAgrees, FilledUnder, no_lines}
-use Rattle.sv_types.specs.declared.cached.CacheLine.{CacheLine}
-use Rattle.sv_types.specs.declared.wires.Access.{Access}
-use Rattle.sv_types.specs.declared.wires.Access.TheVariants.{Fetch, Load, Store}
-use Rattle.sv_types.proofs.Walks.{walk_guest_fits}
+use Rattle.processor.specs.Regions.{Region}
+use Rattle.processor.specs.Translation.{Destination, At, PageFault, Unreadable}
+use Rattle.processor.specs.SecondStage.{walk_guest, address_at, entry_in_region, entry_in_tables, guest_destination, permits_guest, WalksApart}
+use Rattle.processor.specs.CachedWalks.{line_permits, line_leads, line_at, LineAgrees, CacheAgrees, FilledUnder, no_lines}
+use Rattle.processor.specs.declared.cached.CacheLine.{CacheLine}
+use Rattle.processor.specs.declared.access.Access.{Access}
+use Rattle.processor.specs.declared.access.Access.TheVariants.{Fetch, Load, Store}
+use Rattle.processor_laws.proofs.Walks.{walk_guest_fits}
 use Rattle.sv39_walk.specs.Mappings.{mapping_answer}
 use Rattle.sv39_walk.specs.declared.second_stage.Mapping.{Mapping}
 use Rattle.gstage_cache.specs.Lookup.{tagged, line_for, is_held, IsPlaced, line_of_mapping, IsKept}
 use Rattle.gstage_cache.proofs.Walks.{IsReadable, moved, leads_in_region, region_readable, page_moves, answer_near, answer_is}
+use Rattle.processor_laws.proofs.EmptyLines.{none_at}
 
 -- ---- what a line answers
 
@@ -159,17 +160,9 @@ leads_there (Some place) = refl
 
 -- ---- empty lines
 
-none_at : (n i : ℕ) → get_or (replicate {A = Option CacheLine} n None) i None ≡ None
-none_at zero i = refl
-none_at (suc n) zero = refl
-none_at (suc n) (suc i) = none_at n i
-
 -- so a cache without lines agrees with every table, and its lines are of the views
 pub none_agrees : (tables : List ℕ) → CacheAgrees tables no_lines
 none_agrees tables = record { held = λ i line e. let none = none_at 256 i in absurd (cc) }
-
-pub none_under_views : {bound : List ℕ} → UnderViews bound no_lines
-none_under_views = record { root = λ i line e. let none = none_at 256 i in absurd (cc) }
 
 pub none_placed : IsPlaced no_lines
 none_placed = record { size = refl; place = λ i line e. let none = none_at 256 i in absurd (cc) }

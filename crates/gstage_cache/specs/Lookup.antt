@@ -1,11 +1,11 @@
 -- Where a cache keeps the line of a page. This project's own.
 use Rattle.std.specs.Prelude.{◌≡◌, ℕ, ◌+◌, ◌-◌, ◌/◌, ◌%◌, Bool, true, false, ◌&&◌, ◌==◌, if◌then◌else◌, List, length, Option, Some, None, slice_set}
-use Rattle.sv_types.specs.Bytes.{page_size}
-use Rattle.sv_types.specs.SecondStage.{permits_guest}
-use Rattle.sv_types.specs.CachedWalks.{line_at, line_permits, lines_of_cache}
-use Rattle.sv_types.specs.declared.cached.CacheLine.{CacheLine}
-use Rattle.sv_types.specs.declared.wires.Access.{Access}
-use Rattle.sv_types.specs.declared.wires.Access.TheVariants.{Fetch, Load, Store}
+use Rattle.processor.specs.Bytes.{page_size}
+use Rattle.processor.specs.SecondStage.{permits_guest}
+use Rattle.processor.specs.CachedWalks.{line_at, line_permits, lines_of_cache}
+use Rattle.processor.specs.declared.cached.CacheLine.{CacheLine}
+use Rattle.processor.specs.declared.access.Access.{Access}
+use Rattle.processor.specs.declared.access.Access.TheVariants.{Fetch, Load, Store}
 use Rattle.sv39_walk.specs.declared.second_stage.Mapping.{Mapping}
 
 -- the line, where it is of this hgatp value and this page

@@ -2,15 +2,15 @@
 
 ghost use Rattle.std.specs.Prelude.{◌≡◌, ℕ, ◌+◌, ◌*◌, ◌/◌, ◌%◌, ◌^◌, ◌<◌, ◌≤◌, Some, None, IfOk, IfSome, true, slice_set};
 ghost use Rattle.std.specs.Option.{ok_or};
-ghost use Rattle.sv_types.specs.SecondStage.{walk_guest, WalksApart};
-ghost use Rattle.sv_types.specs.CachedWalks.{line_permits, no_lines, LineAgrees, CacheAgrees, FilledUnder};
+ghost use Rattle.processor.specs.SecondStage.{walk_guest, WalksApart};
+ghost use Rattle.processor.specs.CachedWalks.{line_permits, no_lines, LineAgrees, CacheAgrees, FilledUnder};
 ghost use Rattle.gstage_cache.specs.Lookup.{line_for, is_held, place_by, place_held, line_of_mapping, IsKept};
 ghost use Rattle.gstage_cache.specs.Fills.{nothing_filled, filled_further};
 
-use host_mem::HostMem;
+use host_mem::{HostMem, Steps};
+use processor::{Access, CacheLine, GuestFault, PAGE_BYTES};
 use std::marker::{Brand, Model};
 use std::sync::ledger::{Blank, Ledger};
-use sv_types::{Access, CacheLine, GuestFault, PAGE_BYTES, Steps};
 use sv39_walk::{Mapping, SecondStage, find_mapping};
 
 /// The lines of a cache.
@@ -24,7 +24,7 @@ pub struct Cache {
 
 impl Model for Cache {
     ghost use Rattle.std.specs.Prelude.{List, Option};
-    ghost use Rattle.sv_types.specs.declared.cached.CacheLine.{CacheLine as Line};
+    ghost use Rattle.processor.specs.declared.cached.CacheLine.{CacheLine as Line};
 
     ghost Value = { List (Option Line) };
 

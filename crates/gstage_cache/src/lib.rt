@@ -5,5 +5,5 @@ mod cache;
 mod laws;
 
 pub use cache::Cache;
-pub use laws::{law_walks_under_views, law_write_keeps_tables};
-pub use sv_types::GuestFault;
+pub use laws::law_write_keeps_tables;
+pub use processor::GuestFault;

@@ -1,12 +1,13 @@
 -- What the entries of the trees give, bit by bit.
 use Rattle.std.proofs.Common.{◌≡◌, ℕ, ◌+◌, ◌*◌, ◌/◌, ◌%◌, ◌^◌, ◌<◌, Bool, true, false, refl, ap, ◌∙◌, arith, lit<}
 use Rattle.std.specs.Prelude.{◌&&◌, ◌||◌, not, Some, if◌then◌else◌}
-use Rattle.sv_types.specs.Bits.{bit}
-use Rattle.sv_types.specs.Translation.{well_formed, is_pointer, is_leaf, at_entry, Destination, At, PageFault}
-use Rattle.sv_types.specs.SecondStage.{permits_guest, view_permits, Sight}
-use Rattle.sv_types.specs.declared.wires.Access.{Access}
-use Rattle.sv_types.specs.declared.wires.Access.TheVariants.{Fetch, Load, Store}
-use Rattle.sv_types.specs.declared.wires.Protection.{Protection}
+use Rattle.processor.specs.Bits.{bit}
+use Rattle.processor.specs.Translation.{well_formed, is_pointer, is_leaf, at_entry, Destination, At, PageFault}
+use Rattle.processor.specs.SecondStage.{permits_guest}
+use Rattle.sv_types.specs.Views.{view_permits, Sight}
+use Rattle.processor.specs.declared.access.Access.{Access}
+use Rattle.processor.specs.declared.access.Access.TheVariants.{Fetch, Load, Store}
+use Rattle.sv_types.specs.declared.protection.Protection.{Protection}
 use Rattle.gstage_tables.specs.Layout.{pointer, flags, leaf}
 
 -- the low bits are those of the flags

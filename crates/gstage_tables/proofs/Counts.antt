@@ -3,10 +3,10 @@ use Rattle.std.proofs.Common.{◌≡◌, ◌≢◌, ℕ, zero, suc, ◌+◌, ◌
 use Rattle.std.specs.Prelude.{Bool, nat_le, ◌==◌, ◌&&◌, slice_set, slice_index_or, replicate}
 use borrow.Author.Tests.{ne_eqb, eq-eqb}
 use Rattle.std.proofs.lemmas.Bool.{leb-true}
-use Rattle.sv_types.specs.SecondStage.{OfKernel, protect, all_free}
-use Rattle.sv_types.specs.declared.wires.Protection.{Protection}
-use Rattle.sv_types.specs.declared.wires.Protection.TheVariants.{Free, Held, Approved}
-use Rattle.sv_types.proofs.ByteLemmas.{lt_or_le}
+use Rattle.sv_types.specs.Views.{OfKernel, protect, all_free}
+use Rattle.sv_types.specs.declared.protection.Protection.{Protection}
+use Rattle.sv_types.specs.declared.protection.Protection.TheVariants.{Free, Held, Approved}
+use Rattle.processor_laws.proofs.ByteLemmas.{lt_or_le}
 use Rattle.gstage_tables.specs.Layout.{leaf}
 use Rattle.gstage_tables.specs.Blocks.{lies_in_ram, is_free, taken, taken_among, taken_pages, is_whole, is_whole_by, recounted, CountsTaken}
 

@@ -2,10 +2,10 @@
 use Rattle.std.proofs.Common.{◌≡◌, ℕ, ◌+◌, ◌*◌, ◌/◌, ◌%◌, ◌<◌, ◌≤◌, Bool, true, false, List, length, refl, ap, ◌∙◌, arith}
 use Rattle.std.specs.Prelude.{nat_le, ◌==◌}
 use Rattle.std.proofs.lemmas.Bool.{le-leb}
-use Rattle.sv_types.specs.Translation.{is_leaf}
-use Rattle.sv_types.specs.SecondStage.{Sight}
-use Rattle.sv_types.specs.declared.wires.Protection.{Protection}
-use Rattle.sv_types.specs.declared.wires.Protection.TheVariants.{Free}
+use Rattle.processor.specs.Translation.{is_leaf}
+use Rattle.sv_types.specs.Views.{Sight}
+use Rattle.sv_types.specs.declared.protection.Protection.{Protection}
+use Rattle.sv_types.specs.declared.protection.Protection.TheVariants.{Free}
 use Rattle.gstage_tables.specs.Blocks.{is_whole, taken_pages}
 use Rattle.gstage_tables.specs.Layout.{leaf_tables, table_pages, tree_count, sight_in, middle_word, HoldsTrees, MapsBlocks}
 use Rattle.gstage_tables.proofs.Bits.{leaf_is_leaf, pointer_no_leaf}

@@ -2,9 +2,9 @@
 use Rattle.std.proofs.Common.{◌≡◌, ◌≢◌, ℕ, ◌+◌, ◌*◌, ◌<◌, ◌≤◌, Bool, true, false, refl}
 use Rattle.std.specs.Prelude.{◌==◌, nat_lt}
 use borrow.Author.Tests.{lt-ltb, le-ltb, ne_eqb, eq-eqb}
-use Rattle.sv_types.specs.SecondStage.{Sight}
-use Rattle.sv_types.specs.declared.wires.Protection.{Protection}
-use Rattle.sv_types.specs.declared.wires.Protection.TheVariants.{Free}
+use Rattle.sv_types.specs.Views.{Sight}
+use Rattle.sv_types.specs.declared.protection.Protection.{Protection}
+use Rattle.sv_types.specs.declared.protection.Protection.TheVariants.{Free}
 use Rattle.gstage_tables.specs.Layout.{pointer, leaf, root_word, middle_word, leaf_word}
 
 pub root_two : (trees tree i : ℕ) → i ≡ 2 → root_word trees tree i ≡ pointer (4 * trees + tree)

@@ -4,17 +4,18 @@ use Rattle.std.specs.Prelude.{Option, Some, None, ◌==◌, ◌&&◌, nat_lt, na
 use borrow.Author.Tests.{le-leb, lt-ltb, le-ltb, ne_eqb}
 use Rattle.std.proofs.lemmas.Bool.{lt-leb, leb-true, eqb-true, and_parts}
 use Rattle.std.proofs.lemmas.Bool.Decides.{nat_tests}
-use Rattle.sv_types.specs.Bytes.{word, page_of, ram_place}
-use Rattle.sv_types.specs.Regions.{host_word}
-use Rattle.sv_types.specs.Instructions.{bits}
-use Rattle.sv_types.specs.Translation.{walk, root_of, Destination, At, PageFault}
-use Rattle.sv_types.specs.SecondStage.{IsView, AreViews, Sight, OfKernel, OfUser, OfEntry, sight_of, view_hgatp, view_answer, view_permits, page_in_ram, walk_guest, address_at, guest_destination, entry_in_tables, entry_in_region, host_entry, permits_guest, with_ram}
-use Rattle.sv_types.specs.declared.wires.Access.{Access}
-use Rattle.sv_types.specs.declared.wires.Access.TheVariants.{Fetch, Load, Store}
-use Rattle.sv_types.specs.declared.wires.Protection.{Protection}
-use Rattle.sv_types.specs.declared.wires.Protection.TheVariants.{Free}
-use Rattle.sv_types.specs.declared.wires.View.{View}
-use Rattle.sv_types.proofs.ByteLemmas.{lt_or_le}
+use Rattle.processor.specs.Bytes.{word, page_of, ram_place}
+use Rattle.processor.specs.Regions.{host_word}
+use Rattle.processor.specs.Instructions.{bits}
+use Rattle.processor.specs.Translation.{walk, root_of, Destination, At, PageFault}
+use Rattle.sv_types.specs.Views.{IsView, AreViews, Sight, OfKernel, OfUser, OfEntry, sight_of, view_hgatp, view_answer, view_permits, page_in_ram, with_ram}
+use Rattle.processor.specs.SecondStage.{walk_guest, address_at, guest_destination, entry_in_tables, entry_in_region, host_entry, permits_guest}
+use Rattle.processor.specs.declared.access.Access.{Access}
+use Rattle.processor.specs.declared.access.Access.TheVariants.{Fetch, Load, Store}
+use Rattle.sv_types.specs.declared.protection.Protection.{Protection}
+use Rattle.sv_types.specs.declared.protection.Protection.TheVariants.{Free}
+use Rattle.sv_types.specs.declared.view.View.{View}
+use Rattle.processor_laws.proofs.ByteLemmas.{lt_or_le}
 use Rattle.gstage_tables.specs.Blocks.{is_whole, taken_pages}
 use Rattle.gstage_tables.specs.Layout.{leaf_tables, table_pages, table_size, tree_count, sight_in, pointer, leaf, root_word, middle_word, leaf_word, HoldsTrees}
 use Rattle.gstage_tables.proofs.Bits.{pointer_gives, zero_gives, leaf_gives}

@@ -1,8 +1,8 @@
 -- Blocks of RAM of 2 MiB, each of 512 pages: what one level-0 table maps, or one level-1 leaf.
 -- RISC-V Privileged manual, "Sv39: Page-Based 39-bit Virtual-Memory System": megapages.
 use Rattle.std.specs.Prelude.{◌≡◌, ℕ, zero, suc, ◌+◌, ◌-◌, ◌*◌, ◌≤◌, min, Bool, true, false, ◌&&◌, ◌==◌, if◌then◌else◌, nat_le, List, slice_index_or}
-use Rattle.sv_types.specs.declared.wires.Protection.{Protection}
-use Rattle.sv_types.specs.declared.wires.Protection.TheVariants.{Free, Held, Approved}
+use Rattle.sv_types.specs.declared.protection.Protection.{Protection}
+use Rattle.sv_types.specs.declared.protection.Protection.TheVariants.{Free, Held, Approved}
 
 abbrev pub is_free : Protection → Bool
 is_free Free = true

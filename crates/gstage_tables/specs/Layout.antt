@@ -4,15 +4,15 @@
 -- level-0 table is kept right while it isn't used.
 -- RISC-V Privileged manual, H extension, "Guest Physical Address Translation"; the places are this project's own.
 use Rattle.std.specs.Prelude.{◌≡◌, ℕ, ◌+◌, ◌-◌, ◌*◌, ◌/◌, ◌<◌, ◌≤◌, ◌==◌, Bool, if◌then◌else◌, nat_lt, List, length, slice_index_or}
-use Rattle.sv_types.specs.Bytes.{word, page_size}
-use Rattle.sv_types.specs.Regions.{most_ram_pages}
-use Rattle.sv_types.specs.Translation.{is_leaf}
-use Rattle.sv_types.specs.SecondStage.{Sight, OfKernel, OfUser, OfEntry, view_permits}
-use Rattle.sv_types.specs.declared.wires.Access.TheVariants.{Fetch, Store}
-use Rattle.sv_types.specs.declared.wires.Protection.{Protection}
-use Rattle.sv_types.specs.declared.wires.Protection.TheVariants.{Free}
-use Rattle.sv_types.specs.declared.wires.View.{View}
-use Rattle.sv_types.specs.declared.wires.View.TheVariants.{Kernel, User, Entry}
+use Rattle.processor.specs.Bytes.{word, page_size}
+use Rattle.processor.specs.Regions.{most_ram_pages}
+use Rattle.processor.specs.Translation.{is_leaf}
+use Rattle.sv_types.specs.Views.{Sight, OfKernel, OfUser, OfEntry, view_permits}
+use Rattle.processor.specs.declared.access.Access.TheVariants.{Fetch, Store}
+use Rattle.sv_types.specs.declared.protection.Protection.{Protection}
+use Rattle.sv_types.specs.declared.protection.Protection.TheVariants.{Free}
+use Rattle.sv_types.specs.declared.view.View.{View}
+use Rattle.sv_types.specs.declared.view.View.TheVariants.{Kernel, User, Entry}
 use Rattle.gstage_tables.specs.Blocks.{is_whole, taken_pages, CountsTaken}
 
 -- ---- the trees

@@ -1,14 +1,13 @@
 // Words of the table part, written one by one or row by row.
 
 ghost use Rattle.std.specs.Prelude.{◌≡◌, ◌+◌, ◌*◌, ◌/◌, ◌%◌, ◌≤◌, length};
-ghost use Rattle.sv_types.specs.Bytes.{word, write_word};
+ghost use Rattle.processor.specs.Bytes.{word, write_word};
 ghost use Rattle.gstage_tables.specs.Layout.{root_word};
 ghost use Rattle.gstage_tables.specs.Written.{Wrote};
 
 use crate::words::root_word;
-use host_mem::HostMem;
+use host_mem::{HostMem, Steps};
 use std::sync::ledger::Ledger;
-use sv_types::Steps;
 
 /// Word `k` of the table part.
 pub(crate) fn entry_at(mem: &HostMem, k: u64) -> u64

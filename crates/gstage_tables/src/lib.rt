@@ -3,11 +3,11 @@
 #![tactic(auto)]
 
 ghost use Rattle.std.specs.Prelude.{◌≡◌, ℕ, ◌+◌, ◌*◌, ◌/◌, ◌%◌, ◌<◌, ◌≤◌, ◌^◌, ◌≢◌, ◌==◌, ◌&&◌, length, replicate, slice_set, slice_index_or, IsSome, Some, true};
-ghost use Rattle.sv_types.specs.Bytes.{page_size, word};
-ghost use Rattle.sv_types.specs.Regions.{most_ram_pages};
-ghost use Rattle.sv_types.specs.SecondStage.{AreViews, sight_of, view_hgatp, view_permits, protect, all_free};
-ghost use Rattle.sv_types.specs.declared.wires.Access.TheVariants.{Fetch};
-ghost use Rattle.sv_types.specs.declared.wires.Protection.{Protection as Kind};
+ghost use Rattle.processor.specs.Bytes.{page_size, word};
+ghost use Rattle.processor.specs.Regions.{most_ram_pages};
+ghost use Rattle.sv_types.specs.Views.{AreViews, sight_of, view_hgatp, view_permits, protect, all_free};
+ghost use Rattle.processor.specs.declared.access.Access.TheVariants.{Fetch};
+ghost use Rattle.sv_types.specs.declared.protection.Protection.{Protection as Kind};
 ghost use Rattle.gstage_tables.specs.Blocks.{is_free, lies_in_ram, is_whole_by, recounted};
 ghost use Rattle.gstage_tables.specs.Layout.{most_bound, tree_count, sight_in, leaf_tables, middle_table, leaf_table, table_pages, table_size, leaf, middle_word, leaf_word, HoldsTrees, AreDrawn, MapsBlocks};
 ghost use Rattle.gstage_tables.specs.Written.{Wrote};
@@ -18,10 +18,10 @@ mod words;
 use crate::fill::{entry_at, fill_roots, put, put_counted};
 use crate::words::{leaf_table, leaf_tables, mapping, pointer, up_to_blocks};
 use arrayvec::ArrayVec;
-use host_mem::HostMem;
+use host_mem::{HostMem, Steps};
 use std::marker::{Brand, Model};
 use std::sync::ledger::{Blank, Ledger};
-use sv_types::{Protection, Steps, View};
+use sv_types::{Protection, View};
 
 /// The pages of a block of 2 MiB, which one level-0 table maps, or one leaf of level 1.
 const BLOCK_PAGES: u64 = 512;
@@ -40,7 +40,7 @@ impl Model for Trees {
     ghost Value = { Shape };
 
     ghost use Rattle.std.specs.Prelude.{◌≡◌, ◌≤◌, length};
-    ghost use Rattle.sv_types.specs.Regions.{most_ram_pages};
+    ghost use Rattle.processor.specs.Regions.{most_ram_pages};
     ghost use Rattle.gstage_tables.specs.Layout.{most_bound};
 
     ghost view = { λ t. record { ram_pages = t.ram_pages; bound = t.bound.items; counts = t.counts } };

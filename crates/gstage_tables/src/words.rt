@@ -1,11 +1,11 @@
 // Entries of the tables, and where the tables lie.
 
 ghost use Rattle.std.specs.Prelude.{◌≡◌, ◌+◌, ◌*◌, ◌/◌, ◌<◌, ◌≤◌, ◌^◌};
-ghost use Rattle.sv_types.specs.Regions.{most_ram_pages};
+ghost use Rattle.processor.specs.Regions.{most_ram_pages};
 ghost use Rattle.gstage_tables.specs.Layout.{leaf_tables, leaf_table, pointer, flags, root_word};
 
 use bitflags::Flags;
-use sv_types::PteBits;
+use processor::PteBits;
 
 /// The level-0 tables of one tree.
 pub(crate) fn leaf_tables(ram_pages: u64) -> u64

@@ -1,15 +1,15 @@
 -- What a turn of a hart does: to protected bytes, to the hart, to other harts, and to the verdict.
 use Rattle.std.proofs.Common.{◌≡◌, ℕ, zero, suc, ◌<◌, ◌⊎◌, inl, inr, List, [], ◌∷◌, map, length, refl, sym, ◌∙◌, ap, subst, Bool, true, false, ◌||◌, arith, slice_get, slice_set}
 use Rattle.std.specs.Prelude.{Option, Some, None, option_map, if◌then◌else◌}
-use Rattle.sv_types.specs.Bytes.{overwrite, page_bytes}
+use Rattle.processor.specs.Bytes.{overwrite, page_bytes}
 use Rattle.sv_types.specs.Policies.{Rules}
-use Rattle.sv_types.specs.Traps.{trap_target, mode_at_return}
+use Rattle.processor.specs.Traps.{trap_target, mode_at_return}
 use Rattle.sv_types.specs.declared.event.Rule.TheVariants.{Entry, Write}
 use Rattle.sv_types.specs.declared.event.Verdict.{Verdict}
 use Rattle.sv_types.specs.declared.event.Verdict.TheVariants.{Running, Shutdown, Stopped}
-use Rattle.sv_types.specs.declared.wires.Mode.{Mode}
-use Rattle.sv_types.specs.declared.wires.Mode.TheVariants.{Kernel, User}
-use Rattle.sv_types.proofs.ByteLemmas.{page_elsewhere, lt_or_le}
+use Rattle.processor.specs.declared.mode.Mode.{Mode}
+use Rattle.processor.specs.declared.mode.Mode.TheVariants.{Kernel, User}
+use Rattle.processor_laws.proofs.ByteLemmas.{page_elsewhere, lt_or_le}
 use Rattle.reference.specs.Calls.{started_hart}
 use Rattle.reference.specs.Counting.{stopped_by}
 use Rattle.reference.specs.Devices.{hart_after_write}

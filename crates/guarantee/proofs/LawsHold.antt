@@ -3,26 +3,26 @@ use Rattle.std.proofs.Common.{◌≡◌, ℕ, ◌⊎◌, inl, inr, List, map, le
 use Rattle.std.specs.Prelude.{Option, Some, None, option_map, if◌then◌else◌, is_some, ◌==◌}
 use Rattle.std.proofs.lemmas.Bool.{eqb-true, eq-eqb}
 use Rattle.sv_types.specs.ApprovedPages.{approved_bytes}
-use Rattle.sv_types.specs.Bytes.{page_bytes, page_of, ram_place, in_ram}
-use Rattle.sv_types.specs.Causes.{cause_number}
+use Rattle.processor.specs.Bytes.{page_bytes, page_of, ram_place, in_ram}
+use Rattle.processor.specs.Causes.{cause_number}
 use Rattle.sv_types.specs.Console.{has_room}
-use Rattle.sv_types.specs.Effects.{effect_of}
-use Rattle.sv_types.specs.Instructions.{instruction_of}
-use Rattle.sv_types.specs.Translation.{Destination, At, PageFault, Unreadable}
-use Rattle.sv_types.specs.Requests.{Writes}
-use Rattle.sv_types.specs.Traps.{is_kernel, trap_target, interrupt_number, deliverable}
-use Rattle.sv_types.specs.declared.cause.Cause.{Cause}
-use Rattle.sv_types.specs.declared.effect.Effect.{Effect}
+use Rattle.processor.specs.Effects.{effect_of}
+use Rattle.processor.specs.Instructions.{instruction_of}
+use Rattle.processor.specs.Translation.{Destination, At, PageFault, Unreadable}
+use Rattle.processor.specs.Requests.{Writes}
+use Rattle.processor.specs.Traps.{is_kernel, trap_target, interrupt_number, deliverable}
+use Rattle.processor.specs.declared.cause.Cause.{Cause}
+use Rattle.processor.specs.declared.effect.Effect.{Effect}
 use Rattle.sv_types.specs.declared.event.Event.{Event}
 use Rattle.sv_types.specs.declared.event.Event.TheVariants.{Turn, Beat, Key, Tick}
 use Rattle.sv_types.specs.declared.event.Rule.{Rule}
 use Rattle.sv_types.specs.declared.event.Rule.TheVariants.{Entry, Write}
 use Rattle.sv_types.specs.declared.event.Verdict.{Verdict}
 use Rattle.sv_types.specs.declared.event.Verdict.TheVariants.{Running, Shutdown, Stopped}
-use Rattle.sv_types.specs.declared.instruction.Instr.{Instr}
-use Rattle.sv_types.specs.declared.wires.Interrupt.{Interrupt}
-use Rattle.sv_types.specs.declared.wires.Mode.{Mode}
-use Rattle.sv_types.specs.declared.wires.Mode.TheVariants.{Kernel, User}
+use Rattle.processor.specs.declared.instruction.Instr.{Instr}
+use Rattle.processor.specs.declared.interrupt.Interrupt.{Interrupt}
+use Rattle.processor.specs.declared.mode.Mode.{Mode}
+use Rattle.processor.specs.declared.mode.Mode.TheVariants.{Kernel, User}
 use Rattle.reference.specs.Calls.{hart_at, started_hart}
 use Rattle.reference.specs.Counting.{count, counted, count_dropped, count_turn, count_beat, count_key, stopped_by}
 use Rattle.reference.specs.Devices.{beat, key, tick, lines_at, with_disk, with_bytes, after_move, hart_after_write}

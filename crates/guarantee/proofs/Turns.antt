@@ -2,24 +2,24 @@
 use Rattle.std.proofs.Common.{◌≡◌, ℕ, zero, suc, ◌⊎◌, inl, inr, List, map, refl, sym, ◌∙◌, ap, subst, Bool, true, false, slice_get, slice_set}
 use Rattle.std.specs.Prelude.{Option, Some, None, option_map, if◌then◌else◌, ◌==◌}
 use Rattle.std.proofs.lemmas.Bool.{eqb-true, eq-eqb}
-use Rattle.sv_types.specs.Bytes.{page_of, page_bytes, ram_place, low_bytes}
-use Rattle.sv_types.specs.Causes.{cause_number}
+use Rattle.processor.specs.Bytes.{page_of, page_bytes, ram_place, low_bytes}
+use Rattle.processor.specs.Causes.{cause_number}
 use Rattle.sv_types.specs.Console.{stored}
-use Rattle.sv_types.specs.Effects.{effect_of}
-use Rattle.sv_types.specs.Instructions.{instruction_of}
-use Rattle.sv_types.specs.Regions.{IsWidth}
-use Rattle.sv_types.specs.Requests.{covers, Writes}
-use Rattle.sv_types.specs.Traps.{trap_target, interrupt_number, deliverable, mode_at_return}
-use Rattle.sv_types.specs.declared.cause.Cause.{Cause}
-use Rattle.sv_types.specs.declared.csr.Csr.{Csr}
-use Rattle.sv_types.specs.declared.effect.Effect.{Effect}
+use Rattle.processor.specs.Effects.{effect_of}
+use Rattle.processor.specs.Instructions.{instruction_of}
+use Rattle.processor.specs.Regions.{IsWidth}
+use Rattle.processor.specs.Requests.{covers, Writes}
+use Rattle.processor.specs.Traps.{trap_target, interrupt_number, deliverable, mode_at_return}
+use Rattle.processor.specs.declared.cause.Cause.{Cause}
+use Rattle.processor.specs.declared.csr.Csr.{Csr}
+use Rattle.processor.specs.declared.effect.Effect.{Effect}
 use Rattle.sv_types.specs.declared.event.Verdict.TheVariants.{Running}
-use Rattle.sv_types.specs.declared.instruction.AmoOp.{AmoOp}
-use Rattle.sv_types.specs.declared.instruction.CsrOp.{CsrOp}
-use Rattle.sv_types.specs.declared.instruction.Instr.{Instr}
-use Rattle.sv_types.specs.declared.wires.Interrupt.{Interrupt}
-use Rattle.sv_types.specs.declared.wires.Mode.{Mode}
-use Rattle.sv_types.specs.declared.wires.Mode.TheVariants.{Kernel, User}
+use Rattle.processor.specs.declared.instruction.AmoOp.{AmoOp}
+use Rattle.processor.specs.declared.instruction.CsrOp.{CsrOp}
+use Rattle.processor.specs.declared.instruction.Instr.{Instr}
+use Rattle.processor.specs.declared.interrupt.Interrupt.{Interrupt}
+use Rattle.processor.specs.declared.mode.Mode.{Mode}
+use Rattle.processor.specs.declared.mode.Mode.TheVariants.{Kernel, User}
 use Rattle.reference.specs.Answers.{replied, journal_beside, pages_beside, harts_beside, answered, call}
 use Rattle.reference.specs.Calls.{asked_by, facts_of, extension_of, mask_names, interrupted, started_hart}
 use Rattle.reference.specs.Counting.{printed_low}

@@ -2,15 +2,15 @@
 -- This project's own.
 use Rattle.std.specs.Prelude.{◌≡◌, ℕ, Bool, true, false, List, Option, Some, slice_get}
 use Rattle.sv_types.specs.ApprovedPages.{approved_bytes}
-use Rattle.sv_types.specs.Bytes.{word, page_bytes, page_of, place_in_page}
-use Rattle.sv_types.specs.Translation.{At}
-use Rattle.sv_types.specs.Requests.{Writes}
-use Rattle.sv_types.specs.Traps.{trap_target, mode_at_return}
-use Rattle.sv_types.specs.declared.effect.Effect.{Effect}
+use Rattle.processor.specs.Bytes.{word, page_bytes, page_of, place_in_page}
+use Rattle.processor.specs.Translation.{At}
+use Rattle.processor.specs.Requests.{Writes}
+use Rattle.processor.specs.Traps.{trap_target, mode_at_return}
+use Rattle.processor.specs.declared.effect.Effect.{Effect}
 use Rattle.sv_types.specs.declared.event.Event.{Event}
 use Rattle.sv_types.specs.declared.event.Rule.{Rule}
 use Rattle.sv_types.specs.declared.event.Verdict.{Verdict}
-use Rattle.sv_types.specs.declared.wires.Mode.{Mode}
+use Rattle.processor.specs.declared.mode.Mode.{Mode}
 use Rattle.reference.specs.Calls.{started_hart}
 use Rattle.reference.specs.Counting.{count, count_turn, stopped_by}
 use Rattle.reference.specs.Disk.{beat_gpa}

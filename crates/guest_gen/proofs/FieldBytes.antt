@@ -2,8 +2,8 @@
 use Rattle.std.proofs.Common.{◌≡◌, ℕ, zero, suc, ◌*◌, ◌/◌, ◌%◌, ◌^◌, List, [], ◌∷◌, length, ◌∙◌, refl, sym, ap, arith, pow-suc}
 use Rattle.std.proofs.Math.Nat.{div-div-eq-div-mul, div-one}
 use Rattle.std.specs.Int.{to_le_bytes, byte_at, bytes_low_first, w16, w32, w64}
-use Rattle.sv_types.specs.Bytes.{low_bytes}
-use Rattle.sv_types.specs.declared.instruction.Instr.{Instr}
+use Rattle.processor.specs.Bytes.{low_bytes}
+use Rattle.processor.specs.declared.instruction.Instr.{Instr}
 use Rattle.guest_gen.specs.Images.{code_bytes}
 
 byte_is : (i value : ℕ) → byte_at i value ≡ value / 256 ^ i % 256

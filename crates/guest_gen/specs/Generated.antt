@@ -1,6 +1,6 @@
 -- The generated guest as a file, and its policy. This project's own.
 use Rattle.std.specs.Prelude.{ℕ, ◌+◌, List, [], ◌∷◌, ◌++◌, None}
-use Rattle.sv_types.specs.Bytes.{padded, page_size}
+use Rattle.processor.specs.Bytes.{padded, page_size}
 use Rattle.sv_types.specs.Measure.{measure}
 use Rattle.sv_types.specs.Policies.{Rules}
 use Rattle.guest_gen.specs.Images.{code_bytes, laid_out, text_address}

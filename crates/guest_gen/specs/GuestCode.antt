@@ -3,13 +3,13 @@
 -- RISC-V Unprivileged manual, "Integer Register-Immediate Instructions"; RISC-V ELF psABI, "Integer Register
 -- Convention".
 use Rattle.std.specs.Prelude.{ℕ, ◌+◌, ◌*◌, ◌/◌, ℤ, pos, neg_ℤ, ◌-ℤ◌, List, [], ◌∷◌}
-use Rattle.sv_types.specs.declared.instruction.Instr.{Instr}
-use Rattle.sv_types.specs.declared.instruction.BranchOp.TheVariants.{Beq}
-use Rattle.sv_types.specs.declared.instruction.StoreOp.TheVariants.{Sw, Sd}
-use Rattle.sv_types.specs.declared.instruction.OpImmOp.TheVariants.{Addi}
-use Rattle.sv_types.specs.declared.instruction.OpImm32Op.TheVariants.{Addiw}
-use Rattle.sv_types.specs.declared.instruction.OpOp.TheVariants.{Add}
-use Rattle.sv_types.specs.declared.instruction.CsrOp.TheVariants.{Csrrw}
+use Rattle.processor.specs.declared.instruction.Instr.{Instr}
+use Rattle.processor.specs.declared.instruction.BranchOp.TheVariants.{Beq}
+use Rattle.processor.specs.declared.instruction.StoreOp.TheVariants.{Sw, Sd}
+use Rattle.processor.specs.declared.instruction.OpImmOp.TheVariants.{Addi}
+use Rattle.processor.specs.declared.instruction.OpImm32Op.TheVariants.{Addiw}
+use Rattle.processor.specs.declared.instruction.OpOp.TheVariants.{Add}
+use Rattle.processor.specs.declared.instruction.CsrOp.TheVariants.{Csrrw}
 
 -- ---- registers
 

@@ -1,9 +1,9 @@
 -- An executable file of three segments, page by page: its headers, a page of text, and a body.
 -- ELF-64 Object File Format, "ELF Header" and "Program Header Table"; RISC-V ELF psABI, "File Header".
 use Rattle.std.specs.Prelude.{ℕ, ◌+◌, ◌*◌, List, [], ◌∷◌, ◌++◌, length, flat_map}
-use Rattle.sv_types.specs.Bytes.{low_bytes, padded, page_size, ram_base}
-use Rattle.sv_types.specs.Encoding.{word_of}
-use Rattle.sv_types.specs.declared.instruction.Instr.{Instr}
+use Rattle.processor.specs.Bytes.{low_bytes, padded, page_size, ram_base}
+use Rattle.processor.specs.Encoding.{word_of}
+use Rattle.processor.specs.declared.instruction.Instr.{Instr}
 use Rattle.sv_types.specs.declared.kernel.ProgramHeader.{ProgramHeader}
 use Rattle.guest_gen.specs.declared.fields.Field.{Field}
 use Rattle.guest_gen.specs.declared.fields.Field.TheVariants.{Byte, Half, Word, Double}

@@ -2,11 +2,11 @@
 
 ghost use Rattle.std.specs.Prelude.{◌≡◌, ◌≤◌, IsTrue};
 ghost use Rattle.std.specs.List.{list_all};
-ghost use Rattle.sv_types.specs.Encoding.{fits, is_immediate};
+ghost use Rattle.processor.specs.Encoding.{fits, is_immediate};
 ghost use Rattle.guest_gen.specs.GuestCode as spec;
 
+use processor::{BranchOp, CsrOp, OpImm32Op, OpImmOp, OpOp, StoreOp};
 use rv64_encode::Instr;
-use sv_types::{BranchOp, CsrOp, OpImm32Op, OpImmOp, OpOp, StoreOp};
 
 const X0: u8 = 0;
 
@@ -132,7 +132,7 @@ fn csrw(csr: u16, rs1: u8) -> Instr
 }
 
 /// The kernel's begin, for so many calls.
-#[tactic(auto, unfolding(crate::specs::GuestCode::setup, sv_types::specs::Encoding::fits, sv_types::specs::Encoding::is_shift, sv_types::specs::Encoding::is_shift_32))]
+#[tactic(auto, unfolding(crate::specs::GuestCode::setup, processor::specs::Encoding::fits, processor::specs::Encoding::is_shift, processor::specs::Encoding::is_shift_32))]
 pub fn setup(calls: u64) -> [Instr; 16]
     requires { calls ≤ 1000000 }
     ensures code { result ≡ spec.setup calls }
@@ -165,7 +165,7 @@ pub fn setup(calls: u64) -> [Instr; 16]
 }
 
 /// The trap vector.
-#[tactic(auto, unfolding(crate::specs::GuestCode::trap_handler, sv_types::specs::Encoding::fits, sv_types::specs::Encoding::is_shift))]
+#[tactic(auto, unfolding(crate::specs::GuestCode::trap_handler, processor::specs::Encoding::fits, processor::specs::Encoding::is_shift))]
 pub fn trap_handler() -> [Instr; 12]
     ensures code { result ≡ spec.trap_handler }
     ensures fits { IsTrue (list_all fits result) }
@@ -200,7 +200,7 @@ pub fn trap_handler() -> [Instr; 12]
 }
 
 /// The user's loop.
-#[tactic(auto, unfolding(crate::specs::GuestCode::user_loop, sv_types::specs::Encoding::fits))]
+#[tactic(auto, unfolding(crate::specs::GuestCode::user_loop, processor::specs::Encoding::fits))]
 pub fn user_loop() -> [Instr; 2]
     ensures code { result ≡ spec.user_loop }
     ensures fits { IsTrue (list_all fits result) }

@@ -2,14 +2,15 @@
 
 ghost use Rattle.std.specs.Prelude.{◌≡◌, ◌+◌, ◌*◌, ◌<◌, ◌≤◌, ◌^◌, IsTrue, IfOk, length};
 ghost use Rattle.std.specs.List.{list_all};
-ghost use Rattle.sv_types.specs.Bytes.{page_size};
-ghost use Rattle.sv_types.specs.Encoding.{fits};
+ghost use Rattle.processor.specs.Bytes.{page_size};
+ghost use Rattle.processor.specs.Encoding.{fits};
 ghost use Rattle.guest_gen.specs.Images as spec;
 
 use crate::fields::{Field, pad, push_code, push_fields};
+use processor::{PAGE_BYTES, PAGE_SIZE, RAM_BASE};
 use rv64_encode::Instr;
 use std::alloc::{AllocError, Global};
-use sv_types::{PAGE_BYTES, PAGE_SIZE, ProgramHeader, RAM_BASE};
+use sv_types::ProgramHeader;
 
 /// Where the text lies and the kernel begins.
 pub const TEXT_ADDRESS: u64 = 0x8000_1000;

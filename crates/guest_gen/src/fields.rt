@@ -2,8 +2,8 @@
 
 ghost use Rattle.std.specs.Prelude.{◌≡◌, ◌+◌, ◌*◌, ◌≤◌, ◌++◌, OnOk, IsTrue, flat_map, length, vec_len};
 ghost use Rattle.std.specs.List.{list_all};
-ghost use Rattle.sv_types.specs.Bytes.{padded};
-ghost use Rattle.sv_types.specs.Encoding.{fits};
+ghost use Rattle.processor.specs.Bytes.{padded};
+ghost use Rattle.processor.specs.Encoding.{fits};
 ghost use Rattle.guest_gen.specs.Images as spec;
 
 use rv64_encode::{Instr, encode};

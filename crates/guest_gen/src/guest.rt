@@ -1,7 +1,7 @@
 // The guest's file and policy.
 
 ghost use Rattle.std.specs.Prelude.{◌≡◌, ◌≤◌, IsTrue, IfOk, length, vec_len};
-ghost use Rattle.sv_types.specs.Bytes.{page_size};
+ghost use Rattle.processor.specs.Bytes.{page_size};
 ghost use Rattle.sv_types.specs.Measure.{measure};
 ghost use Rattle.sv_types.specs.Policies.{rules_of, rules_within};
 ghost use Rattle.guest_gen.specs.Generated as spec;
@@ -10,8 +10,9 @@ use crate::code::{TRAP_PLACE, setup, trap_handler, user_loop};
 use crate::elf::{TEXT_ADDRESS, laid_out};
 use crate::fields::{pad, push_code};
 use page_measure::{join_digests, page_digest};
+use processor::PAGE_SIZE;
 use std::alloc::{AllocError, Global};
-use sv_types::{PAGE_SIZE, Policy};
+use sv_types::Policy;
 
 // The page of text, for so many calls.
 #[tactic(auto, unfolding(crate::specs::Generated::generated_text))]

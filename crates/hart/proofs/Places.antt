@@ -1,16 +1,16 @@
 -- Where both stages lead, a word of a width that divides the virtual address may be read and written.
 use Rattle.std.proofs.Common.{◌≡◌, ◌∙◌, ℕ, ◌+◌, ◌%◌, ◌^◌, ◌<◌, ◌≤◌, length, refl}
 use Rattle.std.specs.Prelude.{◌/◌, Option, Some, None, IfSome, Ok}
-use Rattle.sv_types.specs.declared.translation.Place.{Place}
-use Rattle.sv_types.specs.declared.wires.Access.{Access}
-use Rattle.sv_types.specs.declared.wires.Mode.{Mode}
-use Rattle.sv_types.specs.Regions.{Region, IsRegion, IsWidth, IsHostPlace}
-use Rattle.sv_types.specs.Translation.{Destination, At, PageFault, Unreadable, Settings, first_stage}
-use Rattle.sv_types.specs.SecondStage.{walk_guest, place_through, after_first_stage, two_stages, entry_through, WalksInside, WalksApart}
-use Rattle.sv_types.specs.Hardware.{Core}
-use Rattle.sv_types.specs.HardwareMemory.{settings_at, translated}
-use Rattle.sv_types.proofs.RegionLemmas.{keeps_width, ends_inside, whole_sum}
-use Rattle.sv_types.proofs.Walks.{Fits, first_stage_fits, walk_guest_fits}
+use Rattle.processor.specs.declared.translation.Place.{Place}
+use Rattle.processor.specs.declared.access.Access.{Access}
+use Rattle.processor.specs.declared.mode.Mode.{Mode}
+use Rattle.processor.specs.Regions.{Region, IsRegion, IsWidth, IsHostPlace}
+use Rattle.processor.specs.Translation.{Destination, At, PageFault, Unreadable, Settings, first_stage}
+use Rattle.processor.specs.SecondStage.{walk_guest, place_through, after_first_stage, two_stages, entry_through, WalksInside, WalksApart}
+use Rattle.processor.specs.Hardware.{Core}
+use Rattle.processor.specs.HardwareMemory.{settings_at, translated}
+use Rattle.processor_laws.proofs.RegionLemmas.{keeps_width, ends_inside, whole_sum}
+use Rattle.processor_laws.proofs.Walks.{Fits, first_stage_fits, walk_guest_fits}
 
 -- a root whose walks lead to RAM alone
 pub apart_inside : (r : Region) (hgatp : ℕ) → WalksApart r hgatp → WalksInside r hgatp

@@ -1,8 +1,8 @@
 -- What a hart keeps and its hypervisor registers, as the hardware's attempt sees them. This project's own.
-use Rattle.sv_types.specs.Regions.{Region}
-use Rattle.sv_types.specs.Hardware.{Core, Step, Attempted}
-use Rattle.sv_types.specs.declared.outcome.Outcome.{Outcome}
-use Rattle.sv_types.specs.declared.wires.HRegs.{HRegs}
+use Rattle.processor.specs.Regions.{Region}
+use Rattle.processor.specs.Hardware.{Core, Step, Attempted}
+use Rattle.processor.specs.declared.outcome.Outcome.{Outcome}
+use Rattle.processor.specs.declared.hregs.HRegs.{HRegs}
 use Rattle.hart.specs.declared.hart.Core.{Core as Kept}
 
 abbrev pub core_of : Kept → HRegs → Core

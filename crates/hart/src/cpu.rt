@@ -1,9 +1,9 @@
 // The count of the attempts that were made.
 
 ghost use Rattle.std.specs.Prelude.{◌≡◌, ◌+◌, ◌-◌, ◌<◌, ◌/◌, ◌%◌, ◌^◌, IfOk};
-ghost use Rattle.sv_types.specs.SecondStage.{WalksApart};
-ghost use Rattle.sv_types.specs.CachedWalks.{CacheAgrees, FilledUnder};
-ghost use Rattle.sv_types.specs.HardwareAttempt.{attempt, OnlyWrites};
+ghost use Rattle.processor.specs.SecondStage.{WalksApart};
+ghost use Rattle.processor.specs.CachedWalks.{CacheAgrees, FilledUnder};
+ghost use Rattle.processor.specs.HardwareAttempt.{attempt, OnlyWrites};
 ghost use Rattle.hart.specs.Cores.{core_of, attempted_of};
 ghost use Rattle.hart.specs.Conditions.{KeepsMode};
 
@@ -13,9 +13,9 @@ use crate::hart::Core;
 use crate::wires::Wires;
 use gstage_cache::Cache;
 use host_mem::HostMem;
+use processor::{HRegs, Outcome};
 use std::alloc::{AllocError, Global};
 use std::marker::Model;
-use sv_types::{HRegs, Outcome};
 
 /// Counts the attempts that are made through it. Contracts see the count.
 #[derive(Drop)]

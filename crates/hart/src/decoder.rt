@@ -2,12 +2,12 @@
 
 ghost use Rattle.std.specs.Prelude.{◌≡◌, IfOk, IsTrue, length};
 ghost use Rattle.std.specs.Option.{ForSome};
-ghost use Rattle.sv_types.specs.Encoding.{fits};
-ghost use Rattle.sv_types.specs.Instructions.{instruction_of};
+ghost use Rattle.processor.specs.Encoding.{fits};
+ghost use Rattle.processor.specs.Instructions.{instruction_of};
 
+use processor::Instr;
 use rv64_decode::decode;
 use std::alloc::{AllocError, Global};
-use sv_types::Instr;
 
 /// The places for words: one for each place of an instruction modulo 4,096.
 const PLACES: usize = 1024;

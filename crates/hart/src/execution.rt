@@ -1,15 +1,15 @@
 // One attempt of a hart.
 
 ghost use Rattle.std.specs.Prelude.{◌≡◌, ◌<◌, ◌/◌, ◌%◌, ◌^◌, IsTrue, IfOk, Some, None};
-ghost use Rattle.sv_types.specs.Regions.{IsHostPlace};
-ghost use Rattle.sv_types.specs.SecondStage.{WalksApart};
-ghost use Rattle.sv_types.specs.CachedWalks.{CacheAgrees, FilledUnder};
-ghost use Rattle.sv_types.specs.Effects.{set_register};
-ghost use Rattle.sv_types.specs.Encoding.{fits};
-ghost use Rattle.sv_types.specs.HypervisorRegisters.{pending};
-ghost use Rattle.sv_types.specs.Requests.{IsRequest};
-ghost use Rattle.sv_types.specs.HardwareMemory.{load_htinst, store_htinst, atomic_htinst};
-ghost use Rattle.sv_types.specs.HardwareAttempt.{after_effect, after_instruction, after_word, after_fetch, attempt, OnlyWrites};
+ghost use Rattle.processor.specs.Regions.{IsHostPlace};
+ghost use Rattle.processor.specs.SecondStage.{WalksApart};
+ghost use Rattle.processor.specs.CachedWalks.{CacheAgrees, FilledUnder};
+ghost use Rattle.processor.specs.Effects.{set_register};
+ghost use Rattle.processor.specs.Encoding.{fits};
+ghost use Rattle.processor.specs.HypervisorRegisters.{pending};
+ghost use Rattle.processor.specs.Requests.{IsRequest};
+ghost use Rattle.processor.specs.HardwareMemory.{load_htinst, store_htinst, atomic_htinst};
+ghost use Rattle.processor.specs.HardwareAttempt.{after_effect, after_instruction, after_word, after_fetch, attempt, OnlyWrites};
 ghost use Rattle.hart.specs.Cores.{core_of, step_of, attempted_of};
 ghost use Rattle.hart.specs.Conditions.{KeepsMode};
 
@@ -24,12 +24,12 @@ use crate::trap::{interrupt, plain_exception, raise};
 use crate::wires::Wires;
 use gstage_cache::Cache;
 use host_mem::HostMem;
+use processor::{Access, Cause, Effect, Exception, HRegs, Instr, Interrupt, Outcome};
 use rv64_exec::effect;
-use sv_types::{Access, Cause, Effect, Exception, HRegs, Instr, Interrupt, Outcome};
 use trap_entry::pending;
 
 /// What `Cpu::attempt` does, without the count.
-#[tactic(auto, using(gstage_cache::specs::Fills::nothing_filled, gstage_cache::specs::Fills::filled_further), unfolding(sv_types::specs::HardwareAttempt::attempt, sv_types::specs::HardwareAttempt::after_pending))]
+#[tactic(auto, using(gstage_cache::specs::Fills::nothing_filled, gstage_cache::specs::Fills::filled_further), unfolding(processor::specs::HardwareAttempt::attempt, processor::specs::HardwareAttempt::after_pending))]
 pub(crate) fn attempt<W: Wires>(
     decoder: &mut Decoder,
     core: &mut Core,
@@ -60,7 +60,7 @@ pub(crate) fn attempt<W: Wires>(
 }
 
 // The interrupt that is taken. Where none is enabled, no wire is read.
-#[tactic(auto, unfolding(sv_types::specs::HypervisorRegisters::pending, sv_types::specs::HypervisorRegisters::is_taken))]
+#[tactic(auto, unfolding(processor::specs::HypervisorRegisters::pending, processor::specs::HypervisorRegisters::is_taken))]
 fn interrupt_due<W: Wires>(core: &Core, regs: &HRegs, wires: &W) -> Option<Interrupt>
     ensures { result ≡ pending regs.now core.now.csrs (W.seen wires.now) }
 {
@@ -71,7 +71,7 @@ fn interrupt_due<W: Wires>(core: &Core, regs: &HRegs, wires: &W) -> Option<Inter
 }
 
 // The word at the place that the pc reached, carried out.
-#[tactic(auto, using(gstage_cache::specs::Fills::nothing_filled), unfolding(sv_types::specs::HardwareAttempt::after_fetch))]
+#[tactic(auto, using(gstage_cache::specs::Fills::nothing_filled), unfolding(processor::specs::HardwareAttempt::after_fetch))]
 fn fetch<W: Wires>(
     decoder: &mut Decoder,
     core: &mut Core,
@@ -101,7 +101,7 @@ fn fetch<W: Wires>(
     }
 }
 
-#[tactic(auto, using(gstage_cache::specs::Fills::nothing_filled), unfolding(sv_types::specs::HardwareAttempt::after_word, sv_types::specs::HardwareAttempt::after_instruction))]
+#[tactic(auto, using(gstage_cache::specs::Fills::nothing_filled), unfolding(processor::specs::HardwareAttempt::after_word, processor::specs::HardwareAttempt::after_instruction))]
 fn carry_out<W: Wires>(
     decoder: &mut Decoder,
     core: &mut Core,
@@ -127,7 +127,7 @@ fn carry_out<W: Wires>(
     }
 }
 
-#[tactic(auto, using(sv_types::proofs::EffectRequests::is_request), unfolding(sv_types::specs::HardwareAttempt::after_instruction))]
+#[tactic(auto, using(processor_laws::proofs::EffectRequests::is_request), unfolding(processor::specs::HardwareAttempt::after_instruction))]
 fn execute<W: Wires>(
     core: &mut Core,
     regs: &HRegs,
@@ -180,7 +180,7 @@ fn set(core: &mut Core, rd: u8, value: u64, next: u64) -> Outcome
     Outcome::Retired { wrote: None }
 }
 
-#[tactic(auto, using(gstage_cache::specs::Fills::nothing_filled), unfolding(sv_types::specs::HardwareAttempt::after_effect))]
+#[tactic(auto, using(gstage_cache::specs::Fills::nothing_filled), unfolding(processor::specs::HardwareAttempt::after_effect))]
 fn apply<W: Wires>(
     core: &mut Core,
     regs: &HRegs,

@@ -1,8 +1,8 @@
 // The hart's state.
 
 ghost use Rattle.std.specs.Prelude.{◌≡◌, replicate, None, false};
-ghost use Rattle.sv_types.specs.HypervisorRegisters.{registers_at_boot};
-ghost use Rattle.sv_types.specs.Requests.{touches, after_write};
+ghost use Rattle.processor.specs.HypervisorRegisters.{registers_at_boot};
+ghost use Rattle.processor.specs.Requests.{touches, after_write};
 
 use csr_file::Csrs;
 use rv64_exec::Regs;
@@ -31,7 +31,7 @@ impl Core {
     }
 
     /// Clears a reservation of which some bytes are among the `width` bytes from a host place on.
-    #[tactic(auto, unfolding(sv_types::specs::Requests::after_write))]
+    #[tactic(auto, unfolding(processor::specs::Requests::after_write))]
     pub fn forget(&mut self, hpa: u64, width: u8)
         ensures { self.new ≡ record self.old { reservation = after_write hpa width self.old.reservation } }
     {
@@ -62,7 +62,7 @@ impl Hart {
     }
 }
 
-#[tactic(auto, unfolding(sv_types::specs::Requests::touches))]
+#[tactic(auto, unfolding(processor::specs::Requests::touches))]
 fn touches(reserved: u64, hpa: u64, width: u8) -> bool
     ensures { result ≡ touches reserved hpa width }
 {

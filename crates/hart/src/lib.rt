@@ -13,5 +13,5 @@ mod wires;
 
 pub use cpu::Cpu;
 pub use hart::{Core, Hart};
-pub use sv_types::{Outcome, Wrote};
+pub use processor::{Outcome, Wrote};
 pub use wires::Wires;

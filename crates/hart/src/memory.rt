@@ -1,10 +1,10 @@
 // Where an access to memory goes.
 
 ghost use Rattle.std.specs.Prelude.{◌≡◌, ◌⊎◌, ◌≤◌, ℕ, ◌/◌, ◌%◌, ◌^◌, length, IfOk, IfSome, Ok};
-ghost use Rattle.sv_types.specs.Regions.{IsWidth, IsHostPlace};
-ghost use Rattle.sv_types.specs.SecondStage.{WalksApart};
-ghost use Rattle.sv_types.specs.CachedWalks.{CacheAgrees, FilledUnder};
-ghost use Rattle.sv_types.specs.HardwareMemory.{misaligned, page_fault, guest_page_fault, fault_exception, settings_at, translated, reached};
+ghost use Rattle.processor.specs.Regions.{IsWidth, IsHostPlace};
+ghost use Rattle.processor.specs.SecondStage.{WalksApart};
+ghost use Rattle.processor.specs.CachedWalks.{CacheAgrees, FilledUnder};
+ghost use Rattle.processor.specs.HardwareMemory.{misaligned, page_fault, guest_page_fault, fault_exception, settings_at, translated, reached};
 ghost use Rattle.hart.specs.Cores.{core_of};
 ghost use Rattle.sv39_walk.specs.Regimes.{settings_of};
 
@@ -12,7 +12,7 @@ use crate::hart::Core;
 use crate::trap::plain_exception;
 use gstage_cache::Cache;
 use host_mem::HostMem;
-use sv_types::{Access, Cause, Exception, Fault, HRegs, has_bit};
+use processor::{Access, Cause, Exception, Fault, HRegs, has_bit};
 use sv39_walk::{Regime, translate_through};
 
 /// `htinst` of a guest-page fault at an entry of the first stage: a read of 64 bits for its translation.
@@ -81,7 +81,7 @@ fn regime(core: &Core, regs: &HRegs) -> Regime
 }
 
 // `translated` by a walk, kept out of the way of addresses whose translation is held.
-#[tactic(auto, unfolding(sv_types::specs::HardwareMemory::translated))]
+#[tactic(auto, unfolding(processor::specs::HardwareMemory::translated))]
 #[inline(never)]
 fn walked(
     core: &Core,
@@ -133,7 +133,7 @@ fn held_place(
 }
 
 /// The host place of a virtual address, or the exception of an access there.
-#[tactic(auto, unfolding(sv_types::specs::HardwareMemory::translated))]
+#[tactic(auto, unfolding(processor::specs::HardwareMemory::translated))]
 #[inline(always)]
 pub(crate) fn translated(
     core: &Core,
@@ -161,7 +161,7 @@ pub(crate) fn translated(
 
 /// The host place of `width` bytes at an address, or the exception of an access there: first that it is no multiple of
 /// the width, then those of its translation.
-#[tactic(auto, unfolding(sv_types::specs::HardwareMemory::reached))]
+#[tactic(auto, unfolding(processor::specs::HardwareMemory::reached))]
 pub(crate) fn reached(
     core: &Core,
     regs: &HRegs,

@@ -1,19 +1,19 @@
 // Loads, stores and atomic instructions, by the host place that they reached.
 
 ghost use Rattle.std.specs.Prelude.{◌≡◌, ◌⊎◌, ◌<◌, ◌≤◌, ◌%◌, ◌^◌, length, IfOk};
-ghost use Rattle.sv_types.specs.Effects.{set_register, next_pc};
-ghost use Rattle.sv_types.specs.Regions.{IsWidth, IsHostPlace};
-ghost use Rattle.sv_types.specs.Requests.{loaded_value, reserved_at, covers};
-ghost use Rattle.sv_types.specs.Hardware.{with_region};
-ghost use Rattle.sv_types.specs.HardwareMemory.{retire, retire_with, after_load, after_load_reserved, after_store, after_store_conditional, after_amo};
+ghost use Rattle.processor.specs.Effects.{set_register, next_pc};
+ghost use Rattle.processor.specs.Regions.{IsWidth, IsHostPlace};
+ghost use Rattle.processor.specs.Requests.{loaded_value, reserved_at, covers};
+ghost use Rattle.processor.specs.Hardware.{with_region};
+ghost use Rattle.processor.specs.HardwareMemory.{retire, retire_with, after_load, after_load_reserved, after_store, after_store_conditional, after_amo};
 ghost use Rattle.hart.specs.Cores.{core_of, step_of, attempted_of};
 ghost use Rattle.hart.specs.Conditions.{KeepsMode};
 
 use crate::hart::Core;
 use crate::trap::raise;
 use host_mem::HostMem;
+use processor::{AmoOp, Exception, HRegs, Outcome, Wrote};
 use rv64_exec::amo;
-use sv_types::{AmoOp, Exception, HRegs, Outcome, Wrote};
 
 /// The hart goes on behind an instruction that is done.
 pub(crate) fn retire(core: &mut Core, wrote: Option<Wrote>) -> Outcome
@@ -35,7 +35,7 @@ pub(crate) fn retire_with(core: &mut Core, rd: u8, value: u64, wrote: Option<Wro
 }
 
 // A word of `width` bytes as a register takes it.
-#[tactic(auto, unfolding(sv_types::specs::Requests::loaded_value))]
+#[tactic(auto, unfolding(processor::specs::Requests::loaded_value))]
 fn loaded_value(signed: bool, width: u8, word: u64) -> u64
     requires width { IsWidth width }
     requires small { word < 256 ^ width }
@@ -53,7 +53,7 @@ fn loaded_value(signed: bool, width: u8, word: u64) -> u64
 }
 
 /// A load.
-#[tactic(auto, unfolding(sv_types::specs::HardwareMemory::after_load))]
+#[tactic(auto, unfolding(processor::specs::HardwareMemory::after_load))]
 pub(crate) fn load(
     core: &mut Core,
     regs: &HRegs,
@@ -81,7 +81,7 @@ pub(crate) fn load(
 }
 
 /// A load that reserves its place.
-#[tactic(auto, unfolding(sv_types::specs::HardwareMemory::after_load_reserved))]
+#[tactic(auto, unfolding(processor::specs::HardwareMemory::after_load_reserved))]
 pub(crate) fn load_reserved(
     core: &mut Core,
     regs: &HRegs,
@@ -109,7 +109,7 @@ pub(crate) fn load_reserved(
 }
 
 /// A store of the `width` lowest bytes of a value.
-#[tactic(auto, using(gstage_cache::proofs::WritesAndWalks::write_behind), unfolding(sv_types::specs::HardwareMemory::after_store))]
+#[tactic(auto, using(gstage_cache::proofs::WritesAndWalks::write_behind), unfolding(processor::specs::HardwareMemory::after_store))]
 pub(crate) fn store(
     core: &mut Core,
     regs: &HRegs,
@@ -136,7 +136,7 @@ pub(crate) fn store(
     }
 }
 
-#[tactic(auto, unfolding(sv_types::specs::Requests::covers))]
+#[tactic(auto, unfolding(processor::specs::Requests::covers))]
 fn covers(reservation: Option<u64>, hpa: u64, width: u8) -> bool
     ensures { result ≡ covers reservation hpa width }
 {
@@ -147,7 +147,7 @@ fn covers(reservation: Option<u64>, hpa: u64, width: u8) -> bool
 }
 
 /// A store that is carried out where its bytes lie in the hart's reservation, which goes in both cases.
-#[tactic(auto, using(gstage_cache::proofs::WritesAndWalks::write_behind), unfolding(sv_types::specs::HardwareMemory::after_store_conditional))]
+#[tactic(auto, using(gstage_cache::proofs::WritesAndWalks::write_behind), unfolding(processor::specs::HardwareMemory::after_store_conditional))]
 pub(crate) fn store_conditional(
     core: &mut Core,
     regs: &HRegs,
@@ -189,7 +189,7 @@ pub(crate) struct Operation {
 }
 
 /// An atomic instruction: a load, and a store of what the operation makes of the loaded word.
-#[tactic(auto, using(gstage_cache::proofs::WritesAndWalks::write_behind), unfolding(sv_types::specs::HardwareMemory::after_amo))]
+#[tactic(auto, using(gstage_cache::proofs::WritesAndWalks::write_behind), unfolding(processor::specs::HardwareMemory::after_amo))]
 pub(crate) fn atomic(
     core: &mut Core,
     regs: &HRegs,

@@ -1,14 +1,14 @@
 // The two ways of a trap.
 
 ghost use Rattle.std.specs.Prelude.{◌≡◌, ◌%◌};
-ghost use Rattle.sv_types.specs.Hardware.{raise, after_interrupt, leave, guest_trap, plain_exception};
-ghost use Rattle.sv_types.specs.Traps.{is_interrupt, guest_number};
-ghost use Rattle.sv_types.specs.declared.wires.Mode.TheVariants as Mode;
+ghost use Rattle.processor.specs.Hardware.{raise, after_interrupt, leave, guest_trap, plain_exception};
+ghost use Rattle.processor.specs.Traps.{is_interrupt, guest_number};
+ghost use Rattle.processor.specs.declared.mode.Mode.TheVariants as Mode;
 ghost use Rattle.hart.specs.Cores.{core_of, step_of};
 ghost use Rattle.hart.specs.Conditions.{KeepsMode};
 
 use crate::hart::Core;
-use sv_types::{Cause, Exception, Exit, ExitCause, HRegs, Interrupt, Mode, Outcome, has_bit};
+use processor::{Cause, Exception, Exit, ExitCause, HRegs, Interrupt, Mode, Outcome, has_bit};
 use trap_entry::{into_guest, into_hypervisor};
 
 /// An exception that is no guest-page fault.
@@ -24,7 +24,7 @@ pub(crate) fn plain_exception(cause: Cause, tval: u64) -> Exception
 }
 
 /// An exception is taken by the guest's kernel where `hedeleg` has its bit, and else by the hypervisor.
-#[tactic(auto, unfolding(sv_types::specs::Hardware::raise))]
+#[tactic(auto, unfolding(processor::specs::Hardware::raise))]
 pub(crate) fn raise(core: &mut Core, regs: &HRegs, exception: Exception) -> Outcome
     requires aligned { core.old.pc % 4 ≡ 0 }
     requires mode { KeepsMode regs.now }
@@ -47,7 +47,7 @@ pub(crate) fn raise(core: &mut Core, regs: &HRegs, exception: Exception) -> Outc
 }
 
 /// An interrupt is taken by the guest's kernel where `hideleg` has its bit, and else by the hypervisor.
-#[tactic(auto, unfolding(sv_types::specs::Hardware::after_interrupt))]
+#[tactic(auto, unfolding(processor::specs::Hardware::after_interrupt))]
 pub(crate) fn interrupt(core: &mut Core, regs: &HRegs, interrupt: Interrupt) -> Outcome
     requires aligned { core.old.pc % 4 ≡ 0 }
     requires mode { KeepsMode regs.now }
@@ -70,7 +70,7 @@ pub(crate) fn interrupt(core: &mut Core, regs: &HRegs, interrupt: Interrupt) -> 
 }
 
 // Only kernel mode has a trap delegated, so the mode stays.
-#[tactic(auto, unfolding(sv_types::specs::Hardware::guest_trap))]
+#[tactic(auto, unfolding(processor::specs::Hardware::guest_trap))]
 fn guest_trap(core: &mut Core, regs: &HRegs, cause: ExitCause, tval: u64) -> Outcome
     requires aligned { core.old.pc % 4 ≡ 0 }
     requires kernel { regs.now.mode ≡ Mode.Kernel }
@@ -82,7 +82,7 @@ fn guest_trap(core: &mut Core, regs: &HRegs, cause: ExitCause, tval: u64) -> Out
     Outcome::GuestTrap
 }
 
-#[tactic(auto, unfolding(sv_types::specs::Hardware::leave))]
+#[tactic(auto, unfolding(processor::specs::Hardware::leave))]
 fn leave(core: &mut Core, regs: &HRegs, exit: Exit) -> Outcome
     requires aligned { core.old.pc % 4 ≡ 0 }
     requires exit { exit.pc % 4 ≡ 0 }

@@ -1,9 +1,9 @@
 // The wires that a hart sees.
 
 ghost use Rattle.std.specs.Prelude.{◌≡◌};
-ghost use Rattle.sv_types.specs.declared.wires.Lines.{Lines as Levels};
+ghost use Rattle.processor.specs.declared.lines.Lines.{Lines as Levels};
 
-use sv_types::Lines;
+use processor::Lines;
 
 /// The wires that a hart sees, read only where an attempt goes by them.
 pub trait Wires {

@@ -2,9 +2,9 @@
 use Rattle.std.proofs.Common.{◌≡◌, ℕ, Bool, List, [], ◌∷◌, refl, ap, ◌∙◌}
 use Rattle.std.specs.Prelude.{None}
 use Rattle.sv_types.specs.Policies.{Rules}
-use Rattle.sv_types.specs.Traps.{trap_target}
-use Rattle.sv_types.specs.declared.wires.Mode.{Mode}
-use Rattle.sv_types.specs.declared.wires.Mode.TheVariants.{Kernel, User}
+use Rattle.processor.specs.Traps.{trap_target}
+use Rattle.processor.specs.declared.mode.Mode.{Mode}
+use Rattle.processor.specs.declared.mode.Mode.TheVariants.{Kernel, User}
 use Rattle.reference.specs.States.{place_of_entry}
 use Rattle.reference.specs.Trapping.{entry_at_trap}
 use Rattle.hart.specs.declared.hart.Hart.{Hart}

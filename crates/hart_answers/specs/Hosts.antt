@@ -1,7 +1,7 @@
 -- A hart with the registers of its mode, as the machine has it, and all harts with their sides. No hart is in an entry.
 -- This project's own.
 use Rattle.std.specs.Prelude.{List, map, None}
-use Rattle.sv_types.specs.declared.wires.Mode.{Mode}
+use Rattle.processor.specs.declared.mode.Mode.{Mode}
 use Rattle.hart.specs.Cores.{core_of}
 use Rattle.hart.specs.declared.hart.Hart.{Hart}
 use Rattle.machine_model.specs.Machine.{HostHart}

@@ -1,6 +1,6 @@
 -- A seat behind a write, and behind an interrupt, and the first ones of a list changed. This project's own.
 use Rattle.std.specs.Prelude.{ℕ, zero, suc, ◌+◌, Bool, List, [], ◌∷◌, if◌then◌else◌}
-use Rattle.sv_types.specs.Requests.{after_write}
+use Rattle.processor.specs.Requests.{after_write}
 use Rattle.hart_answers.specs.declared.seats.Seat.{Seat}
 
 abbrev pub forgotten : ℕ → ℕ → Seat → Seat

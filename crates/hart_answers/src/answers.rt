@@ -2,9 +2,9 @@
 
 ghost use Rattle.std.specs.Prelude.{◌≡◌, ◌<◌, ◌%◌, [], true, false, None, OnOk, OnErr, IfErr};
 ghost use Rattle.sv_types.specs.Policies.{Rules};
-ghost use Rattle.sv_types.specs.Traps.{is_interrupt, guest_number, trap_target, mode_at_return};
-ghost use Rattle.sv_types.specs.declared.wires.Mode.{Mode as Privilege};
-ghost use Rattle.sv_types.specs.declared.wires.Mode.TheVariants.{Kernel};
+ghost use Rattle.processor.specs.Traps.{is_interrupt, guest_number, trap_target, mode_at_return};
+ghost use Rattle.processor.specs.declared.mode.Mode.{Mode as Privilege};
+ghost use Rattle.processor.specs.declared.mode.Mode.TheVariants.{Kernel};
 ghost use Rattle.reference.specs.Trapping.{may_enter};
 ghost use Rattle.machine_model.specs.HostHarts.{host_entered, host_at_trap, host_at_return, host_demoted, host_passed, host_with, host_answered, host_stayed, host_stopped, host_started};
 ghost use Rattle.hart_answers.specs.Hosts.{host_of};
@@ -12,8 +12,8 @@ ghost use Rattle.hart_answers.specs.Hosts.{host_of};
 use csr_file::Csrs;
 use hart::Hart;
 use page_guard::{Entries, Forbidden, Guard, Side};
+use processor::{ExitCause, Mode};
 use rv64_exec::Regs;
-use sv_types::{ExitCause, Mode};
 use trap_entry::{into_guest, return_to_guest, target};
 
 /// A trap of the guest: its cause, and the value that `stval` takes.

@@ -10,7 +10,7 @@ ghost use Rattle.hart_answers.specs.Seats.{forgotten, notified};
 use csr_file::Csrs;
 use hart::Hart;
 use page_guard::Side;
-use sv_types::has_bit;
+use processor::has_bit;
 
 /// The guest's software interrupt in `hvip`.
 const SOFTWARE_INTERRUPT: u64 = 1 << 2;

@@ -7,8 +7,8 @@ use gstage_tables::Trees;
 use hart::Hart;
 use host_mem::HostMem;
 use page_guard::{Entries, Forbidden, Guard, Side};
+use processor::{Cause, ExitCause, Mode};
 use std::test::Fail;
-use sv_types::{Cause, ExitCause, Mode};
 
 const STVEC: u16 = 0x105;
 

@@ -1,10 +1,11 @@
 -- Under the roots of both views every walk reads the tables alone and leads to RAM.
 use Rattle.std.proofs.Common.{◌≡◌, ℕ, ◌*◌, ◌⊎◌, inl, inr, [], length, refl}
-use Rattle.sv_types.specs.Regions.{Region}
-use Rattle.sv_types.specs.SecondStage.{AreViews, WalksApart, OfKernel, OfUser, view_hgatp}
-use Rattle.sv_types.specs.declared.wires.Protection.{Protection}
-use Rattle.sv_types.specs.declared.wires.View.TheVariants.{Kernel, User}
-use Rattle.sv_types.proofs.Views.{view_walks_apart}
+use Rattle.processor.specs.Regions.{Region}
+use Rattle.sv_types.specs.Views.{AreViews, OfKernel, OfUser, view_hgatp}
+use Rattle.processor.specs.SecondStage.{WalksApart}
+use Rattle.sv_types.specs.declared.protection.Protection.{Protection}
+use Rattle.sv_types.specs.declared.view.View.TheVariants.{Kernel, User}
+use Rattle.view_laws.proofs.Views.{view_walks_apart}
 
 pub roots_walk_apart : (r : Region) (ram_pages hgatp : ℕ) (protections : ℕ → Protection) → AreViews r.tables ram_pages [] protections
     → length r.ram ≡ 4096 * ram_pages → (hgatp ≡ view_hgatp Kernel) ⊎ (hgatp ≡ view_hgatp User) → WalksApart r hgatp

@@ -1,9 +1,9 @@
 // Attempts on 16 pages of RAM behind two trees of tables, with page 0 approved.
 
 ghost use Rattle.std.specs.Prelude.{◌≡◌, ◌⊎◌, ◌%◌, ◌*◌, ◌/◌, ◌^◌, [], length, IfOk};
-ghost use Rattle.sv_types.specs.SecondStage.{AreViews, protect, all_free, view_hgatp};
-ghost use Rattle.sv_types.specs.declared.wires.Protection.TheVariants.{Approved};
-ghost use Rattle.sv_types.specs.declared.wires.View.TheVariants.{Kernel, User};
+ghost use Rattle.sv_types.specs.Views.{AreViews, protect, all_free, view_hgatp};
+ghost use Rattle.sv_types.specs.declared.protection.Protection.TheVariants.{Approved};
+ghost use Rattle.sv_types.specs.declared.view.View.TheVariants.{Kernel, User};
 ghost use Rattle.hart.specs.Conditions.{KeepsMode};
 ghost use Rattle.gstage_tables.specs.Layout.{table_size};
 
@@ -11,11 +11,10 @@ use gstage_cache::Cache;
 use gstage_tables::Trees;
 use hart::{Core, Cpu, Outcome, Wrote};
 use host_mem::HostMem;
+use processor::{Access, Cause, Exit, ExitCause, GuestFault, HRegs, Interrupt, Lines, Mode};
 use std::alloc::{AllocError, Global};
 use std::process::Abort;
-use sv_types::{
-    Access, Cause, Exit, ExitCause, GuestFault, HRegs, Interrupt, Lines, Mode, Protection,
-};
+use sv_types::Protection;
 
 const PAGES: usize = 16;
 

@@ -4,9 +4,10 @@ ghost use Rattle.std.specs.Prelude.{◌≡◌, ◌⊎◌, ◌/◌, ◌^◌};
 
 use gstage_tables::Trees;
 use host_mem::HostMem;
+use processor::{Access, Mode};
 use std::alloc::{AllocError, Global};
 use std::process::Abort;
-use sv_types::{Access, Mode, Protection, View};
+use sv_types::{Protection, View};
 use sv39_walk::{Fault, Place, Regime, translate, walk_g};
 
 const RAM_PAGES: usize = 16;

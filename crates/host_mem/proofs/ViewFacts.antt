@@ -2,10 +2,10 @@
 use Rattle.std.proofs.Common.{◌≡◌, ℕ, ◌+◌, ◌-◌, ◌*◌, ◌%◌, ◌≤◌, List, length, take, drop, replicate, length-take, refl, sym, ◌∙◌, ap, arith}
 use Rattle.std.proofs.lemmas.List.{drop-drop, take-replicate, drop-replicate}
 use borrow.Rule.Slice.PartMut.{put_mid}
-use Rattle.sv_types.specs.Bytes.{word, write_word, overwrite, page_bytes, page_size}
-use Rattle.sv_types.specs.Regions.{Region, IsHostPlace, host_bytes, region_of, host_word, write_host}
-use Rattle.sv_types.proofs.ByteLemmas.{overwrite_behind}
-use Rattle.sv_types.proofs.RegionLemmas.{bytes_of_region, region_of_bytes, word_of_region, write_of_region, tables_of_region}
+use Rattle.processor.specs.Bytes.{word, write_word, overwrite, page_bytes, page_size}
+use Rattle.processor.specs.Regions.{Region, IsHostPlace, host_bytes, region_of, host_word, write_host}
+use Rattle.processor_laws.proofs.ByteLemmas.{overwrite_behind}
+use Rattle.processor_laws.proofs.RegionLemmas.{bytes_of_region, region_of_bytes, word_of_region, write_of_region, tables_of_region}
 use Rattle.host_mem.proofs.WordFacts.{part_put}
 
 -- the bytes are those of the region that is seen, and its table part is whole pages

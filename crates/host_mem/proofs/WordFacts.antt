@@ -4,8 +4,8 @@ use Rattle.std.proofs.Math.Nat.{div-div-eq-div-mul, div-one}
 use Rattle.std.proofs.lemmas.List.{drop_more, drop-drop, set_split}
 use Rattle.std.specs.Int.{from_le_bytes, to_le_bytes, byte_at, bytes_low_first, w16, w32, w64}
 use borrow.Rule.Slice.PartMut.{put_mid}
-use Rattle.sv_types.specs.Bytes.{word, write_word, overwrite, low_bytes}
-use Rattle.sv_types.proofs.ByteLemmas.{length_low_bytes}
+use Rattle.processor.specs.Bytes.{word, write_word, overwrite, low_bytes}
+use Rattle.processor_laws.proofs.ByteLemmas.{length_low_bytes}
 
 -- ---- reading
 

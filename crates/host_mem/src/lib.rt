@@ -2,17 +2,19 @@
 #![tactic(auto)]
 
 ghost use Rattle.std.specs.Prelude.{◌≡◌, ◌+◌, ◌-◌, ◌*◌, ◌<◌, ◌≤◌, ◌%◌, ◌^◌, length, IfOk, replicate};
-ghost use Rattle.sv_types.specs.Bytes.{page_size, page_bytes, overwrite};
-ghost use Rattle.sv_types.specs.Regions.{Region, IsRegion, IsHostPlace, most_ram_pages, host_bytes, host_word, write_host};
+ghost use Rattle.processor.specs.Bytes.{page_size, page_bytes, overwrite};
+ghost use Rattle.processor.specs.Regions.{Region, IsRegion, IsHostPlace, most_ram_pages, host_bytes, host_word, write_host};
 
+mod steps;
 mod words;
 
+pub use crate::steps::Steps;
 pub use crate::words::{put_word, word_at};
+use processor::PAGE_SIZE;
 use raw_bytes::RawBytes;
 use std::alloc::{AllocError, Global};
 use std::marker::Model;
 use std::sync::ledger::Ledger;
-use sv_types::{PAGE_SIZE, Steps};
 
 /// A region of host memory. Contracts see its table part and its guest RAM, each as a list of bytes.
 #[derive(Drop)]
@@ -23,15 +25,15 @@ pub struct HostMem {
 }
 
 impl Model for HostMem {
-    ghost use Rattle.sv_types.specs.Regions.{Region, region_code};
+    ghost use Rattle.processor.specs.Regions.{Region, region_code};
 
     ghost Value = { Region };
 
     ghost coded = { region_code };
 
     ghost use Rattle.std.specs.Prelude.{◌≡◌, ◌+◌, ◌*◌, ◌<◌, ◌≤◌, ◌%◌, ◌^◌, length};
-    ghost use Rattle.sv_types.specs.Bytes.{page_size};
-    ghost use Rattle.sv_types.specs.Regions.{region_of, most_ram_pages};
+    ghost use Rattle.processor.specs.Bytes.{page_size};
+    ghost use Rattle.processor.specs.Regions.{region_of, most_ram_pages};
 
     ghost view = { λ m. region_of m.table_bytes m.bytes };
 

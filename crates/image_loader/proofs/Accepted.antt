@@ -4,7 +4,7 @@ use Rattle.std.specs.Prelude.{nat_le, ◌&&◌, true}
 use Rattle.std.specs.List.{All}
 use Rattle.std.proofs.lemmas.Bool.Decides.{nat_tests}
 use Rattle.std.proofs.lemmas.List.Elements.{All-nil, All-cons}
-use Rattle.sv_types.specs.Bytes.{page_size, ram_place, ram_base}
+use Rattle.processor.specs.Bytes.{page_size, ram_place, ram_base}
 use Rattle.sv_types.specs.Kernel.{LoadedSegment, first_refusal, kernel_refusal, kernel_segments, segment_checks, loaded_headers, loaded_segment}
 use Rattle.sv_types.specs.declared.kernel.ProgramHeader.{ProgramHeader}
 use Rattle.elf64_load.proofs.FirstRefusals.{Passed, accepted_headers, first_passed, rest_passed, segment_passed}

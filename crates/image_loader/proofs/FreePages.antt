@@ -2,8 +2,8 @@
 use Rattle.std.proofs.Common.{◌≡◌, ℕ, zero, suc, ◌+◌, ◌-◌, ◌<◌, ◌≤◌, Bool, true, false, List, [], ◌∷◌, filter, refl, ◌∙◌, ap, arith, slice_set, slice_get, replicate, Some, None}
 use Rattle.std.specs.Prelude.{if◌then◌else◌}
 use Rattle.sv_types.specs.ApprovedPages.{numbers_from}
-use Rattle.sv_types.specs.declared.wires.Protection.{Protection}
-use Rattle.sv_types.specs.declared.wires.Protection.TheVariants.{Free, Held, Approved}
+use Rattle.sv_types.specs.declared.protection.Protection.{Protection}
+use Rattle.sv_types.specs.declared.protection.Protection.TheVariants.{Free, Held, Approved}
 use Rattle.reference.specs.Protections.{with_pages, with_each}
 use Rattle.page_guard.specs.Guarded.{first_taken}
 

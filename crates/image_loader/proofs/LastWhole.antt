@@ -5,7 +5,7 @@ use Rattle.std.specs.List.{All}
 use Rattle.std.proofs.lemmas.Bool.Decides.{nat_tests}
 use Rattle.std.proofs.lemmas.List.Elements.{All-head, All-tail}
 use Rattle.sv_types.specs.Kernel.{LoadedSegment}
-use Rattle.sv_types.proofs.ByteLemmas.{lt_or_le}
+use Rattle.processor_laws.proofs.ByteLemmas.{lt_or_le}
 use Rattle.elf64_load.specs.Images.{segment_of}
 use Rattle.elf64_load.specs.declared.image.Segment.{Segment}
 use Rattle.image_loader.specs.Placed.{IsPlaced}

@@ -7,9 +7,9 @@ use Rattle.std.proofs.lemmas.Bool.Decides.{nat_tests}
 use Rattle.std.proofs.lemmas.List.{length-replicate, ext_get_or}
 use Rattle.std.proofs.lemmas.List.Elements.{All-head, All-tail, All-take, All-get_or}
 use Rattle.std.proofs.lemmas.List.Sums.{fold-append}
-use Rattle.sv_types.specs.Bytes.{padded, page_size, ram_place}
+use Rattle.processor.specs.Bytes.{padded, page_size, ram_place}
 use Rattle.sv_types.specs.Kernel.{LoadedSegment, with_segment}
-use Rattle.sv_types.proofs.ByteLemmas.{lt_or_le}
+use Rattle.processor_laws.proofs.ByteLemmas.{lt_or_le}
 use Rattle.elf64_load.proofs.LoadedBytes.{length_padded, at_before, at_written, at_behind, at_padded, zero_at}
 use Rattle.image_loader.specs.Placed.{IsPlaced}
 use Rattle.image_loader.specs.Whole.{byte_of, covers, has_byte, loaded_byte, nothing, segment_at, IsLastWhole}

@@ -5,10 +5,10 @@ use Rattle.std.specs.List.{list_any, All}
 use Rattle.std.proofs.lemmas.Bool.Decides.{nat_tests}
 use Rattle.std.proofs.lemmas.List.Elements.{All-head, All-tail}
 use Rattle.sv_types.specs.ApprovedPages.{numbers_from}
-use Rattle.sv_types.specs.Bytes.{page_size, page_of, ram_place}
+use Rattle.processor.specs.Bytes.{page_size, page_of, ram_place}
 use Rattle.sv_types.specs.Kernel.{LoadedSegment, text_pages, is_text_of}
-use Rattle.sv_types.specs.Regions.{most_ram_pages}
-use Rattle.sv_types.proofs.ByteLemmas.{lt_or_le}
+use Rattle.processor.specs.Regions.{most_ram_pages}
+use Rattle.processor_laws.proofs.ByteLemmas.{lt_or_le}
 use Rattle.elf64_load.specs.Images.{text_owner}
 use Rattle.image_loader.specs.Placed.{IsPlaced, ArePlaced}
 

@@ -4,7 +4,7 @@ use Rattle.std.specs.Prelude.{max, ◌==◌, ◌&&◌, nat_le, nat_lt, if◌then
 use Rattle.std.proofs.lemmas.Bool.Decides.{nat_tests}
 use Rattle.std.proofs.lemmas.Bool.{cases_eq}
 use Rattle.std.proofs.lemmas.List.{get_or-set_same, get_or-set_other, length-set}
-use Rattle.sv_types.proofs.ByteLemmas.{lt_or_le}
+use Rattle.processor_laws.proofs.ByteLemmas.{lt_or_le}
 use Rattle.image_loader.specs.Whole.{SkipsOwned}
 
 -- the pages before this one have owners; their skips may lead behind the last page of the segment already

@@ -4,10 +4,10 @@ use Rattle.std.proofs.Math.Seq.{drop-append-add}
 use Rattle.std.proofs.lemmas.List.{drop-drop, take-append-drop, length-replicate}
 use Rattle.std.specs.Prelude.{max, min, ◌*◌, ◌/◌, ◌==◌, nat_le, nat_lt, ◌&&◌, if◌then◌else◌}
 use Rattle.std.proofs.lemmas.Bool.Decides.{nat_tests}
-use Rattle.sv_types.specs.Bytes.{overwrite, padded, part}
+use Rattle.processor.specs.Bytes.{overwrite, padded, part}
 use Rattle.sv_types.specs.Kernel.{LoadedSegment, with_segment}
-use Rattle.sv_types.specs.Regions.{Region}
-use Rattle.sv_types.proofs.ByteLemmas.{lt_or_le, take_front, length_before, length_overwrite}
+use Rattle.processor.specs.Regions.{Region}
+use Rattle.processor_laws.proofs.ByteLemmas.{lt_or_le, take_front, length_before, length_overwrite}
 use Rattle.elf64_load.proofs.LoadedBytes.{length_with_segment, length_padded, at_before, at_written, at_behind, at_padded, at_part}
 use Rattle.image_loader.specs.Placed.{IsPlaced}
 

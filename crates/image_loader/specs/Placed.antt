@@ -1,7 +1,7 @@
 -- The segments of an image that lie in RAM.
 use Rattle.std.specs.Prelude.{ℕ, ◌+◌, ◌*◌, ◌≤◌, List, length}
 use Rattle.std.specs.List.{All}
-use Rattle.sv_types.specs.Bytes.{page_size, ram_place}
+use Rattle.processor.specs.Bytes.{page_size, ram_place}
 use Rattle.sv_types.specs.Kernel.{LoadedSegment}
 
 -- its memory lies in RAM of a size, and it has no more bytes than memory

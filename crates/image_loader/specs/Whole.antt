@@ -1,7 +1,7 @@
 -- Pages that a segment covers whole, and the last segment that does.
 use Rattle.std.specs.Prelude.{◌≡◌, ℕ, ◌+◌, ◌-◌, ◌*◌, ◌<◌, ◌≤◌, Bool, true, false, ◌&&◌, List, [], nat_le, nat_lt, fold, length, replicate, take}
 use Rattle.std.specs.List.{slice_index_or}
-use Rattle.sv_types.specs.Bytes.{page_size, ram_place}
+use Rattle.processor.specs.Bytes.{page_size, ram_place}
 use Rattle.sv_types.specs.Kernel.{LoadedSegment, with_segment}
 
 -- a byte of RAM lies in a segment's memory

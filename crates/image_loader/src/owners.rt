@@ -2,13 +2,13 @@
 // table of skips leads over pages that have one, so that the time is that of the segments and the pages together.
 
 ghost use Rattle.std.specs.Prelude.{◌≡◌, ℕ, ◌+◌, ◌≤◌, ◌<◌, ◌==◌, ◌&&◌, nat_le, nat_lt, map, length, slice_index, if◌then◌else◌, IfOk};
-ghost use Rattle.sv_types.specs.Regions.{most_ram_pages};
+ghost use Rattle.processor.specs.Regions.{most_ram_pages};
 ghost use Rattle.elf64_load.specs.Images.{segment_of};
 ghost use Rattle.image_loader.specs.Whole.{covers, IsLastWhole, SkipsOwned};
 
 use elf64_load::Segment;
+use processor::{PAGE_BYTES, RAM_BASE};
 use std::alloc::{AllocError, Global};
-use sv_types::{PAGE_BYTES, RAM_BASE};
 
 /// Pages from the first on, before the end.
 #[derive(Clone, Copy, Drop)]

@@ -3,9 +3,9 @@
 
 ghost use Rattle.std.specs.List.{All};
 ghost use Rattle.std.specs.Prelude.{◌≡◌, ℕ, ◌+◌, ◌-◌, ◌*◌, ◌/◌, ◌<◌, ◌≤◌, ◌==◌, ◌&&◌, false, nat_le, nat_lt, map, length, replicate, slice_index, slice_index_or, if◌then◌else◌, IfOk, OnErr, OnOk};
-ghost use Rattle.sv_types.specs.Bytes.{page_size, overwrite, padded, part, ram_place};
+ghost use Rattle.processor.specs.Bytes.{page_size, overwrite, padded, part, ram_place};
 ghost use Rattle.sv_types.specs.Kernel.{segments_ram};
-ghost use Rattle.sv_types.specs.Regions.{most_ram_pages};
+ghost use Rattle.processor.specs.Regions.{most_ram_pages};
 ghost use Rattle.elf64_load.specs.Images.{segment_of, segments_of};
 ghost use Rattle.image_loader.specs.Placed.{IsPlaced, ArePlaced};
 ghost use Rattle.image_loader.specs.Whole.{byte_of, covers, has_byte, loaded_byte, segment_at, IsLastWhole};
@@ -13,8 +13,8 @@ ghost use Rattle.image_loader.specs.Whole.{byte_of, covers, has_byte, loaded_byt
 use crate::owners::last_owners;
 use elf64_load::{KernelImage, Segment};
 use host_mem::HostMem;
+use processor::{PAGE_BYTES, RAM_BASE};
 use std::alloc::{AllocError, Global};
-use sv_types::{PAGE_BYTES, RAM_BASE};
 
 /// Puts an image's segments into guest RAM, which holds zeros. Fails where memory is wanting.
 #[tactic(auto, unfolding(sv_types::specs::Kernel::segments_ram))]

@@ -1,7 +1,7 @@
 // Files with a page of text and data behind it, loaded into four pages of RAM.
 
 ghost use Rattle.std.specs.Prelude.{◌≡◌, ◌*◌, ◌≤◌, length, IfOk};
-ghost use Rattle.sv_types.specs.Regions.{most_ram_pages};
+ghost use Rattle.processor.specs.Regions.{most_ram_pages};
 
 use super::{approve_text, fill_ram};
 use elf64_load::{ElfRefusal, read_kernel};

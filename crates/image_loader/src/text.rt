@@ -1,9 +1,9 @@
 // The pages of an image's text.
 
 ghost use Rattle.std.specs.Prelude.{◌≡◌, ℕ, ◌+◌, ◌*◌, ◌<◌, ◌≤◌, length, replicate, slice_get, slice_set, slice_index, Some, OnOk, OnErr, nat_lt, if◌then◌else◌};
-ghost use Rattle.sv_types.specs.Bytes.{page_size};
+ghost use Rattle.processor.specs.Bytes.{page_size};
 ghost use Rattle.sv_types.specs.Kernel.{text_pages};
-ghost use Rattle.sv_types.specs.declared.wires.Protection.TheVariants.{Free, Held, Approved};
+ghost use Rattle.sv_types.specs.declared.protection.Protection.TheVariants.{Free, Held, Approved};
 ghost use Rattle.reference.specs.Protections.{with_each};
 ghost use Rattle.page_guard.specs.Guarded.{IsTheirs};
 ghost use Rattle.elf64_load.specs.Images.{segments_of, text_owner};

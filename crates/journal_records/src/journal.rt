@@ -8,10 +8,11 @@ ghost use Rattle.sv_types.specs.declared.sbi.SbiCode.TheVariants.{Success};
 ghost use Rattle.reference.specs.Counting.{counted, count_turn, count_beat, count_key, count_tick, count_retired, count_trap, count_return, count_demote, count_denied, count_dropped, count_load, count_unload, MayCount, noted, printed_low, machine_ended};
 ghost use Rattle.reference.specs.Answers.{count_answer, journal_beside};
 
+use processor::Mode;
 use reference::Beside;
 use std::alloc::{AllocError, Global};
 use std::marker::Model;
-use sv_types::{Counts, Mode, Note, Rule, SbiCode, Verdict};
+use sv_types::{Counts, Note, Rule, SbiCode, Verdict};
 
 const MOST_NOTES: usize = 4096;
 

@@ -16,7 +16,7 @@ pub struct Live<'a> {
 }
 
 /// The values of the words, or the first one that is out of its range. It takes no memory.
-#[tactic(auto, using(policy_words::proofs::WordLemmas::list_any_map), unfolding(crate::specs::LiveWords::live_judged))]
+#[tactic(auto, using(policy_making::proofs::WordLemmas::list_any_map), unfolding(crate::specs::LiveWords::live_judged))]
 pub fn read_live(words: &[String]) -> Result<Live<'_>, Refusal>
     ensures { IsLive (live_judged (map string_bytes words.now)) result }
 {

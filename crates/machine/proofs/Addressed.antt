@@ -3,28 +3,28 @@
 use Rattle.std.proofs.Common.{◌≡◌, ℕ, zero, suc, ◌+◌, ◌*◌, ◌%◌, ◌^◌, ◌<◌, ◌≤◌, List, [], ◌∷◌, map, length, refl, sym, subst, Bool, true, false, not, arith, slice_get, slice_set}
 use Rattle.std.specs.Prelude.{Option, Some, None, if◌then◌else◌, ◌==◌}
 use Rattle.std.proofs.lemmas.Bool.Decides.{nat_tests}
-use Rattle.sv_types.specs.Bytes.{in_ram, page_of, page_size, ram_place}
-use Rattle.sv_types.specs.Causes.{cause_number}
-use Rattle.sv_types.specs.Effects.{effect_of}
-use Rattle.sv_types.specs.Instructions.{instruction_of}
-use Rattle.sv_types.specs.Regions.{most_ram_pages}
-use Rattle.sv_types.specs.Requests.{after_write, covers, reserved_at, touches}
-use Rattle.sv_types.specs.Translation.{Destination, At, PageFault, Unreadable, Settings, place}
-use Rattle.sv_types.specs.Traps.{deliverable, interrupt_number, trap_target}
-use Rattle.sv_types.specs.declared.cause.Cause.{Cause}
-use Rattle.sv_types.specs.declared.csr.Csr.{Csr}
-use Rattle.sv_types.specs.declared.effect.Effect.{Effect}
+use Rattle.processor.specs.Bytes.{in_ram, page_of, page_size, ram_place}
+use Rattle.processor.specs.Causes.{cause_number}
+use Rattle.processor.specs.Effects.{effect_of}
+use Rattle.processor.specs.Instructions.{instruction_of}
+use Rattle.processor.specs.Regions.{most_ram_pages}
+use Rattle.processor.specs.Requests.{after_write, covers, reserved_at, touches}
+use Rattle.processor.specs.Translation.{Destination, At, PageFault, Unreadable, Settings, place}
+use Rattle.processor.specs.Traps.{deliverable, interrupt_number, trap_target}
+use Rattle.processor.specs.declared.cause.Cause.{Cause}
+use Rattle.processor.specs.declared.csr.Csr.{Csr}
+use Rattle.processor.specs.declared.effect.Effect.{Effect}
 use Rattle.sv_types.specs.declared.event.Event.{Event}
 use Rattle.sv_types.specs.declared.event.Event.TheVariants.{Turn, Beat, Key, Tick}
 use Rattle.sv_types.specs.declared.event.Verdict.{Verdict}
 use Rattle.sv_types.specs.declared.event.Verdict.TheVariants.{Running, Shutdown, Stopped}
-use Rattle.sv_types.specs.declared.instruction.AmoOp.{AmoOp}
-use Rattle.sv_types.specs.declared.instruction.CsrOp.{CsrOp}
-use Rattle.sv_types.specs.declared.instruction.Instr.{Instr}
-use Rattle.sv_types.specs.declared.wires.Access.TheVariants as Access
-use Rattle.sv_types.specs.declared.wires.Interrupt.{Interrupt}
-use Rattle.sv_types.specs.declared.wires.Mode.{Mode}
-use Rattle.sv_types.specs.declared.wires.Mode.TheVariants.{Kernel, User}
+use Rattle.processor.specs.declared.instruction.AmoOp.{AmoOp}
+use Rattle.processor.specs.declared.instruction.CsrOp.{CsrOp}
+use Rattle.processor.specs.declared.instruction.Instr.{Instr}
+use Rattle.processor.specs.declared.access.Access.TheVariants as Access
+use Rattle.processor.specs.declared.interrupt.Interrupt.{Interrupt}
+use Rattle.processor.specs.declared.mode.Mode.{Mode}
+use Rattle.processor.specs.declared.mode.Mode.TheVariants.{Kernel, User}
 use Rattle.reference.specs.States.{State, Hart, Loading, Binding, is_protected}
 use Rattle.reference.specs.Counting.{count, count_turn, count_beat, count_key, count_tick}
 use Rattle.reference.specs.Answers.{replied, harts_beside, answered}

@@ -2,9 +2,9 @@
 use Rattle.std.proofs.Common.{◌≡◌, ℕ, ◌+◌, ◌≤◌, List, length, refl, arith, Bool, true, false}
 use Rattle.std.specs.Prelude.{not, ◌==◌, if◌then◌else◌}
 use Rattle.std.proofs.lemmas.Bool.Decides.{nat_tests}
-use Rattle.sv_types.specs.Bytes.{in_ram, ram_base, ram_place, page_of, part}
-use Rattle.sv_types.specs.Regions.{Region}
-use Rattle.sv_types.proofs.ByteLemmas.{length_overwrite}
+use Rattle.processor.specs.Bytes.{in_ram, ram_base, ram_place, page_of, part}
+use Rattle.processor.specs.Regions.{Region}
+use Rattle.processor_laws.proofs.ByteLemmas.{length_overwrite}
 use Rattle.reference.specs.States.{Disk}
 use Rattle.reference.specs.Disk.{disk_beat, is_busy, to_disk, transfer_ended, block_after_beat, beat_gpa, beat_place, beat_size, disk_to_memory, out_of_range, denied, Move, Idle, FromRam, IntoRam, DeniedAt, OutsideRam}
 use Rattle.dma_guard.specs.Transfers.{told, after_move}

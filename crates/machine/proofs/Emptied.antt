@@ -1,9 +1,10 @@
 -- The loop that empties caches.
 use Rattle.std.proofs.Common.{◌≡◌, ℕ, zero, suc, ◌+◌, ◌<◌, ◌≤◌, List, [], ◌∷◌, length, refl, ap, slice_set, arith, add-one, subst, sym, ◌∙◌, Bool, true, false}
 use Rattle.std.specs.Prelude.{Some, slice_get}
-use Rattle.sv_types.specs.CachedWalks.{no_lines}
-use Rattle.sv_types.specs.Regions.{Region}
-use Rattle.gstage_cache.proofs.Lines.{none_agrees, none_under_views}
+use Rattle.processor.specs.CachedWalks.{no_lines}
+use Rattle.processor.specs.Regions.{Region}
+use Rattle.gstage_cache.proofs.Lines.{none_agrees}
+use Rattle.view_laws.proofs.CachesUnderViews.{none_under_views}
 use Rattle.machine.proofs.Hosts.{Lines}
 use Rattle.machine.specs.Attempts.{first_emptied, IsUsable, AreUsable}
 

@@ -1,9 +1,9 @@
 -- What an answer gives is the machine's, as is what a load under way does.
 use Rattle.std.proofs.Common.{◌≡◌, ℕ, List, [], length, refl, sym, ◌∙◌, ap, subst}
 use Rattle.sv_types.specs.Policies.{rules_of}
-use Rattle.sv_types.specs.Regions.{Region}
-use Rattle.sv_types.specs.SecondStage.{AreViews}
-use Rattle.sv_types.specs.declared.wires.Protection.{Protection}
+use Rattle.processor.specs.Regions.{Region}
+use Rattle.sv_types.specs.Views.{AreViews}
+use Rattle.sv_types.specs.declared.protection.Protection.{Protection}
 use Rattle.gstage_tables.specs.Layout.{table_size}
 use Rattle.reference.specs.Answers.{devices_beside, journal_beside}
 use Rattle.reference.specs.Protections.{protection_at}

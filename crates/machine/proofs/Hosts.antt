@@ -1,9 +1,9 @@
 -- A hart, and a cache, among all.
 use Rattle.std.proofs.Common.{◌≡◌, ℕ, zero, suc, ◌<◌, ◌⊎◌, inl, inr, List, [], ◌∷◌, length, map, refl, ap, sym, ◌∙◌, arith, subst, slice_set, Bool}
 use Rattle.std.specs.Prelude.{Option, Some, None, slice_get, slice_index_or}
-use Rattle.sv_types.specs.Hardware.{Core}
-use Rattle.sv_types.specs.declared.cached.CacheLine.{CacheLine}
-use Rattle.sv_types.specs.declared.outcome.Outcome.{Outcome}
+use Rattle.processor.specs.Hardware.{Core}
+use Rattle.processor.specs.declared.cached.CacheLine.{CacheLine}
+use Rattle.processor.specs.declared.outcome.Outcome.{Outcome}
 use Rattle.machine_model.specs.Machine.{HostHart, forgets, all_forget, update, with_core}
 use Rattle.hart_answers.proofs.Hosts.{hosts_set, hosts_updated}
 use Rattle.hart_answers.specs.Hosts.{host_at, hosts_of}

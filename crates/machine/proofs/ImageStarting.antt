@@ -10,14 +10,14 @@ use Rattle.machine_model.specs.Reaches.{IsNew}
 use Rattle.reference.specs.Start.{AreWords, boot_start}
 use Rattle.reference.specs.States.{has_number}
 use Rattle.sv_types.specs.ApprovedPages.{numbers_from}
-use Rattle.sv_types.specs.Bytes.{padded}
+use Rattle.processor.specs.Bytes.{padded}
 use Rattle.sv_types.specs.Kernel.{LoadedSegment, filled_part, header_entry, is_text_of, segments_ram, text_page, text_page_in, text_of}
 use Rattle.sv_types.specs.Policies.{Rules, bound_within, rules_within}
-use Rattle.sv_types.specs.Regions.{Region, most_ram_pages}
-use Rattle.sv_types.specs.SecondStage.{with_ram}
-use Rattle.sv_types.specs.declared.wires.Protection.{Protection}
-use Rattle.start_laws.proofs.StartsStand.{image_start_law}
-use Rattle.start_laws.specs.Starts.{machine_at_boot, image_machine, image_protections, IsGuarded}
+use Rattle.processor.specs.Regions.{Region, most_ram_pages}
+use Rattle.sv_types.specs.Views.{with_ram}
+use Rattle.sv_types.specs.declared.protection.Protection.{Protection}
+use Rattle.standing_laws.proofs.StartsStand.{image_start_law}
+use Rattle.standing_laws.specs.Starts.{machine_at_boot, image_machine, image_protections, IsGuarded}
 use Rattle.machine.specs.Boot.{IsImageOf, RefusesFlat, RefusesImage}
 use Rattle.machine.specs.declared.boot.BootRefusal.{BootRefusal}
 use Rattle.machine.specs.declared.boot.BootRefusal.TheVariants.{Measure, Entry, Memory}

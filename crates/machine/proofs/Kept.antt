@@ -1,12 +1,12 @@
 -- What plain data keeps of a machine is the state that the machine stands for.
 use Rattle.std.proofs.Common.{◌≡◌, ℕ, zero, suc, ◌+◌, ◌-◌, ◌*◌, ◌<◌, List, drop, get_or, drop-cons, add-one, [], ◌∷◌, ◌++◌, length, refl, sym, ◌∙◌, ap, subst, Bool, true, false, arith, append_assoc, append-nil}
 use Rattle.std.specs.Prelude.{IfOk, Option, Some, None, option_map, Result, Ok, Err, slice_get}
-use Rattle.sv_types.specs.Bits.{flag}
+use Rattle.processor.specs.Bits.{flag}
 use Rattle.sv_types.specs.Clock.{Clock, timer_of}
-use Rattle.sv_types.specs.HypervisorRegisters.{HypervisorRegisters, at_guest_places, virtual_software_bit}
+use Rattle.processor.specs.HypervisorRegisters.{HypervisorRegisters, at_guest_places, virtual_software_bit}
 use Rattle.sv_types.specs.Policies.{Rules, ModuleRule}
-use Rattle.sv_types.specs.declared.wires.Mode.{Mode}
-use Rattle.sv_types.specs.declared.wires.Mode.TheVariants.{Kernel, User}
+use Rattle.processor.specs.declared.mode.Mode.{Mode}
+use Rattle.processor.specs.declared.mode.Mode.TheVariants.{Kernel, User}
 use Rattle.reference.specs.States.{State, Hart, Loading}
 use Rattle.machine_model.specs.Machine.{Machine, HostHart}
 use Rattle.machine_model.specs.StandsFor.{StandsFor, Unseen, IsRightFor, machine_of, host_hart, host_harts, host_reservation, hregs_in, load_kept, load_kept_by}

@@ -11,7 +11,7 @@ use Rattle.std.specs.Prelude.{None}
 use Rattle.sv_types.specs.Kernel.{header_entry, kernel_refusal, kernel_segments}
 use Rattle.sv_types.specs.Policies.{Rules}
 use Rattle.machine_model.specs.Reaches.{IsNew}
-use Rattle.start_laws.specs.Starts.{journal_at_boot}
+use Rattle.standing_laws.specs.Starts.{journal_at_boot}
 use Rattle.machine.specs.Boot.{IsImageOf, IsRead}
 use Rattle.machine.specs.Machines.{HaveAddresses, IsFit}
 use Rattle.machine.specs.declared.machine.Machine.TheInside.{Inside}

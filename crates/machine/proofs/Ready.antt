@@ -1,23 +1,23 @@
 -- What a machine that stands for a state may do.
 use Rattle.std.proofs.Common.{◌≡◌, ℕ, zero, suc, ◌<◌, List, [], ◌∷◌, length, refl, sym, ◌∙◌, ap, subst, arith, true, ◌*◌}
 use Rattle.std.specs.Prelude.{Option, Some, None, IfSome}
-use Rattle.sv_types.specs.Hardware.{Core}
-use Rattle.sv_types.specs.HardwareAttempt.{attempt, after_pending, OnlyWrites}
-use Rattle.sv_types.specs.HardwareMemory.{translated}
-use Rattle.sv_types.specs.HypervisorRegisters.{pending}
+use Rattle.processor.specs.Hardware.{Core}
+use Rattle.processor.specs.HardwareAttempt.{attempt, after_pending, OnlyWrites}
+use Rattle.processor.specs.HardwareMemory.{translated}
+use Rattle.processor.specs.HypervisorRegisters.{pending}
 use Rattle.sv_types.specs.Policies.{Rules}
-use Rattle.sv_types.specs.Regions.{Region}
+use Rattle.processor.specs.Regions.{Region}
 use Rattle.sv_types.specs.declared.event.Event.TheVariants.{Turn}
 use Rattle.sv_types.specs.declared.event.Verdict.{Verdict}
 use Rattle.sv_types.specs.declared.event.Verdict.TheVariants.{Running}
-use Rattle.sv_types.specs.declared.outcome.Outcome.{Outcome}
+use Rattle.processor.specs.declared.outcome.Outcome.{Outcome}
 use Rattle.sv_types.specs.declared.saved.SavedModule.{SavedModule}
-use Rattle.sv_types.specs.declared.wires.Access.TheVariants as Access
-use Rattle.sv_types.specs.declared.wires.Interrupt.{Interrupt}
-use Rattle.sv_types.specs.declared.wires.Lines.{Lines}
-use Rattle.sv_types.specs.declared.wires.Mode.TheVariants.{Kernel}
-use Rattle.sv_types.specs.declared.wires.Protection.{Protection}
-use Rattle.sv_types.proofs.HardwareWrites.{interrupt_writes, fetch_writes}
+use Rattle.processor.specs.declared.access.Access.TheVariants as Access
+use Rattle.processor.specs.declared.interrupt.Interrupt.{Interrupt}
+use Rattle.processor.specs.declared.lines.Lines.{Lines}
+use Rattle.processor.specs.declared.mode.Mode.TheVariants.{Kernel}
+use Rattle.sv_types.specs.declared.protection.Protection.{Protection}
+use Rattle.processor_laws.proofs.HardwareWrites.{interrupt_writes, fetch_writes}
 use Rattle.reference.specs.Counting.{counted, count_turn, count_retired, count_trap}
 use Rattle.reference.specs.Devices.{lines_at}
 use Rattle.reference.specs.Run.{step}

@@ -2,9 +2,9 @@
 use Rattle.std.proofs.Common.{◌≡◌, ℕ, ◌<◌, true, false, List, [], length, refl, sym, ◌∙◌, ap, subst}
 use Rattle.std.specs.Prelude.{Option, None, slice_index_or, slice_set}
 use Rattle.sv_types.specs.Policies.{rules_of}
-use Rattle.sv_types.specs.declared.exit.Exit.{Exit}
-use Rattle.sv_types.specs.declared.wires.Mode.{Mode}
-use Rattle.sv_types.specs.declared.wires.Mode.TheVariants.{Kernel, User}
+use Rattle.processor.specs.declared.exit.Exit.{Exit}
+use Rattle.processor.specs.declared.mode.Mode.{Mode}
+use Rattle.processor.specs.declared.mode.Mode.TheVariants.{Kernel, User}
 use Rattle.reference.specs.States.{Devices, Journal}
 use Rattle.machine_model.specs.HardwareEvent.{is_loading}
 use Rattle.machine_model.specs.HostHarts.{host_seen}

@@ -2,7 +2,8 @@
 use Rattle.std.proofs.Common.{◌≡◌, ℕ, zero, suc, ◌+◌, ◌-◌, ◌≤◌, Bool, true, false, List, [], ◌∷◌, ◌++◌, length, replicate, refl, sym, ◌∙◌, ap, arith, subst, not, drop}
 use Rattle.std.specs.Prelude.{find, is_some, Option, Some, None, IfSome, slice_get}
 use Rattle.std.proofs.lemmas.List.{drop-replicate, replicate_more}
-use Rattle.gstage_cache.proofs.Lines.{none_agrees, none_under_views}
+use Rattle.gstage_cache.proofs.Lines.{none_agrees}
+use Rattle.view_laws.proofs.CachesUnderViews.{none_under_views}
 use Rattle.page_guard.specs.Guarded.{first_taken}
 use Rattle.page_guard.proofs.Spans.{all_free_at}
 use Rattle.hart_answers.specs.Hosts.{host_at, hosts_of}
@@ -14,17 +15,17 @@ use Rattle.module_answers.specs.declared.modules.UnderWay.{UnderWay}
 use Rattle.module_gate.specs.Gates.{Records, no_modules}
 use Rattle.reference.specs.Protections.{is_free, protection_at}
 use Rattle.reference.specs.Start.{flat_rules}
-use Rattle.start_laws.specs.Starts.{host_at_boot, hosts_at_boot, machine_at_boot, flat_machine, flat_protections, flat_ram}
+use Rattle.standing_laws.specs.Starts.{host_at_boot, hosts_at_boot, machine_at_boot, flat_machine, flat_protections, flat_ram}
 use Rattle.sv_types.specs.ApprovedPages.{numbers_from}
-use Rattle.sv_types.specs.Bytes.{overwrite, padded, ram_base}
+use Rattle.processor.specs.Bytes.{overwrite, padded, ram_base}
 use Rattle.sv_types.specs.Policies.{Rules}
-use Rattle.sv_types.specs.Regions.{Region, host_bytes}
-use Rattle.sv_types.specs.SecondStage.{with_ram}
+use Rattle.processor.specs.Regions.{Region, host_bytes}
+use Rattle.sv_types.specs.Views.{with_ram}
 use Rattle.sv_types.specs.declared.module.Span.{Span}
-use Rattle.sv_types.specs.declared.wires.Protection.{Protection}
-use Rattle.sv_types.specs.declared.wires.Protection.TheVariants.{Free}
-use Rattle.sv_types.specs.CachedWalks.{no_lines}
-use Rattle.sv_types.specs.declared.cached.CacheLine.{CacheLine}
+use Rattle.sv_types.specs.declared.protection.Protection.{Protection}
+use Rattle.sv_types.specs.declared.protection.Protection.TheVariants.{Free}
+use Rattle.processor.specs.CachedWalks.{no_lines}
+use Rattle.processor.specs.declared.cached.CacheLine.{CacheLine}
 use Rattle.machine.specs.Attempts.{IsUsable, AreUsable}
 
 -- ---- harts

@@ -1,13 +1,13 @@
 -- Answers to exits, and turns.
 use Rattle.std.proofs.Common.{◌≡◌, ℕ, zero, suc, ◌<◌, ◌≤◌, Bool, true, false, List, [], ◌∷◌, length, refl, sym, ◌∙◌, ap, subst, arith}
 use Rattle.std.specs.Prelude.{Option, Some, None, map, slice_get}
-use Rattle.sv_types.specs.Bytes.{page_of}
+use Rattle.processor.specs.Bytes.{page_of}
 use Rattle.sv_types.specs.Policies.{Rules}
-use Rattle.sv_types.specs.SecondStage.{AreViews}
-use Rattle.sv_types.specs.Regions.{Region}
-use Rattle.sv_types.specs.declared.outcome.Outcome.{Outcome}
-use Rattle.sv_types.specs.declared.exit.Exit.{Exit}
-use Rattle.sv_types.specs.declared.wires.Protection.{Protection}
+use Rattle.sv_types.specs.Views.{AreViews}
+use Rattle.processor.specs.Regions.{Region}
+use Rattle.processor.specs.declared.outcome.Outcome.{Outcome}
+use Rattle.processor.specs.declared.exit.Exit.{Exit}
+use Rattle.sv_types.specs.declared.protection.Protection.{Protection}
 use Rattle.reference.specs.Protections.{protection_at}
 use Rattle.reference.specs.Counting.{counted}
 use Rattle.answer_laws.proofs.TurnsServed.{once_outside}

@@ -1,14 +1,15 @@
 -- What an attempt of a hart asks for, and the caches of second-stage walks. This project's own.
 use Rattle.std.specs.Prelude.{◌≡◌, ◌%◌, ℕ, zero, suc, true, false, List}
 use Rattle.std.specs.Prelude.{[], ◌∷◌, length, Option, replicate, Some, None, slice_get, slice_index_or}
-use Rattle.sv_types.specs.CachedWalks.{CacheAgrees, UnderViews, no_lines}
-use Rattle.sv_types.specs.HardwareAttempt.{attempt}
-use Rattle.sv_types.specs.HypervisorRegisters.{registers_at_boot}
-use Rattle.sv_types.specs.Regions.{Region}
-use Rattle.sv_types.specs.SecondStage.{WalksApart}
-use Rattle.sv_types.specs.declared.cached.CacheLine.{CacheLine}
-use Rattle.sv_types.specs.declared.wires.Lines.{Lines}
-use Rattle.sv_types.specs.declared.wires.Mode.TheVariants.{Kernel}
+use Rattle.processor.specs.CachedWalks.{CacheAgrees, no_lines}
+use Rattle.sv_types.specs.Views.{UnderViews}
+use Rattle.processor.specs.HardwareAttempt.{attempt}
+use Rattle.processor.specs.HypervisorRegisters.{registers_at_boot}
+use Rattle.processor.specs.Regions.{Region}
+use Rattle.processor.specs.SecondStage.{WalksApart}
+use Rattle.processor.specs.declared.cached.CacheLine.{CacheLine}
+use Rattle.processor.specs.declared.lines.Lines.{Lines}
+use Rattle.processor.specs.declared.mode.Mode.TheVariants.{Kernel}
 use Rattle.machine_model.specs.Machine.{HostHart}
 use Rattle.machine_model.specs.StandsFor.{hregs_in}
 

@@ -1,6 +1,6 @@
 -- What a beat of the block device moves, and where. This project's own.
 use Rattle.std.specs.Prelude.{◌+◌, ◌≤◌, ℕ, List, length}
-use Rattle.sv_types.specs.Bytes.{ram_base, ram_place}
+use Rattle.processor.specs.Bytes.{ram_base, ram_place}
 use Rattle.dma_guard.specs.declared.port.Beaten.{Beaten}
 
 -- so many bytes lie in RAM, and are few

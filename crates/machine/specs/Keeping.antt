@@ -1,7 +1,7 @@
 -- What plain data keeps of the machine: SecVisor's own parts are left out. This project's own.
 use Rattle.std.specs.Prelude.{◌≡◌, ℕ, ◌+◌, ◌-◌, ◌^◌, ◌<◌, ◌≤◌, List, [], ◌∷◌, length, IfSome, Option, option_map}
 use Rattle.sv_types.specs.Clock.{Clock, timer_of}
-use Rattle.sv_types.specs.HypervisorRegisters.{at_guest_places}
+use Rattle.processor.specs.HypervisorRegisters.{at_guest_places}
 use Rattle.machine_model.specs.Machine.{Machine, HostHart, HostLoad}
 use Rattle.saved_machine.specs.SavedStates.{gpa_at}
 use Rattle.machine.specs.Attempts.{hart_in}

@@ -1,8 +1,8 @@
 -- What a turn does beside its attempt. This project's own.
 use Rattle.std.specs.Prelude.{◌≡◌, ℕ, true, false, IsTrue, None}
 use Rattle.sv_types.specs.Policies.{rules_within}
-use Rattle.sv_types.specs.declared.outcome.Outcome.{Outcome}
-use Rattle.sv_types.specs.declared.wires.Mode.TheVariants.{Kernel}
+use Rattle.processor.specs.declared.outcome.Outcome.{Outcome}
+use Rattle.processor.specs.declared.mode.Mode.TheVariants.{Kernel}
 use Rattle.reference.specs.Counting.{counted, count_retired, count_trap}
 use Rattle.reference.specs.Devices.{lines_at}
 use Rattle.machine_model.specs.HardwareEvent.{is_loading}

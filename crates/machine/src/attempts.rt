@@ -1,7 +1,7 @@
 // One attempt of a hart, and what its write takes from the others.
 
 ghost use Rattle.std.specs.Prelude.{◌≡◌, ◌+◌, ◌-◌, ◌<◌, ◌%◌, ◌^◌, length};
-ghost use Rattle.sv_types.specs.HardwareAttempt.{attempt};
+ghost use Rattle.processor.specs.HardwareAttempt.{attempt};
 ghost use Rattle.machine_model.specs.Machine.{with_core, update, all_forget};
 ghost use Rattle.hart_answers.specs.Hosts.{host_at, hosts_of};
 ghost use Rattle.machine.specs.Attempts.{hart_in, IsReady, IsUsable, AreUsable};
@@ -10,7 +10,7 @@ use gstage_cache::Cache;
 use hart::{Cpu, Wires};
 use hart_answers::{Seat, forget};
 use host_mem::HostMem;
-use sv_types::Outcome;
+use processor::Outcome;
 
 // An attempt of a hart on its side, with its cache.
 fn attempt_in_seat<W: Wires>(

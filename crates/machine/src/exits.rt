@@ -11,7 +11,7 @@ ghost use Rattle.machine_model.specs.HostHarts.{host_seen};
 ghost use Rattle.machine_model.specs.Served.{exit_answer};
 ghost use Rattle.machine_model.specs.Steps.{WithTables};
 ghost use Rattle.machine_model.specs.declared.exits.ExitAnswer.TheVariants.{Traps, Returns, Demotes, StopsAtWrite, LoadsDevice, StoresDevice};
-ghost use Rattle.sv_types.specs.declared.wires.Mode.TheVariants.{Kernel};
+ghost use Rattle.processor.specs.declared.mode.Mode.TheVariants.{Kernel};
 ghost use Rattle.call_answers.specs.Known.{StartsOneOf};
 ghost use Rattle.trap_answers.specs.Possible.{IsPossible};
 ghost use Rattle.machine.specs.Attempts.{hart_in};
@@ -24,8 +24,8 @@ use call_answers::law_starts;
 use hart_answers::{Asked, Trap};
 use machine_model::ExitAnswer;
 use module_answers::{give_pages, module_answer};
+use processor::Exit;
 use reference::Answer;
-use sv_types::Exit;
 use trap_answers::{exit_answer, guest_demotion, guest_return, guest_trap, stop_at_write};
 
 impl Parts {

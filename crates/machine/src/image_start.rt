@@ -1,11 +1,11 @@
 // The machine of a kernel's image before its first event.
 
 ghost use Rattle.std.specs.Prelude.{◌≡◌, ℕ, ◌≤◌, ◌*◌, ◌%◌, List, length, true, IfOk, OnOk, IfErr, IsTrue};
-ghost use Rattle.sv_types.specs.Bytes.{page_size};
+ghost use Rattle.processor.specs.Bytes.{page_size};
 ghost use Rattle.sv_types.specs.Kernel.{segments_ram};
 ghost use Rattle.sv_types.specs.Measure.{measure};
 ghost use Rattle.sv_types.specs.Policies.{rules_of, rules_within};
-ghost use Rattle.sv_types.specs.Regions.{most_ram_pages};
+ghost use Rattle.processor.specs.Regions.{most_ram_pages};
 ghost use Rattle.gstage_tables.specs.Layout.{table_size};
 ghost use Rattle.page_guard.specs.Guarded.{IsTheirs};
 ghost use Rattle.elf64_load.specs.Images.{segments_of};
@@ -13,7 +13,7 @@ ghost use Rattle.image_loader.specs.Placed.{ArePlaced};
 ghost use Rattle.reference.specs.Start.{boot_start, AreWords};
 ghost use Rattle.reference.specs.States.{has_number};
 ghost use Rattle.machine_model.specs.Reaches.{IsNew};
-ghost use Rattle.start_laws.specs.Starts.{image_machine, image_protections, journal_at_boot, IsGuarded};
+ghost use Rattle.standing_laws.specs.Starts.{image_machine, image_protections, journal_at_boot, IsGuarded};
 ghost use Rattle.machine.specs.Boot.{IsImageOf, image_text, RefusesImage};
 
 use crate::boot::BootRefusal;
@@ -31,7 +31,7 @@ use sv_types::Policy;
 impl Parts {
     /// A machine of a kernel's image under a policy: the image's segments in RAM, its text approved, and hart 0 at its
     /// entry. First the text is measured against the policy, and the entry has to be one of the policy's.
-    #[tactic(auto, unfolding(start_laws::specs::Starts::machine_at_boot, start_laws::specs::Starts::image_machine))]
+    #[tactic(auto, unfolding(standing_laws::specs::Starts::machine_at_boot, standing_laws::specs::Starts::image_machine))]
     pub(crate) fn boot<R: Threads + Sync>(
         rt: &R,
         alloc: Global,

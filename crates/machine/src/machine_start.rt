@@ -6,7 +6,7 @@ ghost use Rattle.sv_types.specs.Policies.{rules_of, rules_within};
 ghost use Rattle.reference.specs.Start.{flat_start, boot_start};
 ghost use Rattle.reference.specs.States.{has_number};
 ghost use Rattle.machine_model.specs.Reaches.{IsNew};
-ghost use Rattle.start_laws.specs.Starts.{journal_at_boot};
+ghost use Rattle.standing_laws.specs.Starts.{journal_at_boot};
 ghost use Rattle.machine.specs.Boot.{IsImageOf, IsRead, image_text, RefusesFlat, RefusesImage};
 
 use crate::boot::BootRefusal;

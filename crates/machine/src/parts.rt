@@ -28,8 +28,9 @@ use host_mem::HostMem;
 use journal_records::Journal;
 use module_answers::{Modules, load_turn};
 use page_guard::{Entries, Guard};
+use processor::{Mode, Outcome, RAM_BASE};
 use std::marker::Model;
-use sv_types::{Counts, Event, Mode, Outcome, Policy, RAM_BASE, Verdict};
+use sv_types::{Counts, Event, Policy, Verdict};
 
 /// Harts with their sides and caches, host memory, devices, and what SecVisor guards and records. Contracts see the machine.
 pub(crate) struct Parts {

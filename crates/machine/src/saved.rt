@@ -15,9 +15,9 @@ use block_device::Block;
 use device_bus::Devices;
 use hart_answers::Seat;
 use module_answers::Modules;
+use processor::RAM_BASE;
 use saved_machine::{Saved, SavedHart, SavedLoad};
 use std::alloc::{AllocError, Global};
-use sv_types::RAM_BASE;
 
 impl Machine {
     /// The whole machine as plain data. Nothing of it changes. Want of memory is the one refusal.

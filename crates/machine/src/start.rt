@@ -1,9 +1,9 @@
 // The machine before its first event.
 
 ghost use Rattle.std.specs.Prelude.{◌≡◌, [], ◌≤◌, ◌*◌, ◌/◌, ◌%◌, ◌↔◌, length, replicate, true, false, IfOk, OnOk, IfErr, IsTrue};
-ghost use Rattle.sv_types.specs.Bytes.{page_size};
+ghost use Rattle.processor.specs.Bytes.{page_size};
 ghost use Rattle.sv_types.specs.Boot.{flat_ram_pages};
-ghost use Rattle.sv_types.specs.CachedWalks.{no_lines};
+ghost use Rattle.processor.specs.CachedWalks.{no_lines};
 ghost use Rattle.sv_types.specs.Measure.{measure};
 ghost use Rattle.sv_types.specs.Policies.{rules_of};
 ghost use Rattle.gstage_tables.specs.Layout.{table_size};
@@ -11,7 +11,7 @@ ghost use Rattle.page_guard.specs.Guarded.{IsTheirs};
 ghost use Rattle.hart_answers.specs.Hosts.{host_at, hosts_of};
 ghost use Rattle.reference.specs.Start.{flat_rules, flat_start};
 ghost use Rattle.machine_model.specs.Reaches.{IsNew};
-ghost use Rattle.start_laws.specs.Starts.{host_at_boot, hosts_at_boot, machine_at_boot, first_approved, flat_ram, flat_machine, journal_at_boot, IsGuarded};
+ghost use Rattle.standing_laws.specs.Starts.{host_at_boot, hosts_at_boot, machine_at_boot, first_approved, flat_ram, flat_machine, journal_at_boot, IsGuarded};
 ghost use Rattle.machine.specs.Boot.{RefusesFlat};
 
 use crate::boot::BootRefusal;
@@ -27,9 +27,10 @@ use journal_records::Journal;
 use module_answers::Modules;
 use page_guard::{Entries, Guard, Side};
 use page_measure::{Silent, measure};
+use processor::{PAGE_SIZE, RAM_BASE};
 use std::alloc::{AllocError, Global};
 use std::thread::Threads;
-use sv_types::{PAGE_SIZE, Policy, RAM_BASE, Span};
+use sv_types::{Policy, Span};
 
 /// The pages of RAM of a machine of plain pages.
 const FLAT_PAGES: usize = 16;
@@ -39,7 +40,7 @@ const FLAT_ENTRIES: [u64; 2] = [0x8000_0000, 0x8000_0100];
 
 impl Parts {
     /// A machine under a policy, with pages that are guarded already: hart 0 begins at an entry, the others are stopped.
-    #[tactic(auto, using(crate::proofs::Starting::empty_usable, crate::proofs::Starting::length_empty, crate::proofs::Starting::none_joined), unfolding(start_laws::specs::Starts::machine_at_boot))]
+    #[tactic(auto, using(crate::proofs::Starting::empty_usable, crate::proofs::Starting::length_empty, crate::proofs::Starting::none_joined), unfolding(standing_laws::specs::Starts::machine_at_boot))]
     pub(crate) fn at_boot(
         alloc: Global,
         policy: Policy,
@@ -80,7 +81,7 @@ impl Parts {
     /// A machine of 16 pages of RAM with these pages at their start, all of them approved, where the hart begins. It has
     /// one hart, no modules and an empty disk. The pages are measured first: the SHA-256 of the pages' SHA-256 digests
     /// has to be the digest that is wanted.
-    #[tactic(auto, unfolding(start_laws::specs::Starts::machine_at_boot, start_laws::specs::Starts::flat_machine))]
+    #[tactic(auto, unfolding(standing_laws::specs::Starts::machine_at_boot, standing_laws::specs::Starts::flat_machine))]
     pub(crate) fn flat<R: Threads + Sync>(
         rt: &R,
         alloc: Global,

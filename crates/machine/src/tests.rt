@@ -5,11 +5,12 @@ ghost use Rattle.reference.specs.Counting.{CountsAtMost};
 
 use super::{BootRefusal, Machine};
 use page_measure::{Silent, measure};
+use processor::Mode;
 use saved_machine::Saved;
 use std::alloc::{AllocError, Global};
 use std::process::Abort;
 use std::test::Fail;
-use sv_types::{Counts, Event, Mode, Protection, Verdict};
+use sv_types::{Counts, Event, Protection, Verdict};
 
 fn zeros_of(alloc: Global, count: usize) -> Result<Vec<u8>, AllocError>
     ensures { IfOk result (λ zeros. length zeros.items ≡ count) }

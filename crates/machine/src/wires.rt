@@ -6,7 +6,7 @@ ghost use Rattle.reference.specs.Devices.{lines_at};
 use block_device::Block;
 use device_bus::Devices;
 use hart::Wires;
-use sv_types::Lines;
+use processor::Lines;
 
 /// The wires of a hart, behind the devices.
 #[derive(Clone, Copy, Drop)]

@@ -1,15 +1,15 @@
 -- What one event may change of the machine. This project's own: the hardware moves the harts, and SecVisor's answers stay
 -- within the parts that are theirs. Counts and notes are left aside: they are the reference machine's.
 use Rattle.std.specs.Prelude.{◌≡◌, ℕ, ◌+◌, ◌≤◌, Bool, true, false, not, List, [], ◌∷◌, ◌++◌, map, length, ◌==◌, if◌then◌else◌, Option, Some, None, slice_get, slice_set, ⊤, IsTrue}
-use Rattle.sv_types.specs.Bytes.{page_size, place_in_page, overwrite, ram_place, page_of, in_ram}
-use Rattle.sv_types.specs.Hardware.{Attempted}
-use Rattle.sv_types.specs.HardwareAttempt.{attempt}
-use Rattle.sv_types.specs.HypervisorRegisters.{HypervisorRegisters}
+use Rattle.processor.specs.Bytes.{page_size, place_in_page, overwrite, ram_place, page_of, in_ram}
+use Rattle.processor.specs.Hardware.{Attempted}
+use Rattle.processor.specs.HardwareAttempt.{attempt}
+use Rattle.processor.specs.HypervisorRegisters.{HypervisorRegisters}
 use Rattle.sv_types.specs.declared.event.Counts.{Counts}
 use Rattle.sv_types.specs.declared.event.Event.{Event}
 use Rattle.sv_types.specs.declared.event.Event.TheVariants.{Turn, Beat, Key, Tick}
-use Rattle.sv_types.specs.declared.outcome.Outcome.{Outcome}
-use Rattle.sv_types.specs.declared.wires.Protection.{Protection}
+use Rattle.processor.specs.declared.outcome.Outcome.{Outcome}
+use Rattle.sv_types.specs.declared.protection.Protection.{Protection}
 use Rattle.sv_types.specs.declared.event.Note.{Note}
 use Rattle.sv_types.specs.declared.event.Verdict.{Verdict}
 use Rattle.sv_types.specs.declared.event.Verdict.TheVariants.{Running, Shutdown, Stopped}

@@ -1,10 +1,10 @@
 -- What the answers to calls from kernel mode make of the machine. This project's own.
 use Rattle.std.specs.Prelude.{ℕ, Bool, true, false, not, ◌&&◌, List, [], map, filter, Some, None, slice_get, is_some}
 use Rattle.std.specs.List.{list_any}
-use Rattle.sv_types.specs.Bytes.{page_of}
+use Rattle.processor.specs.Bytes.{page_of}
 use Rattle.sv_types.specs.declared.module.Span.{Span}
-use Rattle.sv_types.specs.declared.wires.Protection.{Protection}
-use Rattle.sv_types.specs.declared.wires.Protection.TheVariants.{Free, Held, Approved}
+use Rattle.sv_types.specs.declared.protection.Protection.{Protection}
+use Rattle.sv_types.specs.declared.protection.Protection.TheVariants.{Free, Held, Approved}
 use Rattle.sv_types.specs.declared.saved.SavedModule.{SavedModule}
 use Rattle.reference.specs.States.{has_number, module_pages, pages_in_rule, with_module, without_module}
 use Rattle.reference.specs.Calls.{Facts, asked_by, mask_names}

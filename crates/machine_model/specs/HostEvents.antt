@@ -1,6 +1,6 @@
 -- Beats, keys and time, as functions of the machine. This project's own: a beat asks the devices' bits of pages.
 use Rattle.std.specs.Prelude.{ℕ, ◌+◌, map, length, if◌then◌else◌}
-use Rattle.sv_types.specs.Bytes.{overwrite, ram_place}
+use Rattle.processor.specs.Bytes.{overwrite, ram_place}
 use Rattle.sv_types.specs.Clock.{after_tick}
 use Rattle.sv_types.specs.Console.{after_key, has_room}
 use Rattle.sv_types.specs.declared.event.Event.{Event}

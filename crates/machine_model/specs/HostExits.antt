@@ -1,13 +1,13 @@
 -- SecVisor's answer to an exit, and the turns of a load under way, as functions of the machine. This project's own.
 use Rattle.std.specs.Prelude.{ℕ, zero, suc, ◌-◌, ◌*◌, ◌+◌, ◌/◌, Bool, false, ◌&&◌, List, [], ◌∷◌, ◌++◌, ◌==◌, if◌then◌else◌, Option, Some, None, slice_get}
 use Rattle.std.specs.Str.{bytes_eq}
-use Rattle.sv_types.specs.Bytes.{page_size, page_of, page_bytes}
+use Rattle.processor.specs.Bytes.{page_size, page_of, page_bytes}
 use Rattle.sv_types.specs.Measure.{page_digest, joined_digests}
 use Rattle.sv_types.specs.Policies.{Rules, ModuleRule}
-use Rattle.sv_types.specs.Traps.{is_interrupt, guest_number}
+use Rattle.processor.specs.Traps.{is_interrupt, guest_number}
 use Rattle.sv_types.specs.declared.module.Site.{Site}
-use Rattle.sv_types.specs.declared.exit.Exit.{Exit}
-use Rattle.sv_types.specs.declared.wires.Mode.{Mode}
+use Rattle.processor.specs.declared.exit.Exit.{Exit}
+use Rattle.processor.specs.declared.mode.Mode.{Mode}
 use Rattle.machine_model.specs.HostHarts.{with_host, host_outside, host_seen, host_trap, host_return, host_demote, host_write_stopped, host_device_load, host_device_store}
 use Rattle.machine_model.specs.Served.{exit_answer}
 use Rattle.machine_model.specs.declared.exits.ExitAnswer.{ExitAnswer}

@@ -1,17 +1,17 @@
 -- What SecVisor's answers make of one hart of the hardware, and of the machine by its traps and accesses. Each function reads the
 -- machine alone. RISC-V Privileged manual, H extension, for what the registers hold; the answers are this project's own.
 use Rattle.std.specs.Prelude.{ℕ, List, Bool, true, false, if◌then◌else◌, Option, Some, None}
-use Rattle.sv_types.specs.Causes.{cause_number}
-use Rattle.sv_types.specs.Effects.{set_register, next_pc}
-use Rattle.sv_types.specs.HypervisorRegisters.{registers_at_trap, registers_at_return, registers_at_boot}
+use Rattle.processor.specs.Causes.{cause_number}
+use Rattle.processor.specs.Effects.{set_register, next_pc}
+use Rattle.processor.specs.HypervisorRegisters.{registers_at_trap, registers_at_return, registers_at_boot}
 use Rattle.sv_types.specs.Policies.{Rules}
-use Rattle.sv_types.specs.Requests.{loaded_value}
-use Rattle.sv_types.specs.Traps.{trap_target, mode_at_return}
-use Rattle.sv_types.specs.declared.cause.Cause.{Cause}
-use Rattle.sv_types.specs.declared.outcome.Outcome.{Outcome}
-use Rattle.sv_types.specs.declared.exit.Exit.{Exit}
-use Rattle.sv_types.specs.declared.wires.Mode.{Mode}
-use Rattle.sv_types.specs.declared.wires.Mode.TheVariants.{Kernel, User}
+use Rattle.processor.specs.Requests.{loaded_value}
+use Rattle.processor.specs.Traps.{trap_target, mode_at_return}
+use Rattle.processor.specs.declared.cause.Cause.{Cause}
+use Rattle.processor.specs.declared.outcome.Outcome.{Outcome}
+use Rattle.processor.specs.declared.exit.Exit.{Exit}
+use Rattle.processor.specs.declared.mode.Mode.{Mode}
+use Rattle.processor.specs.declared.mode.Mode.TheVariants.{Kernel, User}
 use Rattle.sv_types.specs.declared.event.Note.TheVariants.{Demote}
 use Rattle.sv_types.specs.declared.event.Rule.TheVariants.{Entry, Write}
 use Rattle.sv_types.specs.declared.event.Verdict.TheVariants.{Stopped}

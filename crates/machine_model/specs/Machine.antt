@@ -1,14 +1,14 @@
 -- The machine that runs the guest, as plain data: a region of host memory, harts with the hypervisor extension, and what
 -- SecVisor records. This project's own.
 use Rattle.std.specs.Prelude.{ℕ, zero, suc, ◌+◌, Bool, List, [], ◌∷◌, map, Option, Some, None}
-use Rattle.sv_types.specs.Hardware.{Core, Attempted}
+use Rattle.processor.specs.Hardware.{Core, Attempted}
 use Rattle.sv_types.specs.Policies.{Rules}
-use Rattle.sv_types.specs.Regions.{Region}
-use Rattle.sv_types.specs.Requests.{after_write}
+use Rattle.processor.specs.Regions.{Region}
+use Rattle.processor.specs.Requests.{after_write}
 use Rattle.sv_types.specs.declared.event.Counts.{Counts}
-use Rattle.sv_types.specs.declared.outcome.Outcome.{Outcome}
-use Rattle.sv_types.specs.declared.wires.Mode.TheVariants.{Kernel}
-use Rattle.sv_types.specs.declared.wires.Protection.{Protection}
+use Rattle.processor.specs.declared.outcome.Outcome.{Outcome}
+use Rattle.processor.specs.declared.mode.Mode.TheVariants.{Kernel}
+use Rattle.sv_types.specs.declared.protection.Protection.{Protection}
 use Rattle.sv_types.specs.declared.saved.SavedModule.{SavedModule}
 use Rattle.reference.specs.States.{Devices, Journal}
 use Rattle.reference.specs.Counting.{counted, count_retired, count_trap}

@@ -2,17 +2,17 @@
 -- manual, H extension, "Trap Cause Codes" and "Transformed Instruction or Pseudoinstruction for mtinst or htinst", for what an
 -- exit tells; the answers are this project's own.
 use Rattle.std.specs.Prelude.{ℕ, ◌+◌, ◌-◌, ◌*◌, ◌%◌, ◌^◌, min, Bool, true, false, ◌||◌, List, ◌==◌, if◌then◌else◌, Option, Some, None, option_map}
-use Rattle.sv_types.specs.Bytes.{in_ram}
-use Rattle.sv_types.specs.Effects.{effect_of}
-use Rattle.sv_types.specs.Instructions.{instruction_of}
-use Rattle.sv_types.specs.HardwareMemory.{implicit_read}
-use Rattle.sv_types.specs.declared.cause.Cause.{Cause}
-use Rattle.sv_types.specs.declared.effect.Effect.{Effect}
-use Rattle.sv_types.specs.declared.instruction.Instr.{Instr}
-use Rattle.sv_types.specs.declared.exit.Exit.{Exit}
-use Rattle.sv_types.specs.declared.exit.ExitCause.{ExitCause}
-use Rattle.sv_types.specs.declared.wires.Mode.{Mode}
-use Rattle.sv_types.specs.declared.wires.Mode.TheVariants.{Kernel, User}
+use Rattle.processor.specs.Bytes.{in_ram}
+use Rattle.processor.specs.Effects.{effect_of}
+use Rattle.processor.specs.Instructions.{instruction_of}
+use Rattle.processor.specs.HardwareMemory.{implicit_read}
+use Rattle.processor.specs.declared.cause.Cause.{Cause}
+use Rattle.processor.specs.declared.effect.Effect.{Effect}
+use Rattle.processor.specs.declared.instruction.Instr.{Instr}
+use Rattle.processor.specs.declared.exit.Exit.{Exit}
+use Rattle.processor.specs.declared.exit.ExitCause.{ExitCause}
+use Rattle.processor.specs.declared.mode.Mode.{Mode}
+use Rattle.processor.specs.declared.mode.Mode.TheVariants.{Kernel, User}
 use Rattle.reference.specs.States.{State, Hart, Binding}
 use Rattle.reference.specs.Devices.{device_load, device_store}
 use Rattle.reference.specs.Trapping.{trap, returned_from_trap}

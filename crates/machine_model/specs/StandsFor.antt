@@ -1,21 +1,21 @@
 -- When a machine stands for a state of the reference machine: it is what the state makes of the parts that it leaves free.
 -- This project's own.
 use Rattle.std.specs.Prelude.{◌≡◌, ℕ, ◌+◌, ◌-◌, ◌*◌, ◌≤◌, Bool, true, List, [], ◌∷◌, map, filter, length, drop, nat_lt, Option, Some, None, option_map, slice_get}
-use Rattle.sv_types.specs.Bytes.{page_size, page_of}
-use Rattle.sv_types.specs.GuestView.{with_guest, hideleg_in}
-use Rattle.sv_types.specs.Hardware.{Core}
-use Rattle.sv_types.specs.HypervisorRegisters.{HypervisorRegisters}
+use Rattle.processor.specs.Bytes.{page_size, page_of}
+use Rattle.processor.specs.GuestView.{with_guest, hideleg_in}
+use Rattle.processor.specs.Hardware.{Core}
+use Rattle.processor.specs.HypervisorRegisters.{HypervisorRegisters}
 use Rattle.sv_types.specs.Measure.{page_digests}
 use Rattle.sv_types.specs.Policies.{Rules, ModuleRule}
 use Rattle.sv_types.specs.ApprovedPages.{numbers_from}
-use Rattle.sv_types.specs.Regions.{IsRegion}
-use Rattle.sv_types.specs.SecondStage.{AreViews, view_hgatp, with_ram}
-use Rattle.sv_types.specs.declared.wires.HRegs.{HRegs}
-use Rattle.sv_types.specs.declared.wires.Mode.{Mode}
-use Rattle.sv_types.specs.declared.wires.Mode.TheVariants.{Kernel, User}
-use Rattle.sv_types.specs.declared.wires.Protection.{Protection}
-use Rattle.sv_types.specs.declared.wires.View.{View as Root}
-use Rattle.sv_types.specs.declared.wires.View.TheVariants as View
+use Rattle.processor.specs.Regions.{IsRegion}
+use Rattle.sv_types.specs.Views.{AreViews, view_hgatp, with_ram}
+use Rattle.processor.specs.declared.hregs.HRegs.{HRegs}
+use Rattle.processor.specs.declared.mode.Mode.{Mode}
+use Rattle.processor.specs.declared.mode.Mode.TheVariants.{Kernel, User}
+use Rattle.sv_types.specs.declared.protection.Protection.{Protection}
+use Rattle.sv_types.specs.declared.view.View.{View as Root}
+use Rattle.sv_types.specs.declared.view.View.TheVariants as View
 use Rattle.sv_types.specs.declared.saved.SavedModule.{SavedModule}
 use Rattle.reference.specs.States.{State, Hart, Journal, Loading, protection_in}
 use Rattle.reference.specs.Loads.{module_text, module_bases}

@@ -1,12 +1,12 @@
 -- What an event does of the machine: an attempt of the hardware, and SecVisor's answer where it gave an exit. It speaks of no
 -- state of the reference machine, and leaves the words of the tables alone open. This project's own.
 use Rattle.std.specs.Prelude.{◌≡◌, ℕ, Bool, List, length, true, false, Option, Some, None, slice_get}
-use Rattle.sv_types.specs.SecondStage.{AreViews}
+use Rattle.sv_types.specs.Views.{AreViews}
 use Rattle.sv_types.specs.declared.event.Event.{Event}
 use Rattle.sv_types.specs.declared.event.Event.TheVariants.{Turn, Beat, Key, Tick}
 use Rattle.sv_types.specs.declared.event.Verdict.{Verdict}
 use Rattle.sv_types.specs.declared.event.Verdict.TheVariants.{Running, Shutdown, Stopped}
-use Rattle.sv_types.specs.declared.outcome.Outcome.{Outcome}
+use Rattle.processor.specs.declared.outcome.Outcome.{Outcome}
 use Rattle.reference.specs.Counting.{count_turn}
 use Rattle.reference.specs.Protections.{protection_at}
 use Rattle.machine_model.specs.Machine.{Machine, HostHart, raised, after_quiet_attempt}

@@ -1,6 +1,6 @@
 // What an exit of a hart is answered.
 
-use sv_types::ExitCause;
+use processor::ExitCause;
 
 /// The answer to an exit.
 #[derive(Clone, Copy, Debug, PartialEq, Eq, Drop)]

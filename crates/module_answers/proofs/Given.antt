@@ -5,7 +5,7 @@ use Rattle.std.proofs.lemmas.Bool.{eqb-true}
 use Rattle.sv_types.specs.Policies.{Rules, ModuleRule}
 use Rattle.sv_types.specs.declared.module.Span.{Span}
 use Rattle.sv_types.specs.declared.saved.SavedModule.{SavedModule}
-use Rattle.sv_types.specs.declared.wires.Protection.{Protection}
+use Rattle.sv_types.specs.declared.protection.Protection.{Protection}
 use Rattle.reference.specs.Calls.{Asked, Facts, mask_exists, timer_call, ipi_call, start_other, hart_call, reset_call}
 use Rattle.reference.specs.ModuleCalls.{good_address, module_asked, load_call, load_decision, unload_call, retire_call, module_call, answer_by}
 use Rattle.reference.specs.States.{find_module, has_number}

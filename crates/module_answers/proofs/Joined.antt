@@ -3,8 +3,8 @@ use Rattle.std.proofs.Common.{◌≡◌, List, refl, ◌∙◌, ap, subst, true,
 use Rattle.std.specs.Prelude.{Option, Some, None, IfSome, is_some, option_map}
 use Rattle.sv_types.specs.Policies.{Rules}
 use Rattle.sv_types.specs.declared.module.Span.{Span}
-use Rattle.sv_types.specs.declared.wires.Protection.{Protection}
-use Rattle.sv_types.specs.declared.wires.Protection.TheVariants.{Held}
+use Rattle.sv_types.specs.declared.protection.Protection.{Protection}
+use Rattle.sv_types.specs.declared.protection.Protection.TheVariants.{Held}
 use Rattle.page_guard.specs.Guarded.{AllAre, IsInRam}
 use Rattle.module_gate.specs.Gates.{load_span, module_span, pages_at}
 use Rattle.module_answers.specs.Conditions.{AreJoined, AreGuarded, IsHeld, MayEnd, TakesItsPages}

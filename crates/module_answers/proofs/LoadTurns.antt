@@ -1,11 +1,11 @@
 -- The turns of a load, from what the load itself does.
 use Rattle.std.proofs.Common.{◌≡◌, ℕ, suc, ◌+◌, ◌-◌, ◌≤◌, List, refl, sym, ◌∙◌, ap, true, arith, slice_get}
 use Rattle.std.specs.Prelude.{Option, Some, None, option_map}
-use Rattle.sv_types.specs.Bytes.{page_of, page_bytes}
+use Rattle.processor.specs.Bytes.{page_of, page_bytes}
 use Rattle.sv_types.specs.Policies.{Rules, ModuleRule}
-use Rattle.sv_types.specs.Regions.{Region}
+use Rattle.processor.specs.Regions.{Region}
 use Rattle.sv_types.specs.declared.saved.SavedModule.{SavedModule}
-use Rattle.sv_types.specs.declared.wires.Protection.{Protection}
+use Rattle.sv_types.specs.declared.protection.Protection.{Protection}
 use Rattle.reference.specs.ModuleCalls.{load_decision}
 use Rattle.reference.specs.States.{pages_in_rule}
 use Rattle.machine_model.specs.HostCalls.{host_given}

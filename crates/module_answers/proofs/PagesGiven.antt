@@ -2,10 +2,10 @@
 use Rattle.std.proofs.Common.{◌≡◌, ℕ, List, sym, ap, subst, true, false}
 use Rattle.std.specs.Prelude.{Option, Some, None, IfSome, slice_get}
 use Rattle.sv_types.specs.Policies.{Rules}
-use Rattle.sv_types.specs.Regions.{Region}
+use Rattle.processor.specs.Regions.{Region}
 use Rattle.sv_types.specs.declared.saved.SavedModule.{SavedModule}
-use Rattle.sv_types.specs.declared.wires.Protection.{Protection}
-use Rattle.sv_types.specs.declared.wires.Protection.TheVariants.{Free, Held, Approved}
+use Rattle.sv_types.specs.declared.protection.Protection.{Protection}
+use Rattle.sv_types.specs.declared.protection.Protection.TheVariants.{Free, Held, Approved}
 use Rattle.reference.specs.States.{pages_in_rule, with_module}
 use Rattle.reference.specs.declared.answers.Beside.TheVariants.{BeginsLoad, ApprovesModule, ReleasesModule}
 use Rattle.machine_model.specs.HostCalls.{host_pages_beside}

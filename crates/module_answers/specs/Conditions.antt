@@ -1,10 +1,10 @@
 -- What holds of modules and their pages before each answer. This project's own.
 use Rattle.std.specs.Prelude.{◌≡◌, ◌≤◌, List, length, Option, Some, None, IfSome, slice_get, is_some}
 use Rattle.sv_types.specs.Policies.{Rules}
-use Rattle.sv_types.specs.Regions.{Region}
+use Rattle.processor.specs.Regions.{Region}
 use Rattle.sv_types.specs.declared.saved.SavedModule.{SavedModule}
-use Rattle.sv_types.specs.declared.wires.Protection.{Protection}
-use Rattle.sv_types.specs.declared.wires.Protection.TheVariants.{Held}
+use Rattle.sv_types.specs.declared.protection.Protection.{Protection}
+use Rattle.sv_types.specs.declared.protection.Protection.TheVariants.{Held}
 use Rattle.reference.specs.States.{pages_in_rule, find_module}
 use Rattle.machine_model.specs.Machine.{HostLoad}
 use Rattle.page_guard.specs.Guarded.{IsInRam, AllAre, IsTheirs}

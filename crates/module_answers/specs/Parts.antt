@@ -2,9 +2,9 @@
 -- This project's own.
 use Rattle.std.specs.Prelude.{ℕ, Bool, not, List, Option, Some, None, map, option_map, is_some}
 use Rattle.sv_types.specs.Policies.{Rules}
-use Rattle.sv_types.specs.Regions.{Region}
-use Rattle.sv_types.specs.declared.wires.Protection.{Protection}
-use Rattle.sv_types.specs.declared.wires.Protection.TheVariants.{Free}
+use Rattle.processor.specs.Regions.{Region}
+use Rattle.sv_types.specs.declared.protection.Protection.{Protection}
+use Rattle.sv_types.specs.declared.protection.Protection.TheVariants.{Free}
 use Rattle.reference.specs.Calls.{Facts}
 use Rattle.reference.specs.Protections.{is_free, protection_at}
 use Rattle.machine_model.specs.Machine.{Machine, HostLoad}

@@ -2,7 +2,7 @@
 
 ghost use Rattle.std.specs.Prelude.{◌≡◌, [], false, true, Some, None, length, IsTrue, IsSome, IfSome, slice_get};
 ghost use Rattle.sv_types.specs.Policies.{rules_of, rules_within};
-ghost use Rattle.sv_types.specs.declared.wires.Protection.TheVariants.{Free, Held, Approved};
+ghost use Rattle.sv_types.specs.declared.protection.Protection.TheVariants.{Free, Held, Approved};
 ghost use Rattle.reference.specs.States.{with_module, pages_in_rule};
 ghost use Rattle.machine_model.specs.HostCalls.{host_pages_beside};
 ghost use Rattle.machine_model.specs.GivenAnswers.{IsGiven};

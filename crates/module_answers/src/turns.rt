@@ -1,9 +1,9 @@
 // The turns of a load under way.
 
 ghost use Rattle.std.specs.Prelude.{◌≡◌, ◌+◌, ◌-◌, ◌*◌, ◌<◌, ◌≤◌, ℕ, suc, Some, None, List, length, IfSome, OnSome, IsTrue, slice_get};
-ghost use Rattle.sv_types.specs.Bytes.{page_size, page_of, page_bytes};
+ghost use Rattle.processor.specs.Bytes.{page_size, page_of, page_bytes};
 ghost use Rattle.sv_types.specs.Policies.{rules_of, rules_within};
-ghost use Rattle.sv_types.specs.declared.wires.Protection.{Protection};
+ghost use Rattle.sv_types.specs.declared.protection.Protection.{Protection};
 ghost use Rattle.reference.specs.ModuleCalls.{load_decision};
 ghost use Rattle.reference.specs.States.{pages_in_rule};
 ghost use Rattle.machine_model.specs.GivenAnswers.{IsOfLoad};

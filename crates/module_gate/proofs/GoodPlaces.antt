@@ -4,10 +4,10 @@ use Rattle.std.specs.Prelude.{Some, None, find, if◌then◌else◌, ◌||◌, �
 use Rattle.std.specs.List.{list_any}
 use Rattle.std.proofs.lemmas.Bool.{and_parts}
 use Rattle.std.proofs.lemmas.Bool.Decides.{nat_tests}
-use Rattle.sv_types.specs.Bytes.{page_of, in_ram}
+use Rattle.processor.specs.Bytes.{page_of, in_ram}
 use Rattle.sv_types.specs.ApprovedPages.{numbers_from}
 use Rattle.sv_types.specs.declared.saved.SavedModule.{SavedModule}
-use Rattle.sv_types.specs.declared.wires.Protection.{Protection}
+use Rattle.sv_types.specs.declared.protection.Protection.{Protection}
 use Rattle.page_guard.specs.Guarded.{first_taken, IsInRam}
 use Rattle.page_guard.proofs.Spans.{numbers_more}
 use Rattle.module_gate.specs.Gates.{is_place, is_good_place, is_taken, pages_at}

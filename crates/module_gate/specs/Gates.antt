@@ -1,13 +1,13 @@
 -- What the gate records, a load under way, and the pages that a module takes. This project's own.
 use Rattle.std.specs.Prelude.{◌≡◌, ℕ, ◌*◌, ◌%◌, ◌&&◌, Bool, true, false, List, [], ◌==◌, ◌-◌, not, Option, Some, None, slice_get}
 use Rattle.std.specs.List.{list_any}
-use Rattle.sv_types.specs.Bytes.{page_size, page_of, in_ram}
+use Rattle.processor.specs.Bytes.{page_size, page_of, in_ram}
 use Rattle.sv_types.specs.Policies.{Rules, ModuleRule}
 use Rattle.sv_types.specs.ApprovedPages.{numbers_from}
 use Rattle.sv_types.specs.declared.module.Span.{Span}
 use Rattle.sv_types.specs.declared.saved.SavedModule.{SavedModule}
-use Rattle.sv_types.specs.declared.wires.Protection.{Protection}
-use Rattle.sv_types.specs.declared.wires.Protection.TheVariants.{Approved}
+use Rattle.sv_types.specs.declared.protection.Protection.{Protection}
+use Rattle.sv_types.specs.declared.protection.Protection.TheVariants.{Approved}
 use Rattle.reference.specs.Protections.{is_free, protection_at}
 use Rattle.reference.specs.States.{pages_in_rule, find_module}
 use Rattle.machine_model.specs.HostExits.{page_counted}

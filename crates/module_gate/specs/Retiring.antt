@@ -4,7 +4,7 @@ use Rattle.std.specs.List.{list_any}
 use Rattle.sv_types.specs.Policies.{Rules}
 use Rattle.sv_types.specs.declared.module.Span.{Span}
 use Rattle.sv_types.specs.declared.saved.SavedModule.{SavedModule}
-use Rattle.sv_types.specs.declared.wires.Protection.{Protection}
+use Rattle.sv_types.specs.declared.protection.Protection.{Protection}
 use Rattle.reference.specs.Answers.{span_pages}
 use Rattle.reference.specs.Protections.{protection_at}
 use Rattle.reference.specs.States.{has_number, module_pages}

@@ -2,7 +2,7 @@
 
 ghost use Rattle.std.specs.Prelude.{◌≡◌, ◌<◌, ◌≤◌, length, slice_get, Some, None, IfOk, IsTrue, IsSome, true, false, vec_capacity};
 ghost use Rattle.sv_types.specs.Policies.{rules_of, rules_within};
-ghost use Rattle.sv_types.specs.declared.wires.Protection.TheVariants.{Free, Held};
+ghost use Rattle.sv_types.specs.declared.protection.Protection.TheVariants.{Free, Held};
 ghost use Rattle.reference.specs.Protections.{with_each};
 ghost use Rattle.reference.specs.States.{find_module, with_module, without_module, pages_in_rule};
 ghost use Rattle.page_guard.specs.Guarded.{with_span, IsTheirs};

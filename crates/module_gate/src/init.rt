@@ -2,7 +2,7 @@
 
 ghost use Rattle.std.specs.Prelude.{◌≡◌, ◌<◌, ◌-◌, ◌&&◌, length, nat_le, nat_lt};
 ghost use Rattle.sv_types.specs.Policies.{rules_of};
-ghost use Rattle.sv_types.specs.declared.wires.Protection.TheVariants.{Free};
+ghost use Rattle.sv_types.specs.declared.protection.Protection.TheVariants.{Free};
 ghost use Rattle.reference.specs.Protections.{protection_at, freed_one, with_each};
 ghost use Rattle.reference.specs.States.{has_number, module_pages};
 ghost use Rattle.machine_model.specs.HostCalls.{is_approved_one};

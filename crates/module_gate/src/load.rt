@@ -1,10 +1,10 @@
 // A load under way.
 
 ghost use Rattle.std.specs.Prelude.{◌≡◌, ℕ, ◌%◌, ◌<◌, None, length, slice_get, All, IsTrue, false};
-ghost use Rattle.sv_types.specs.Bytes.{page_size};
+ghost use Rattle.processor.specs.Bytes.{page_size};
 ghost use Rattle.sv_types.specs.Measure.{page_digest};
 ghost use Rattle.sv_types.specs.Policies.{rules_of, rules_within};
-ghost use Rattle.sv_types.specs.declared.wires.Protection.TheVariants.{Free, Held, Approved};
+ghost use Rattle.sv_types.specs.declared.protection.Protection.TheVariants.{Free, Held, Approved};
 ghost use Rattle.reference.specs.Relocations.{masked};
 ghost use Rattle.reference.specs.States.{find_module, with_module, pages_in_rule};
 ghost use Rattle.machine_model.specs.HostExits.{host_is_good};
@@ -17,9 +17,10 @@ use crate::rules::rule_of;
 use host_mem::HostMem;
 use page_guard::{Guard, Hold};
 use page_measure::{join_digests, page_digest};
+use processor::{PAGE_BYTES, PAGE_SIZE};
 use relocated_fields::{fields_right, mask};
 use std::marker::Model;
-use sv_types::{Bases, PAGE_BYTES, PAGE_SIZE, Policy, SavedModule, Site};
+use sv_types::{Bases, Policy, SavedModule, Site};
 
 /// A load under way, which can't be dropped. Contracts see the arguments of the load, the pages of the module, how many of
 /// them are left to count, and of those that were counted the digests and whether their fields are right.

@@ -9,7 +9,8 @@ ghost use Rattle.module_gate.specs.Gates.{is_place, is_good_place, is_taken};
 use crate::rules::pages_at;
 use host_mem::HostMem;
 use page_guard::Guard;
-use sv_types::{PAGE_BYTES, Protection, RAM_BASE, SavedModule, Span};
+use processor::{PAGE_BYTES, RAM_BASE};
+use sv_types::{Protection, SavedModule, Span};
 
 // Whether both addresses are multiples of a page's bytes, and so many pages from the first on are in RAM.
 fn is_place(mem: &HostMem, gpa: u64, va: u64, count: u32) -> bool

@@ -1,12 +1,13 @@
 // What the policy says of a module, and the pages that a module takes.
 
 ghost use Rattle.std.specs.Prelude.{◌≡◌, ◌<◌, ◌^◌, option_map, slice_get};
-ghost use Rattle.sv_types.specs.Bytes.{page_of};
+ghost use Rattle.processor.specs.Bytes.{page_of};
 ghost use Rattle.sv_types.specs.Policies.{rules_of, module_rule};
 ghost use Rattle.reference.specs.States.{pages_in_rule};
 ghost use Rattle.module_gate.specs.Gates.{pages_at, module_span};
 
-use sv_types::{ModulePolicy, PAGE_BYTES, Policy, RAM_BASE, SavedModule, Span};
+use processor::{PAGE_BYTES, RAM_BASE};
+use sv_types::{ModulePolicy, Policy, SavedModule, Span};
 
 /// The policy's rule of a module.
 pub fn rule_of(policy: &Policy, id: u64) -> Option<&ModulePolicy>

@@ -6,13 +6,13 @@ use Rattle.std.proofs.lemmas.Bool.{eqb-true, eq-eqb}
 use Rattle.std.proofs.lemmas.List.{length-set, length-replicate}
 use Rattle.std.proofs.lemmas.Option.{slice_get_read}
 use Rattle.std.proofs.lemmas.List.Folds.{find-append}
-use Rattle.sv_types.specs.Bytes.{page_size}
+use Rattle.processor.specs.Bytes.{page_size}
 use Rattle.sv_types.specs.ApprovedPages.{numbers_from}
-use Rattle.sv_types.specs.Regions.{Region}
-use Rattle.sv_types.specs.SecondStage.{AreViews, all_free}
+use Rattle.processor.specs.Regions.{Region}
+use Rattle.sv_types.specs.Views.{AreViews, all_free}
 use Rattle.gstage_tables.specs.Layout.{HoldsTrees}
-use Rattle.sv_types.specs.declared.wires.Protection.{Protection}
-use Rattle.sv_types.specs.declared.wires.Protection.TheVariants.{Free}
+use Rattle.sv_types.specs.declared.protection.Protection.{Protection}
+use Rattle.sv_types.specs.declared.protection.Protection.TheVariants.{Free}
 use Rattle.reference.specs.Protections.{protection_at, or_free, with_pages}
 use Rattle.reference.specs.Protections.{is_free}
 use Rattle.page_guard.specs.Guarded.{IsTheirs}

@@ -1,12 +1,12 @@
 -- The protections of all pages of RAM as a list, spans of pages, and the region whose tables follow the list.
 -- This project's own.
 use Rattle.std.specs.Prelude.{◌≡◌, ℕ, ◌+◌, ◌*◌, ◌≤◌, ◌<◌, not, List, [], length, find, Option, Some, slice_get}
-use Rattle.sv_types.specs.Bytes.{page_size}
+use Rattle.processor.specs.Bytes.{page_size}
 use Rattle.sv_types.specs.ApprovedPages.{numbers_from}
-use Rattle.sv_types.specs.Regions.{Region}
-use Rattle.sv_types.specs.SecondStage.{AreViews}
+use Rattle.processor.specs.Regions.{Region}
+use Rattle.sv_types.specs.Views.{AreViews}
 use Rattle.sv_types.specs.declared.module.Span.{Span}
-use Rattle.sv_types.specs.declared.wires.Protection.{Protection}
+use Rattle.sv_types.specs.declared.protection.Protection.{Protection}
 use Rattle.gstage_tables.specs.Layout.{HoldsTrees}
 use Rattle.reference.specs.Protections.{protection_at, with_pages}
 use Rattle.reference.specs.Protections.{is_free}

@@ -1,9 +1,9 @@
 // The guard of pages.
 
 ghost use Rattle.std.specs.Prelude.{◌≡◌, ◌+◌, ◌*◌, ◌/◌, ◌<◌, ◌≤◌, length, map, replicate, slice_set, slice_get, Some, None, IfOk, OnOk, IfErr, OnErr, IsSome, []};
-ghost use Rattle.sv_types.specs.Bytes.{page_size};
-ghost use Rattle.sv_types.specs.SecondStage.{view_hgatp, sight_of};
-ghost use Rattle.sv_types.specs.declared.wires.Protection.TheVariants.{Free, Held, Approved};
+ghost use Rattle.processor.specs.Bytes.{page_size};
+ghost use Rattle.sv_types.specs.Views.{view_hgatp, sight_of};
+ghost use Rattle.sv_types.specs.declared.protection.Protection.TheVariants.{Free, Held, Approved};
 ghost use Rattle.gstage_tables.specs.Layout.{table_size};
 ghost use Rattle.reference.specs.Protections.{with_pages};
 ghost use Rattle.reference.specs.Protections.{is_free};
@@ -27,12 +27,12 @@ pub struct Guard {
 
 impl Model for Guard {
     ghost use Rattle.std.specs.Prelude.{List};
-    ghost use Rattle.sv_types.specs.declared.wires.Protection.{Protection as Kind};
+    ghost use Rattle.sv_types.specs.declared.protection.Protection.{Protection as Kind};
 
     ghost Value = { List Kind };
 
     ghost use Rattle.std.specs.Prelude.{◌≡◌, ◌≤◌, length, map, []};
-    ghost use Rattle.sv_types.specs.Regions.{most_ram_pages};
+    ghost use Rattle.processor.specs.Regions.{most_ram_pages};
     ghost use Rattle.gstage_tables.specs.Blocks.{CountsTaken};
     ghost use Rattle.reference.specs.Protections.{is_free, protection_at};
 

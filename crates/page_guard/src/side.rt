@@ -2,14 +2,15 @@
 
 ghost use Rattle.std.specs.Prelude.{◌≡◌, true, false, None, OnOk, OnErr, IfErr};
 ghost use Rattle.sv_types.specs.Policies.{Rules};
-ghost use Rattle.sv_types.specs.declared.wires.Mode.TheVariants.{Kernel, User};
+ghost use Rattle.processor.specs.declared.mode.Mode.TheVariants.{Kernel, User};
 ghost use Rattle.reference.specs.Trapping.{may_enter};
 ghost use Rattle.machine_model.specs.StandsFor.{hregs_in};
 
 use crate::entries::Entries;
 use crate::guard::Guard;
+use processor::{HRegs, Mode};
 use std::marker::Model;
-use sv_types::{HRegs, Mode, View};
+use sv_types::View;
 
 /// The exceptions that go straight to the kernel: all but ECALL from VS mode and what the hypervisor handles.
 const DELEGATED_EXCEPTIONS: u64 = 0xB1FF;
@@ -25,7 +26,7 @@ pub struct Side {
 }
 
 impl Model for Side {
-    ghost use Rattle.sv_types.specs.declared.wires.Mode.{Mode as Privilege};
+    ghost use Rattle.processor.specs.declared.mode.Mode.{Mode as Privilege};
 
     ghost Value = { Privilege };
 

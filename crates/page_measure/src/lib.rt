@@ -3,18 +3,18 @@
 #![tactic(auto)]
 
 ghost use Rattle.std.specs.Prelude.{◌≡◌, ◌*◌, ◌%◌, ◌<◌, length, IfOk, vec_len};
-ghost use Rattle.sv_types.specs.Bytes.{page_size};
+ghost use Rattle.processor.specs.Bytes.{page_size};
 ghost use Rattle.sv_types.specs.Measure.{digests_of};
 ghost use Rattle.sv_types.specs.Measure as spec;
 
 mod meter;
 
 pub use meter::{Meter, Silent};
+use processor::PAGE_SIZE;
 use sha2::{Digest, Sha256};
 use std::alloc::{AllocError, Global};
 use std::thread;
 use std::thread::Threads;
-use sv_types::PAGE_SIZE;
 
 /// The bytes of a chunk: 64 pages.
 const CHUNK_BYTES: usize = 64 * PAGE_SIZE;

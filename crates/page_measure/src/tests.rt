@@ -1,13 +1,13 @@
 // Rows: measures of numbered pages, and a meter that sees two chunks at once.
 ghost use Rattle.std.specs.Prelude.{◌≡◌, ◌*◌, ◌<◌, IfOk, vec_len};
-ghost use Rattle.sv_types.specs.Bytes.{page_size};
+ghost use Rattle.processor.specs.Bytes.{page_size};
 
 use super::{Meter, Silent, join_digests, measure, page_digest};
+use processor::PAGE_SIZE;
 use std::alloc::{AllocError, Global};
 use std::sync::atomic::{AtomicBool, Ordering};
 use std::test::Fail;
 use std::thread;
-use sv_types::PAGE_SIZE;
 
 // Pages whose byte j is j mod 251.
 fn numbered_pages(alloc: Global, count: usize) -> Result<Vec<u8>, AllocError>

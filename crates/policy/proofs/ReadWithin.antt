@@ -2,7 +2,7 @@
 use Rattle.std.proofs.Common.{◌≡◌, ℕ, nat_le, ◌==◌, ℤ, pos, negsuc, Bool, true, false, not, ◌&&◌, List, [], length, codes, Option, Some, None, Ok, refl, sym, ◌∙◌, ap, subst}
 use Rattle.std.proofs.lemmas.Bool.{and_parts}
 use Rattle.toml.specs.Data.{Data, Items, no_items, item, Members, get_member}
-use Rattle.sv_types.specs.Bytes.{ram_base}
+use Rattle.processor.specs.Bytes.{ram_base}
 use Rattle.sv_types.specs.Policies.{Rules, ModuleRule, format_within, harts_within, ram_pages_within, entry_within, entries_count_within, entries_within, exports_count_within, export_within, exports_within, bound_within, is_exported, span_within, init_within, place_within, is_aligned, base_within, anchor_within, is_behind, next_site_within, sites_within, sites_count_within, sites_of, module_within, modules_within, modules_count_within, is_module, module_pages_within, rules_within}
 use Rattle.sv_types.specs.declared.module.Span.{Span}
 use Rattle.sv_types.specs.declared.module.Site.{Site}

@@ -7,7 +7,8 @@ ghost use Rattle.policy.specs.Text as spec;
 
 use crate::values::{address, items, members, natural, required, with_known};
 use policy_limits::PolicyFault;
-use sv_types::{PAGE_BYTES, RAM_BASE, Span};
+use processor::{PAGE_BYTES, RAM_BASE};
+use sv_types::Span;
 use toml::{Table, Value};
 
 fn page_address(value: &Value) -> Result<u64, PolicyFault>

@@ -10,8 +10,9 @@ ghost use Rattle.policy.specs.Ranges.{IsAddress, IsDigest, IsExport, IsModule, I
 ghost use Rattle.policy.specs.Text.{table_of_text, rules_of_text};
 ghost use Rattle.policy.specs.Printed as spec;
 
+use processor::{PAGE_BYTES, RAM_BASE};
 use std::alloc::{AllocError, Global};
-use sv_types::{Export, ModulePolicy, PAGE_BYTES, Policy, RAM_BASE, Site, Span};
+use sv_types::{Export, ModulePolicy, Policy, Site, Span};
 use text_numbers::address_text;
 use toml::{Table, Value};
 

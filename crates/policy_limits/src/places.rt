@@ -3,7 +3,8 @@
 ghost use Rattle.std.specs.Prelude.{◌≡◌, ◌≤◌, Some};
 ghost use Rattle.sv_types.specs.Policies as limits;
 
-use sv_types::{PAGE_BYTES, RelocationKind, Site};
+use processor::PAGE_BYTES;
+use sv_types::{RelocationKind, Site};
 
 /// The bytes of a field.
 pub fn site_size(kind: RelocationKind) -> u64

@@ -6,3 +6,5 @@ pub mod NamesOnce
 pub mod ExportNames
 pub mod ExportsWithin
 pub mod ModulesWithin
+pub mod WordLemmas
+pub mod Spans

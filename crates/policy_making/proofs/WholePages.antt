@@ -3,11 +3,11 @@ use Rattle.std.proofs.Common.{◌≡◌, ℕ, ◌+◌, ◌-◌, ◌*◌, ◌%◌
 use Rattle.std.specs.Prelude.{flat_map, find, ◌==◌, if◌then◌else◌}
 use Rattle.std.specs.List.{list_all}
 use Rattle.std.proofs.lemmas.List.{length-replicate}
-use Rattle.sv_types.specs.Bytes.{padded, page_of}
+use Rattle.processor.specs.Bytes.{padded, page_of}
 use Rattle.sv_types.specs.Kernel as kernels
 use Rattle.sv_types.specs.Kernel.{LoadedSegment, is_text_of, text_page, text_page_in}
 use Rattle.sv_types.specs.ApprovedPages.{numbers_from}
-use Rattle.sv_types.specs.Regions.{most_ram_pages}
+use Rattle.processor.specs.Regions.{most_ram_pages}
 use Rattle.sv_types.specs.declared.module.Site.{Site}
 use Rattle.sv_types.specs.declared.policy.Export.{Export}
 use Rattle.elf64_sections.specs.Judged.{◌>>=◌}

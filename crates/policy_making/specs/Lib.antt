@@ -1,3 +1,4 @@
 pub mod Making
 pub mod Ranges
 pub mod Refusals
+pub mod WordRanges

@@ -1,7 +1,6 @@
 -- What keeps a policy within its limits: words in their ranges, and modules. This project's own.
 use Rattle.std.specs.Prelude.{ℕ, Bool, ◌&&◌, not, List, length, nat_le}
-use Rattle.sv_types.specs.Policies.{harts_within, ram_pages_within, entries_count_within, entries_within, init_within}
-use Rattle.sv_types.specs.Policies.{ModuleRule, module_pages_within, sites_within, is_module}
+use Rattle.sv_types.specs.Policies.{harts_within, ram_pages_within, entries_count_within, entries_within, init_within, ModuleRule, module_pages_within, sites_within, is_module}
 use Rattle.policy_making.specs.Making.{Terms}
 
 abbrev pub terms_within : Terms → Bool

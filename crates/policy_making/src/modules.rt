@@ -14,10 +14,11 @@ use crate::object_file::ObjectFile;
 use crate::refusal::{MakingRefusal, of_module};
 use elf64_reloc::{ModuleImage, read_module};
 use page_measure::{Silent, measure};
+use processor::PAGE_BYTES;
 use relocated_fields::mask;
 use std::alloc::{AllocError, Global};
 use std::thread::Threads;
-use sv_types::{Export, ModulePolicy, Name, PAGE_BYTES, Site};
+use sv_types::{Export, ModulePolicy, Name, Site};
 
 // The measure of a text with each field cleared.
 #[tactic(auto, using(crate::proofs::FittingSites::all_lie_in, crate::proofs::FittingSites::all_aligned))]

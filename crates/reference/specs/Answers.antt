@@ -4,7 +4,7 @@ use Rattle.std.specs.Prelude.{ℕ, List, [], ◌++◌, filter, slice_set, Some, 
 use Rattle.sv_types.specs.ApprovedPages.{numbers_from, approved_pages}
 use Rattle.sv_types.specs.Clock.{with_timer, latest}
 use Rattle.sv_types.specs.Console.{without_first}
-use Rattle.sv_types.specs.Effects.{set_register, next_pc}
+use Rattle.processor.specs.Effects.{set_register, next_pc}
 use Rattle.sv_types.specs.declared.event.Counts.{Counts}
 use Rattle.sv_types.specs.declared.event.Note.TheVariants.{Load, Unload, Retire}
 use Rattle.sv_types.specs.declared.event.Verdict.TheVariants.{Shutdown}

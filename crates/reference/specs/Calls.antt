@@ -3,17 +3,17 @@
 -- "Hart State Management Extension", "System Reset Extension". The extension 08534543 is this project's own.
 use Rattle.std.specs.Prelude.{ℕ, ◌+◌, ◌-◌, ◌^◌, Bool, true, false, not, ◌&&◌, ◌||◌, List, [], ◌∷◌, map, length, replicate, slice_index, ◌==◌, if◌then◌else◌, nat_le, nat_lt, Option, Some, None, slice_get, is_some}
 use Rattle.std.specs.List.{list_all}
-use Rattle.sv_types.specs.Bits.{bit}
+use Rattle.processor.specs.Bits.{bit}
 use Rattle.sv_types.specs.Console.{console_line}
-use Rattle.sv_types.specs.Effects.{register, set_register}
+use Rattle.processor.specs.Effects.{register, set_register}
 use Rattle.sv_types.specs.ApprovedPages.{numbers_from}
 use Rattle.sv_types.specs.Policies.{Rules}
-use Rattle.sv_types.specs.Registers.{Supervisor}
+use Rattle.processor.specs.Registers.{Supervisor}
 use Rattle.sv_types.specs.SbiCodes.{code_word}
 use Rattle.sv_types.specs.declared.saved.SavedModule.{SavedModule}
 use Rattle.sv_types.specs.declared.sbi.SbiCode.{SbiCode}
 use Rattle.sv_types.specs.declared.sbi.SbiCode.TheVariants.{Success, NoInput, NotSupported, InvalidParameter, InvalidAddress, Already}
-use Rattle.sv_types.specs.declared.wires.Mode.TheVariants.{Kernel}
+use Rattle.processor.specs.declared.mode.Mode.TheVariants.{Kernel}
 use Rattle.reference.specs.States.{State, Hart, has_number, is_protected}
 use Rattle.reference.specs.declared.answers.Answer.{Answer}
 use Rattle.reference.specs.declared.answers.Beside.TheVariants.{Nothing, SetsTimer, Prints, TakesInput, ShutsDown, SendsInterrupts, StartsHart}

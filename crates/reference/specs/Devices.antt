@@ -1,11 +1,11 @@
 -- The devices at guest-physical addresses, the wires that they give a hart, and the events that are no turn.
 -- This project's own.
 use Rattle.std.specs.Prelude.{ℕ, ◌-◌, Bool, not, ◌&&◌, ◌||◌, List, map, length, ◌==◌, if◌then◌else◌, nat_lt, Option, None, option_map}
-use Rattle.sv_types.specs.Bytes.{overwrite, ram_place}
+use Rattle.processor.specs.Bytes.{overwrite, ram_place}
 use Rattle.sv_types.specs.Clock.{after_tick, is_due}
 use Rattle.sv_types.specs.Console.{after_key, has_room, console_line, loaded, after_load, stored}
-use Rattle.sv_types.specs.Requests.{after_write}
-use Rattle.sv_types.specs.declared.wires.Lines.{Lines}
+use Rattle.processor.specs.Requests.{after_write}
+use Rattle.processor.specs.declared.lines.Lines.{Lines}
 use Rattle.sv_types.specs.declared.event.Note.TheVariants.{Denied}
 use Rattle.reference.specs.States.{State, Hart, Devices, Disk, Journal, is_protected}
 use Rattle.reference.specs.Counting.{counted, noted, printed_low, count_denied, count_dropped}

@@ -2,7 +2,7 @@
 -- RISC-V ELF psABI, the measure is FIPS 180-4's SHA-256.
 use Rattle.std.specs.Prelude.{ℕ, zero, suc, ◌*◌, Bool, false, ◌&&◌, List, Option, Some, None, slice_get}
 use Rattle.std.specs.Str.{bytes_eq}
-use Rattle.sv_types.specs.Bytes.{part, page_size, ram_place}
+use Rattle.processor.specs.Bytes.{part, page_size, ram_place}
 use Rattle.sv_types.specs.Measure.{measure}
 use Rattle.sv_types.specs.Policies.{Rules, ModuleRule}
 use Rattle.sv_types.specs.declared.module.Bases.{Bases}

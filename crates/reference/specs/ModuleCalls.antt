@@ -2,7 +2,7 @@
 -- calls. This project's own; the choice is RISC-V SBI's, "Binary Encoding".
 use Rattle.std.specs.Prelude.{ℕ, ◌*◌, ◌%◌, Bool, not, ◌&&◌, ◌==◌, if◌then◌else◌, Option, Some, None, slice_get, is_some}
 use Rattle.std.specs.List.{list_any}
-use Rattle.sv_types.specs.Bytes.{page_size, page_of, in_ram}
+use Rattle.processor.specs.Bytes.{page_size, page_of, in_ram}
 use Rattle.sv_types.specs.Policies.{ModuleRule}
 use Rattle.sv_types.specs.ApprovedPages.{numbers_from}
 use Rattle.sv_types.specs.declared.module.Span.{Span}

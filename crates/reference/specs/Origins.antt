@@ -1,6 +1,6 @@
 -- Where approved pages come from, and which pages are whose. This project's own.
 use Rattle.std.specs.Prelude.{◌≡◌, ℕ, ◌%◌, ◌<◌, ◌≤◌, ◌⊎◌, Bool, true, false, not, ◌&&◌, List, [], ◌∷◌, Option, Some, None, slice_get, length}
-use Rattle.sv_types.specs.Bytes.{page_size, ram_place, ram_base}
+use Rattle.processor.specs.Bytes.{page_size, ram_place, ram_base}
 use Rattle.sv_types.specs.Policies.{Rules}
 use Rattle.sv_types.specs.ApprovedPages.{ApprovedPage, approved_bytes}
 use Rattle.sv_types.specs.declared.module.Span.{Span}

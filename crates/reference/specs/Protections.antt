@@ -1,7 +1,7 @@
 -- The protections of all pages of RAM, as a list, and the list with those of some pages changed. This project's own.
 use Rattle.std.specs.Prelude.{ℕ, zero, suc, ◌+◌, Bool, List, [], ◌∷◌, if◌then◌else◌, Option, Some, None, slice_get, slice_set, true, false}
-use Rattle.sv_types.specs.declared.wires.Protection.{Protection}
-use Rattle.sv_types.specs.declared.wires.Protection.TheVariants.{Free, Held, Approved}
+use Rattle.sv_types.specs.declared.protection.Protection.{Protection}
+use Rattle.sv_types.specs.declared.protection.Protection.TheVariants.{Free, Held, Approved}
 
 abbrev pub is_free : Protection → Bool
 is_free Free = true

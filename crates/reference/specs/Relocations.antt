@@ -3,10 +3,10 @@
 use Rattle.std.specs.Prelude.{ℕ, zero, suc, ◌+◌, ◌-◌, ◌*◌, ◌%◌, ◌^◌, Bool, true, false, ◌&&◌, List, fold, ◌==◌, if◌then◌else◌, bit_and, slice_get, Option, Some, None, ℤ, pos, negsuc, int_le}
 use Rattle.std.specs.List.{list_all}
 use Rattle.std.specs.Int.{w64, cast_unsigned}
-use Rattle.sv_types.specs.Bits.{without}
-use Rattle.sv_types.specs.Bytes.{word, write_word}
-use Rattle.sv_types.specs.Effects.{plus, minus, signed}
-use Rattle.sv_types.specs.Instructions.{bits}
+use Rattle.processor.specs.Bits.{without}
+use Rattle.processor.specs.Bytes.{word, write_word}
+use Rattle.processor.specs.Effects.{plus, minus, signed}
+use Rattle.processor.specs.Instructions.{bits}
 use Rattle.sv_types.specs.declared.module.Site.{Site}
 use Rattle.sv_types.specs.declared.module.Bases.{Bases}
 use Rattle.sv_types.specs.declared.policy.Export.{Export}

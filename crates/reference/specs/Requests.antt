@@ -2,18 +2,18 @@
 -- RISC-V Unprivileged manual, "Load and Store Instructions", the extension "A", "Zicsr"; Privileged manual, "Supervisor
 -- Cause Register" for the order of exceptions. That a store into a protected page stops the machine is this project's own.
 use Rattle.std.specs.Prelude.{ℕ, ◌%◌, Bool, true, List, ◌==◌, if◌then◌else◌, Option, Some, None}
-use Rattle.sv_types.specs.Bits.{bit}
-use Rattle.sv_types.specs.Bytes.{word, low_bytes, in_ram, ram_place, page_of}
-use Rattle.sv_types.specs.Effects.{set_register, next_pc, amo_value}
-use Rattle.sv_types.specs.Registers.{Supervisor, guest_access, read_csr, write_csr}
-use Rattle.sv_types.specs.Requests.{loaded_value, csr_value, reserved_at, covers}
-use Rattle.sv_types.specs.Translation.{Destination, At, PageFault, Unreadable, Settings, place}
-use Rattle.sv_types.specs.declared.cause.Cause.{Cause}
-use Rattle.sv_types.specs.declared.csr.Csr.{Csr}
-use Rattle.sv_types.specs.declared.instruction.AmoOp.{AmoOp}
-use Rattle.sv_types.specs.declared.instruction.CsrOp.{CsrOp}
-use Rattle.sv_types.specs.declared.wires.Access.TheVariants as Access
-use Rattle.sv_types.specs.declared.wires.Mode.{Mode}
+use Rattle.processor.specs.Bits.{bit}
+use Rattle.processor.specs.Bytes.{word, low_bytes, in_ram, ram_place, page_of}
+use Rattle.processor.specs.Effects.{set_register, next_pc, amo_value}
+use Rattle.processor.specs.Registers.{Supervisor, guest_access, read_csr, write_csr}
+use Rattle.processor.specs.Requests.{loaded_value, csr_value, reserved_at, covers}
+use Rattle.processor.specs.Translation.{Destination, At, PageFault, Unreadable, Settings, place}
+use Rattle.processor.specs.declared.cause.Cause.{Cause}
+use Rattle.processor.specs.declared.csr.Csr.{Csr}
+use Rattle.processor.specs.declared.instruction.AmoOp.{AmoOp}
+use Rattle.processor.specs.declared.instruction.CsrOp.{CsrOp}
+use Rattle.processor.specs.declared.access.Access.TheVariants as Access
+use Rattle.processor.specs.declared.mode.Mode.{Mode}
 use Rattle.sv_types.specs.declared.event.Rule.TheVariants.{Write}
 use Rattle.reference.specs.States.{State, Hart, is_protected, with_hart, without_reservation}
 use Rattle.reference.specs.Counting.{count, count_retired, stopped_by}

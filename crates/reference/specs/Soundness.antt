@@ -1,12 +1,12 @@
 -- Which states of the reference machine are sound: each state that a run reaches is. This project's own.
 use Rattle.std.specs.Prelude.{◌≡◌, ℕ, ◌+◌, ◌*◌, ◌%◌, ◌^◌, ◌<◌, ◌≤◌, true, false, List, [], length, Option, Some, None, slice_get, IsTrue}
-use Rattle.sv_types.specs.Bytes.{page_size, page_bytes, ram_place, ram_base}
+use Rattle.processor.specs.Bytes.{page_size, page_bytes, ram_place, ram_base}
 use Rattle.sv_types.specs.Policies.{Rules, rules_within}
 use Rattle.sv_types.specs.ApprovedPages.{ApprovedPage, approved_bytes}
-use Rattle.sv_types.specs.Registers.{IsLegalSupervisor}
+use Rattle.processor.specs.Registers.{IsLegalSupervisor}
 use Rattle.sv_types.specs.declared.saved.SavedModule.{SavedModule}
-use Rattle.sv_types.specs.declared.wires.Mode.{Mode}
-use Rattle.sv_types.specs.declared.wires.Mode.TheVariants.{Kernel, User}
+use Rattle.processor.specs.declared.mode.Mode.{Mode}
+use Rattle.processor.specs.declared.mode.Mode.TheVariants.{Kernel, User}
 use Rattle.reference.specs.States.{State, Hart, Disk, Loading, Binding, binding_at, module_pages, pages_in_rule, has_number, is_approved_in, find_module}
 use Rattle.reference.specs.Disk.{is_busy, beat_size}
 use Rattle.reference.specs.Origins.{OwnsPages, IsMeasured, Ascends, ownership}

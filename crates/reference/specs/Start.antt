@@ -1,7 +1,7 @@
 -- The state in which a machine starts. This project's own.
 use Rattle.std.specs.Prelude.{◌≡◌, ℕ, ◌-◌, ◌*◌, ◌/◌, ◌^◌, ◌<◌, ◌≤◌, ◌⊎◌, List, [], ◌∷◌, length, replicate, None, true, false, IsTrue}
 use Rattle.sv_types.specs.Boot.{no_counts, flat_ram_pages}
-use Rattle.sv_types.specs.Bytes.{padded, page_size, ram_base}
+use Rattle.processor.specs.Bytes.{padded, page_size, ram_base}
 use Rattle.sv_types.specs.Clock.{clock_at_boot}
 use Rattle.sv_types.specs.Kernel.{header_entry, kernel_refusal, kernel_segments, segments_ram, text_pages}
 use Rattle.sv_types.specs.Policies.{Rules, rules_within}

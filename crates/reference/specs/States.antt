@@ -2,16 +2,16 @@
 -- "Programmers' Model for Base Integer ISA"; Privileged manual, "Supervisor CSRs"), memory, modules, devices and records.
 use Rattle.std.specs.Prelude.{ℕ, suc, Bool, true, false, ◌&&◌, ◌||◌, not, List, [], ◌∷◌, filter, ◌==◌, nat_lt, if◌then◌else◌, Option, Some, None, option_map, slice_get, slice_set, is_some}
 use Rattle.std.specs.List.{list_any}
-use Rattle.sv_types.specs.Bytes.{page_of}
+use Rattle.processor.specs.Bytes.{page_of}
 use Rattle.sv_types.specs.ApprovedPages.{ApprovedPage, numbers_from, approved_bytes}
 use Rattle.sv_types.specs.Clock.{Clock}
 use Rattle.sv_types.specs.Policies.{Rules, ModuleRule}
-use Rattle.sv_types.specs.Registers.{Supervisor}
-use Rattle.sv_types.specs.Traps.{is_kernel}
+use Rattle.processor.specs.Registers.{Supervisor}
+use Rattle.processor.specs.Traps.{is_kernel}
 use Rattle.sv_types.specs.declared.event.Counts.{Counts}
-use Rattle.sv_types.specs.declared.wires.Mode.{Mode}
-use Rattle.sv_types.specs.declared.wires.Protection.{Protection}
-use Rattle.sv_types.specs.declared.wires.Protection.TheVariants.{Free, Held, Approved}
+use Rattle.processor.specs.declared.mode.Mode.{Mode}
+use Rattle.sv_types.specs.declared.protection.Protection.{Protection}
+use Rattle.sv_types.specs.declared.protection.Protection.TheVariants.{Free, Held, Approved}
 use Rattle.sv_types.specs.declared.event.Note.{Note}
 use Rattle.sv_types.specs.declared.event.Verdict.{Verdict}
 use Rattle.sv_types.specs.declared.saved.SavedModule.{SavedModule}

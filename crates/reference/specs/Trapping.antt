@@ -3,12 +3,12 @@
 -- own.
 use Rattle.std.specs.Prelude.{ℕ, Bool, true, if◌then◌else◌, Option, None}
 use Rattle.sv_types.specs.Policies.{Rules}
-use Rattle.sv_types.specs.Traps.{is_interrupt, guest_number, trap_target, supervisor_at_trap, supervisor_at_return, mode_at_return}
-use Rattle.sv_types.specs.declared.cause.Cause.{Cause}
-use Rattle.sv_types.specs.declared.exit.ExitCause.{ExitCause}
-use Rattle.sv_types.specs.declared.wires.Interrupt.{Interrupt}
-use Rattle.sv_types.specs.declared.wires.Mode.{Mode}
-use Rattle.sv_types.specs.declared.wires.Mode.TheVariants.{Kernel, User}
+use Rattle.processor.specs.Traps.{is_interrupt, guest_number, trap_target, supervisor_at_trap, supervisor_at_return, mode_at_return}
+use Rattle.processor.specs.declared.cause.Cause.{Cause}
+use Rattle.processor.specs.declared.exit.ExitCause.{ExitCause}
+use Rattle.processor.specs.declared.interrupt.Interrupt.{Interrupt}
+use Rattle.processor.specs.declared.mode.Mode.{Mode}
+use Rattle.processor.specs.declared.mode.Mode.TheVariants.{Kernel, User}
 use Rattle.sv_types.specs.declared.event.Rule.TheVariants.{Entry}
 use Rattle.reference.specs.States.{State, Hart, has_number, place_of_entry, with_hart}
 use Rattle.reference.specs.Counting.{count, count_trap, count_return, stopped_by}

@@ -2,20 +2,20 @@
 -- RISC-V Unprivileged manual, "RV32I", "A", "Zicsr"; Privileged manual, "Supervisor Instructions", "Supervisor Cause
 -- Register" (the priority of exceptions). Demotion is this project's own.
 use Rattle.std.specs.Prelude.{ℕ, Bool, true, false, ◌&&◌, List, ◌==◌, if◌then◌else◌, Option, Some, None, option_map, slice_get}
-use Rattle.sv_types.specs.Bytes.{word, in_ram, ram_place, page_of, place_in_page}
-use Rattle.sv_types.specs.Effects.{effect_of, set_register}
-use Rattle.sv_types.specs.Instructions.{instruction_of}
+use Rattle.processor.specs.Bytes.{word, in_ram, ram_place, page_of, place_in_page}
+use Rattle.processor.specs.Effects.{effect_of, set_register}
+use Rattle.processor.specs.Instructions.{instruction_of}
 use Rattle.sv_types.specs.ApprovedPages.{ApprovedPage, approved_bytes}
-use Rattle.sv_types.specs.Translation.{Destination, At, PageFault, Unreadable, Settings, place}
+use Rattle.processor.specs.Translation.{Destination, At, PageFault, Unreadable, Settings, place}
 use Rattle.sv_types.specs.Policies.{Rules}
-use Rattle.sv_types.specs.Traps.{deliverable}
-use Rattle.sv_types.specs.declared.cause.Cause.{Cause}
-use Rattle.sv_types.specs.declared.effect.Effect.{Effect}
-use Rattle.sv_types.specs.declared.instruction.Instr.{Instr}
-use Rattle.sv_types.specs.declared.wires.Access.TheVariants as Access
-use Rattle.sv_types.specs.declared.wires.Interrupt.{Interrupt}
-use Rattle.sv_types.specs.declared.wires.Mode.{Mode}
-use Rattle.sv_types.specs.declared.wires.Mode.TheVariants.{Kernel, User}
+use Rattle.processor.specs.Traps.{deliverable}
+use Rattle.processor.specs.declared.cause.Cause.{Cause}
+use Rattle.processor.specs.declared.effect.Effect.{Effect}
+use Rattle.processor.specs.declared.instruction.Instr.{Instr}
+use Rattle.processor.specs.declared.access.Access.TheVariants as Access
+use Rattle.processor.specs.declared.interrupt.Interrupt.{Interrupt}
+use Rattle.processor.specs.declared.mode.Mode.{Mode}
+use Rattle.processor.specs.declared.mode.Mode.TheVariants.{Kernel, User}
 use Rattle.sv_types.specs.declared.event.Note.TheVariants.{Demote}
 use Rattle.reference.specs.States.{State, Hart, Loading, Binding, binding_at, is_approved_in, with_hart}
 use Rattle.reference.specs.Counting.{count, note, count_demote}

@@ -1,14 +1,14 @@
 -- What is unfolded where a row is computed.
 use Rattle.std.specs.Fmt.{digits}
-use Rattle.sv_types.specs.Bytes.{word, overwrite}
+use Rattle.processor.specs.Bytes.{word, overwrite}
 use Rattle.sv_types.specs.Console.{loaded_register}
-use Rattle.sv_types.specs.Effects.{effect_of, op_value, op_32_value, op_imm_value, op_imm_32_value, branch_taken, load_width, load_signed, store_width, csr_operand, csr_writes, amo_value, amo_word}
-use Rattle.sv_types.specs.Instructions.{instruction_of, rows}
+use Rattle.processor.specs.Effects.{effect_of, op_value, op_32_value, op_imm_value, op_imm_32_value, branch_taken, load_width, load_signed, store_width, csr_operand, csr_writes, amo_value, amo_word}
+use Rattle.processor.specs.Instructions.{instruction_of, rows}
 use Rattle.sv_types.specs.Output.{hexadecimal, address_text, notes_line, events_line, retired_line, denied_line, rule_name, rule_places, stop_head, verdict_line, report_lines}
-use Rattle.sv_types.specs.Registers.{csr_named, allowed_csr, guest_access, read_csr, write_csr}
-use Rattle.sv_types.specs.Requests.{loaded_value, csr_value, covers, touches, after_write}
-use Rattle.sv_types.specs.Translation.{well_formed, is_pointer, is_leaf, walk, permits_access, first_stage, entry_in_ram, place}
-use Rattle.sv_types.specs.Traps.{trap_target, trap_cause, status_at_trap, supervisor_at_trap, status_at_return, mode_at_return, supervisor_at_return, deliverable}
+use Rattle.processor.specs.Registers.{csr_named, allowed_csr, guest_access, read_csr, write_csr}
+use Rattle.processor.specs.Requests.{loaded_value, csr_value, covers, touches, after_write}
+use Rattle.processor.specs.Translation.{well_formed, is_pointer, is_leaf, walk, permits_access, first_stage, entry_in_ram, place}
+use Rattle.processor.specs.Traps.{trap_target, trap_cause, status_at_trap, supervisor_at_trap, status_at_return, mode_at_return, supervisor_at_return, deliverable}
 use Rattle.reference.specs.States.{protection_by, protection_in, is_protected, find_module, with_module, without_pages, binding_at, place_of_entry}
 use Rattle.reference.specs.Disk.{block_register, disk_load, disk_store, disk_line, disk_beat}
 use Rattle.reference.specs.Devices.{port_at, port_load, device_load, port_store, device_store, lines_at, with_bytes, after_move, beat, key, tick}

@@ -2,7 +2,7 @@
 use Rattle.std.specs.Prelude.{◌≡◌, ℕ, List, [], ◌∷◌, ◌++◌, replicate, ◌-◌, ◌^◌, true, false}
 use Rattle.sv_types.specs.Clock.{timer_of, latest}
 use Rattle.sv_types.specs.declared.event.Verdict.TheVariants.{Shutdown}
-use Rattle.sv_types.specs.declared.wires.Mode.TheVariants.{Kernel}
+use Rattle.processor.specs.declared.mode.Mode.TheVariants.{Kernel}
 use Rattle.reference.specs.States.{State, Hart}
 use Rattle.reference.specs.Calls.{started_hart}
 use Rattle.reference_rows.specs.Guests.{small, hart_in, turn_of_hart, hart_of, register_of}

@@ -4,7 +4,7 @@ use Rattle.sv_types.specs.Clock.{clock_at_boot}
 use Rattle.sv_types.specs.declared.event.Event.TheVariants.{Beat, Key, Tick}
 use Rattle.sv_types.specs.declared.event.Note.TheVariants.{Denied}
 use Rattle.sv_types.specs.declared.saved.BlockState.{BlockState}
-use Rattle.sv_types.specs.Bytes.{part}
+use Rattle.processor.specs.Bytes.{part}
 use Rattle.reference.specs.States.{State, Devices, Disk, with_hart}
 use Rattle.reference.specs.Devices.{DeviceLoad, device_load, device_store, external_line}
 use Rattle.reference.specs.Disk.{disk_load, disk_store}

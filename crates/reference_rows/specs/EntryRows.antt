@@ -1,8 +1,8 @@
 -- Turns in an entry, a row for each case. This project's own.
 use Rattle.std.specs.Prelude.{◌≡◌, ℕ, [], ◌∷◌, Option, Some, None}
 use Rattle.sv_types.specs.declared.event.Note.TheVariants.{Demote}
-use Rattle.sv_types.specs.declared.wires.Mode.{Mode}
-use Rattle.sv_types.specs.declared.wires.Mode.TheVariants.{Kernel, User}
+use Rattle.processor.specs.declared.mode.Mode.{Mode}
+use Rattle.processor.specs.declared.mode.Mode.TheVariants.{Kernel, User}
 use Rattle.reference.specs.States.{State, Hart}
 use Rattle.reference.specs.Start.{start}
 use Rattle.reference_rows.specs.Guests.{small_rules, small_ram, hart_in, turn_of_hart, hart_of, trapped, trap_of, at_pc}

@@ -1,11 +1,11 @@
 -- What SecVisor makes of an exit, a row for each line: kernel mode, user mode, and both. This project's own.
 use Rattle.std.specs.Prelude.{◌≡◌, ℕ, ◌+◌, ◌/◌, ◌^◌, true, Some, None}
-use Rattle.sv_types.specs.HypervisorRegisters.{registers_at_boot, registers_at_exit}
-use Rattle.sv_types.specs.declared.cause.Cause.{Cause}
-use Rattle.sv_types.specs.declared.exit.Exit.{Exit}
-use Rattle.sv_types.specs.declared.exit.ExitCause.{ExitCause}
-use Rattle.sv_types.specs.declared.wires.Interrupt.{Interrupt}
-use Rattle.sv_types.specs.declared.wires.Mode.TheVariants.{Kernel, User}
+use Rattle.processor.specs.HypervisorRegisters.{registers_at_boot, registers_at_exit}
+use Rattle.processor.specs.declared.cause.Cause.{Cause}
+use Rattle.processor.specs.declared.exit.Exit.{Exit}
+use Rattle.processor.specs.declared.exit.ExitCause.{ExitCause}
+use Rattle.processor.specs.declared.interrupt.Interrupt.{Interrupt}
+use Rattle.processor.specs.declared.mode.Mode.TheVariants.{Kernel, User}
 use Rattle.reference.specs.Devices.{device_load, device_store}
 use Rattle.reference.specs.Answers.{call}
 use Rattle.reference.specs.Requests.{carry_out_device_load, carry_out_device_store, write_stopped}

@@ -1,6 +1,6 @@
 -- Whole runs of one page: what is printed, by counting on one's fingers. This project's own.
 use Rattle.std.specs.Prelude.{◌≡◌, ℕ, List, [], ◌∷◌, ◌++◌, codes}
-use Rattle.sv_types.specs.Bytes.{padded}
+use Rattle.processor.specs.Bytes.{padded}
 use Rattle.reference.specs.Report.{output}
 use Rattle.reference_rows.specs.Guests.{words, flat, said, register_of, trapped}
 

@@ -1,12 +1,12 @@
 -- Two guests of some length: one that commands the disk into its own text, and one whose page tables the disk rewrites. This
 -- project's own.
 use Rattle.std.specs.Prelude.{◌≡◌, ℕ, zero, suc, ◌+◌, ◌*◌, ◌^◌, ◌%◌, ◌==◌, if◌then◌else◌, List, [], ◌∷◌, ◌++◌, replicate, None, codes}
-use Rattle.sv_types.specs.Bytes.{padded}
+use Rattle.processor.specs.Bytes.{padded}
 use Rattle.sv_types.specs.Policies.{Rules}
 use Rattle.sv_types.specs.declared.event.Event.{Event}
 use Rattle.sv_types.specs.declared.event.Event.TheVariants.{Turn, Beat}
 use Rattle.sv_types.specs.declared.event.Note.TheVariants.{Demote}
-use Rattle.sv_types.specs.declared.wires.Mode.TheVariants.{User}
+use Rattle.processor.specs.declared.mode.Mode.TheVariants.{User}
 use Rattle.reference.specs.Calls.{supervisor_at_boot}
 use Rattle.reference.specs.Report.{output}
 use Rattle.reference.specs.Run.{run}

@@ -1,13 +1,13 @@
 -- Small guests, and what is seen of a state. This project's own.
 use Rattle.std.specs.Prelude.{ℕ, List, [], ◌∷◌, ◌++◌, replicate, Option, Some, None, slice_get, true}
-use Rattle.sv_types.specs.Bytes.{low_bytes, padded}
-use Rattle.sv_types.specs.Effects.{register}
+use Rattle.processor.specs.Bytes.{low_bytes, padded}
+use Rattle.processor.specs.Effects.{register}
 use Rattle.sv_types.specs.Output.{line_feed}
 use Rattle.sv_types.specs.Policies.{Rules}
-use Rattle.sv_types.specs.Registers.{Supervisor}
+use Rattle.processor.specs.Registers.{Supervisor}
 use Rattle.sv_types.specs.declared.event.Event.TheVariants.{Turn}
-use Rattle.sv_types.specs.declared.wires.Mode.{Mode}
-use Rattle.sv_types.specs.declared.wires.Mode.TheVariants.{Kernel, User}
+use Rattle.processor.specs.declared.mode.Mode.{Mode}
+use Rattle.processor.specs.declared.mode.Mode.TheVariants.{Kernel, User}
 use Rattle.reference.specs.States.{State, Hart, with_hart}
 use Rattle.reference.specs.Calls.{stopped_hart, supervisor_at_boot}
 use Rattle.reference.specs.Run.{step, run}

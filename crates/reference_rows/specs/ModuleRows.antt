@@ -1,6 +1,6 @@
 -- Relocated fields, loads, unloads and retired text. RISC-V ELF psABI, "Relocations"; this project's own.
 use Rattle.std.specs.Prelude.{◌≡◌, ℕ, List, [], ◌∷◌, ◌++◌, map, replicate, Option, Some, None, pos, Bool, true, false}
-use Rattle.sv_types.specs.Bytes.{padded}
+use Rattle.processor.specs.Bytes.{padded}
 use Rattle.sv_types.specs.Policies.{Rules, ModuleRule}
 use Rattle.sv_types.specs.ApprovedPages.{ApprovedPage, approved_pages}
 use Rattle.sv_types.specs.declared.event.Event.TheVariants.{Turn, Beat}
@@ -11,7 +11,7 @@ use Rattle.sv_types.specs.declared.module.Site.{Site}
 use Rattle.sv_types.specs.declared.relocation_kind.RelocationKind.{RelocationKind}
 use Rattle.sv_types.specs.declared.module.Span.{Span}
 use Rattle.sv_types.specs.declared.policy.Export.{Export}
-use Rattle.sv_types.specs.declared.wires.Mode.TheVariants.{Kernel}
+use Rattle.processor.specs.declared.mode.Mode.TheVariants.{Kernel}
 use Rattle.reference.specs.Relocations.{masked, fields_right}
 use Rattle.reference.specs.Run.{step, run}
 use Rattle.reference.specs.Start.{start}

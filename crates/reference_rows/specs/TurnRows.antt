@@ -1,10 +1,10 @@
 -- One turn, a row for each case: interrupts, fetches, and each kind of effect. This project's own.
 use Rattle.std.specs.Prelude.{◌≡◌, ℕ, List, [], ◌∷◌, length, replicate, slice_get, Some, None, true}
-use Rattle.sv_types.specs.Bytes.{word}
+use Rattle.processor.specs.Bytes.{word}
 use Rattle.sv_types.specs.declared.event.Note.TheVariants.{Demote, Denied}
 use Rattle.sv_types.specs.declared.event.Rule.TheVariants.{Write}
 use Rattle.sv_types.specs.declared.event.Verdict.TheVariants.{Stopped}
-use Rattle.sv_types.specs.declared.wires.Mode.TheVariants.{Kernel, User}
+use Rattle.processor.specs.declared.mode.Mode.TheVariants.{Kernel, User}
 use Rattle.reference.specs.Calls.{registers_at_boot}
 use Rattle.sv_types.specs.declared.event.Event.TheVariants.{Turn}
 use Rattle.reference.specs.Run.{step}

@@ -1,3 +1,4 @@
 pub mod Fields
 pub mod Pieces
 pub mod Steps
+pub mod Laws

@@ -1,8 +1,8 @@
 // Where in an instruction, or in data, a value stands.
 
 ghost use Rattle.std.specs.Prelude.{◌≡◌, ◌+◌, ◌-◌, ◌^◌, ◌<◌, ◌≤◌};
-ghost use Rattle.sv_types.specs.Instructions.{bits};
-ghost use Rattle.sv_types.specs.Regions.{IsWidth};
+ghost use Rattle.processor.specs.Instructions.{bits};
+ghost use Rattle.processor.specs.Regions.{IsWidth};
 ghost use Rattle.reference.specs.Relocations as spec;
 ghost use Rattle.relocated_fields.specs.Fields.{field_view};
 

@@ -3,7 +3,9 @@
 #![tactic(auto)]
 
 mod field;
+mod laws;
 mod pieces;
 mod value;
 
+pub use laws::{law_fields_right, law_mask};
 pub use pieces::{fields_right, mask};

@@ -5,7 +5,7 @@ use Rattle.std.specs.Prelude.{Option, Some, None, if◌then◌else◌, ◌==◌,
 use Rattle.sv_types.specs.Policies.{ModuleRule}
 use Rattle.sv_types.specs.declared.module.Span.{Span}
 use Rattle.sv_types.specs.declared.saved.SavedModule.{SavedModule}
-use Rattle.sv_types.specs.declared.wires.Mode.TheVariants.{Kernel}
+use Rattle.processor.specs.declared.mode.Mode.TheVariants.{Kernel}
 use Rattle.reference.specs.States.{State, Hart, Loading, has_number, find_module}
 use Rattle.reference.specs.Calls.{Asked, facts_of, mask_exists, timer_call, ipi_call, start_other, hart_call, reset_call}
 use Rattle.reference.specs.Loads.{is_good}

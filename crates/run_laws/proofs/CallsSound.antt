@@ -1,10 +1,10 @@
 -- Soundness after calls from kernel mode and after each step of a load: after each answer, by what it does.
 use Rattle.std.proofs.Common.{◌≡◌, ◌∙◌, ℕ, zero, suc, List, length, refl, sym, ap, subst, Bool, true, false, slice_get, slice_set}
 use Rattle.std.specs.Prelude.{Some, None}
-use Rattle.sv_types.specs.Effects.{set_register}
+use Rattle.processor.specs.Effects.{set_register}
 use Rattle.sv_types.specs.Policies.{Rules}
 use Rattle.sv_types.specs.declared.saved.SavedModule.{SavedModule}
-use Rattle.sv_types.specs.declared.wires.Mode.TheVariants.{Kernel}
+use Rattle.processor.specs.declared.mode.Mode.TheVariants.{Kernel}
 use Rattle.reference.specs.States.{State, Hart, Devices, Loading, has_number, module_pages}
 use Rattle.reference.specs.Answers.{replied, devices_beside, journal_beside, pages_beside, harts_beside, answered, call}
 use Rattle.reference.specs.Calls.{asked_by, facts_of, started_hart, mask_names, extension_of}

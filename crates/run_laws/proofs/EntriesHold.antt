@@ -7,19 +7,19 @@ use Rattle.std.proofs.lemmas.Bool.Decides.{nat_tests}
 use Rattle.std.proofs.lemmas.Nat.{and_shr, and_mod, and_comm}
 use Rattle.std.specs.Int.Bits.{and_zero_l}
 use Rattle.sv_types.specs.ApprovedPages.{approved_bytes}
-use Rattle.sv_types.specs.Bits.{bit, with_bits}
-use Rattle.sv_types.specs.Bytes.{word, in_ram, ram_base, ram_place, page_of, place_in_page}
+use Rattle.processor.specs.Bits.{bit, with_bits}
+use Rattle.processor.specs.Bytes.{word, in_ram, ram_base, ram_place, page_of, place_in_page}
 use Rattle.sv_types.specs.Policies.{Rules, rules_within, bound_within, bound_fits, all_bound, numbers_within, lists_within, init_within, modules_count_within, modules_within, entries_count_within, entries_within, exports_count_within, exports_within}
-use Rattle.sv_types.specs.Translation.{Destination, At, PageFault, Unreadable, place, entry_in_ram}
-use Rattle.sv_types.specs.Traps.{trap_target, deliverable, status_at_trap, supervisor_at_trap, first_interrupt, is_pending}
-use Rattle.sv_types.specs.declared.cause.Cause.{Cause}
+use Rattle.processor.specs.Translation.{Destination, At, PageFault, Unreadable, place, entry_in_ram}
+use Rattle.processor.specs.Traps.{trap_target, deliverable, status_at_trap, supervisor_at_trap, first_interrupt, is_pending}
+use Rattle.processor.specs.declared.cause.Cause.{Cause}
 use Rattle.sv_types.specs.declared.event.Event.{Event}
 use Rattle.sv_types.specs.declared.event.Event.TheVariants.{Turn, Beat, Key, Tick}
 use Rattle.sv_types.specs.declared.event.Verdict.{Verdict}
 use Rattle.sv_types.specs.declared.event.Verdict.TheVariants.{Running, Shutdown, Stopped}
-use Rattle.sv_types.specs.declared.wires.Access.TheVariants as Access
-use Rattle.sv_types.specs.declared.wires.Mode.{Mode}
-use Rattle.sv_types.specs.declared.wires.Mode.TheVariants.{Kernel, User}
+use Rattle.processor.specs.declared.access.Access.TheVariants as Access
+use Rattle.processor.specs.declared.mode.Mode.{Mode}
+use Rattle.processor.specs.declared.mode.Mode.TheVariants.{Kernel, User}
 use Rattle.reference.specs.Counting.{count, count_turn, count_beat}
 use Rattle.reference.specs.Devices.{lines_at, beat, key, tick, with_disk, with_bytes, after_move, hart_after_write}
 use Rattle.reference.specs.Disk.{Beaten, Move, Idle, FromRam, IntoRam, DeniedAt, OutsideRam, disk_beat}

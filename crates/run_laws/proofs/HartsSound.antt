@@ -1,19 +1,19 @@
 -- Sound harts after what a turn sets in one.
 use Rattle.std.proofs.Common.{◌≡◌, ℕ, zero, suc, ◌+◌, ◌-◌, ◌%◌, ◌^◌, ◌<◌, ◌≤◌, List, [], ◌∷◌, ◌++◌, length, refl, ◌∙◌, ap, subst, Bool, true, false, ◌&&◌, ◌||◌, arith, lit<, bit_and}
 use Rattle.std.specs.Prelude.{Option, Some, None, option_map, slice_get, if◌then◌else◌, ◌==◌, IsTrue}
-use Rattle.sv_types.specs.Traps.{trap_target, mode_at_return}
+use Rattle.processor.specs.Traps.{trap_target, mode_at_return}
 use Rattle.std.proofs.lemmas.Bool.{eqb-true}
 use Rattle.std.proofs.lemmas.Nat.{and_le_r}
-use Rattle.sv_types.specs.Effects.{next_pc, effect_of, even, plus, branch_taken, register, immediate}
+use Rattle.processor.specs.Effects.{next_pc, effect_of, even, plus, branch_taken, register, immediate}
 use Rattle.sv_types.specs.Policies.{Rules, rules_within, each_within, entry_within, numbers_within, entries_count_within, entries_within, exports_count_within, exports_within, lists_within, bound_within, init_within, modules_count_within, modules_within}
-use Rattle.sv_types.specs.Registers.{IsLegalSupervisor, write_csr}
-use Rattle.sv_types.specs.declared.csr.Csr.{Csr}
-use Rattle.sv_types.specs.declared.effect.Effect.{Effect}
-use Rattle.sv_types.specs.declared.instruction.Instr.{Instr}
-use Rattle.sv_types.specs.declared.wires.Mode.{Mode}
-use Rattle.sv_types.specs.declared.wires.Mode.TheVariants.{Kernel, User}
-use Rattle.sv_types.proofs.GuestViews.{guest_write_is_legal, guest_trap_is_legal, guest_return_is_legal}
-use Rattle.sv_types.proofs.RegisterBits.{target_aligned, target_small, epc_aligned}
+use Rattle.processor.specs.Registers.{IsLegalSupervisor, write_csr}
+use Rattle.processor.specs.declared.csr.Csr.{Csr}
+use Rattle.processor.specs.declared.effect.Effect.{Effect}
+use Rattle.processor.specs.declared.instruction.Instr.{Instr}
+use Rattle.processor.specs.declared.mode.Mode.{Mode}
+use Rattle.processor.specs.declared.mode.Mode.TheVariants.{Kernel, User}
+use Rattle.processor_laws.proofs.GuestViews.{guest_write_is_legal, guest_trap_is_legal, guest_return_is_legal}
+use Rattle.processor_laws.proofs.RegisterBits.{target_aligned, target_small, epc_aligned}
 use Rattle.reference.specs.States.{Hart, Binding, binding_of, binding_at, place_of_entry, has_number}
 use Rattle.reference.specs.Trapping.{hart_at_trap, hart_at_return, entry_at_trap, entry_in}
 use Rattle.reference.specs.Calls.{hart_at, stopped_hart, interrupted, with_software, supervisor_at_boot}

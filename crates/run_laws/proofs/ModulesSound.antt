@@ -7,7 +7,7 @@ use Rattle.std.specs.List.{list_any}
 use Rattle.std.proofs.lemmas.Bool.{eqb-true}
 use Rattle.std.proofs.lemmas.Bool.Decides.{nat_tests}
 use Rattle.std.proofs.lemmas.Option.{slice_get_within}
-use Rattle.sv_types.specs.Bytes.{page_bytes, page_size, page_of, ram_base, ram_place, in_ram}
+use Rattle.processor.specs.Bytes.{page_bytes, page_size, page_of, ram_base, ram_place, in_ram}
 use Rattle.sv_types.specs.Policies.{Rules, ModuleRule}
 use Rattle.sv_types.specs.ApprovedPages.{ApprovedPage, numbers_from, approved_pages, approved_bytes}
 use Rattle.sv_types.specs.declared.module.Span.{Span}

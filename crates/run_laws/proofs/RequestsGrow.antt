@@ -1,18 +1,18 @@
 -- The journal after traps, loads, stores and register accesses.
 use Rattle.std.proofs.Common.{ℕ, List, Bool, false}
 use Rattle.std.specs.Prelude.{Option, Some, None, option_map}
-use Rattle.sv_types.specs.Bytes.{ram_place}
-use Rattle.sv_types.specs.Causes.{cause_number}
+use Rattle.processor.specs.Bytes.{ram_place}
+use Rattle.processor.specs.Causes.{cause_number}
 use Rattle.sv_types.specs.Console.{stored}
-use Rattle.sv_types.specs.Requests.{covers}
-use Rattle.sv_types.specs.Traps.{trap_target, mode_at_return}
-use Rattle.sv_types.specs.declared.cause.Cause.{Cause}
-use Rattle.sv_types.specs.declared.csr.Csr.{Csr}
+use Rattle.processor.specs.Requests.{covers}
+use Rattle.processor.specs.Traps.{trap_target, mode_at_return}
+use Rattle.processor.specs.declared.cause.Cause.{Cause}
+use Rattle.processor.specs.declared.csr.Csr.{Csr}
 use Rattle.sv_types.specs.declared.event.Rule.TheVariants.{Entry, Write}
 use Rattle.sv_types.specs.declared.event.Verdict.TheVariants.{Stopped}
-use Rattle.sv_types.specs.declared.instruction.AmoOp.{AmoOp}
-use Rattle.sv_types.specs.declared.instruction.CsrOp.{CsrOp}
-use Rattle.sv_types.specs.declared.wires.Mode.{Mode}
+use Rattle.processor.specs.declared.instruction.AmoOp.{AmoOp}
+use Rattle.processor.specs.declared.instruction.CsrOp.{CsrOp}
+use Rattle.processor.specs.declared.mode.Mode.{Mode}
 use Rattle.reference.specs.States.{State, Hart, Devices, Disk, Journal}
 use Rattle.reference.specs.Counting.{counted, count_retired, printed_low}
 use Rattle.reference.specs.Disk.{disk_store}

@@ -3,20 +3,20 @@ use Rattle.std.proofs.Common.{◌≡◌, ℕ, ◌+◌, ◌*◌, ◌/◌, ◌%◌
 use Rattle.std.specs.Prelude.{Option, Some, None, option_map, if◌then◌else◌, ◌==◌, nat_le, nat_lt}
 use Rattle.std.proofs.lemmas.Bool.{eqb-true}
 use Rattle.std.proofs.lemmas.Bool.Decides.{nat_tests}
-use Rattle.sv_types.specs.Bytes.{in_ram, low_bytes, page_of, ram_place}
+use Rattle.processor.specs.Bytes.{in_ram, low_bytes, page_of, ram_place}
 use Rattle.sv_types.specs.Console.{loaded, after_load, stored}
-use Rattle.sv_types.specs.Causes.{cause_number}
-use Rattle.sv_types.specs.Effects.{set_register, amo_value}
-use Rattle.sv_types.specs.Regions.{IsWidth}
-use Rattle.sv_types.specs.Requests.{loaded_value, csr_value, reserved_at, covers}
-use Rattle.sv_types.specs.Traps.{trap_target, mode_at_return}
-use Rattle.sv_types.specs.Translation.{Destination, At, PageFault, Unreadable, place, entry_in_ram}
-use Rattle.sv_types.specs.declared.cause.Cause.{Cause}
-use Rattle.sv_types.specs.declared.csr.Csr.{Csr}
-use Rattle.sv_types.specs.declared.instruction.AmoOp.{AmoOp}
-use Rattle.sv_types.specs.declared.instruction.CsrOp.{CsrOp}
-use Rattle.sv_types.specs.declared.wires.Access.TheVariants as Access
-use Rattle.sv_types.proofs.ByteLemmas.{length_low_bytes}
+use Rattle.processor.specs.Causes.{cause_number}
+use Rattle.processor.specs.Effects.{set_register, amo_value}
+use Rattle.processor.specs.Regions.{IsWidth}
+use Rattle.processor.specs.Requests.{loaded_value, csr_value, reserved_at, covers}
+use Rattle.processor.specs.Traps.{trap_target, mode_at_return}
+use Rattle.processor.specs.Translation.{Destination, At, PageFault, Unreadable, place, entry_in_ram}
+use Rattle.processor.specs.declared.cause.Cause.{Cause}
+use Rattle.processor.specs.declared.csr.Csr.{Csr}
+use Rattle.processor.specs.declared.instruction.AmoOp.{AmoOp}
+use Rattle.processor.specs.declared.instruction.CsrOp.{CsrOp}
+use Rattle.processor.specs.declared.access.Access.TheVariants as Access
+use Rattle.processor_laws.proofs.ByteLemmas.{length_low_bytes}
 use Rattle.sv_types.specs.declared.event.Rule.TheVariants.{Entry, Write}
 use Rattle.sv_types.specs.declared.event.Verdict.TheVariants.{Stopped}
 use Rattle.reference.specs.States.{State, Hart, Disk, Devices, Journal, is_protected}

@@ -2,10 +2,10 @@
 -- written into a free page.
 use Rattle.std.proofs.Common.{sym, ◌≡◌, ℕ, zero, suc, ◌+◌, ◌*◌, ◌/◌, ◌%◌, ◌<◌, ◌≤◌, ◌⊎◌, inl, inr, List, [], ◌∷◌, length, map, refl, ◌∙◌, ap, subst, Bool, true, false, slice_get, slice_set, arith}
 use Rattle.std.specs.Prelude.{Option, Some, None, option_map, if◌then◌else◌}
-use Rattle.sv_types.specs.Bytes.{overwrite, part, page_size, ram_place, page_of}
+use Rattle.processor.specs.Bytes.{overwrite, part, page_size, ram_place, page_of}
 use Rattle.sv_types.specs.Policies.{Rules, ModuleRule}
 use Rattle.sv_types.specs.ApprovedPages.{ApprovedPage, approved_bytes}
-use Rattle.sv_types.proofs.ByteLemmas.{length_overwrite, page_elsewhere, part_before, part_after, lt_or_le}
+use Rattle.processor_laws.proofs.ByteLemmas.{length_overwrite, page_elsewhere, part_before, part_after, lt_or_le}
 use Rattle.sv_types.specs.declared.saved.SavedModule.{SavedModule}
 use Rattle.reference.specs.States.{State, Hart, Loading, Devices, Journal, is_approved_in, has_number, find_module, module_pages, pages_in_rule}
 use Rattle.reference.specs.Devices.{with_bytes, hart_after_write}

@@ -6,14 +6,14 @@ use Rattle.std.proofs.lemmas.Bool.{eqb-true}
 use Rattle.std.proofs.lemmas.Bool.Decides.{nat_tests}
 use Rattle.std.proofs.lemmas.List.{length-replicate}
 use Rattle.sv_types.specs.Boot.{flat_ram_pages}
-use Rattle.sv_types.specs.Bytes.{part, padded, page_bytes, page_size, page_of, ram_base, ram_place}
+use Rattle.processor.specs.Bytes.{part, padded, page_bytes, page_size, page_of, ram_base, ram_place}
 use Rattle.sv_types.specs.Kernel.{first_refusal, header_checks, header_entry, segment_checks, image_checks, kernel_refusal, kernel_segments, loaded_headers, loaded_segment, memory_in_ram, is_executable, is_writable, is_text_of, segments_ram, text_pages, with_segment}
 use Rattle.sv_types.specs.Policies.{Rules, rules_within, format_within, harts_within, ram_pages_within, lists_within, init_within, modules_count_within, modules_within}
 use Rattle.sv_types.specs.ApprovedPages.{approved_bytes, approved_pages, numbers_from}
-use Rattle.sv_types.specs.Regions.{most_ram_pages}
+use Rattle.processor.specs.Regions.{most_ram_pages}
 use Rattle.sv_types.specs.declared.image_fault.ImageFault.{ImageFault}
 use Rattle.sv_types.specs.declared.kernel.ProgramHeader.{ProgramHeader}
-use Rattle.sv_types.proofs.ByteLemmas.{length_overwrite}
+use Rattle.processor_laws.proofs.ByteLemmas.{length_overwrite}
 use Rattle.sv_types.specs.declared.saved.SavedModule.{SavedModule}
 use Rattle.reference.specs.States.{has_number, is_approved_in, find_module}
 use Rattle.reference.specs.Calls.{hart_at, stopped_hart, registers_at_boot}

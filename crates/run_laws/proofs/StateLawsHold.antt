@@ -3,7 +3,7 @@ use Rattle.std.proofs.Common.{◌≡◌, ℕ, ◌+◌, ◌-◌, ◌*◌, ◌/◌
 use Rattle.std.proofs.lemmas.List.{drop-take, take-take, drop-drop}
 use Rattle.std.specs.Prelude.{Option, Some, None}
 use Rattle.sv_types.specs.Boot.{flat_ram_pages}
-use Rattle.sv_types.specs.Bytes.{padded, part, page_bytes, page_size, ram_base, ram_place}
+use Rattle.processor.specs.Bytes.{padded, part, page_bytes, page_size, ram_base, ram_place}
 use Rattle.sv_types.specs.Kernel.{header_entry, kernel_segments, segments_ram, text_pages}
 use Rattle.sv_types.specs.Policies.{Rules}
 use Rattle.sv_types.specs.ApprovedPages.{approved_bytes, numbers_from}

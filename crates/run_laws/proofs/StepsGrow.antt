@@ -2,21 +2,21 @@
 use Rattle.std.proofs.Common.{ℕ, Bool, true, false, not, slice_get}
 use Rattle.std.specs.Prelude.{Option, Some, None, if◌then◌else◌, ◌==◌}
 use Rattle.sv_types.specs.Console.{has_room}
-use Rattle.sv_types.specs.Effects.{effect_of}
-use Rattle.sv_types.specs.Instructions.{instruction_of}
-use Rattle.sv_types.specs.Traps.{interrupt_number, deliverable}
-use Rattle.sv_types.specs.declared.cause.Cause.{Cause}
-use Rattle.sv_types.specs.declared.effect.Effect.{Effect}
+use Rattle.processor.specs.Effects.{effect_of}
+use Rattle.processor.specs.Instructions.{instruction_of}
+use Rattle.processor.specs.Traps.{interrupt_number, deliverable}
+use Rattle.processor.specs.declared.cause.Cause.{Cause}
+use Rattle.processor.specs.declared.effect.Effect.{Effect}
 use Rattle.sv_types.specs.declared.event.Event.{Event}
 use Rattle.sv_types.specs.declared.event.Event.TheVariants.{Turn, Beat, Key, Tick}
 use Rattle.sv_types.specs.declared.event.Note.TheVariants.{Demote, Denied}
 use Rattle.sv_types.specs.declared.event.Verdict.{Verdict}
 use Rattle.sv_types.specs.declared.event.Verdict.TheVariants.{Running, Shutdown, Stopped}
-use Rattle.sv_types.specs.declared.instruction.Instr.{Instr}
-use Rattle.sv_types.specs.declared.wires.Interrupt.{Interrupt}
-use Rattle.sv_types.specs.declared.wires.Mode.{Mode}
-use Rattle.sv_types.specs.declared.wires.Mode.TheVariants.{Kernel, User}
-use Rattle.sv_types.specs.Bytes.{page_of}
+use Rattle.processor.specs.declared.instruction.Instr.{Instr}
+use Rattle.processor.specs.declared.interrupt.Interrupt.{Interrupt}
+use Rattle.processor.specs.declared.mode.Mode.{Mode}
+use Rattle.processor.specs.declared.mode.Mode.TheVariants.{Kernel, User}
+use Rattle.processor.specs.Bytes.{page_of}
 use Rattle.reference.specs.States.{State, Hart, Journal, Loading, is_protected, Binding}
 use Rattle.reference.specs.Counting.{counted, count, count_dropped, count_turn, count_beat, count_key, count_tick}
 use Rattle.reference.specs.Disk.{Beaten, Move, Idle, FromRam, IntoRam, DeniedAt, OutsideRam, disk_beat}

@@ -1,14 +1,14 @@
 -- What follows an entry from user mode where the policy binds entries, in each state that a run reaches. This project's own.
 use Rattle.std.specs.Prelude.{◌≡◌, ℕ, ◌⊎◌, Bool, true, false, List, [], ◌∷◌, ◌==◌, Some, None, slice_get}
 use Rattle.sv_types.specs.ApprovedPages.{approved_bytes}
-use Rattle.sv_types.specs.Bits.{bit}
-use Rattle.sv_types.specs.Bytes.{word, page_of, place_in_page}
-use Rattle.sv_types.specs.Translation.{At}
-use Rattle.sv_types.specs.Traps.{trap_target, deliverable}
+use Rattle.processor.specs.Bits.{bit}
+use Rattle.processor.specs.Bytes.{word, page_of, place_in_page}
+use Rattle.processor.specs.Translation.{At}
+use Rattle.processor.specs.Traps.{trap_target, deliverable}
 use Rattle.sv_types.specs.declared.event.Event.{Event}
 use Rattle.sv_types.specs.declared.event.Event.TheVariants.{Turn, Beat, Key, Tick}
 use Rattle.sv_types.specs.declared.event.Verdict.TheVariants.{Running}
-use Rattle.sv_types.specs.declared.wires.Mode.TheVariants.{Kernel, User}
+use Rattle.processor.specs.declared.mode.Mode.TheVariants.{Kernel, User}
 use Rattle.reference.specs.Counting.{count, count_turn}
 use Rattle.reference.specs.Devices.{lines_at}
 use Rattle.reference.specs.Run.{run, step}

@@ -1,6 +1,6 @@
 -- Two laws of the reference machine alone, for each state that a run reaches from a start. This project's own.
 use Rattle.std.specs.Prelude.{◌≡◌, ℕ, ◌-◌, ◌*◌, ◌<◌, ◌⊎◌, true, false, List, [], length, Option, Some, None, slice_get}
-use Rattle.sv_types.specs.Bytes.{part, page_bytes, page_of, page_size}
+use Rattle.processor.specs.Bytes.{part, page_bytes, page_of, page_size}
 use Rattle.sv_types.specs.ApprovedPages.{approved_bytes}
 use Rattle.sv_types.specs.declared.event.Event.{Event}
 use Rattle.sv_types.specs.declared.saved.SavedModule.{SavedModule}

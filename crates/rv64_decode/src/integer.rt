@@ -1,11 +1,11 @@
 // Words of jumps, branches and computations.
 
 ghost use Rattle.std.specs.Prelude.{◌≡◌};
-ghost use Rattle.sv_types.specs.Instructions as table;
+ghost use Rattle.processor.specs.Instructions as table;
 
 use crate::fields::{bits, funct3, funct7};
 use crate::forms;
-use sv_types::{BranchOp, Instr, Op32Op, OpImm32Op, OpImmOp, OpOp};
+use processor::{BranchOp, Instr, Op32Op, OpImm32Op, OpImmOp, OpOp};
 
 pub fn jalr(word: u32) -> Option<Instr>
     requires { table.bits word 0 7 ≡ 0x67 }

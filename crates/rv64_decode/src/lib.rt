@@ -8,13 +8,13 @@ mod memory;
 mod system;
 
 ghost use Rattle.std.specs.Prelude.{◌≡◌, IfSome, IsTrue};
-ghost use Rattle.sv_types.specs.Encoding.{fits};
-ghost use Rattle.sv_types.specs.Instructions.{instruction_of};
+ghost use Rattle.processor.specs.Encoding.{fits};
+ghost use Rattle.processor.specs.Instructions.{instruction_of};
 
 use fields::opcode;
 use integer::{branch, jalr, op, op_32, op_imm, op_imm_32};
 use memory::{atomic, fence, load, store};
-pub use sv_types::{
+pub use processor::{
     AmoOp, BranchOp, CsrOp, HyperOp, Instr, LoadOp, Op32Op, OpImm32Op, OpImmOp, OpOp, StoreOp,
 };
 use system::system;

@@ -1,12 +1,12 @@
 // Words of loads, stores, fences and atomic operations.
 
 ghost use Rattle.std.specs.Prelude.{◌≡◌};
-ghost use Rattle.sv_types.specs.Instructions as table;
+ghost use Rattle.processor.specs.Instructions as table;
 ghost use Rattle.rv64_decode.specs.Widths.{IsWidthCode};
 
 use crate::fields::{bits, funct3, rs2};
 use crate::forms;
-use sv_types::{AmoOp, Instr, LoadOp, StoreOp};
+use processor::{AmoOp, Instr, LoadOp, StoreOp};
 
 pub fn load(word: u32) -> Option<Instr>
     requires { table.bits word 0 7 ≡ 0x03 }

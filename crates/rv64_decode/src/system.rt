@@ -1,11 +1,11 @@
 // Words of the opcode SYSTEM.
 
 ghost use Rattle.std.specs.Prelude.{◌≡◌, ◌≢◌, ◌==◌, if◌then◌else◌};
-ghost use Rattle.sv_types.specs.Instructions as table;
+ghost use Rattle.processor.specs.Instructions as table;
 
 use crate::fields::{funct3, funct7, rd, rs2};
 use crate::forms;
-use sv_types::{CsrOp, HyperOp, Instr};
+use processor::{CsrOp, HyperOp, Instr};
 
 pub fn system(word: u32) -> Option<Instr>
     requires { table.bits word 0 7 ≡ 0x73 }

@@ -1,13 +1,13 @@
 // Words by their fields.
 
 ghost use Rattle.std.specs.Prelude.{◌≡◌, ◌+◌, ◌-◌, ◌^◌, ◌<◌, ◌≤◌, IsTrue};
-ghost use Rattle.sv_types.specs.Encoding as table;
+ghost use Rattle.processor.specs.Encoding as table;
 
 use crate::codes;
 use rv64_decode::{HyperOp, Instr};
 
 /// The word of an instruction whose fields are in range.
-#[tactic(auto, unfolding(sv_types::specs::Encoding::fits, sv_types::specs::Encoding::word_of))]
+#[tactic(auto, unfolding(processor::specs::Encoding::fits, processor::specs::Encoding::word_of))]
 pub fn word(instr: &Instr) -> u32
     requires { IsTrue (table.fits instr.now) }
     ensures { result ≡ table.word_of instr.now }
@@ -144,7 +144,7 @@ fn ordered(funct5: u32, aq: bool, rl: bool) -> u32
     4 * funct5 + 2 * u32::from(aq) + u32::from(rl)
 }
 
-#[tactic(auto, unfolding(sv_types::specs::Encoding::fits, sv_types::specs::Encoding::word_of, sv_types::specs::Encoding::is_hyper_load, sv_types::specs::Encoding::hyper_number))]
+#[tactic(auto, unfolding(processor::specs::Encoding::fits, processor::specs::Encoding::word_of, processor::specs::Encoding::is_hyper_load, processor::specs::Encoding::hyper_number))]
 fn hyper_word(op: HyperOp, rd: u8, rs1: u8, rs2: u8) -> u32
     requires { IsTrue (table.fits (Instr.Hyper op rd rs1 rs2)) }
     ensures { result ≡ table.word_of (Instr.Hyper op rd rs1 rs2) }

@@ -1,7 +1,7 @@
 // Computations on machine words.
 
 ghost use Rattle.std.specs.Prelude.{◌≡◌, ◌<◌, ◌*◌, ◌/◌, ◌%◌, ◌^◌, ◌*ℤ◌, pos};
-ghost use Rattle.sv_types.specs.Effects as table;
+ghost use Rattle.processor.specs.Effects as table;
 
 use crate::divide::{quotient, quotient_unsigned, remainder, remainder_unsigned};
 use rv64_decode::{BranchOp, OpImmOp, OpOp};
@@ -54,7 +54,7 @@ fn upper_unsigned(a: u64, b: u64) -> u64
     ((u128::from(a) * u128::from(b)) >> 64) as u64
 }
 
-#[tactic(auto, unfolding(sv_types::specs::Effects::op_value))]
+#[tactic(auto, unfolding(processor::specs::Effects::op_value))]
 pub fn op(op: OpOp, a: u64, b: u64) -> u64
     ensures { result ≡ table.op_value op a b }
 {
@@ -80,7 +80,7 @@ pub fn op(op: OpOp, a: u64, b: u64) -> u64
     }
 }
 
-#[tactic(auto, unfolding(sv_types::specs::Effects::op_imm_value))]
+#[tactic(auto, unfolding(processor::specs::Effects::op_imm_value))]
 pub fn op_imm(op: OpImmOp, a: u64, imm: u64, shamt: u8) -> u64
     requires { shamt < 64 }
     ensures { result ≡ table.op_imm_value op a imm shamt }
@@ -98,7 +98,7 @@ pub fn op_imm(op: OpImmOp, a: u64, imm: u64, shamt: u8) -> u64
     }
 }
 
-#[tactic(auto, unfolding(sv_types::specs::Effects::branch_taken))]
+#[tactic(auto, unfolding(processor::specs::Effects::branch_taken))]
 pub fn branch_taken(op: BranchOp, a: u64, b: u64) -> bool
     ensures { result ≡ table.branch_taken op a b }
 {

@@ -1,7 +1,7 @@
 // Computations on the low 32 bits, whose results are sign-extended.
 
 ghost use Rattle.std.specs.Prelude.{◌≡◌, ◌<◌, ◌%◌};
-ghost use Rattle.sv_types.specs.Effects as table;
+ghost use Rattle.processor.specs.Effects as table;
 
 use crate::divide::{quotient_low, quotient_unsigned_low, remainder_low, remainder_unsigned_low};
 use crate::word::{extended, low_word, sign_extended, signed_low};
@@ -35,7 +35,7 @@ fn shift_right_signed(a: u64, count: u32) -> u64
     sign_extended(signed_low(a).wrapping_shr(count))
 }
 
-#[tactic(auto, unfolding(sv_types::specs::Effects::op_32_value))]
+#[tactic(auto, unfolding(processor::specs::Effects::op_32_value))]
 pub fn op_32(op: Op32Op, a: u64, b: u64) -> u64
     ensures { result ≡ table.op_32_value op a b }
 {
@@ -53,7 +53,7 @@ pub fn op_32(op: Op32Op, a: u64, b: u64) -> u64
     }
 }
 
-#[tactic(auto, unfolding(sv_types::specs::Effects::op_imm_32_value))]
+#[tactic(auto, unfolding(processor::specs::Effects::op_imm_32_value))]
 pub fn op_imm_32(op: OpImm32Op, a: u64, imm: u64, shamt: u8) -> u64
     requires { shamt < 32 }
     ensures { result ≡ table.op_imm_32_value op a imm shamt }

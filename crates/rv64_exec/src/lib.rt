@@ -11,5 +11,5 @@ mod word;
 
 pub use atomic::amo;
 pub use effects::effect;
+pub use processor::Effect;
 pub use registers::Regs;
-pub use sv_types::Effect;

@@ -20,7 +20,7 @@ impl Model for Regs {
 
 impl Regs {
     ghost use Rattle.std.specs.Prelude.{◌≡◌, ◌<◌, length, replicate};
-    ghost use Rattle.sv_types.specs.Effects.{register, set_register};
+    ghost use Rattle.processor.specs.Effects.{register, set_register};
 
     /// All registers are 0.
     pub fn new() -> Self

@@ -2,7 +2,7 @@
 
 ghost use Rattle.std.specs.Int.{w32, cast_signed};
 ghost use Rattle.std.specs.Prelude.{◌≡◌};
-ghost use Rattle.sv_types.specs.Effects as table;
+ghost use Rattle.processor.specs.Effects as table;
 
 pub fn low_word(a: u64) -> u32
     ensures { result ≡ table.low_word a }

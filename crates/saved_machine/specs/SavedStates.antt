@@ -1,10 +1,10 @@
 -- When plain data is a state of the reference machine. This project's own.
 use Rattle.std.specs.Prelude.{◌≡◌, ℕ, ◌+◌, ◌*◌, ◌^◌, List, [], ◌∷◌, map, option_map}
 use Rattle.sv_types.specs.ApprovedPages.{numbers_from}
-use Rattle.sv_types.specs.Bits.{flag}
-use Rattle.sv_types.specs.Bytes.{ram_base}
+use Rattle.processor.specs.Bits.{flag}
+use Rattle.processor.specs.Bytes.{ram_base}
 use Rattle.sv_types.specs.Clock.{Clock, timer_of}
-use Rattle.sv_types.specs.declared.wires.Protection.{Protection}
+use Rattle.sv_types.specs.declared.protection.Protection.{Protection}
 use Rattle.reference.specs.States.{State, Hart, Loading, protection}
 use Rattle.saved_machine.specs.declared.harts.SavedHart.{SavedHart}
 use Rattle.saved_machine.specs.declared.whole.Saved.{Saved}

@@ -1,6 +1,6 @@
 // One hart as plain data.
 
-use sv_types::Mode;
+use processor::Mode;
 
 /// A hart: its mode, its registers as the guest sees them, and what is kept beside them.
 #[derive(Clone, Copy, Debug, PartialEq, Eq, Drop)]

@@ -4,7 +4,7 @@ use Rattle.std.specs.Prelude.{not}
 use Rattle.std.specs.List.{list_all}
 use Rattle.std.proofs.lemmas.Bool.{and_parts}
 use Rattle.sv_types.specs.Policies.{Rules, each_within, modules_count_within}
-use Rattle.policy_words.specs.Ranges.{is_name, is_among, is_new_name, all_new_names, are_module_names}
+use Rattle.policy_making.specs.WordRanges.{is_name, is_among, is_new_name, all_new_names, are_module_names}
 use Rattle.policy_making.specs.declared.object_file.ObjectFile.{ObjectFile}
 use Rattle.policy_making.specs.declared.refusal.MakingFault.{MakingFault}
 use Rattle.policy_making.specs.declared.refusal.MakingRefusal.{MakingRefusal}

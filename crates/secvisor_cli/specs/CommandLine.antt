@@ -4,10 +4,10 @@ use Rattle.std.specs.Prelude.{ℕ, ◌^◌, ◌-◌, List, if◌then◌else◌, 
 use Rattle.std.specs.Str.{bytes_eq}
 use Rattle.command_words.specs.Commands.{Split, FlatSplit, RunSplit, MeasureSplit, split_words}
 use Rattle.sv_types.specs.Numbers.{number_within, digest_of}
-use Rattle.sv_types.specs.Regions.{most_ram_pages}
+use Rattle.processor.specs.Regions.{most_ram_pages}
 use Rattle.sv_types.specs.declared.module.Span.{Span}
 use Rattle.policy_making.specs.Making.{Terms}
-use Rattle.policy_words.specs.Ranges.{are_entries, entries_of, span_of, are_module_names}
+use Rattle.policy_making.specs.WordRanges.{are_entries, entries_of, span_of, are_module_names}
 use Rattle.secvisor_cli.specs.declared.refusal.Word.{Word}
 use Rattle.secvisor_cli.specs.declared.refusal.Refusal.{Refusal}
 use Rattle.secvisor_cli.specs.declared.refusal.Refusal.TheVariants.{NoCommand, OutOfRange}

@@ -3,7 +3,7 @@ use Rattle.std.specs.Prelude.{◌≡◌, ◌≤◌, ◌^◌, IsTrue, map, Result
 use Rattle.std.specs.Option.{option_copied}
 use Rattle.std.specs.Result.{is_ok}
 use Rattle.policy_making.specs.Making.{Terms}
-use Rattle.policy_words.specs.Ranges.{entries_of, are_module_names}
+use Rattle.policy_making.specs.WordRanges.{entries_of, are_module_names}
 use Rattle.command_words.specs.Commands.{Split}
 use Rattle.secvisor_cli.specs.declared.refusal.Refusal.{Refusal}
 use Rattle.secvisor_cli.specs.declared.words.Command.{Command as Asked}

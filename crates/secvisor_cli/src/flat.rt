@@ -11,10 +11,10 @@ use crate::refusal::Refusal;
 use crate::words::Flat;
 use machine::Machine;
 use outside::Files;
+use processor::PAGE_SIZE;
 use script::rounds;
 use std::alloc::Global;
 use std::thread::Threads;
-use sv_types::PAGE_SIZE;
 
 const MOST_FLAT_BYTES: usize = 65536;
 

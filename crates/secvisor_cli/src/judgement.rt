@@ -8,10 +8,10 @@ ghost use Rattle.secvisor_cli.specs.Words.{IsJudged};
 use crate::refusal::{Refusal, Word};
 use crate::words::{read_flat, read_generated, read_run, read_terms};
 use command_words::{FlatWords, RunWords};
-use policy_words::are_module_names;
+use policy_making::are_module_names;
 
 /// Judges the words from left to right, without memory.
-#[tactic(auto, using(policy_words::proofs::WordLemmas::list_any_map), unfolding(crate::specs::CommandLine::judged, command_words::specs::Commands::split_words))]
+#[tactic(auto, using(policy_making::proofs::WordLemmas::list_any_map), unfolding(crate::specs::CommandLine::judged, command_words::specs::Commands::split_words))]
 pub fn judge(words: &[String]) -> Result<(), Refusal>
     ensures { IsJudged (judged (map string_bytes words.now)) result }
 {

@@ -3,7 +3,7 @@ ghost use Rattle.std.specs.Prelude.{◌≡◌, ◌<◌, ◌-◌, ◌^◌, IfOk, 
 ghost use Rattle.std.specs.List.{list_all};
 ghost use Rattle.sv_types.specs.Policies.{rules_of, rules_within};
 ghost use Rattle.policy_making.specs.Making.{terms_of};
-ghost use Rattle.policy_words.specs.Ranges.{is_name, are_module_names};
+ghost use Rattle.policy_making.specs.WordRanges.{is_name, are_module_names};
 ghost use Rattle.outside.specs.Outside.{FilesState};
 ghost use Rattle.secvisor_cli.specs.Plans.{Plan, Modules, digest_part, no_modules, module_part, modules_part, making_plan, measure_plan, measured_line};
 ghost use Rattle.secvisor_cli.specs.Reading.{MayFollow};
@@ -16,8 +16,7 @@ use crate::parts::read_part;
 use crate::ready::{Made, Ready, Stop};
 use crate::words::{MakePolicy, Terms};
 use outside::Files;
-use policy_making::{ObjectFile, Settings, kernel_digest, policy_behind, want_names};
-use policy_words::entries_of;
+use policy_making::{ObjectFile, Settings, entries_of, kernel_digest, policy_behind, want_names};
 use std::alloc::{AllocError, Global};
 use std::thread::Threads;
 use sv_types::{Name, Policy};

@@ -2,8 +2,8 @@
 ghost use Rattle.std.specs.Prelude.{◌≡◌, option_map, IfOk, IsTrue};
 ghost use Rattle.std.specs.Option.{option_copied};
 ghost use Rattle.sv_types.specs.Numbers.{number_within};
-ghost use Rattle.sv_types.specs.Regions.{most_ram_pages};
-ghost use Rattle.policy_words.specs.Ranges.{entries_of, are_module_names};
+ghost use Rattle.processor.specs.Regions.{most_ram_pages};
+ghost use Rattle.policy_making.specs.WordRanges.{entries_of, are_module_names};
 ghost use Rattle.command_words.specs.Values.{split_of, flat_split_of, run_split_of, measure_split_of};
 ghost use Rattle.secvisor_cli.specs.CommandLine.{command_judged, flat_judged, gen_judged, run_judged, run_of, unless_none, source_of, auto_of, making_judged, terms_judged, terms_with, init_of};
 ghost use Rattle.secvisor_cli.specs.Words.{IsRead, HasTerms, HasModuleNames, IsInRange, source_value, run_value};
@@ -11,7 +11,7 @@ ghost use Rattle.secvisor_cli.specs.Words.{IsRead, HasTerms, HasModuleNames, IsI
 use crate::refusal::{Refusal, Word};
 use command_words::{CommandWords, FlatWords, MeasureWords, RunWords};
 use policy_limits::{FEWEST_RAM_PAGES, MOST_HARTS, MOST_RAM_PAGES};
-use policy_words::{are_entries, span_of};
+use policy_making::{are_entries, span_of};
 use sv_types::Span;
 use text_numbers::{digest_of, number_within};
 

@@ -2,9 +2,9 @@
 use Rattle.std.proofs.Common.{◌≡◌, ℕ, zero, suc, ◌+◌, ◌-◌, Bool, true, false, eqb, leb, List, [], ◌∷◌, length, drop, Option, Some, None, refl, sym, ap, arith}
 use Rattle.std.specs.Prelude.{◌&&◌, ◌||◌, not, nat_le, ◌==◌, ◌%◌}
 use Rattle.std.proofs.lemmas.Bool.{eqb-true, leb-true, not-true, ne_eqb}
-use Rattle.sv_types.specs.Registers.{legal_status, legal_interrupts, legal_tvec, legal_counteren, legal_epc, legal_satp}
-use Rattle.sv_types.specs.declared.wires.Mode.{Mode}
-use Rattle.sv_types.specs.declared.wires.Mode.TheVariants.{Kernel, User}
+use Rattle.processor.specs.Registers.{legal_status, legal_interrupts, legal_tvec, legal_counteren, legal_epc, legal_satp}
+use Rattle.processor.specs.declared.mode.Mode.{Mode}
+use Rattle.processor.specs.declared.mode.Mode.TheVariants.{Kernel, User}
 use Rattle.saved_machine.specs.declared.harts.SavedHart.{SavedHart}
 use Rattle.snapshot_form.specs.FormLaw.{IsForm}
 use Rattle.snapshot_form.specs.Forms.{is_word, number, within, always}

@@ -5,7 +5,7 @@ use Rattle.std.specs.Str.{bytes_eq}
 use Rattle.std.proofs.lemmas.Bool.{eqb-true, le-ltb}
 use Rattle.std.proofs.lemmas.List.{take_at, drop_at, take-append-drop, length-append, append-nil, nil_from_length}
 use Rattle.std.proofs.lemmas.Slice.Eq.{bytes_eq-Decides}
-use Rattle.sv_types.specs.Bytes.{page_size}
+use Rattle.processor.specs.Bytes.{page_size}
 use Rattle.sv_types.specs.Policies.{harts_within, ram_pages_within}
 use Rattle.snapshot_form.specs.declared.refusal.SnapRefusal.{SnapRefusal}
 use Rattle.snapshot_form.specs.declared.refusal.SnapRefusal.TheVariants.{TooLong, OtherLength, OtherBeginning}

@@ -5,11 +5,11 @@ use Rattle.saved_machine.specs.declared.whole.SavedLoad.{SavedLoad}
 use Rattle.snapshot_form.specs.Forms.{Form, number, byte, plain, nothing, within, and_then, ◌⨾◌, made, always, listed, counted}
 use Rattle.snapshot_form.specs.HartForms.{flag, is_user, aligned}
 use Rattle.snapshot_form.specs.declared.whole.TextPage.{TextPage}
-use Rattle.sv_types.specs.Bytes.{page_size}
+use Rattle.processor.specs.Bytes.{page_size}
 use Rattle.sv_types.specs.Policies.{modules_count_within}
 use Rattle.sv_types.specs.declared.saved.SavedModule.{SavedModule}
-use Rattle.sv_types.specs.declared.wires.Protection.TheVariants.{Free, Held, Approved}
-use Rattle.sv_types.specs.declared.wires.Protection.{Protection}
+use Rattle.sv_types.specs.declared.protection.Protection.TheVariants.{Free, Held, Approved}
+use Rattle.sv_types.specs.declared.protection.Protection.{Protection}
 
 -- ---- protections
 

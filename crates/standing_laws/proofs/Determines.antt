@@ -2,13 +2,13 @@
 use Rattle.std.proofs.Common.{◌≡◌, ℕ, ◌+◌, ◌-◌, ◌*◌, ◌/◌, ◌<◌, inl, inr, List, [], ◌∷◌, map, drop, length, refl, sym, ◌∙◌, ap, subst, Bool, true, false, ◌==◌, not, arith, slice_get}
 use Rattle.std.specs.Prelude.{Option, Some, None, option_map, is_some}
 use Rattle.sv_types.specs.ApprovedPages.{approved_bytes}
-use Rattle.sv_types.specs.Bits.{flag}
-use Rattle.sv_types.specs.Bytes.{page_bytes}
-use Rattle.sv_types.specs.HypervisorRegisters.{HypervisorRegisters, virtual_software_bit}
+use Rattle.processor.specs.Bits.{flag}
+use Rattle.processor.specs.Bytes.{page_bytes}
+use Rattle.processor.specs.HypervisorRegisters.{HypervisorRegisters, virtual_software_bit}
 use Rattle.sv_types.specs.Policies.{Rules, ModuleRule}
 use Rattle.sv_types.specs.declared.saved.SavedModule.{SavedModule}
-use Rattle.sv_types.specs.declared.wires.Protection.{Protection}
-use Rattle.sv_types.specs.declared.wires.Protection.TheVariants.{Approved}
+use Rattle.sv_types.specs.declared.protection.Protection.{Protection}
+use Rattle.sv_types.specs.declared.protection.Protection.TheVariants.{Approved}
 use Rattle.reference.specs.Origins.{IsOwned, IsPageOf, is_kernel_text, ownership}
 use Rattle.reference.specs.Soundness.{IsSound, IsSoundLoad}
 use Rattle.reference.specs.States.{State, Hart, Loading, has_number, is_approved_in, module_pages, protection_in, protection_by}

@@ -1,3 +1,4 @@
 pub mod Standings
 pub mod Loads
 pub mod Determines
+pub mod StartsStand

@@ -3,10 +3,10 @@ use Rattle.std.proofs.Common.{◌≡◌, ℕ, zero, suc, ◌+◌, ◌*◌, ◌/�
 use Rattle.std.specs.Prelude.{Some, None, Option, option_map, IfSome, nat_le}
 use Rattle.std.proofs.lemmas.Bool.{leb-true}
 use Rattle.sv_types.specs.ApprovedPages.{numbers_from}
-use Rattle.sv_types.specs.Bytes.{page_of, ram_place}
+use Rattle.processor.specs.Bytes.{page_of, ram_place}
 use Rattle.sv_types.specs.Policies.{Rules, ModuleRule, each_within, rules_within, numbers_within, lists_within, init_within, modules_count_within, module_within, modules_within, module_pages_within, sites_count_within, sites_of, sites_within}
 use Rattle.sv_types.specs.declared.saved.SavedModule.{SavedModule}
-use Rattle.sv_types.specs.declared.wires.Protection.TheVariants.{Held, Approved}
+use Rattle.sv_types.specs.declared.protection.Protection.TheVariants.{Held, Approved}
 use Rattle.reference.specs.States.{State, Loading, protection_in, protection_by, has_number, is_approved_in, find_module, pages_in_rule}
 use Rattle.reference.specs.Soundness.{IsSound, IsSoundLoad, HoldsModule}
 use Rattle.machine_model.specs.Machine.{Machine}

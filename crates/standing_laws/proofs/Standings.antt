@@ -4,15 +4,16 @@ use Rattle.std.specs.Prelude.{Option, Some, None, option_map, nat_le, slice_inde
 use Rattle.std.proofs.lemmas.Bool.{leb-true}
 use Rattle.std.proofs.lemmas.Option.{slice_get_within}
 use Rattle.sv_types.specs.ApprovedPages.{numbers_from}
-use Rattle.sv_types.specs.Bytes.{page_of}
-use Rattle.sv_types.specs.HypervisorRegisters.{HypervisorRegisters}
+use Rattle.processor.specs.Bytes.{page_of}
+use Rattle.processor.specs.HypervisorRegisters.{HypervisorRegisters}
 use Rattle.sv_types.specs.Policies.{Rules, rules_within, numbers_within, harts_within, format_within, ram_pages_within, lists_within, init_within, modules_count_within, modules_within, entries_count_within, entries_within, exports_count_within, exports_within, bound_within}
-use Rattle.sv_types.specs.SecondStage.{WalksApart, OfKernel, OfUser, OfEntry, with_ram, view_hgatp}
-use Rattle.sv_types.specs.declared.wires.Mode.{Mode}
-use Rattle.sv_types.specs.declared.wires.Mode.TheVariants.{Kernel, User}
-use Rattle.sv_types.specs.declared.wires.Protection.{Protection}
-use Rattle.sv_types.specs.declared.wires.View.TheVariants as View
-use Rattle.sv_types.proofs.Views.{view_walks_apart}
+use Rattle.processor.specs.SecondStage.{WalksApart}
+use Rattle.sv_types.specs.Views.{OfKernel, OfUser, OfEntry, with_ram, view_hgatp}
+use Rattle.processor.specs.declared.mode.Mode.{Mode}
+use Rattle.processor.specs.declared.mode.Mode.TheVariants.{Kernel, User}
+use Rattle.sv_types.specs.declared.protection.Protection.{Protection}
+use Rattle.sv_types.specs.declared.view.View.TheVariants as View
+use Rattle.view_laws.proofs.Views.{view_walks_apart}
 use Rattle.reference.specs.Protections.{or_free, protection_at}
 use Rattle.reference.specs.States.{State, Hart, Binding, binding_of, binding_at, protection_in}
 use Rattle.reference.specs.Soundness.{IsSound, IsSoundEntry}

@@ -1,13 +1,14 @@
 -- What code may rely on in a machine that stands for a state of the reference machine. This project's own.
 use Rattle.std.specs.Prelude.{◌≡◌, ℕ, ◌*◌, ◌/◌, ◌%◌, ◌^◌, ◌<◌, ◌≤◌, List, [], map, drop, length, None, Some, IfSome, IsTrue, slice_get, slice_index_or}
 use Rattle.sv_types.specs.ApprovedPages.{approved_bytes}
-use Rattle.sv_types.specs.Bytes.{page_size}
+use Rattle.processor.specs.Bytes.{page_size}
 use Rattle.sv_types.specs.Policies.{Rules, rules_within}
-use Rattle.sv_types.specs.Regions.{Region, IsRegion}
-use Rattle.sv_types.specs.SecondStage.{AreViews, WalksApart}
+use Rattle.processor.specs.Regions.{Region, IsRegion}
+use Rattle.sv_types.specs.Views.{AreViews}
+use Rattle.processor.specs.SecondStage.{WalksApart}
 use Rattle.sv_types.specs.declared.saved.SavedModule.{SavedModule}
-use Rattle.sv_types.specs.declared.wires.Protection.{Protection}
-use Rattle.sv_types.specs.declared.wires.Protection.TheVariants.{Held}
+use Rattle.sv_types.specs.declared.protection.Protection.{Protection}
+use Rattle.sv_types.specs.declared.protection.Protection.TheVariants.{Held}
 use Rattle.reference.specs.Origins.{is_kernel_text, ownership}
 use Rattle.reference.specs.Protections.{is_free, protection_at}
 use Rattle.reference.specs.Start.{AreWords}

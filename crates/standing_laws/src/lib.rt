@@ -1,7 +1,12 @@
-//! The laws of a machine that stands for a state of the reference machine: what code may rely on in it.
+//! The laws of a machine that stands for a state of the reference machine: what code may rely on in it, and that a machine
+//! stands for its start before the first event.
 #![tactic(auto)]
 
 ghost use Rattle.standing_laws.specs.Laws.{DeterminesLaw, HartInLaw, HartsLaw, LoadedLaw, LoadingLaw, NoEntryLaw, OrderLaw};
+
+mod start;
+
+pub use start::{law_flat_start, law_image_start};
 
 /// Each hart may make an attempt: its pc is aligned, its registers are those of its mode, and its walks read the tables alone.
 pub fn law_harts()

@@ -1,9 +1,9 @@
 -- Where the second stage maps an address, whichever the access. This project's own.
 use Rattle.std.specs.Prelude.{ℕ, if◌then◌else◌, Option, Some, None}
-use Rattle.sv_types.specs.Translation.{is_leaf, leaf_address}
-use Rattle.sv_types.specs.SecondStage.{permits_guest}
-use Rattle.sv_types.specs.declared.pte_bits.PteBits.{PteBits}
-use Rattle.sv_types.specs.declared.wires.Access.{Access}
+use Rattle.processor.specs.Translation.{is_leaf, leaf_address}
+use Rattle.processor.specs.SecondStage.{permits_guest}
+use Rattle.processor.specs.declared.pte_bits.PteBits.{PteBits}
+use Rattle.processor.specs.declared.access.Access.{Access}
 use Rattle.sv39_walk.specs.declared.second_stage.Mapping.{Mapping}
 
 -- the host place where the leaf permits an access

@@ -2,17 +2,17 @@
 
 ghost use Rattle.std.specs.Prelude.{◌≡◌, ◌+◌, ◌*◌, ◌/◌, ◌%◌, ◌^◌, ◌<◌, ◌≤◌, length, Ok, Err, Some, None};
 ghost use Rattle.std.specs.Option.{ok_or};
-ghost use Rattle.sv_types.specs.Translation.{walk, root_of};
-ghost use Rattle.sv_types.specs.SecondStage.{host_entry, entry_in_region, permits_guest, address_at, walk_guest};
-ghost use Rattle.sv_types.specs.declared.wires.Access.{Access as Kind};
+ghost use Rattle.processor.specs.Translation.{walk, root_of};
+ghost use Rattle.processor.specs.SecondStage.{host_entry, entry_in_region, permits_guest, address_at, walk_guest};
+ghost use Rattle.processor.specs.declared.access.Access.{Access as Kind};
 ghost use Rattle.sv39_walk.specs.Levels.{indices_of, IsTable};
 ghost use Rattle.sv39_walk.specs.Mappings.{mapping_answer, found_mapping};
 
 use crate::entry::{entry_page, index, is_leaf, is_pointer, leaf_address, permits_guest};
-use host_mem::HostMem;
+use host_mem::{HostMem, Steps};
+use processor::{Access, GuestFault, PteBits};
 use std::marker::Brand;
 use std::sync::ledger::{Blank, Ledger};
-use sv_types::{Access, GuestFault, PteBits, Steps};
 
 /// The leaf at which a second-stage walk ends, and the host place to which it maps the address.
 #[derive(Clone, Copy, Drop)]
@@ -193,7 +193,7 @@ fn at_leaf(entry: PteBits, below: u32, gpa: u64) -> Option<Mapping>
 }
 
 // The entry at a host place, counted where it is read. One that isn't whole in the region counts as one with V clear.
-#[tactic(auto, unfolding(sv_types::specs::SecondStage::host_entry))]
+#[tactic(auto, unfolding(processor::specs::SecondStage::host_entry))]
 fn host_entry<L: Ledger>(mem: &HostMem, at: u64, steps: &mut Steps<L>) -> PteBits
     requires aligned { at % 8 ≡ 0 }
     requires small { at < 2 ^ 60 }

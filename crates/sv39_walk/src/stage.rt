@@ -1,12 +1,12 @@
 // The second stage, as a translation goes through it.
 
 ghost use Rattle.std.specs.Prelude.{◌≡◌, ℕ, ◌/◌, ◌^◌};
-ghost use Rattle.sv_types.specs.Regions.{Region};
-ghost use Rattle.sv_types.specs.SecondStage.{walk_guest};
+ghost use Rattle.processor.specs.Regions.{Region};
+ghost use Rattle.processor.specs.SecondStage.{walk_guest};
 
 use crate::second_stage::walk_from_root;
 use host_mem::HostMem;
-use sv_types::Access;
+use processor::Access;
 
 /// A second stage of translation: the tables themselves, or a cache in front of them.
 pub trait SecondStage {

@@ -2,10 +2,10 @@
 -- ELF-64 Object File Format, "ELF Header" and "Program Header Table"; RISC-V ELF psABI, "File Header".
 use Rattle.std.specs.Prelude.{ℕ, ◌+◌, ◌-◌, ◌*◌, ◌%◌, Bool, false, not, ◌&&◌, ◌||◌, List, [], ◌∷◌, ◌++◌, length, replicate, map, filter, flat_map, fold, find, ◌==◌, if◌then◌else◌, nat_le, nat_lt, Option, Some, None}
 use Rattle.std.specs.List.{list_any}
-use Rattle.sv_types.specs.Bits.{bit}
-use Rattle.sv_types.specs.Bytes.{word, part, padded, overwrite, ram_base, ram_place, page_size, page_of}
+use Rattle.processor.specs.Bits.{bit}
+use Rattle.processor.specs.Bytes.{word, part, padded, overwrite, ram_base, ram_place, page_size, page_of}
 use Rattle.sv_types.specs.ApprovedPages.{numbers_from}
-use Rattle.sv_types.specs.Regions.{most_ram_pages}
+use Rattle.processor.specs.Regions.{most_ram_pages}
 use Rattle.sv_types.specs.declared.image_fault.HeaderFault.{HeaderFault}
 use Rattle.sv_types.specs.declared.image_fault.ImageFault.{ImageFault}
 use Rattle.sv_types.specs.declared.kernel.ProgramHeader.{ProgramHeader}

@@ -2,7 +2,7 @@
 -- The Unicode Standard, "UTF-8".
 use Rattle.std.specs.Prelude.{◌≡◌, ◌<◌, ◌≤◌, ℕ, List, length, take, IsUtf8}
 use Rattle.std.proofs.Common.{◌∙◌, ap}
-use Rattle.sv_types.specs.Bytes.{padded}
+use Rattle.processor.specs.Bytes.{padded}
 use Rattle.sv_types.specs.declared.name.Name.TheInside.{Inside}
 
 abbrev pub name_bytes : Inside → List ℕ

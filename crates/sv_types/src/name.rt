@@ -1,5 +1,5 @@
 // The name of a file, of a module or of an export.
-ghost use Rattle.sv_types.specs.Bytes.{padded};
+ghost use Rattle.processor.specs.Bytes.{padded};
 ghost use Rattle.std.specs.Prelude.{◌≡◌, ◌<◌, ◌≤◌, ◌↔◌, length, IsSome, IfSome, IsUtf8};
 
 use std::marker::Model;

@@ -4,9 +4,9 @@ use Rattle.std.specs.Prelude.{find, bit_and, ◌==◌, ◌&&◌, Some, if◌then
 use Rattle.std.specs.List.{list_all}
 use Rattle.std.specs.Option.{option_map}
 use Rattle.std.proofs.lemmas.Bool.{eqb-true}
-use Rattle.sv_types.specs.declared.instruction.Instr.{Instr}
-use Rattle.sv_types.specs.Instructions.{Row, has_row, rows, instruction_of, instruction_in, plain}
-use Rattle.sv_types.proofs.Decoding.{found, both}
+use Rattle.processor.specs.declared.instruction.Instr.{Instr}
+use Rattle.processor.specs.Instructions.{Row, has_row, rows, instruction_of, instruction_in, plain}
+use Rattle.processor_laws.proofs.Decoding.{found, both}
 use Rattle.machine_model.specs.Served.{is_sret, is_sret_word}
 
 abbrev sret_row : ℕ → Row → Bool

@@ -1,7 +1,7 @@
 -- What an exit of a hart that is in no entry may be answered. This project's own.
 use Rattle.std.specs.Prelude.{◌≡◌, ◌<◌, false, true}
-use Rattle.sv_types.specs.declared.wires.Mode.{Mode}
-use Rattle.sv_types.specs.declared.wires.Mode.TheVariants.{Kernel}
+use Rattle.processor.specs.declared.mode.Mode.{Mode}
+use Rattle.processor.specs.declared.mode.Mode.TheVariants.{Kernel}
 use Rattle.machine_model.specs.declared.exits.ExitAnswer.{ExitAnswer}
 use Rattle.machine_model.specs.declared.exits.ExitAnswer.TheVariants.{Returns, LeavesEntry, LoadsDevice}
 

@@ -1,8 +1,8 @@
 // Refused loads and stores.
 
 ghost use Rattle.std.specs.Prelude.{◌≡◌, IfSome};
-ghost use Rattle.sv_types.specs.Requests.{IsRequest};
-ghost use Rattle.sv_types.specs.declared.wires.Mode.{Mode as Privilege};
+ghost use Rattle.processor.specs.Requests.{IsRequest};
+ghost use Rattle.processor.specs.declared.mode.Mode.{Mode as Privilege};
 ghost use Rattle.machine_model.specs.Served.{load_answer, store_answer, write_answer};
 ghost use Rattle.trap_answers.specs.Possible.{IsPossible};
 
@@ -10,7 +10,7 @@ use crate::addresses::{device_gpa, gpa_in_ram, is_implicit};
 use crate::fetches::raises;
 use host_mem::HostMem;
 use machine_model::ExitAnswer;
-use sv_types::{Cause, Effect, Exit};
+use processor::{Cause, Effect, Exit};
 
 /// A refused load: a plain one reaches a device's register.
 #[tactic(auto, unfolding(machine_model::specs::Served::load_answer))]

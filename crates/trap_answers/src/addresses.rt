@@ -1,11 +1,11 @@
 // Where an access was refused.
 
 ghost use Rattle.std.specs.Prelude.{◌≡◌, ◌%◌, Some, None, if◌then◌else◌};
-ghost use Rattle.sv_types.specs.Bytes.{in_ram};
+ghost use Rattle.processor.specs.Bytes.{in_ram};
 ghost use Rattle.machine_model.specs.Served.{is_implicit, exit_gpa, device_gpa};
 
 use host_mem::HostMem;
-use sv_types::{Exit, PAGE_BYTES, RAM_BASE};
+use processor::{Exit, PAGE_BYTES, RAM_BASE};
 
 /// The transformed instruction of an implicit read of a first-stage entry.
 const IMPLICIT_READ: u32 = 0x3000;

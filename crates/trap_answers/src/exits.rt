@@ -13,7 +13,7 @@ use crate::instructions::transformed;
 use hart::Hart;
 use host_mem::HostMem;
 use machine_model::ExitAnswer;
-use sv_types::{Cause, Exit, ExitCause, Mode};
+use processor::{Cause, Exit, ExitCause, Mode};
 
 /// The answer to an exit of a hart that is in no entry: the guest takes its interrupts, and those exceptions that have no
 /// answer of their own.

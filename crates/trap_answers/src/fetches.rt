@@ -7,7 +7,7 @@ ghost use Rattle.trap_answers.specs.Possible.{IsPossible};
 use crate::addresses::{gpa_in_ram, is_implicit};
 use host_mem::HostMem;
 use machine_model::ExitAnswer;
-use sv_types::{Cause, Exit, ExitCause, Mode};
+use processor::{Cause, Exit, ExitCause, Mode};
 
 /// The word of SRET.
 const SRET: u64 = 0x1020_0073;

@@ -1,18 +1,18 @@
 // The instruction that an exit tells of.
 
 ghost use Rattle.std.specs.Prelude.{◌≡◌, ◌%◌, IfSome, IsTrue};
-ghost use Rattle.sv_types.specs.Encoding.{fits};
-ghost use Rattle.sv_types.specs.Effects.{effect_of};
-ghost use Rattle.sv_types.specs.Requests.{IsRequest};
+ghost use Rattle.processor.specs.Encoding.{fits};
+ghost use Rattle.processor.specs.Effects.{effect_of};
+ghost use Rattle.processor.specs.Requests.{IsRequest};
 ghost use Rattle.machine_model.specs.Served.{transformed};
 
 use hart::Hart;
+use processor::Effect;
 use rv64_decode::{Instr, decode};
 use rv64_exec::effect;
-use sv_types::Effect;
 
 // What an instruction asks on a hart.
-#[tactic(auto, using(sv_types::proofs::EffectRequests::is_request))]
+#[tactic(auto, using(processor_laws::proofs::EffectRequests::is_request))]
 fn asked(hart: &Hart, instr: &Instr) -> Effect
     requires aligned { hart.now.core.pc % 4 ≡ 0 }
     requires fits { IsTrue (fits instr.now) }

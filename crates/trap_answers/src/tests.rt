@@ -7,8 +7,9 @@ use host_mem::HostMem;
 use journal_records::Journal;
 use machine_model::ExitAnswer;
 use page_guard::{Entries, Guard, Side};
+use processor::{Cause, Exit, ExitCause, Mode};
 use std::test::Fail;
-use sv_types::{Cause, Exit, ExitCause, Mode, Note, Rule, Verdict};
+use sv_types::{Note, Rule, Verdict};
 
 const PC: u64 = 0x8000_3000;
 

@@ -1,8 +1,8 @@
 // What an answer does to a hart: the guest's trap, its return from one, and the end of its stay in kernel mode.
 
 ghost use Rattle.std.specs.Prelude.{◌≡◌, ◌%◌, ℕ, []};
-ghost use Rattle.sv_types.specs.Traps.{is_interrupt, guest_number};
-ghost use Rattle.sv_types.specs.declared.wires.Mode.TheVariants.{Kernel};
+ghost use Rattle.processor.specs.Traps.{is_interrupt, guest_number};
+ghost use Rattle.processor.specs.declared.mode.Mode.TheVariants.{Kernel};
 ghost use Rattle.machine_model.specs.HostHarts.{host_trap, host_return, host_demote, host_write_stopped};
 ghost use Rattle.machine_model.specs.Machine.{Machine};
 ghost use Rattle.reference.specs.Counting.{MayCount};

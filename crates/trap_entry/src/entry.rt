@@ -1,11 +1,11 @@
 // Entry into a trap handler, and return from it.
 
 ghost use Rattle.std.specs.Prelude.{◌≡◌, ◌%◌};
-ghost use Rattle.sv_types.specs.HypervisorRegisters.{registers_at_trap, registers_at_return, registers_at_exit};
-ghost use Rattle.sv_types.specs.Traps.{is_interrupt, guest_number, trap_target, trap_cause, status_at_trap, status_at_return, mode_at_return};
+ghost use Rattle.processor.specs.HypervisorRegisters.{registers_at_trap, registers_at_return, registers_at_exit};
+ghost use Rattle.processor.specs.Traps.{is_interrupt, guest_number, trap_target, trap_cause, status_at_trap, status_at_return, mode_at_return};
 
 use csr_file::Csrs;
-use sv_types::{Exit, ExitCause, Mode, has_bit, with_bits};
+use processor::{Exit, ExitCause, Mode, has_bit, with_bits};
 
 /// SIE of a status: kernel mode takes interrupts.
 const SIE: u64 = 1 << 1;
@@ -19,7 +19,7 @@ const VECTOR_MODE: u64 = 3;
 const INTERRUPT: u64 = 1 << 63;
 
 /// The cause as `scause` shows it.
-#[tactic(auto, unfolding(sv_types::specs::Traps::trap_cause))]
+#[tactic(auto, unfolding(processor::specs::Traps::trap_cause))]
 fn shown_cause(interrupt: bool, cause: u64) -> u64
     ensures { result ≡ trap_cause interrupt cause }
 {
@@ -27,7 +27,7 @@ fn shown_cause(interrupt: bool, cause: u64) -> u64
 }
 
 /// The status in a trap handler: SPIE has SIE, SIE is clear, SPP has the mode before.
-#[tactic(auto, unfolding(sv_types::specs::Traps::status_at_trap))]
+#[tactic(auto, unfolding(processor::specs::Traps::status_at_trap))]
 fn status_at_trap(status: u64, from: Mode) -> u64
     ensures { result ≡ status_at_trap status from }
 {
@@ -37,7 +37,7 @@ fn status_at_trap(status: u64, from: Mode) -> u64
 }
 
 /// The status behind a trap handler: SIE has SPIE, SPIE is set, SPP is user mode.
-#[tactic(auto, unfolding(sv_types::specs::Traps::status_at_return))]
+#[tactic(auto, unfolding(processor::specs::Traps::status_at_return))]
 fn status_at_return(status: u64) -> u64
     ensures { result ≡ status_at_return status }
 {
@@ -47,7 +47,7 @@ fn status_at_return(status: u64) -> u64
 }
 
 /// The mode that SPP names.
-#[tactic(auto, unfolding(sv_types::specs::Traps::mode_at_return))]
+#[tactic(auto, unfolding(processor::specs::Traps::mode_at_return))]
 fn mode_at_return(status: u64) -> Mode
     ensures { result ≡ mode_at_return status }
 {
@@ -60,7 +60,7 @@ fn mode_at_return(status: u64) -> Mode
 
 /// Where a guest's trap goes: to the base of `vstvec`, or for an interrupt, where its bit 0 is set, to the place of the
 /// cause behind it, modulo 2^64.
-#[tactic(auto, using(sv_types::proofs::RegisterBits::target_aligned), unfolding(sv_types::specs::Traps::trap_target))]
+#[tactic(auto, using(processor_laws::proofs::RegisterBits::target_aligned), unfolding(processor::specs::Traps::trap_target))]
 pub fn target(csrs: &Csrs, cause: ExitCause) -> u64
     ensures value { result ≡ trap_target csrs.now.vstvec (is_interrupt cause) (guest_number cause) }
     ensures aligned { result % 4 ≡ 0 }
@@ -74,7 +74,7 @@ pub fn target(csrs: &Csrs, cause: ExitCause) -> u64
 }
 
 /// Enters the guest's kernel from a mode by a trap at a pc. Gives where it goes on, in kernel mode.
-#[tactic(auto, unfolding(sv_types::specs::HypervisorRegisters::registers_at_trap))]
+#[tactic(auto, unfolding(processor::specs::HypervisorRegisters::registers_at_trap))]
 pub fn into_guest(csrs: &mut Csrs, from: Mode, cause: ExitCause, tval: u64, pc: u64) -> u64
     requires { pc % 4 ≡ 0 }
     ensures target { result ≡ trap_target csrs.old.vstvec (is_interrupt cause) (guest_number cause) }
@@ -89,7 +89,7 @@ pub fn into_guest(csrs: &mut Csrs, from: Mode, cause: ExitCause, tval: u64, pc: 
 }
 
 /// Leaves the fields of an exit for the hypervisor, and gives the exit. The guest's registers stay.
-#[tactic(auto, unfolding(sv_types::specs::HypervisorRegisters::registers_at_exit))]
+#[tactic(auto, unfolding(processor::specs::HypervisorRegisters::registers_at_exit))]
 pub fn into_hypervisor(csrs: &mut Csrs, exit: Exit) -> Exit
     requires { exit.pc % 4 ≡ 0 }
     ensures exit { result ≡ exit }
@@ -104,7 +104,7 @@ pub fn into_hypervisor(csrs: &mut Csrs, exit: Exit) -> Exit
 }
 
 /// Returns from the guest's trap handler, as SRET does. Gives the pc and the mode in which the hart goes on.
-#[tactic(auto, unfolding(sv_types::specs::HypervisorRegisters::registers_at_return))]
+#[tactic(auto, unfolding(processor::specs::HypervisorRegisters::registers_at_return))]
 pub fn return_to_guest(csrs: &mut Csrs) -> (u64, Mode)
     ensures pc { result.0 ≡ csrs.old.vsepc }
     ensures aligned { result.0 % 4 ≡ 0 }

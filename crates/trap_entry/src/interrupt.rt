@@ -1,11 +1,11 @@
 // Which interrupt is taken.
 
 ghost use Rattle.std.specs.Prelude.{◌≡◌};
-ghost use Rattle.sv_types.specs.HypervisorRegisters.{hip_value, is_taken, pending};
-ghost use Rattle.sv_types.specs.Traps.{takes_interrupts};
+ghost use Rattle.processor.specs.HypervisorRegisters.{hip_value, is_taken, pending};
+ghost use Rattle.processor.specs.Traps.{takes_interrupts};
 
 use csr_file::Csrs;
-use sv_types::{HRegs, Interrupt, Lines, Mode, has_bit};
+use processor::{HRegs, Interrupt, Lines, Mode, has_bit};
 
 /// Whether a hart takes delegated interrupts: user mode always, kernel mode where SIE of `vsstatus` is set.
 fn takes_interrupts(mode: Mode, vsstatus: u64) -> bool
@@ -18,7 +18,7 @@ fn takes_interrupts(mode: Mode, vsstatus: u64) -> bool
 }
 
 /// Whether an interrupt is taken: it is pending and enabled, and where it is delegated, the guest takes interrupts.
-#[tactic(auto, unfolding(sv_types::specs::HypervisorRegisters::is_taken))]
+#[tactic(auto, unfolding(processor::specs::HypervisorRegisters::is_taken))]
 fn is_taken(csrs: &Csrs, regs: &HRegs, lines: &Lines, interrupt: Interrupt) -> bool
     ensures { result ≡ is_taken regs.now.hideleg regs.now.mode csrs.now lines.now interrupt }
 {
@@ -31,7 +31,7 @@ fn is_taken(csrs: &Csrs, regs: &HRegs, lines: &Lines, interrupt: Interrupt) -> b
 /// The interrupt that a hart takes before its next instruction, the first of external, software and timer. None exactly
 /// where none is deliverable: one that is delegated waits until the guest takes interrupts, and one that isn't is taken
 /// at once.
-#[tactic(auto, unfolding(sv_types::specs::HypervisorRegisters::pending))]
+#[tactic(auto, unfolding(processor::specs::HypervisorRegisters::pending))]
 pub fn pending(csrs: &Csrs, regs: &HRegs, lines: &Lines) -> Option<Interrupt>
     ensures { result ≡ pending regs.now csrs.now lines.now }
 {

@@ -2,7 +2,7 @@
 
 use super::{into_guest, into_hypervisor, pending, return_to_guest, target};
 use csr_file::Csrs;
-use sv_types::{Cause, Exit, ExitCause, HRegs, Interrupt, Lines, Mode};
+use processor::{Cause, Exit, ExitCause, HRegs, Interrupt, Lines, Mode};
 
 const KERNEL: HRegs = HRegs {
     mode: Mode::Kernel,

@@ -3,7 +3,7 @@ use Rattle.std.proofs.Common.{◌≡◌, ℕ, ◌+◌, ◌-◌, ◌*◌, ◌%◌
 use Rattle.std.specs.List.{list_all}
 use Rattle.std.proofs.lemmas.Bool.Decides.{nat_tests}
 use Rattle.std.proofs.lemmas.List.{get_or-drop, get_or-take, length-replicate, length-take-le}
-use Rattle.sv_types.specs.Bytes.{in_ram}
+use Rattle.processor.specs.Bytes.{in_ram}
 use Rattle.virtio_blk.specs.Chain.{no_part, between, data_of}
 use Rattle.virtio_blk.specs.Requests.{bytes_in, lies_in, fits_type, are_sectors, can_move, result_by}
 use Rattle.virtio_blk.specs.Held.{behind, padded_parts, new_of, IsPlaced, IsOnDisk}

@@ -2,7 +2,7 @@
 -- Operation" of the block device; that a beat moves at most 64 bytes is this project's own. The chain is read at the
 -- beat that accepts it, and every other word at the beat that reads it. A beat is told RAM and which pages may be written.
 use Rattle.std.specs.Prelude.{ℕ, ◌+◌, ◌%◌, ◌^◌, Bool, true, false, not, ◌&&◌, ◌==◌, bit_or, List, [], ◌∷◌, ◌++◌, length, filter, nat_lt, if◌then◌else◌, Option, Some, None}
-use Rattle.sv_types.specs.Bytes.{part, overwrite, low_bytes, in_ram, ram_place, page_of}
+use Rattle.processor.specs.Bytes.{part, overwrite, low_bytes, in_ram, ram_place, page_of}
 use Rattle.reference.specs.Disk.{Move, Idle, FromRam, IntoRam, DeniedAt, OutsideRam}
 use Rattle.virtio_blk.specs.Device.{Device, Request, driver_ok, is_broken}
 use Rattle.virtio_blk.specs.Stores.{needs_reset}

@@ -1,8 +1,8 @@
 -- Chains of descriptors. VIRTIO 1.2, "The Virtqueue Descriptor Table": a descriptor has an address (8 bytes), a length
 -- (4), flags (2: NEXT 1, WRITE 2, INDIRECT 4) and the next one's place in the table (2).
 use Rattle.std.specs.Prelude.{ℕ, zero, suc, ◌+◌, ◌-◌, ◌*◌, Bool, false, not, ◌&&◌, ◌==◌, List, [], ◌∷◌, length, take, drop, get_or, nat_le, nat_lt, if◌then◌else◌, Option, Some, None, option_map}
-use Rattle.sv_types.specs.Bits.{bit}
-use Rattle.sv_types.specs.Bytes.{word, in_ram}
+use Rattle.processor.specs.Bits.{bit}
+use Rattle.processor.specs.Bytes.{word, in_ram}
 use Rattle.virtio_blk.specs.declared.chain.Descriptor.{Descriptor}
 use Rattle.virtio_blk.specs.declared.state.VirtioPart.{VirtioPart}
 

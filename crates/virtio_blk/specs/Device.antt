@@ -1,7 +1,7 @@
 -- The virtio block device as plain data: its registers, its queue, the request under way and the disk.
 -- Virtual I/O Device (VIRTIO) Version 1.2, "MMIO Device Register Layout", "Split Virtqueues" and "Block Device".
 use Rattle.std.specs.Prelude.{ℕ, ◌-◌, ◌^◌, Bool, ◌==◌, bit_and, List, Option}
-use Rattle.sv_types.specs.Bits.{bit}
+use Rattle.processor.specs.Bits.{bit}
 use Rattle.virtio_blk.specs.declared.state.VirtioMove.{VirtioMove}
 
 -- a request that was accepted and whose moves aren't all made

@@ -1,6 +1,6 @@
 -- The device as the code holds it, with a place in a chain for the moves that are left, and the device that it stands for.
 use Rattle.std.specs.Prelude.{◌≡◌, ℕ, ◌+◌, ◌-◌, ◌*◌, ◌%◌, ◌^◌, ◌<◌, ◌≤◌, true, false, ◌==◌, if◌then◌else◌, List, [], ◌∷◌, ◌++◌, length, drop, replicate, get_or, Option, Some, None, IfSome, option_map}
-use Rattle.sv_types.specs.Bytes.{page_size, ram_base, ram_place}
+use Rattle.processor.specs.Bytes.{page_size, ram_base, ram_place}
 use Rattle.virtio_blk.specs.Device.{Device, Request}
 use Rattle.virtio_blk.specs.Stores.{is_size}
 use Rattle.virtio_blk.specs.Chain.{no_part, between, most_parts, header_of}

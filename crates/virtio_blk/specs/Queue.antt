@@ -1,7 +1,7 @@
 -- The queue's three parts in guest memory. VIRTIO 1.2, "Split Virtqueues": the descriptor table has 16 bytes for each
 -- place of the queue, the available ring 4 bytes and 2 for each place, the used ring 4 bytes and 8 for each place.
 use Rattle.std.specs.Prelude.{ℕ, ◌+◌, ◌-◌, ◌*◌, ◌%◌, Bool, ◌&&◌, List}
-use Rattle.sv_types.specs.Bytes.{word, in_ram, ram_place}
+use Rattle.processor.specs.Bytes.{word, in_ram, ram_place}
 use Rattle.virtio_blk.specs.Device.{Device}
 
 -- the three parts lie in RAM

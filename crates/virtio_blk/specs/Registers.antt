@@ -1,7 +1,7 @@
 -- The registers and what they read. VIRTIO 1.2, "MMIO Device Register Layout" and "Device configuration layout" of the
 -- block device; the vendor's number is this project's own. A register that only the driver writes reads 0.
 use Rattle.std.specs.Prelude.{ℕ, ◌/◌, ◌%◌, ◌^◌, Bool, not, ◌&&◌, length, ◌==◌, if◌then◌else◌, Option, Some, None, option_map}
-use Rattle.sv_types.specs.Bits.{flag}
+use Rattle.processor.specs.Bits.{flag}
 use Rattle.virtio_blk.specs.Device.{Device, is_selected}
 use Rattle.virtio_blk.specs.declared.registers.VirtioRegister.{VirtioRegister}
 

@@ -2,7 +2,7 @@
 -- to read the disk and 1 to write it; the result is 0, or 1 where the request failed, or 2 where its type isn't known.
 use Rattle.std.specs.Prelude.{ℕ, zero, suc, ◌+◌, ◌-◌, ◌*◌, ◌%◌, Bool, not, ◌&&◌, ◌||◌, ◌==◌, List, [], ◌∷◌, ◌++◌, nat_le, if◌then◌else◌, min}
 use Rattle.std.specs.List.{list_all}
-use Rattle.sv_types.specs.Bytes.{word, in_ram, ram_place, page_size}
+use Rattle.processor.specs.Bytes.{word, in_ram, ram_place, page_size}
 use Rattle.virtio_blk.specs.Queue.{used_gpa, used_index_gpa}
 use Rattle.virtio_blk.specs.Chain.{header_of}
 use Rattle.virtio_blk.specs.declared.state.VirtioMove.{VirtioMove}

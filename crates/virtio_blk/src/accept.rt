@@ -1,9 +1,9 @@
 // The next request: a look into the queue, and the chain that is accepted.
 
 ghost use Rattle.std.specs.Prelude.{◌≡◌, ℕ, ◌++◌, ◌+◌, ◌-◌, ◌*◌, ◌%◌, ◌<◌, ◌≤◌, ◌^◌, IsTrue, true, length, replicate};
-ghost use Rattle.sv_types.specs.Bytes.{ram_place};
+ghost use Rattle.processor.specs.Bytes.{ram_place};
 ghost use Rattle.virtio_blk.specs.Stores.{is_size};
-ghost use Rattle.sv_types.specs.Regions.{Region};
+ghost use Rattle.processor.specs.Regions.{Region};
 ghost use Rattle.dma_guard.specs.Transfers.{told, after_move};
 ghost use Rattle.virtio_blk.specs.Queue.{rings_in_ram, available_index, next_head};
 ghost use Rattle.virtio_blk.specs.Chain.{no_part, data_of, result_of, chain, most_parts};
@@ -17,7 +17,7 @@ use crate::requests::{DONE, is_good, is_in_ram, result_by};
 use crate::state::{MOST_PARTS, VirtioPart, VirtioRequest};
 use dma_guard::Beaten;
 use host_mem::{HostMem, word_at};
-use sv_types::RAM_BASE;
+use processor::RAM_BASE;
 
 /// Indices of the queue count modulo this.
 const INDICES: u64 = 65536;

@@ -1,7 +1,7 @@
 // Beats: the moves of the request under way.
 
 ghost use Rattle.std.specs.Prelude.{◌≡◌, ℕ, ◌+◌, ◌%◌, ◌^◌, ◌<◌, ◌≤◌, false, true, IsTrue, length, Some};
-ghost use Rattle.sv_types.specs.Bytes.{page_size, overwrite, low_bytes};
+ghost use Rattle.processor.specs.Bytes.{page_size, overwrite, low_bytes};
 ghost use Rattle.reference.specs.Disk.{is_writable};
 ghost use Rattle.reference.specs.Disk.Move.{OutsideRam};
 ghost use Rattle.dma_guard.specs.Transfers.{told, after_move};
@@ -15,7 +15,7 @@ use crate::requests::{FAILED, is_in_ram};
 use crate::state::{VirtioMove, VirtioRequest};
 use dma_guard::{Beaten, DmaGuard, DmaRefused};
 use host_mem::{HostMem, put_word};
-use sv_types::{RAM_BASE, has_bit};
+use processor::{RAM_BASE, has_bit};
 
 /// The place of the status bit that says that the driver is ready.
 const DRIVER_OK_PLACE: u8 = 2;
@@ -55,7 +55,7 @@ fn without_data(request: &VirtioRequest) -> VirtioRequest
 }
 
 // The low bytes of a value, the lowest first.
-#[tactic(auto, unfolding(sv_types::specs::Bytes::overwrite))]
+#[tactic(auto, unfolding(processor::specs::Bytes::overwrite))]
 fn low_1(value: u64) -> [u8; 1]
     ensures { result ≡ low_bytes 1 value }
 {
@@ -64,7 +64,7 @@ fn low_1(value: u64) -> [u8; 1]
     bytes
 }
 
-#[tactic(auto, unfolding(sv_types::specs::Bytes::overwrite))]
+#[tactic(auto, unfolding(processor::specs::Bytes::overwrite))]
 fn low_2(value: u64) -> [u8; 2]
     ensures { result ≡ low_bytes 2 value }
 {
@@ -73,7 +73,7 @@ fn low_2(value: u64) -> [u8; 2]
     bytes
 }
 
-#[tactic(auto, unfolding(sv_types::specs::Bytes::overwrite))]
+#[tactic(auto, unfolding(processor::specs::Bytes::overwrite))]
 fn low_4(value: u64) -> [u8; 4]
     ensures { result ≡ low_bytes 4 value }
 {

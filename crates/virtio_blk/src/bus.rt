@@ -9,7 +9,7 @@ ghost use Rattle.virtio_blk.specs.Held.{device_of, state_at_reset};
 use crate::registers::{VirtioRegister, register_at};
 use crate::state::VirtioState;
 use crate::{SECTOR_BYTES, Virtio};
-use sv_types::has_bit;
+use processor::has_bit;
 
 /// The most places of the queue.
 const MOST_PLACES: u64 = 64;

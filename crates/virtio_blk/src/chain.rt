@@ -6,7 +6,7 @@ ghost use Rattle.virtio_blk.specs.Chain.{descriptor_at, chain, most_parts};
 use crate::state::{MOST_PARTS, VirtioPart};
 use arrayvec::ArrayVec;
 use host_mem::word_at;
-use sv_types::has_bit;
+use processor::has_bit;
 
 /// The bytes of a descriptor.
 const DESCRIPTOR_BYTES: usize = 16;

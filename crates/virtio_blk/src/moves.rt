@@ -9,7 +9,7 @@ ghost use Rattle.virtio_blk.specs.Held.{IsPlaced, IsOnDisk, IsSame, CanBeMade, p
 use crate::SECTOR_BYTES;
 use crate::requests::bytes_in;
 use crate::state::{VirtioMove, VirtioRequest};
-use sv_types::PAGE_SIZE;
+use processor::PAGE_SIZE;
 
 /// The most bytes of a data move.
 const BEAT_BYTES: u64 = 64;

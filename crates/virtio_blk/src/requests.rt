@@ -2,14 +2,14 @@
 
 ghost use Rattle.std.specs.Prelude.{◌≡◌, ◌+◌, ◌*◌, ◌≤◌, IsTrue, length};
 ghost use Rattle.std.specs.List.{list_all};
-ghost use Rattle.sv_types.specs.Bytes.{in_ram, ram_base, ram_place};
+ghost use Rattle.processor.specs.Bytes.{in_ram, ram_base, ram_place};
 ghost use Rattle.virtio_blk.specs.Chain.{header_of, result_of, is_header, is_result, is_good};
 ghost use Rattle.virtio_blk.specs.Held.{HasHeader};
 ghost use Rattle.virtio_blk.specs.Requests.{bytes_in, lies_in, fits_type, are_sectors, can_move, result_by};
 
 use crate::SECTOR_BYTES;
 use crate::state::VirtioPart;
-use sv_types::RAM_BASE;
+use processor::RAM_BASE;
 
 /// The bytes of a request's header, and of its result.
 const HEADER_BYTES: u32 = 16;

@@ -1,7 +1,7 @@
 use Rattle.std.proofs.Common.{rules, ◌≡◌, ◌+◌, ◌-◌, ◌∙◌, sym, List, ℕ, ap, arith, length}
 use borrow.Rule.Slice.PartMut.{put_mid}
 use Rattle.host_mem.proofs.WordFacts.{part_put}
-use Rattle.sv_types.specs.Bytes.{overwrite}
+use Rattle.processor.specs.Bytes.{overwrite}
 use Rattle.reference.specs.Disk.{beat_place}
 use Rattle.block_device.proofs.Writes.{written_over}
 use Rattle.block_device.proofs.Block.keep.Goals as goal

@@ -1,7 +1,7 @@
 use Rattle.std.proofs.Common.{◌≡◌, ◌+◌, ◌<◌, ℕ, length, map, drop, get_or}
 use Rattle.elf64_load.specs.Images.{segment_of, text_owner}
 use Rattle.elf64_load.proofs.image.text_owners.Given as goal
-use Rattle.sv_types.specs.Regions.{most_ram_pages}
+use Rattle.processor.specs.Regions.{most_ram_pages}
 
 -- the segments from i on have their pages
 abbrev pub invariant-segments : goal.invariant-segments

@@ -1,5 +1,5 @@
 use Rattle.std.proofs.Common.{ℕ, ◌∙◌, length}
-use Rattle.sv_types.specs.SecondStage.{all_free}
+use Rattle.sv_types.specs.Views.{all_free}
 use Rattle.gstage_tables.specs.Layout.{leaf_tables, tree_count, table_pages, sight_in, leaf_word}
 use Rattle.gstage_tables.proofs.Writes.{below_kept, leaves_more}
 use Rattle.gstage_tables.proofs.Trees.fill_leaves.Goals as goal

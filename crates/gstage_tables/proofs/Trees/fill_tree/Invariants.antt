@@ -1,5 +1,5 @@
 use Rattle.std.proofs.Common.{◌≡◌, ◌+◌, ◌*◌, length}
-use Rattle.sv_types.specs.SecondStage.{all_free}
+use Rattle.sv_types.specs.Views.{all_free}
 use Rattle.gstage_tables.specs.Layout.{tree_count, leaf_tables, leaf_table, table_pages, sight_in, leaf_word}
 use Rattle.gstage_tables.specs.Written.{Wrote}
 use Rattle.gstage_tables.proofs.Trees.fill_tree.Given as goal

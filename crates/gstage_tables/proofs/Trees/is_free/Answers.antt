@@ -1,6 +1,6 @@
 use Rattle.std.proofs.Common.{ℕ, ◌+◌, ◌*◌, ◌∙◌, length, ap, arith}
-use Rattle.sv_types.specs.Bytes.{word}
-use Rattle.sv_types.specs.SecondStage.{OfKernel}
+use Rattle.processor.specs.Bytes.{word}
+use Rattle.sv_types.specs.Views.{OfKernel}
 use Rattle.gstage_tables.specs.Layout.{tree_count, table_pages}
 use Rattle.gstage_tables.proofs.Counts.{free_told}
 use Rattle.gstage_tables.proofs.Places.{leaf_there}

@@ -1,5 +1,5 @@
 use Rattle.std.proofs.Common.{◌≡◌, ℕ, ◌*◌, ◌/◌, ◌%◌, ◌≤◌, ◌∙◌, List, length, sym, ap, subst, arith}
-use Rattle.sv_types.specs.SecondStage.{all_free}
+use Rattle.sv_types.specs.Views.{all_free}
 use Rattle.gstage_tables.specs.Blocks.{CountsTaken}
 use Rattle.gstage_tables.specs.Layout.{leaf_tables, tree_count, table_pages, table_size, sight_in, most_bound, root_word}
 use Rattle.gstage_tables.specs.Written.{Wrote}

@@ -1,8 +1,8 @@
 use Rattle.std.proofs.Common.{◌≡◌, ℕ, ◌+◌, ◌*◌, ◌/◌, ◌<◌, ◌∙◌, Bool, List, length, sym, ap, subst}
 use Rattle.std.specs.Prelude.{◌==◌, ◌&&◌, slice_set, slice_index_or}
-use Rattle.sv_types.specs.Regions.{Region}
-use Rattle.sv_types.specs.SecondStage.{protect}
-use Rattle.sv_types.specs.declared.wires.Protection.{Protection}
+use Rattle.processor.specs.Regions.{Region}
+use Rattle.sv_types.specs.Views.{protect}
+use Rattle.sv_types.specs.declared.protection.Protection.{Protection}
 use Rattle.gstage_tables.specs.Blocks.{is_free, is_whole_by, lies_in_ram, recounted, CountsTaken}
 use Rattle.gstage_tables.specs.Layout.{Shape, leaf_tables, tree_count, table_pages, sight_in, middle_word, HoldsTrees}
 use Rattle.gstage_tables.specs.Written.{Wrote}

@@ -1,5 +1,5 @@
 use Rattle.std.proofs.Common.{◌≡◌, ◌≢◌, ℕ, ◌+◌, ◌*◌, ◌/◌, ◌<◌, ◌≤◌, ◌∙◌, length, refl, ap, subst, arith, rules}
-use Rattle.sv_types.specs.Regions.{Region}
+use Rattle.processor.specs.Regions.{Region}
 use Rattle.gstage_tables.specs.Layout.{leaf_tables, tree_count}
 use Rattle.gstage_tables.proofs.Writes.{wrote_next, wrote_all}
 use Rattle.gstage_tables.proofs.Trees.set_middles.Goals as goal

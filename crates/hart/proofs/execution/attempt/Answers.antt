@@ -1,6 +1,6 @@
 use Rattle.std.proofs.Common.{ap}
-use Rattle.sv_types.specs.Hardware.{Step, Attempted}
-use Rattle.sv_types.proofs.HardwareWrites.{interrupt_writes, fetch_writes}
+use Rattle.processor.specs.Hardware.{Step, Attempted}
+use Rattle.processor_laws.proofs.HardwareWrites.{interrupt_writes, fetch_writes}
 use Rattle.hart.specs.Cores.{core_of}
 use Rattle.hart.proofs.execution.attempt.Goals as goal
 

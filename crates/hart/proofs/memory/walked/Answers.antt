@@ -1,5 +1,5 @@
 use Rattle.std.proofs.Common.{◌∙◌, sym, arith}
-use Rattle.sv_types.specs.SecondStage.{WalksApart}
+use Rattle.processor.specs.SecondStage.{WalksApart}
 use Rattle.sv39_walk.specs.Regimes.{settings_of}
 use Rattle.hart.proofs.Places.{apart_inside, stages_place, stages_behind}
 use Rattle.hart.proofs.memory.walked.Goals as goal

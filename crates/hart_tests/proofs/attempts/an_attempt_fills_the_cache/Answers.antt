@@ -1,5 +1,5 @@
-use Rattle.sv_types.specs.SecondStage.{protect, all_free}
-use Rattle.sv_types.specs.declared.wires.Protection.TheVariants.{Approved}
+use Rattle.sv_types.specs.Views.{protect, all_free}
+use Rattle.sv_types.specs.declared.protection.Protection.TheVariants.{Approved}
 use Rattle.gstage_cache.proofs.Lines.{none_agrees}
 use Rattle.hart_tests.proofs.Roots.{roots_walk_apart}
 use Rattle.hart_tests.proofs.attempts.an_attempt_fills_the_cache.Goals as goal

@@ -1,7 +1,8 @@
 use Rattle.std.proofs.Common.{ℕ, refl, subst, sym}
-use Rattle.sv_types.specs.SecondStage.{WalksInside, OfKernel, all_free, view_hgatp}
-use Rattle.sv_types.specs.declared.wires.View.TheVariants.{Kernel}
-use Rattle.sv_types.proofs.Views.{view_walks_inside}
+use Rattle.processor.specs.SecondStage.{WalksInside}
+use Rattle.sv_types.specs.Views.{OfKernel, all_free, view_hgatp}
+use Rattle.sv_types.specs.declared.view.View.TheVariants.{Kernel}
+use Rattle.view_laws.proofs.Views.{view_walks_inside}
 use Rattle.hart_tests.proofs.views.load.Goals as goal
 
 pub translate-requires-clause-inside : goal.translate-requires-clause-inside

@@ -1,6 +1,6 @@
 use Rattle.std.proofs.Common.{◌≡◌, ◌+◌, ◌-◌, ◌∙◌, refl, ap, arith, rules, List, ℕ, length}
 use borrow.Rule.Slice.PartMut.{put_mid}
-use Rattle.sv_types.specs.Regions.{region_of, host_bytes}
+use Rattle.processor.specs.Regions.{region_of, host_bytes}
 use Rattle.host_mem.proofs.ViewFacts.{Seen, copy_seen, copy_behind}
 use Rattle.host_mem.proofs.HostMem.copy_in.Goals as goal
 

@@ -1,5 +1,5 @@
 use Rattle.std.proofs.Common.{◌≡◌, ◌*◌, ◌∙◌, ap, rules, ℕ, replicate}
-use Rattle.sv_types.specs.Regions.{region_of}
+use Rattle.processor.specs.Regions.{region_of}
 use Rattle.host_mem.proofs.ViewFacts.{zeros_seen}
 use Rattle.host_mem.proofs.HostMem.new.Goals as goal
 

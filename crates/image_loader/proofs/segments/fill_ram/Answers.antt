@@ -1,8 +1,8 @@
 use Rattle.std.proofs.Common.{◌≡◌, ◌*◌, ◌∙◌, ℕ, List, length, map, ap, sym, arith}
 use Rattle.std.proofs.lemmas.List.{length-map, length-replicate}
-use Rattle.sv_types.specs.Bytes.{page_size}
+use Rattle.processor.specs.Bytes.{page_size}
 use Rattle.sv_types.specs.Kernel.{LoadedSegment, segments_ram}
-use Rattle.sv_types.specs.Regions.{Region}
+use Rattle.processor.specs.Regions.{Region}
 use Rattle.elf64_load.specs.Images.{segment_of, segments_of}
 use Rattle.elf64_load.specs.declared.image.Segment.{Segment}
 use Rattle.image_loader.specs.Whole.{loaded_byte}

@@ -2,8 +2,8 @@ use Rattle.std.proofs.Common.{◌≡◌, ◌+◌, ◌-◌, ◌/◌, ◌∙◌, i
 use Rattle.std.specs.Prelude.{nat_le, ◌&&◌, ◌==◌, if◌then◌else◌}
 use Rattle.std.proofs.lemmas.Bool.{eqb-true}
 use Rattle.std.proofs.lemmas.Bool.Decides.{nat_tests}
-use Rattle.sv_types.specs.Bytes.{page_size, ram_place}
-use Rattle.sv_types.proofs.ByteLemmas.{lt_or_le}
+use Rattle.processor.specs.Bytes.{page_size, ram_place}
+use Rattle.processor_laws.proofs.ByteLemmas.{lt_or_le}
 use Rattle.elf64_load.specs.Images.{segment_of}
 use Rattle.image_loader.specs.Whole.{byte_of, covers, has_byte}
 use Rattle.image_loader.proofs.Loaded.{between_edges, edges_byte, page_below}

@@ -1,7 +1,7 @@
 use Rattle.std.proofs.Common.{◌<◌, ◌/◌, ◌∙◌, length, map, get_or, ap}
 use Rattle.std.specs.Prelude.{nat_le, ◌&&◌, if◌then◌else◌}
 use Rattle.std.proofs.lemmas.List.{length-map}
-use Rattle.sv_types.specs.Bytes.{page_size}
+use Rattle.processor.specs.Bytes.{page_size}
 use Rattle.sv_types.specs.Kernel.{LoadedSegment}
 use Rattle.elf64_load.specs.Images.{segment_of}
 use Rattle.image_loader.specs.Whole.{byte_of, covers, has_byte}

@@ -1,6 +1,6 @@
 use Rattle.std.proofs.Common.{◌≡◌, ◌<◌, ◌/◌, ℕ, length, map, get_or}
 use Rattle.std.specs.Prelude.{nat_lt, if◌then◌else◌}
-use Rattle.sv_types.specs.Bytes.{page_size}
+use Rattle.processor.specs.Bytes.{page_size}
 use Rattle.elf64_load.specs.Images.{segment_of}
 use Rattle.image_loader.specs.Whole.{loaded_byte}
 use Rattle.image_loader.proofs.segments.put_owned.Given as goal

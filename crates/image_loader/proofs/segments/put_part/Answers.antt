@@ -1,5 +1,5 @@
 use Rattle.std.proofs.Common.{◌≡◌, ◌+◌, ◌-◌, ◌≤◌, length, take, drop, arith, length-take, length-drop}
-use Rattle.sv_types.specs.Bytes.{part}
+use Rattle.processor.specs.Bytes.{part}
 use Rattle.elf64_load.proofs.Pages.{part_within}
 use Rattle.image_loader.proofs.Written.{part_put, part_size}
 use Rattle.image_loader.proofs.segments.put_part.Goals as goal

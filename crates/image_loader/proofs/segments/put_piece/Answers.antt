@@ -1,8 +1,8 @@
 use Rattle.std.proofs.Common.{◌≡◌, ℕ, ◌+◌, ◌-◌, ◌*◌, ◌/◌, ◌∙◌, length, ap, arith}
 use Rattle.std.specs.Prelude.{max, min, ◌&&◌, ◌==◌, if◌then◌else◌}
 use Rattle.std.specs.List.{slice_index_or}
-use Rattle.sv_types.specs.Bytes.{ram_place}
-use Rattle.sv_types.specs.Regions.{Region}
+use Rattle.processor.specs.Bytes.{ram_place}
+use Rattle.processor.specs.Regions.{Region}
 use Rattle.elf64_load.specs.Images.{segment_of}
 use Rattle.image_loader.specs.Whole.{has_byte}
 use Rattle.image_loader.proofs.Written.{in_piece, part_byte, padded_fits}

@@ -1,5 +1,5 @@
 use Rattle.std.proofs.Common.{◌≡◌, ◌≤◌, ◌-◌, replicate}
-use Rattle.sv_types.specs.Bytes.{overwrite}
+use Rattle.processor.specs.Bytes.{overwrite}
 use Rattle.image_loader.proofs.segments.put_zeros.Given as goal
 
 -- so many zeros are there

@@ -1,5 +1,5 @@
 use Rattle.std.proofs.Common.{ap}
-use Rattle.sv_types.specs.Regions.{Region}
+use Rattle.processor.specs.Regions.{Region}
 use Rattle.elf64_load.specs.Images.{segments_of}
 use Rattle.image_loader.proofs.Accepted.{image_placed}
 use Rattle.image_loader.proofs.tests.filled.Goals as goal

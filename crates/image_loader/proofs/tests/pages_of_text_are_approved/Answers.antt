@@ -1,6 +1,6 @@
 use Rattle.std.proofs.Common.{◌≡◌, ◌∙◌, ℕ, ap, subst, arith, length}
 use Rattle.std.proofs.lemmas.List.{length-replicate}
-use Rattle.sv_types.specs.Regions.{Region}
+use Rattle.processor.specs.Regions.{Region}
 use Rattle.elf64_load.specs.Images.{segments_of}
 use Rattle.image_loader.specs.Placed.{ArePlaced}
 use Rattle.image_loader.proofs.Accepted.{image_placed}

@@ -4,9 +4,9 @@ use Rattle.std.specs.List.{list_any}
 use Rattle.std.proofs.lemmas.List.{length-map}
 use Rattle.sv_types.specs.ApprovedPages.{numbers_from}
 use Rattle.sv_types.specs.Kernel.{is_text_of}
-use Rattle.sv_types.specs.Regions.{most_ram_pages}
-use Rattle.sv_types.specs.declared.wires.Protection.{Protection}
-use Rattle.sv_types.specs.declared.wires.Protection.TheVariants.{Approved}
+use Rattle.processor.specs.Regions.{most_ram_pages}
+use Rattle.sv_types.specs.declared.protection.Protection.{Protection}
+use Rattle.sv_types.specs.declared.protection.Protection.TheVariants.{Approved}
 use Rattle.reference.specs.Protections.{with_each}
 use Rattle.elf64_load.specs.Images.{segment_of, segments_of, text_owner}
 use Rattle.image_loader.proofs.FreePages.{approved_where, behind_kept, last_page, next_page}

@@ -3,7 +3,7 @@ use Rattle.std.specs.Prelude.{slice_get}
 use Rattle.std.specs.List.{list_any}
 use Rattle.sv_types.specs.ApprovedPages.{numbers_from}
 use Rattle.sv_types.specs.Kernel.{is_text_of}
-use Rattle.sv_types.specs.declared.wires.Protection.TheVariants.{Free, Approved}
+use Rattle.sv_types.specs.declared.protection.Protection.TheVariants.{Free, Approved}
 use Rattle.reference.specs.Protections.{with_each}
 use Rattle.page_guard.specs.Guarded.{IsTheirs}
 use Rattle.elf64_load.specs.Images.{segments_of}

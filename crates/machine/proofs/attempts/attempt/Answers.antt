@@ -1,5 +1,5 @@
 use Rattle.std.proofs.Common.{◌≡◌, ◌<◌, ◌%◌, ℕ, sym, ◌∙◌, ap, subst}
-use Rattle.sv_types.specs.HardwareAttempt.{attempt}
+use Rattle.processor.specs.HardwareAttempt.{attempt}
 use Rattle.machine_model.specs.Machine.{HostHart, all_forget}
 use Rattle.std.specs.Prelude.{List}
 use Rattle.machine.proofs.Hosts.{core_put, pc_there, usable_there, usable_set}

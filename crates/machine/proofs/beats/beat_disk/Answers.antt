@@ -1,5 +1,5 @@
 use Rattle.std.proofs.Common.{length, sym, ◌∙◌, ap, subst}
-use Rattle.sv_types.specs.Regions.{Region}
+use Rattle.processor.specs.Regions.{Region}
 use Rattle.reference.specs.Disk.{disk_beat, is_writable}
 use Rattle.dma_guard.specs.declared.port.Beaten.{Beaten}
 use Rattle.machine.specs.Beats.{ToldInRam}

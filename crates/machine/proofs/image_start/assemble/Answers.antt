@@ -1,6 +1,6 @@
 use Rattle.std.proofs.Common.{◌≡◌, ◌∙◌}
 use Rattle.std.proofs.lemmas.Result.{IfOk-weaker}
-use Rattle.start_laws.specs.Starts.{machine_at_boot, image_machine}
+use Rattle.standing_laws.specs.Starts.{machine_at_boot, image_machine}
 use Rattle.elf64_load.specs.Images.{segments_of}
 use Rattle.sv_types.specs.Policies.{rules_of}
 use Rattle.machine.proofs.ImageStarting.{image_made, unbound_within}

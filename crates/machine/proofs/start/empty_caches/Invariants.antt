@@ -1,5 +1,5 @@
 use Rattle.std.proofs.Common.{◌≡◌, replicate}
-use Rattle.sv_types.specs.CachedWalks.{no_lines}
+use Rattle.processor.specs.CachedWalks.{no_lines}
 use Rattle.machine.proofs.start.empty_caches.Given as goal
 
 -- the caches so far

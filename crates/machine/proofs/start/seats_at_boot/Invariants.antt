@@ -1,6 +1,6 @@
 use Rattle.std.proofs.Common.{◌≡◌, ◌≤◌, length}
 use Rattle.hart_answers.specs.Hosts.{hosts_of}
-use Rattle.start_laws.specs.Starts.{hosts_at_boot}
+use Rattle.standing_laws.specs.Starts.{hosts_at_boot}
 use Rattle.machine.proofs.start.seats_at_boot.Given as goal
 
 -- the harts so far

@@ -1,6 +1,6 @@
 use Rattle.std.proofs.Common.{◌≡◌, ◌+◌, ◌∙◌, ap, refl, arith, ℕ, List}
 use Rattle.sv_types.specs.Policies.{rules_of}
-use Rattle.sv_types.specs.declared.wires.Protection.{Protection}
+use Rattle.sv_types.specs.declared.protection.Protection.{Protection}
 use Rattle.reference.specs.Protections.{freed_one, freed_by}
 use Rattle.module_gate.specs.Retiring.{is_kernels}
 use Rattle.module_gate.proofs.Retired.{freed_more, freed_each}

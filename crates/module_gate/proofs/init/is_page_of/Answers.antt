@@ -1,6 +1,6 @@
 use Rattle.std.proofs.Common.{rules, ◌≡◌, ◌∙◌, sym, ◌-◌, ◌&&◌, slice_get}
 use Rattle.std.specs.Prelude.{nat_le, nat_lt}
-use Rattle.sv_types.specs.Bytes.{page_of}
+use Rattle.processor.specs.Bytes.{page_of}
 use Rattle.sv_types.specs.Policies.{rules_of}
 use Rattle.reference.specs.States.{pages_in_rule}
 use Rattle.module_gate.proofs.Retired.{in_numbers}

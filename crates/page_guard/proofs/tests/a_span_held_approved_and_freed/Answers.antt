@@ -1,6 +1,6 @@
 use Rattle.std.proofs.Common.{subst}
 use Rattle.sv_types.specs.declared.module.Span.{Span}
-use Rattle.sv_types.specs.declared.wires.Protection.TheVariants.{Approved}
+use Rattle.sv_types.specs.declared.protection.Protection.TheVariants.{Approved}
 use Rattle.page_guard.specs.Guarded.{AllAre}
 use Rattle.page_guard.proofs.tests.a_span_held_approved_and_freed.Goals as goal
 

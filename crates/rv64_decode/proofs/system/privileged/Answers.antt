@@ -1,8 +1,8 @@
 use Rattle.std.proofs.Common.{refl, arith}
-use Rattle.sv_types.specs.Instructions as table
-use Rattle.sv_types.specs.Instructions.{rows}
+use Rattle.processor.specs.Instructions as table
+use Rattle.processor.specs.Instructions.{rows}
 use Rattle.rv64_decode.proofs.FoundRows.{row_whole}
-use Rattle.sv_types.specs.declared.instruction.Instr.TheVariants as Instr
+use Rattle.processor.specs.declared.instruction.Instr.TheVariants as Instr
 use Rattle.rv64_decode.proofs.system.privileged.Goals as goal
 
 pub returns-in-115 : goal.returns-in-115

@@ -1,5 +1,5 @@
 use Rattle.std.specs.List.{list_all}
-use Rattle.policy_words.specs.Ranges.{is_name}
+use Rattle.policy_making.specs.WordRanges.{is_name}
 use Rattle.secvisor_cli.specs.Plans.{digest_part, modules_part, no_modules, making_plan, measure_plan, Kernel}
 use Rattle.secvisor_cli.specs.Ready.{Prepares, Passes, MayStage, kernel_value, modules_value}
 use Rattle.secvisor_cli.specs.Words.{policy_value}

@@ -1,6 +1,6 @@
 use Rattle.std.proofs.Common.{◌+◌, ◌*◌, ◌∙◌, sym, ap, true, false}
-use Rattle.sv_types.specs.Translation.{permits_access}
-use Rattle.sv_types.specs.SecondStage.{entry_through}
+use Rattle.processor.specs.Translation.{permits_access}
+use Rattle.processor.specs.SecondStage.{entry_through}
 use Rattle.sv39_walk.specs.Regimes.{settings_of}
 use Rattle.sv39_walk.specs.Levels.{guest_address}
 use Rattle.sv39_walk.proofs.Steps.{first_at, both, walk_pointer, walk_leaf, walk_refused, walk_unreadable}

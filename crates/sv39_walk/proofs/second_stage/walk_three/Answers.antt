@@ -1,6 +1,6 @@
 use Rattle.std.proofs.Common.{◌+◌, ◌*◌, ◌∙◌, sym, ap}
 use Rattle.std.specs.Prelude.{Some}
-use Rattle.sv_types.specs.SecondStage.{entry_in_region, permits_guest, address_at}
+use Rattle.processor.specs.SecondStage.{entry_in_region, permits_guest, address_at}
 use Rattle.sv39_walk.proofs.Steps.{first_at, walk_pointer, guest_found}
 use Rattle.sv39_walk.proofs.second_stage.walk_three.Goals as goal
 

@@ -1,5 +1,5 @@
 use Rattle.std.proofs.Common.{refl}
-use Rattle.sv_types.specs.Traps.{is_interrupt, guest_number}
+use Rattle.processor.specs.Traps.{is_interrupt, guest_number}
 use Rattle.machine_model.specs.HostHarts.{host_at_trap}
 use Rattle.hart_answers.specs.Hosts.{host_at}
 use Rattle.trap_answers.proofs.Places.{update_there}

@@ -1,5 +1,5 @@
 use Rattle.std.proofs.Common.{◌≡◌, ℕ, ◌∙◌, sym, ap, bit_and}
-use Rattle.sv_types.specs.HypervisorRegisters.{HypervisorRegisters}
+use Rattle.processor.specs.HypervisorRegisters.{HypervisorRegisters}
 use Rattle.trap_entry.proofs.Quiet.{none_pending}
 use Rattle.trap_entry.proofs.interrupt.pending.Goals as goal
 

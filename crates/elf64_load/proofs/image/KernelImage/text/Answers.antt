@@ -1,7 +1,7 @@
 use Rattle.std.proofs.Common.{◌≡◌, ◌∙◌, ◌++◌, List, ℕ, sym, ap, map, arith, flat_map}
 use Rattle.sv_types.specs.Kernel.{text_of, text_page}
 use Rattle.sv_types.specs.ApprovedPages.{numbers_from}
-use Rattle.sv_types.specs.Regions.{most_ram_pages}
+use Rattle.processor.specs.Regions.{most_ram_pages}
 use Rattle.elf64_load.specs.Images.{segment_of, segments_of}
 use Rattle.elf64_load.specs.declared.image.Segment.{Segment}
 use Rattle.elf64_load.proofs.Pages.{flat_map-more}

@@ -1,7 +1,7 @@
 use Rattle.std.proofs.Common.{◌∙◌, sym, ap}
 use Rattle.std.specs.Prelude.{Option}
-use Rattle.sv_types.specs.CachedWalks.{LineAgrees}
-use Rattle.sv_types.specs.declared.cached.CacheLine.{CacheLine}
+use Rattle.processor.specs.CachedWalks.{LineAgrees}
+use Rattle.processor.specs.declared.cached.CacheLine.{CacheLine}
 use Rattle.sv39_walk.specs.Mappings.{mapping_answer}
 use Rattle.sv39_walk.specs.declared.second_stage.Mapping.{Mapping}
 use Rattle.gstage_cache.proofs.Lines.{fill_agrees, kept_agrees, kept_filled, kept_held}

@@ -1,5 +1,5 @@
 use Rattle.std.proofs.Common.{◌/◌, ◌%◌, ◌∙◌, sym}
-use Rattle.sv_types.specs.SecondStage.{walk_guest}
+use Rattle.processor.specs.SecondStage.{walk_guest}
 use Rattle.gstage_cache.proofs.Lines.{found_is, leads_there}
 use Rattle.gstage_cache.proofs.cache.Cache.held_place.Goals as goal
 

@@ -1,6 +1,6 @@
 use Rattle.std.proofs.Common.{◌≡◌, subst}
 use Rattle.sv_types.specs.Policies.{rules_of}
-use Rattle.sv_types.specs.declared.wires.Mode.{Mode}
+use Rattle.processor.specs.declared.mode.Mode.{Mode}
 use Rattle.hart_answers.specs.Hosts.{host_of}
 use Rattle.machine_model.specs.HostHarts.{host_seen}
 use Rattle.machine_model.specs.Served.{exit_answer}

@@ -1,4 +1,4 @@
-use Rattle.start_laws.proofs.StartsStand.{flat_start_law}
+use Rattle.standing_laws.proofs.StartsStand.{flat_start_law}
 use Rattle.machine.proofs.parts.Parts.flat.Goals as goal
 
 pub returns-clause-new : goal.returns-clause-new

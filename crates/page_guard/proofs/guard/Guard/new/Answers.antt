@@ -1,8 +1,8 @@
 use Rattle.std.proofs.Common.{rules, ◌≡◌, ◌≤◌, ◌∙◌, sym, ap, arith, ℕ, List, [], length, map, replicate, subst}
-use Rattle.sv_types.specs.Regions.{most_ram_pages}
-use Rattle.sv_types.specs.SecondStage.{AreViews, all_free}
-use Rattle.sv_types.specs.declared.wires.Protection.TheVariants.{Free}
-use Rattle.sv_types.specs.declared.wires.Protection.{Protection}
+use Rattle.processor.specs.Regions.{most_ram_pages}
+use Rattle.sv_types.specs.Views.{AreViews, all_free}
+use Rattle.sv_types.specs.declared.protection.Protection.TheVariants.{Free}
+use Rattle.sv_types.specs.declared.protection.Protection.{Protection}
 use Rattle.gstage_tables.specs.Blocks.{CountsTaken}
 use Rattle.gstage_tables.specs.Layout.{HoldsTrees}
 use Rattle.reference.specs.Protections.{is_free, protection_at}

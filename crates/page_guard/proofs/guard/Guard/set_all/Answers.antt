@@ -1,5 +1,5 @@
 use Rattle.std.proofs.Common.{rules, ◌≡◌, ◌+◌, ◌∙◌, ap, arith, length, List, ℕ, slice_get, slice_set}
-use Rattle.sv_types.specs.declared.wires.Protection.{Protection}
+use Rattle.sv_types.specs.declared.protection.Protection.{Protection}
 use Rattle.reference.specs.Protections.{with_pages}
 use Rattle.page_guard.proofs.Spans.{length_pages, pages_are, pages_more}
 use Rattle.page_guard.proofs.guard.Guard.set_all.Goals as goal

@@ -1,0 +1,46 @@
+// The init pages: an address, a colon and a number of pages.
+
+ghost use Rattle.std.specs.Prelude.{◌≡◌, ◌≤◌};
+ghost use Rattle.policy_making.specs.WordRanges as spec;
+
+use processor::{PAGE_BYTES, RAM_BASE};
+use sv_types::Span;
+use text_numbers::{address_of, number_within};
+
+fn span_at(ram_pages: u32, address: u64, count: u64) -> Option<Span>
+    requires some { 1 ≤ count }
+    requires few { count ≤ ram_pages }
+    ensures { result ≡ spec.span_at ram_pages address count }
+{
+    if address < RAM_BASE || address % PAGE_BYTES != 0 {
+        return None;
+    }
+    let first = (address - RAM_BASE) / PAGE_BYTES;
+    if first + count > u64::from(ram_pages) {
+        return None;
+    }
+    Some(Span {
+        first: first as u32,
+        count: count as u32,
+    })
+}
+
+#[tactic(auto, unfolding(crate::specs::WordRanges::span_of_two))]
+fn span_of_two(ram_pages: u32, address: &str, count: &str) -> Option<Span>
+    ensures { result ≡ spec.span_of_two ram_pages address.now count.now }
+{
+    let address = address_of(address)?;
+    let count = number_within(count.as_bytes(), 1, u64::from(ram_pages))?;
+    span_at(ram_pages, address, count)
+}
+
+/// The pages that a word names for so many pages of RAM: their address, a multiple of 4,096, a colon, and their number, at
+/// least one, all of them in RAM. None where it is another word.
+pub fn span_of(ram_pages: u32, word: &str) -> Option<Span>
+    ensures { result ≡ spec.span_of ram_pages word.now }
+{
+    match word.split_once(':') {
+        Some((address, count)) => span_of_two(ram_pages, address, count),
+        None => None,
+    }
+}

@@ -1,0 +1,143 @@
+-- Accesses of a hart to memory through both stages of translation.
+-- RISC-V Privileged manual, H extension: "Two-Stage Address Translation", "Guest-Page Faults", "Transformed Instruction or
+-- Pseudoinstruction for mtinst or htinst"; Unprivileged manual, "Load and Store Instructions" and the extension "A".
+use Rattle.std.specs.Prelude.{ℕ, ◌+◌, ◌/◌, ◌%◌, Bool, true, ◌==◌, if◌then◌else◌, bit_and, Option, Some, None, Result, Ok, Err}
+use Rattle.processor.specs.Bits.{bit}
+use Rattle.processor.specs.Regions.{Region, host_word, write_host}
+use Rattle.processor.specs.Translation.{Settings}
+use Rattle.processor.specs.SecondStage.{two_stages}
+use Rattle.processor.specs.Effects.{set_register, next_pc, amo_value}
+use Rattle.processor.specs.Requests.{loaded_value, reserved_at, covers, after_write}
+use Rattle.processor.specs.Hardware.{Core, Step, Attempted, with_region, plain_exception, raise}
+use Rattle.processor.specs.declared.cause.Cause.{Cause}
+use Rattle.processor.specs.declared.instruction.AmoOp.{AmoOp}
+use Rattle.processor.specs.declared.outcome.Outcome.{Outcome}
+use Rattle.processor.specs.declared.outcome.Exception.{Exception}
+use Rattle.processor.specs.declared.outcome.Wrote.{Wrote}
+use Rattle.processor.specs.declared.translation.Place.{Place}
+use Rattle.processor.specs.declared.translation.Fault.{Fault}
+use Rattle.processor.specs.declared.access.Access.{Access}
+use Rattle.processor.specs.declared.access.Access.TheVariants.{Fetch, Load, Store}
+
+-- ---- exceptions of an access
+
+abbrev pub misaligned : Access → Cause
+misaligned Fetch = Cause.InstrMisaligned
+misaligned Load = Cause.LoadMisaligned
+misaligned Store = Cause.StoreMisaligned
+
+abbrev pub page_fault : Access → Cause
+page_fault Fetch = Cause.InstrPage
+page_fault Load = Cause.LoadPage
+page_fault Store = Cause.StorePage
+
+abbrev pub guest_page_fault : Access → Cause
+guest_page_fault Fetch = Cause.GuestFetch
+guest_page_fault Load = Cause.GuestLoad
+guest_page_fault Store = Cause.GuestStore
+
+-- the fields of an instruction's word, each by its bits; funct7 of an atomic one has its aq and rl
+abbrev pub opcode_field : ℕ
+opcode_field = 0x0000007F
+
+abbrev pub rd_field : ℕ
+rd_field = 0x00000F80
+
+abbrev pub funct3_field : ℕ
+funct3_field = 0x00007000
+
+abbrev pub rs2_field : ℕ
+rs2_field = 0x01F00000
+
+abbrev pub funct7_field : ℕ
+funct7_field = 0xFE000000
+
+-- a transformed instruction keeps these fields of the word, and its others are 0: rs1 and the immediate
+abbrev pub load_htinst : ℕ → ℕ
+load_htinst w = bit_and w (funct3_field + rd_field + opcode_field)
+
+abbrev pub store_htinst : ℕ → ℕ
+store_htinst w = bit_and w (rs2_field + funct3_field + opcode_field)
+
+abbrev pub atomic_htinst : ℕ → ℕ
+atomic_htinst w = bit_and w (funct7_field + rs2_field + funct3_field + rd_field + opcode_field)
+
+-- the pseudoinstruction of a read of 64 bits for the first stage's translation
+abbrev pub implicit_read : ℕ
+implicit_read = 0x3000
+
+-- htval is the guest-physical address shifted right by 2; its two low bits are those of stval, or 0 for an implicit read
+abbrev pub fault_exception : Access → (va htinst : ℕ) → Fault → Exception
+fault_exception access va htinst Fault.Page = plain_exception (page_fault access) va
+fault_exception access va htinst (Fault.Guest gpa implicit) =
+    record { cause = guest_page_fault access; tval = va; htval = gpa / 4; htinst = if implicit then implicit_read else htinst }
+
+-- ---- where an access goes
+
+abbrev pub settings_at : Core → Settings
+settings_at core = record { satp = core.csrs.vsatp; sum = bit core.csrs.vsstatus 18; mxr = bit core.csrs.vsstatus 19 }
+
+-- the host place, or the exception
+abbrev pub place_or_exception : Access → (va htinst : ℕ) → Result Place Fault → Result ℕ Exception
+place_or_exception access va htinst (Ok place) = Ok place.hpa
+place_or_exception access va htinst (Err fault) = Err (fault_exception access va htinst fault)
+
+unfoldable pub translated : Region → Core → Access → (va htinst : ℕ) → Result ℕ Exception
+translated r core access va htinst =
+    place_or_exception access va htinst (two_stages r core.hregs.hgatp (settings_at core) core.hregs.mode va access)
+
+-- an address that is no multiple of the width isn't translated
+unfoldable pub reached : Region → Core → Access → (address width htinst : ℕ) → Result ℕ Exception
+reached r core access address width htinst =
+    if address % width == 0 then translated r core access address htinst else Err (plain_exception (misaligned access) address)
+
+-- ---- going on
+
+-- the hart goes on behind an instruction that is done, with the bytes that it wrote
+abbrev pub retire : Core → Option Wrote → Step
+retire core wrote = record { core = record core { pc = next_pc core.pc }; outcome = Outcome.Retired wrote }
+
+-- the same with a register set
+abbrev pub retire_with : Core → (rd value : ℕ) → Option Wrote → Step
+retire_with core rd value wrote = retire (record core { registers = set_register core.registers rd value }) wrote
+
+abbrev pub with_reservation : Core → Option ℕ → Core
+with_reservation core reservation = record core { reservation = reservation }
+
+-- a hart's own write too takes the reservation that it touches
+abbrev pub behind_write : Core → (hpa width : ℕ) → Core
+behind_write core hpa width = with_reservation core (after_write hpa width core.reservation)
+
+abbrev pub wrote : (hpa width : ℕ) → Option Wrote
+wrote hpa width = Some (record { hpa = hpa; width = width })
+
+-- ---- requests, by the place that they reached
+
+unfoldable pub after_load : Region → Core → (rd width : ℕ) → (signed : Bool) → Result ℕ Exception → Step
+after_load r core rd width signed (Ok hpa) = retire_with core rd (loaded_value signed width (host_word r hpa width)) None
+after_load r core rd width signed (Err e) = raise core e
+
+unfoldable pub after_load_reserved : Region → Core → (rd width : ℕ) → Result ℕ Exception → Step
+after_load_reserved r core rd width (Ok hpa) =
+    retire_with (with_reservation core (Some (reserved_at hpa))) rd (loaded_value true width (host_word r hpa width)) None
+after_load_reserved r core rd width (Err e) = raise core e
+
+unfoldable pub after_store : Region → Core → (width value : ℕ) → Result ℕ Exception → Attempted
+after_store r core width value (Ok hpa) =
+    with_region (write_host r hpa width value) (retire (behind_write core hpa width) (wrote hpa width))
+after_store r core width value (Err e) = with_region r (raise core e)
+
+-- the reservation goes in both cases; rd is 0 where the bytes were written, and else 1
+unfoldable pub after_store_conditional : Region → Core → (rd width value : ℕ) → Result ℕ Exception → Attempted
+after_store_conditional r core rd width value (Ok hpa) =
+    if covers core.reservation hpa width
+    then with_region (write_host r hpa width value) (retire_with (with_reservation core None) rd 0 (wrote hpa width))
+    else with_region r (retire_with (with_reservation core None) rd 1 None)
+after_store_conditional r core rd width value (Err e) = with_region r (raise core e)
+
+-- rd takes the word that was read
+unfoldable pub after_amo : Region → Core → (rd width : ℕ) → AmoOp → ℕ → Result ℕ Exception → Attempted
+after_amo r core rd width op value (Ok hpa) =
+    with_region (write_host r hpa width (amo_value op width (host_word r hpa width) value))
+    (retire_with (behind_write core hpa width) rd (loaded_value true width (host_word r hpa width)) (wrote hpa width))
+after_amo r core rd width op value (Err e) = with_region r (raise core e)

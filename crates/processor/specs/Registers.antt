@@ -1,0 +1,140 @@
+-- The supervisor registers as a guest reads and writes them.
+-- RISC-V Privileged manual, "CSR Listing" for the numbers and "Supervisor CSRs"; Unprivileged manual, "Zicntr" for
+-- time.
+use Rattle.std.specs.Prelude.{◌≡◌, ℕ, ◌+◌, ◌-◌, ◌*◌, ◌/◌, ◌^◌, Bool, true, false, ◌||◌, ◌==◌, if◌then◌else◌, bit_and, Option, Some, None}
+use Rattle.processor.specs.Bits.{bit, flag}
+use Rattle.processor.specs.declared.csr.Csr.{Csr}
+use Rattle.processor.specs.declared.mode.Mode.{Mode}
+use Rattle.processor.specs.declared.mode.Mode.TheVariants.{Kernel, User}
+use Rattle.processor.specs.declared.lines.Lines.{Lines}
+
+-- the registers of a guest's hart; of its pending interrupts the software interrupt alone is a register's
+pub record Supervisor : Type 0 where
+  pub sstatus : ℕ
+  pub sie : ℕ
+  pub stvec : ℕ
+  pub scounteren : ℕ
+  pub sscratch : ℕ
+  pub sepc : ℕ
+  pub scause : ℕ
+  pub stval : ℕ
+  pub software : Bool
+  pub satp : ℕ
+
+-- ---- the register of a number
+
+unfoldable pub csr_named : ℕ → Option Csr
+csr_named number =
+    if number == 0x100 then Some Csr.Sstatus
+    else if number == 0x104 then Some Csr.Sie
+    else if number == 0x105 then Some Csr.Stvec
+    else if number == 0x106 then Some Csr.Scounteren
+    else if number == 0x140 then Some Csr.Sscratch
+    else if number == 0x141 then Some Csr.Sepc
+    else if number == 0x142 then Some Csr.Scause
+    else if number == 0x143 then Some Csr.Stval
+    else if number == 0x144 then Some Csr.Sip
+    else if number == 0x180 then Some Csr.Satp
+    else if number == 0xC01 then Some Csr.Time
+    else None
+
+-- ---- the bits that may stand
+
+-- SIE, SPIE, SPP, SUM and MXR
+abbrev pub status_bits : ℕ
+status_bits = 2 ^ 1 + 2 ^ 5 + 2 ^ 8 + 2 ^ 18 + 2 ^ 19
+
+abbrev pub legal_status : ℕ → ℕ
+legal_status value = bit_and value status_bits
+
+-- UXL is 2: user mode has 64-bit registers
+abbrev pub uxl : ℕ
+uxl = 2 * 2 ^ 32
+
+-- the software, the timer and the external interrupt
+abbrev pub interrupt_bits : ℕ
+interrupt_bits = 2 ^ 1 + 2 ^ 5 + 2 ^ 9
+
+abbrev pub legal_interrupts : ℕ → ℕ
+legal_interrupts value = bit_and value interrupt_bits
+
+-- the base is a multiple of 4, and of the two modes bit 1 is 0
+abbrev pub legal_tvec : ℕ → ℕ
+legal_tvec value = bit_and value (2 ^ 64 - 1 - 2 ^ 1)
+
+-- TM alone
+abbrev pub legal_counteren : ℕ → ℕ
+legal_counteren value = bit_and value (2 ^ 1)
+
+-- instructions lie at multiples of 4
+abbrev pub legal_epc : ℕ → ℕ
+legal_epc value = bit_and value (2 ^ 64 - 2 ^ 2)
+
+-- the modes are Bare and Sv39, there are no ASIDs, and any other mode leaves the register
+abbrev pub satp_bits : ℕ
+satp_bits = 15 * 2 ^ 60 + (2 ^ 44 - 1)
+
+abbrev pub is_satp_mode : ℕ → Bool
+is_satp_mode mode = mode == 0 || mode == 8
+
+abbrev pub legal_satp : ℕ → ℕ → ℕ
+legal_satp old value = if is_satp_mode (value / 2 ^ 60) then bit_and value satp_bits else old
+
+-- ---- which register an access reaches, none where it is refused
+
+-- kernel mode has all, but it doesn't write time; user mode reads time alone, where scounteren has it
+abbrev pub is_allowed : Mode → ℕ → Bool → Csr → Bool
+is_allowed mode scounteren true Csr.Time = false
+is_allowed Kernel scounteren false Csr.Time = true
+is_allowed User scounteren false Csr.Time = bit scounteren 1
+is_allowed Kernel scounteren writes csr = true
+is_allowed User scounteren writes csr = false
+
+unfoldable pub allowed_csr : Mode → ℕ → Bool → Option Csr → Option Csr
+allowed_csr mode scounteren writes None = None
+allowed_csr mode scounteren writes (Some csr) = if is_allowed mode scounteren writes csr then Some csr else None
+
+unfoldable pub guest_access : Mode → Supervisor → ℕ → Bool → Option Csr
+guest_access mode s number writes = allowed_csr mode s.scounteren writes (csr_named number)
+
+-- ---- values
+
+-- the timer's and the external interrupt are the lines'
+abbrev pub sip_value : Supervisor → Lines → ℕ
+sip_value s lines = 2 ^ 1 * flag s.software + 2 ^ 5 * flag lines.timer + 2 ^ 9 * flag lines.external
+
+unfoldable pub read_csr : Supervisor → Lines → Csr → ℕ
+read_csr s lines Csr.Sstatus = s.sstatus + uxl
+read_csr s lines Csr.Sie = s.sie
+read_csr s lines Csr.Stvec = s.stvec
+read_csr s lines Csr.Scounteren = s.scounteren
+read_csr s lines Csr.Sscratch = s.sscratch
+read_csr s lines Csr.Sepc = s.sepc
+read_csr s lines Csr.Scause = s.scause
+read_csr s lines Csr.Stval = s.stval
+read_csr s lines Csr.Sip = sip_value s lines
+read_csr s lines Csr.Satp = s.satp
+read_csr s lines Csr.Time = lines.time
+
+-- no access writes time
+unfoldable pub write_csr : Supervisor → Csr → ℕ → Supervisor
+write_csr s Csr.Sstatus value = record s { sstatus = legal_status value }
+write_csr s Csr.Sie value = record s { sie = legal_interrupts value }
+write_csr s Csr.Stvec value = record s { stvec = legal_tvec value }
+write_csr s Csr.Scounteren value = record s { scounteren = legal_counteren value }
+write_csr s Csr.Sscratch value = record s { sscratch = value }
+write_csr s Csr.Sepc value = record s { sepc = legal_epc value }
+write_csr s Csr.Scause value = record s { scause = value }
+write_csr s Csr.Stval value = record s { stval = value }
+write_csr s Csr.Sip value = record s { software = bit value 1 }
+write_csr s Csr.Satp value = record s { satp = legal_satp s.satp value }
+write_csr s Csr.Time value = s
+
+-- each register holds only bits that may stand
+pub record IsLegalSupervisor (s : Supervisor) : Type 0 where
+  pub sstatus : legal_status s.sstatus ≡ s.sstatus
+  pub sie : legal_interrupts s.sie ≡ s.sie
+  pub stvec : legal_tvec s.stvec ≡ s.stvec
+  pub scounteren : legal_counteren s.scounteren ≡ s.scounteren
+  pub sepc : legal_epc s.sepc ≡ s.sepc
+  pub satp : legal_satp 0 s.satp ≡ s.satp

@@ -1,0 +1,13 @@
+// The hypervisor registers.
+
+use crate::mode::Mode;
+
+/// The hypervisor registers of one hart.
+#[derive(Clone, Copy, Debug, PartialEq, Eq, Drop)]
+pub struct HRegs {
+    pub mode: Mode,
+    pub hgatp: u64,
+    pub hedeleg: u64,
+    pub hideleg: u64,
+    pub vtsr: bool,
+}

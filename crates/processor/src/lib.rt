@@ -1,0 +1,39 @@
+//! The processor's data: instructions, registers, causes, translation. In `specs/` stand the definitions that restate the
+//! RISC-V manuals.
+#![tactic(auto)]
+
+mod access;
+mod bits;
+mod cached;
+mod cause;
+mod csr;
+mod effect;
+mod exit;
+mod hregs;
+mod instruction;
+mod interrupt;
+mod lines;
+mod memory;
+mod mode;
+mod outcome;
+mod pte_bits;
+mod translation;
+
+pub use access::Access;
+pub use bits::{has_bit, with_bits};
+pub use cached::CacheLine;
+pub use cause::Cause;
+pub use csr::{Csr, CsrFault};
+pub use effect::Effect;
+pub use exit::{Exit, ExitCause};
+pub use hregs::HRegs;
+pub use instruction::{
+    AmoOp, BranchOp, CsrOp, HyperOp, Instr, LoadOp, Op32Op, OpImm32Op, OpImmOp, OpOp, StoreOp,
+};
+pub use interrupt::Interrupt;
+pub use lines::Lines;
+pub use memory::{PAGE_BYTES, PAGE_SIZE, RAM_BASE};
+pub use mode::Mode;
+pub use outcome::{Exception, Outcome, Wrote};
+pub use pte_bits::PteBits;
+pub use translation::{Fault, GuestFault, Place};

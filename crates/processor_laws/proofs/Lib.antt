@@ -1,0 +1,15 @@
+pub mod RegisterBits
+pub mod GuestViews
+pub mod ByteLemmas
+pub mod RegionLemmas
+pub mod Decoding
+pub mod Fitting
+pub mod ApartRows
+pub mod WordFields
+pub mod WordDecodes
+pub mod EntryBits
+pub mod Walks
+pub mod HardwareWrites
+pub mod EffectRequests
+pub mod Reservations
+pub mod EmptyLines

@@ -1,0 +1,105 @@
+-- What a root of the second stage lets a hart see of memory, whatever RAM holds. This project's own, over the second stage of
+-- the RISC-V Privileged manual, H extension, "Two-Stage Address Translation".
+use Rattle.std.specs.Prelude.{◌≡◌, ℕ, ◌+◌, ◌*◌, ◌^◌, ◌<◌, Bool, true, false, ◌&&◌, List, length, ◌==◌, if◌then◌else◌, nat_le, nat_lt, Option, Some, None, option_map, slice_get, Result, Err}
+use Rattle.processor.specs.Bytes.{ram_base, ram_place, page_of, page_size}
+use Rattle.processor.specs.Regions.{Region}
+use Rattle.processor.specs.Translation.{Destination, At, PageFault, Unreadable}
+use Rattle.processor.specs.declared.access.Access.{Access}
+use Rattle.processor.specs.declared.access.Access.TheVariants.{Fetch, Load, Store}
+use Rattle.sv_types.specs.declared.view.View.{View}
+use Rattle.sv_types.specs.declared.view.View.TheVariants.{Kernel, User, Entry}
+use Rattle.sv_types.specs.declared.protection.Protection.{Protection}
+use Rattle.sv_types.specs.declared.protection.Protection.TheVariants.{Free, Held, Approved}
+use Rattle.processor.specs.declared.translation.Place.{Place}
+use Rattle.processor.specs.declared.translation.Fault.{Fault}
+use Rattle.processor.specs.SecondStage.{walk_guest, place_through, ReadsTablesAlone}
+use Rattle.processor.specs.declared.cached.CacheLine.{CacheLine}
+use Rattle.processor.specs.CachedWalks.{line_at}
+
+-- ---- views
+
+-- what a root lets a hart see: kernel mode's memory, user mode's, or what is seen in an entry that is bound to a page
+pub data Sight : Type 0 where
+  OfKernel : Sight
+  OfUser : Sight
+  OfEntry : (bound : ℕ) → Sight
+
+-- the accesses that a page of this protection answers. Every page is read, and a free one is written. Kernel mode fetches from
+-- approved pages, user mode from the others, and an entry from its own page alone, where that is approved
+abbrev pub view_permits : Sight → (page : ℕ) → Protection → Access → Bool
+view_permits sight page protection Load = true
+view_permits sight page Free Store = true
+view_permits sight page Held Store = false
+view_permits sight page Approved Store = false
+view_permits OfKernel page Approved Fetch = true
+view_permits OfKernel page Free Fetch = false
+view_permits OfKernel page Held Fetch = false
+view_permits OfUser page Approved Fetch = false
+view_permits OfUser page Free Fetch = true
+view_permits OfUser page Held Fetch = true
+view_permits (OfEntry bound) page Approved Fetch = page == bound
+view_permits (OfEntry bound) page Free Fetch = false
+view_permits (OfEntry bound) page Held Fetch = false
+
+abbrev pub page_in_ram : ℕ → ℕ → Bool
+page_in_ram ram_pages gpa = nat_le ram_base gpa && nat_lt (page_of gpa) ram_pages
+
+-- the host place of a gpa in RAM, behind the table part; nothing outside RAM
+unfoldable pub view_answer : ℕ → ℕ → Sight → (ℕ → Protection) → ℕ → Access → Option ℕ
+view_answer table_bytes ram_pages sight protections gpa access =
+    if page_in_ram ram_pages gpa && view_permits sight (page_of gpa) (protections (page_of gpa)) access
+    then Some (table_bytes + ram_place gpa) else None
+
+abbrev pub with_ram : List ℕ → List ℕ → Region
+with_ram tables ram = record { tables = tables; ram = ram }
+
+-- whatever RAM holds, every gpa of 64 bits is answered as the view says, and each walk reads the tables alone
+pub record IsView (tables : List ℕ) (ram_pages : ℕ) (protections : ℕ → Protection) (sight : Sight) (hgatp : ℕ) : Type 0 where
+  pub answers : (ram : List ℕ) (gpa : ℕ) (access : Access) → length ram ≡ page_size * ram_pages → gpa < 2 ^ 64 →
+      walk_guest (with_ram tables ram) hgatp gpa access ≡ view_answer (length tables) ram_pages sight protections gpa access
+  pub reads : (ram : List ℕ) (gpa : ℕ) (access : Access) → length ram ≡ page_size * ram_pages → gpa < 2 ^ 41 →
+      ReadsTablesAlone (with_ram tables ram) hgatp gpa access
+
+-- what a view makes of where the first stage leads
+abbrev pub under_view : ℕ → ℕ → Sight → (ℕ → Protection) → Access → Destination → Result Place Fault
+under_view table_bytes ram_pages sight protections access (At gpa) = place_through gpa (view_answer table_bytes ram_pages sight protections gpa access)
+under_view table_bytes ram_pages sight protections access PageFault = Err Fault.Page
+under_view table_bytes ram_pages sight protections access (Unreadable entry) = Err (Fault.Guest entry true)
+
+-- ---- the roots
+
+-- the hgatp values: mode 8 (Sv39x4), VMIDs 1, 2 and from 3 on, and roots at host places 0, 0x4000 and from 0x8000 on
+abbrev pub view_hgatp : View → ℕ
+view_hgatp Kernel = 0x8000100000000000
+view_hgatp User = 0x8000200000000004
+view_hgatp (Entry i) = 0x8000300000000008 + 0x100000000004 * i
+
+-- what each root lets a hart see, given the pages that entries are bound to. No entry, no root
+abbrev pub sight_of : (bound : List ℕ) → View → Option Sight
+sight_of bound Kernel = Some OfKernel
+sight_of bound User = Some OfUser
+sight_of bound (Entry i) = option_map OfEntry (slice_get bound i)
+
+-- each root shows what it is to show
+pub record AreViews (tables : List ℕ) (ram_pages : ℕ) (bound : List ℕ) (protections : ℕ → Protection) : Type 0 where
+  pub each : (view : View) (sight : Sight) → sight_of bound view ≡ Some sight → IsView tables ram_pages protections sight (view_hgatp view)
+
+-- the protections with that of one page changed
+abbrev pub protect : (ℕ → Protection) → ℕ → Protection → ℕ → Protection
+protect protections page protection p = if p == page then protection else protections p
+
+abbrev pub all_free : ℕ → Protection
+all_free page = Free
+
+-- ---- caches
+
+-- an hgatp value is a root's
+pub record IsRoot (bound : List ℕ) (hgatp : ℕ) : Type 0 where
+  pub view : View
+  pub sight : Sight
+  pub there : sight_of bound view ≡ Some sight
+  pub same : hgatp ≡ view_hgatp view
+
+-- every line that is held was walked under one of the roots
+pub record UnderViews (bound : List ℕ) (lines : List (Option CacheLine)) : Type 0 where
+  pub root : (i : ℕ) (line : CacheLine) → line_at lines i ≡ Some line → IsRoot bound line.hgatp

@@ -1,0 +1,9 @@
+// How pages are guarded.
+
+/// How a page of RAM is guarded.
+#[derive(Clone, Copy, Debug, PartialEq, Eq, Drop)]
+pub enum Protection {
+    Free,
+    Held,
+    Approved,
+}

@@ -1,0 +1,10 @@
+// Which second-stage tree a hart looks through.
+
+/// Which second-stage tree a hart looks through.
+#[derive(Clone, Copy, Debug, PartialEq, Eq, Drop)]
+pub enum View {
+    Kernel,
+    User,
+    /// That of the entry at a place in the policy's list.
+    Entry(u8),
+}
