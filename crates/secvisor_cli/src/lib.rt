@@ -17,10 +17,11 @@ mod trouble;
 mod words;
 
 pub use answer::{Bench, finish, refuse, secvisor};
+pub use file_fault::{FileFault, Part};
 pub use image_run::prepare_run;
 pub use judgement::any_has_dash;
 pub use ready::{Booted, Made, Ready, Stop};
-pub use refusal::{Part, Refusal, Word};
+pub use refusal::{Refusal, Word};
 pub use sv_types::Status;
 pub use trouble::Trouble;
 pub use words::{Run, Source, unless_none};
