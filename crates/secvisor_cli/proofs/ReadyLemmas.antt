@@ -82,7 +82,7 @@ unread_ready part name limit next old new refusal Missing fact is = record {
   ready = refusal_same _ _ is;
 }
 unread_ready part name limit next old new refusal Longer fact is = record {
-  reached = Some (Refuse (File part 0));
+  reached = Some (Refuse (File (FileFault.Longer part)));
   follows = inr (Longer, new, fact, (refl, refl));
   ready = refusal_same _ _ is;
 }

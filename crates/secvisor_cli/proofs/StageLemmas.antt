@@ -95,7 +95,7 @@ policy_staged name bytes old new (Ok policy) fact is = record {
 policy_staged name bytes old new (Err (Refused refusal)) fact is = λ next.
     read_ready Part.Policy name most_policy_bytes (λ b. Judge (policy_judged next (rules_of_text b))) old new new bytes _ fact
     (judge_ready _ new new _ (subst (λ (j : Judged Rules). Prepares (policy_judged next j) new new (Err (Refused refusal))) (sym is.1)
-    (end_ready (Refuse (File Part.Policy is.0)) new _ is.2)))
+    (end_ready (Refuse (File (FileFault.Policy is.0))) new _ is.2)))
 policy_staged name bytes old new (Err Memory) fact is = λ next.
     read_ready Part.Policy name most_policy_bytes (λ b. Judge (policy_judged next (rules_of_text b))) old new new bytes _ fact (judge_wants _ new)
 

@@ -390,7 +390,7 @@ measure_no_read_fault pages wanted events =
 pages_no_read_fault : (bytes wanted : List ℕ) (events : List Event) → status_due (pages_judged bytes wanted events) ≢ Status.ReadFault
 unfolding pages_judged
 pages_no_read_fault bytes wanted events =
-    elim (is_whole_pages bytes) as (λ b. status_due (if b then measure_judged bytes wanted events else Refuse (File Part.Flat 1)) ≢ Status.ReadFault) [
+    elim (is_whole_pages bytes) as (λ b. status_due (if b then measure_judged bytes wanted events else Refuse (File FileFault.FlatPages)) ≢ Status.ReadFault) [
       | true ↦ measure_no_read_fault bytes wanted events
       | false ↦ λ e. cc e
     ]
