@@ -35,3 +35,6 @@ impl Model for Virtio {
 
     ghost invariant = { λ v. IsSound (record { state = v.state; bytes = v.bytes.items }) };
 }
+
+#[cfg(test)]
+mod tests;
