@@ -16,6 +16,8 @@ mod images;
 #[cfg(test)]
 mod kernel;
 #[cfg(test)]
+mod live;
+#[cfg(test)]
 mod measure;
 #[cfg(test)]
 mod modules;

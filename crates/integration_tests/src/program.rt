@@ -12,8 +12,8 @@ const HANDED: u64 = 4;
 // The most bytes of all files of a call.
 const FILE_ROOM: usize = 8_388_608;
 
-// The most bytes that a call prints.
-const PRINTED_ROOM: usize = 20_000;
+/// The most bytes that a call prints.
+pub(crate) const PRINTED_ROOM: usize = 20_000;
 
 /// The files before a call, each under the name of its field.
 #[derive(Drop)]
@@ -98,8 +98,8 @@ fn save_number(outside: Outside) -> u64 {
     }
 }
 
-// Holds the files, with room for one more.
-fn hold(alloc: Global, handed: &Handed, outside: Outside) -> Result<MemFiles, AllocError>
+/// Holds the files, with room for one more.
+pub(crate) fn hold(alloc: Global, handed: &Handed, outside: Outside) -> Result<MemFiles, AllocError>
     ensures reads { IfOk result (λ files. files.read_faults ≡ 0) }
     ensures saves { IfOk result (λ files. files.save_faults ≡ 0) }
 {
@@ -178,6 +178,16 @@ pub(crate) fn call<R: Threads + Sync>(
         &[outside.failing_write],
     )?;
     let answer = answer_on(rt, alloc, &line, &mut files, &mut out);
+    left_behind(alloc, answer, &files, &out)
+}
+
+/// What is left of a call in its files and its sink.
+pub(crate) fn left_behind(
+    alloc: Global,
+    answer: Answer,
+    files: &MemFiles,
+    out: &MemSink,
+) -> Result<Left, AllocError> {
     let saved = match files.bytes("saved") {
         Some(bytes) => Some(bytes.to_vec(alloc)?),
         None => None,
