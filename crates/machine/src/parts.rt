@@ -62,6 +62,7 @@ impl Model for Parts {
 
 impl Parts {
     // An attempt of a hart, which SecVisor's answer follows where it gives an exit.
+    #[inline(always)]
     #[tactic(auto, using(hart_answers::proofs::Hosts::hosts_length))]
     fn attempt(&mut self, which: u8) -> Outcome
         requires there { which < length self.old.harts }
@@ -87,6 +88,7 @@ impl Parts {
     }
 
     // What follows an attempt.
+    #[inline(always)]
     #[tactic(auto, using(crate::proofs::Turns::served_there))]
     fn finish(&mut self, which: u8, outcome: Outcome)
         requires there { which < length self.old.harts }
