@@ -32,7 +32,7 @@ impl Model for Machine {
 
 impl Machine {
     /// One event. The machine stands for the reference machine's state after it, and changes no more than the event may.
-    #[inline(always)]
+    #[inline(never)]
     pub fn step(&mut self, event: Event)
         requires room { length self.old.journal.printed < 4096 }
         requires counts { CountsAtMost (2 ^ 64 - 2) self.old.journal.counts }

@@ -49,7 +49,6 @@ impl ExitCause {
 /// What an attempt hands to SecVisor.
 #[derive(Clone, Copy, Debug, PartialEq, Eq, Drop)]
 pub struct Exit {
-    pub cause: ExitCause,
     /// The guest-virtual address of the instruction.
     pub pc: u64,
     /// The guest-virtual address that faulted, or the word of an instruction that isn't carried out.
@@ -58,4 +57,5 @@ pub struct Exit {
     pub htval: u64,
     /// The transformed instruction of a guest-page fault, or that of an implicit read.
     pub htinst: u32,
+    pub cause: ExitCause,
 }
