@@ -115,7 +115,7 @@ pub fn find_mapping<L: Ledger>(
     ensures steps { steps.new ≤ steps.old + 3 }
 {
     if gpa >> 41 == 0 {
-        walk_three(mem, root_table(hgatp, gpa), gpa, steps)
+        walk_levels(mem, root_table(hgatp, gpa), gpa, steps)
     } else {
         None
     }
@@ -130,51 +130,26 @@ fn root_table(hgatp: u64, gpa: u64) -> u64
     4096 * ((hgatp & 0xFFF_FFFF_FFFF) + (gpa >> 39))
 }
 
-// The walk that has three tables before it.
-fn walk_three<L: Ledger>(
+// The walk of an address from a table with three levels, its own counted.
+fn walk_levels<L: Ledger>(
     mem: &HostMem,
-    table: u64,
+    root: u64,
     gpa: u64,
     steps: &mut Steps<L>,
 ) -> Option<Mapping>
-    requires { IsTable table }
-    ensures value { (access : Kind) → address_at (walk (entry_in_region mem.now) (permits_guest access) (indices_of 3 gpa) table gpa) ≡ mapping_answer result access }
+    requires { IsTable root }
+    ensures value { (access : Kind) → address_at (walk (entry_in_region mem.now) (permits_guest access) (indices_of 3 gpa) root gpa) ≡ mapping_answer result access }
     ensures steps { steps.new ≤ steps.old + 3 }
 {
-    let entry = host_entry(mem, table + 8 * index(gpa, 2), steps);
-    if is_pointer(entry) {
-        walk_two(mem, entry_page(entry), gpa, steps)
-    } else {
-        at_leaf(entry, 2, gpa)
+    let mut table = root;
+    'levels: for below in (0..3).rev() {
+        let entry = host_entry(mem, table + 8 * index(gpa, below), steps);
+        if !is_pointer(entry) {
+            return at_leaf(entry, below, gpa);
+        }
+        table = entry_page(entry);
     }
-}
-
-// The walk that has two tables before it.
-fn walk_two<L: Ledger>(mem: &HostMem, table: u64, gpa: u64, steps: &mut Steps<L>) -> Option<Mapping>
-    requires { IsTable table }
-    ensures value { (access : Kind) → address_at (walk (entry_in_region mem.now) (permits_guest access) (indices_of 2 gpa) table gpa) ≡ mapping_answer result access }
-    ensures steps { steps.new ≤ steps.old + 2 }
-{
-    let entry = host_entry(mem, table + 8 * index(gpa, 1), steps);
-    if is_pointer(entry) {
-        walk_one(mem, entry_page(entry), gpa, steps)
-    } else {
-        at_leaf(entry, 1, gpa)
-    }
-}
-
-// The walk that has one table before it.
-fn walk_one<L: Ledger>(mem: &HostMem, table: u64, gpa: u64, steps: &mut Steps<L>) -> Option<Mapping>
-    requires { IsTable table }
-    ensures value { (access : Kind) → address_at (walk (entry_in_region mem.now) (permits_guest access) (indices_of 1 gpa) table gpa) ≡ mapping_answer result access }
-    ensures steps { steps.new ≤ steps.old + 1 }
-{
-    let entry = host_entry(mem, table + 8 * index(gpa, 0), steps);
-    if is_pointer(entry) {
-        None
-    } else {
-        at_leaf(entry, 0, gpa)
-    }
+    None
 }
 
 // What an entry that is no pointer gives, with so many levels below it.
