@@ -115,3 +115,28 @@ fn runs_the_generated_guest_from_files(rt: HostRuntime) -> Result<(), Fail> {
     }
     Ok(())
 }
+
+// The most RAM that a policy may ask for, 1 GiB, and a page more.
+#[test]
+fn runs_in_the_most_ram(rt: HostRuntime) -> Result<(), Fail> {
+    let (image, policy) = generate(rt.alloc(), 1)?;
+    let written = policy::write(rt.alloc(), &policy)?;
+    let text = str::from_utf8(&written).unwrap_or("");
+    let ran = text_of(rt.alloc(), &ROWS[0].printed)?;
+    for (ram_pages, want) in [
+        ("ram_pages = 262144\n", ran.as_str()),
+        ("ram_pages = 262145\n", "refused policy 6\n"),
+    ] {
+        let handed = Handed {
+            image: image.as_slice().to_vec(rt.alloc())?,
+            policy: text
+                .replace(rt.alloc(), "ram_pages = 64\n", ram_pages)?
+                .into_bytes(),
+            disk: disk(rt.alloc())?,
+            script: script(rt.alloc())?,
+        };
+        let left = call(&rt, rt.alloc(), &handed, &WORDS, GOOD)?;
+        assert!(rt; left.taken.as_slice() == want.as_bytes(), "{ram_pages}");
+    }
+    Ok(())
+}
