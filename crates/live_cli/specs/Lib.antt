@@ -1,3 +1,4 @@
 pub mod LiveWords
 pub mod LiveReady
 pub mod LiveAnswers
+pub mod Replays

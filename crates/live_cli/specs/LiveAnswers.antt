@@ -104,6 +104,17 @@ pub record RunsLive (start : State) (asked : List Event) (name : List ℕ) (old 
   pub status : result ≡ after_reading ended.read_failed saved
   pub bench : (machine : Machine) × (new.bench ≡ Some machine) × StandsBehind start journal machine old.sink new.sink
 
+-- the status of a refusal, but for a file that isn't read
+abbrev pub is_refusal : Status → Bool
+is_refusal Status.Usage = true
+is_refusal Status.Refused = true
+is_refusal Status.Done = false
+is_refusal Status.Stopped = false
+is_refusal Status.ReadFault = false
+is_refusal Status.WriteFault = false
+is_refusal Status.Memory = false
+is_refusal Status.Ended = false
+
 -- what is due was answered. Where it is a refusal, no key is read
 abbrev pub AnswersLive : (name : List ℕ) → Due → LiveOutside → LiveOutside → Result Status Trouble → Type 0
 AnswersLive name (Refuse refusal) old new result =

@@ -1,5 +1,6 @@
 // The answer to the words of `live`.
-ghost use Rattle.std.specs.Prelude.{◌≡◌, ◌<◌, ◌≤◌, ◌-◌, ◌^◌, ◌∷◌, [], false, List, map, string_bytes, Result, Some, IsTrue};
+ghost use Rattle.std.specs.Prelude.{◌≡◌, ◌≢◌, ◌<◌, ◌≤◌, ◌-◌, ◌^◌, ◌⊎◌, ◌∷◌, ℕ, [], true, false, List, map, string_bytes, Result, Some, None, IsTrue};
+ghost use Rattle.std.specs.Result.{is_ok};
 ghost use Rattle.sv_types.specs.Schedule.{first_events};
 ghost use Rattle.reference.specs.States.{State};
 ghost use Rattle.machine_model.specs.Reaches.{IsNew};
@@ -8,12 +9,13 @@ ghost use Rattle.console_run.specs.Standing.{machine_output};
 ghost use Rattle.live_drive.specs.LiveRuns.{harts_of, events_made, IsUnderWay};
 ghost use Rattle.secvisor_cli.specs.Answers.{Writes, AfterSave, settled};
 ghost use Rattle.secvisor_cli.specs.Plans.{Exactly};
-ghost use Rattle.secvisor_cli.specs.Reading.{MayFollow};
+ghost use Rattle.secvisor_cli.specs.Reading.{MayFollow, IsNamed};
 ghost use Rattle.secvisor_cli.specs.declared.trouble.Trouble.{Trouble as Ending};
 ghost use Rattle.sv_types.specs.declared.status.Status.{Status as Answer};
 ghost use Rattle.live_cli.specs.LiveWords.{live_judged, live_plan};
 ghost use Rattle.live_cli.specs.LiveReady.{IsLiveFresh, out_of, MaySaveUnder};
-ghost use Rattle.live_cli.specs.LiveAnswers.{live_outside, SavesScript, after_reading, Reports, RunsLive, PerformsLive, LiveHeadline};
+ghost use Rattle.live_cli.specs.LiveAnswers.{live_outside, SavesScript, after_reading, is_refusal, Reports, RunsLive, PerformsLive, LiveHeadline};
+ghost use Rattle.live_cli.specs.Replays.{LiveLine, live_line, HasEnded, Replays, ComesToDue};
 
 use crate::ready::{LiveReady, prepare_live};
 use live_drive::{LiveEnd, LiveRun};
@@ -180,6 +182,34 @@ pub fn secvisor_live<R: Threads + Wait + Sync, F: Files, K: Keys + Send, O: Sink
     ensures headline { LiveHeadline (live_judged (map string_bytes words.now))
         (live_outside (F.state files.old) (O.state out.old) (K.state keys.old) bench.old.machine)
         (live_outside (F.state files.new) (O.state out.new) (K.state keys.new) bench.new.machine) result }
+
+    // Where a run came to its end, `run` over what was saved is due the same bytes, status and disk.
+    ensures replay { (line : LiveLine) → map string_bytes words.now ≡ live_line line → HasEnded result (K.state keys.old) (K.state keys.new) →
+        Replays line
+        (live_outside (F.state files.old) (O.state out.old) (K.state keys.old) bench.old.machine)
+        (live_outside (F.state files.new) (O.state out.new) (K.state keys.new) bench.new.machine) result }
+
+    // A read fault is answered only where the files tell that a name of the words isn't held, or a count of reads rose: that of
+    // the files, or that of the keys.
+    ensures read_fault { result ≡ Status.ReadFault →
+        ((IsTrue (F.state files.old).tells × ((name : List ℕ) × IsNamed (live_plan (live_judged (map string_bytes words.now))) name × ((F.state files.old).held name ≡ None)))
+        ⊎ ((F.state files.old).read_faults < (F.state files.new).read_faults))
+        ⊎ ((K.state keys.old).faults < (K.state keys.new).faults) }
+
+    // The counts of faults never fall.
+    ensures reads { (F.state files.old).read_faults ≤ (F.state files.new).read_faults }
+    ensures writes { (O.state out.old).faults ≤ (O.state out.new).faults }
+    ensures saves { (F.state files.old).save_faults ≤ (F.state files.new).save_faults }
+    ensures keys { (K.state keys.old).faults ≤ (K.state keys.new).faults }
+
+    // Words that are refused read no file, and no refusal reads a key.
+    ensures unread { is_ok (live_judged (map string_bytes words.now)) ≡ false → F.state files.new ≡ F.state files.old }
+    ensures unasked { is_refusal result ≡ true → K.state keys.new ≡ K.state keys.old }
+
+    // No name changes but the one that the script is saved under; and of a refusal, or where memory was wanting, nothing is saved.
+    ensures held { (name : List ℕ) → name ≢ out_of (live_judged (map string_bytes words.now)) → (F.state files.new).held name ≡ (F.state files.old).held name }
+    ensures unsaved { (is_refusal result ≡ true) ⊎ (result ≡ Status.Memory) →
+        ((F.state files.new).held ≡ (F.state files.old).held) × ((F.state files.new).save_faults ≡ (F.state files.old).save_faults) }
 {
     settled(answer(rt, alloc, words, files, keys, out, pace, bench))
 }
@@ -193,3 +223,8 @@ fn settled(answer: Result<Status, Trouble>) -> Status
         Err(Trouble::Memory) => Status::Memory,
     }
 }
+
+/// In files that tell what they hold, what is due at the end of a plan is what they hold asks for, where no read failed.
+pub fn law_due()
+    ensures due { ComesToDue }
+{}

@@ -447,7 +447,7 @@ unfolding image_plan kernel_part found_plan
 image_found_faults words rules =
     (λ e. cc e, λ file. part_found_faults FileFault.Image (boot_plan words rules file) (kernel_refusal file rules.ram_pages) (boot_found_faults words rules file))
 
-run_found_faults : (words : RunWords) → HasFoundFaults (run_plan words)
+pub run_found_faults : (words : RunWords) → HasFoundFaults (run_plan words)
 unfolding run_plan policy_part found_plan
 run_found_faults words = (λ e. cc e, λ bytes. policy_found_faults (image_plan words) (rules_of_text bytes) (image_found_faults words))
 

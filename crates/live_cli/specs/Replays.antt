@@ -1,0 +1,115 @@
+-- That `run` replays what `live` did: what it is due, where the text that `live` saved is its script.
+use Rattle.std.specs.Prelude.{◌≡◌, ◌<◌, ◌≤◌, ◌⊎◌, ◌^◌, ℕ, List, [], ◌∷◌, length, nat_le, Bool, true, false, IsTrue, if◌then◌else◌, Option, Some, None, codes}
+use Rattle.std.specs.Fmt.{decimal}
+use Rattle.sv_types.specs.declared.event.Event.{Event}
+use Rattle.sv_types.specs.declared.status.Status.{Status}
+use Rattle.sv_types.specs.Output.{run_status}
+use Rattle.reference.specs.States.{State}
+use Rattle.reference.specs.Report.{output}
+use Rattle.reference.specs.Run.{run}
+use Rattle.machine_model.specs.Machine.{Machine}
+use Rattle.command_words.specs.Commands.{has_dash}
+use Rattle.outside.specs.Outside.{FilesState, after_taking}
+use Rattle.live_keys.specs.Keys.{KeysState}
+use Rattle.secvisor_cli.specs.CommandLine.{Text, judged, source_of, unless_none}
+use Rattle.secvisor_cli.specs.Plans.{Due, RunFrom, Plan, End, Read, Judge, Found, Missing, Longer, Held, plan_of}
+use Rattle.secvisor_cli.specs.Reading.{Follows}
+use Rattle.live_cli.specs.LiveAnswers.{LiveOutside}
+
+-- ---- the words
+
+-- live IMAGE POLICY DISK EVENTS OUT
+pub record LiveLine : Type 0 where
+  pub image : List ℕ
+  pub policy : List ℕ
+  pub disk : List ℕ
+  pub events : List ℕ
+  pub out : List ℕ
+
+abbrev pub live_line : LiveLine → List (List ℕ)
+live_line line = codes "live" ∷ line.image ∷ line.policy ∷ line.disk ∷ line.events ∷ line.out ∷ []
+
+-- run IMAGE POLICY DISK SCRIPT EVENTS SAVE, where the first three words are those of `live`
+abbrev pub run_line : LiveLine → (script : List ℕ) → (events : ℕ) → (save : List ℕ) → List (List ℕ)
+run_line line script events save =
+    codes "run" ∷ line.image ∷ line.policy ∷ line.disk ∷ script ∷ decimal events ∷ save ∷ []
+
+-- a word that `run` takes for the name of its script's file
+pub record NamesScript (word : List ℕ) : Type 0 where
+  pub dash : has_dash word ≡ false
+  pub file : source_of word ≡ Some (Text word)
+
+-- ---- what is due in files that hold something
+
+-- what reading a name gives that holds this, where the read doesn't fail
+unfoldable pub found_in : (limit : ℕ) → Option (List ℕ) → Found
+found_in limit None = Missing
+found_in limit (Some bytes) = if nat_le (length bytes) limit then Held bytes else Longer
+
+-- what is due at a plan's end in files whose names hold this, where no read fails and memory isn't wanting
+abbrev pub due_in : (held : List ℕ → Option (List ℕ)) → Plan → Due
+due_in held (End due) = due
+due_in held (Read name limit next) = due_in held (next (found_in limit (held name)))
+due_in held (Judge next) = due_in held next
+
+-- So it is with files that tell what they hold: where they were asked as the plan says and no read failed, this is due at its
+-- end.
+abbrev pub ComesToDue : Type 0
+ComesToDue = (plan : Plan) (old new : FilesState) (due : Due) → IsTrue old.tells → new.read_faults ≡ old.read_faults →
+    Follows plan old new (Some due) → due_in old.held plan ≡ due
+
+-- ---- what is read
+
+-- the bytes of a run's parts
+pub record Parts : Type 0 where
+  pub image : List ℕ
+  pub policy : List ℕ
+  pub disk : List ℕ
+
+-- a disk without a name is empty
+abbrev pub HoldDisk : (held : List ℕ → Option (List ℕ)) → (name : Option (List ℕ)) → List ℕ → Type 0
+HoldDisk held None bytes = bytes ≡ []
+HoldDisk held (Some name) bytes = held name ≡ Some bytes
+
+-- the names of the line hold these parts
+pub record HoldParts (held : List ℕ → Option (List ℕ)) (line : LiveLine) (parts : Parts) : Type 0 where
+  pub image : held line.image ≡ Some parts.image
+  pub policy : held line.policy ≡ Some parts.policy
+  pub disk : HoldDisk held (unless_none line.disk) parts.disk
+
+-- ---- the replay
+
+-- the status of a run that came to its end
+abbrev pub is_of_run : Status → Bool
+is_of_run Status.Done = true
+is_of_run Status.Stopped = true
+is_of_run Status.Ended = true
+is_of_run Status.Usage = false
+is_of_run Status.Refused = false
+is_of_run Status.ReadFault = false
+is_of_run Status.WriteFault = false
+is_of_run Status.Memory = false
+
+-- The run came to its end, and all that it owes was written and saved. Status 4 says so only where a read of the keys failed.
+abbrev pub HasEnded : (answer : Status) → (old new : KeysState) → Type 0
+HasEnded answer old new = IsTrue (is_of_run answer) ⊎ ((answer ≡ Status.ReadFault) × (old.faults < new.faults))
+
+-- There is one run, from a start over a journal. `live` wrote its output, answered its status, left its disk in the machine and
+-- saved a text; and `run` over that text is due this very run.
+pub record Replays (line : LiveLine) (old new : LiveOutside) (answer : Status) : Type 0 where
+  pub start : State
+  pub journal : List Event
+  -- what was read
+  pub parts : Parts
+  pub found : IsTrue old.files.tells → HoldParts old.files.held line parts
+  -- what was saved
+  pub text : List ℕ
+  pub saved : IsTrue old.files.tells → new.files.held line.out ≡ Some text
+  pub bytes : new.sink ≡ after_taking old.sink (output (run start journal))
+  pub status : (answer ≡ run_status (run start journal).journal.verdict) ⊎ ((answer ≡ Status.ReadFault) × (old.keys.faults < new.keys.faults))
+  pub disk : (machine : Machine) × (new.bench ≡ Some machine) × (machine.devices.disk.bytes ≡ (run start journal).devices.disk.bytes)
+  pub few : length journal ≤ 2 ^ 32
+  -- in all files that hold the same parts, and the text under a name of their own, with at least as many events
+  pub again : (held : List ℕ → Option (List ℕ)) (script : List ℕ) (events : ℕ) (save : List ℕ) → HoldParts held line parts → held script ≡ Some text →
+      NamesScript script → has_dash save ≡ false → length journal ≤ events → events ≤ 2 ^ 32 →
+      due_in held (plan_of (judged (run_line line script events save))) ≡ RunFrom start journal (unless_none save)
