@@ -32,7 +32,7 @@ impl Core {
 
     /// Clears a reservation of which some bytes are among the `width` bytes from a host place on.
     #[tactic(auto, unfolding(processor::specs::Requests::after_write))]
-    pub fn forget(&mut self, hpa: u64, width: u8)
+    pub fn forget(&mut self, hpa: u64, width: u64)
         ensures { self.new ≡ record self.old { reservation = after_write hpa width self.old.reservation } }
     {
         if let Some(reserved) = self.reservation {
@@ -63,11 +63,11 @@ impl Hart {
 }
 
 #[tactic(auto, unfolding(processor::specs::Requests::touches))]
-fn touches(reserved: u64, hpa: u64, width: u8) -> bool
+fn touches(reserved: u64, hpa: u64, width: u64) -> bool
     ensures { result ≡ touches reserved hpa width }
 {
     if hpa < reserved {
-        reserved - hpa < width as u64
+        reserved - hpa < width
     } else {
         hpa - reserved < 8 && width > 0
     }

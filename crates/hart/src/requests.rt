@@ -129,8 +129,14 @@ pub(crate) fn store(
     match place {
         Ok(hpa) => {
             mem.write(hpa as usize, width, value);
-            core.forget(hpa, width);
-            retire(core, Some(Wrote { hpa, width }))
+            core.forget(hpa, u64::from(width));
+            retire(
+                core,
+                Some(Wrote {
+                    hpa,
+                    width: u64::from(width),
+                }),
+            )
         }
         Err(exception) => raise(core, regs, exception),
     }
@@ -172,7 +178,15 @@ pub(crate) fn store_conditional(
             core.reservation = None;
             if holds {
                 mem.write(hpa as usize, width, value);
-                retire_with(core, rd, 0, Some(Wrote { hpa, width }))
+                retire_with(
+                    core,
+                    rd,
+                    0,
+                    Some(Wrote {
+                        hpa,
+                        width: u64::from(width),
+                    }),
+                )
             } else {
                 retire_with(core, rd, 1, None)
             }
@@ -217,12 +231,15 @@ pub(crate) fn atomic(
                 width,
                 amo(operation.op, width, word, operation.value),
             );
-            core.forget(hpa, width);
+            core.forget(hpa, u64::from(width));
             retire_with(
                 core,
                 rd,
                 loaded_value(true, width, word),
-                Some(Wrote { hpa, width }),
+                Some(Wrote {
+                    hpa,
+                    width: u64::from(width),
+                }),
             )
         }
         Err(exception) => raise(core, regs, exception),

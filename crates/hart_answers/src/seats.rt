@@ -27,7 +27,7 @@ pub struct Seat {
 
 /// Clears each reservation of which some bytes are among the `width` bytes from a host place on.
 #[tactic(auto, using(crate::proofs::Changes::none_changed, crate::proofs::Changes::next_changed, crate::proofs::Changes::length_changed, crate::proofs::Changes::all_forgotten))]
-pub fn forget(seats: &mut [Seat], hpa: u64, width: u8)
+pub fn forget(seats: &mut [Seat], hpa: u64, width: u64)
     ensures hosts { hosts_of seats.new ≡ map (forgets hpa width) (hosts_of seats.old) }
     ensures number { length seats.new ≡ length seats.old }
 {
@@ -36,7 +36,7 @@ pub fn forget(seats: &mut [Seat], hpa: u64, width: u8)
     }
 }
 
-fn forget_one(seat: &mut Seat, hpa: u64, width: u8)
+fn forget_one(seat: &mut Seat, hpa: u64, width: u64)
     ensures { seat.new ≡ forgotten hpa width seat.old }
 {
     seat.hart.core.forget(hpa, width);

@@ -129,7 +129,10 @@ fn exit(cause: Cause, pc: u64, stval: u64, htval: u64, htinst: u32) -> Outcome {
 
 fn wrote(hpa: u64, width: u8) -> Outcome {
     Outcome::Retired {
-        wrote: Some(Wrote { hpa, width }),
+        wrote: Some(Wrote {
+            hpa,
+            width: u64::from(width),
+        }),
     }
 }
 

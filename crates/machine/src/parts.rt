@@ -182,7 +182,7 @@ impl Parts {
         match beat_disk(&mut self.devices, self.guard.dma(), &mut self.mem) {
             Beaten::Wrote { gpa, len } => {
                 let hpa = self.mem.table_bytes() as u64 + (gpa - RAM_BASE);
-                forget(&mut self.seats, hpa, len as u8);
+                forget(&mut self.seats, hpa, u64::from(len));
             }
             Beaten::Denied { gpa } => self.journal.deny(gpa),
             Beaten::Idle | Beaten::Read { gpa: _ } | Beaten::Range => {}

@@ -3,11 +3,12 @@
 use crate::cause::Cause;
 use crate::exit::Exit;
 
-/// The bytes that an attempt wrote: `width` of them from a host place on.
+/// The bytes that an attempt wrote: `width` of them from a host place on. All fields are words, as those of an exit, so
+/// that an outcome is handed on by whole words.
 #[derive(Clone, Copy, Debug, PartialEq, Eq, Drop)]
 pub struct Wrote {
     pub hpa: u64,
-    pub width: u8,
+    pub width: u64,
 }
 
 /// What an attempt of a hart comes to.
