@@ -71,60 +71,6 @@ fn an_approved_page_is_read_in_both_views_and_fetched_in_one(
     Ok(())
 }
 
-// RAM of two blocks of 2 MiB.
-const TWO_BLOCKS: usize = 1024;
-
-// Which of a fetch, a load and a store the kernel view and the user view permit.
-fn permitted(protection: Protection) -> [[bool; 3]; 2] {
-    match protection {
-        Protection::Free => [[false, true, true], [true; 3]],
-        Protection::Held => [[false, true, false], [true, true, false]],
-        Protection::Approved => [[true, true, false], [false, true, false]],
-    }
-}
-
-// The place, where an access is permitted.
-fn places(permitted: [bool; 3], place: u64) -> [Option<u64>; 3] {
-    permitted.map(|permitted| permitted.then_some(place))
-}
-
-// Page 700 of two blocks answers as its protection says, and all others as free pages.
-fn expect_all(rt: &impl Abort, mem: &HostMem, trees: &Trees, size: usize, protection: Protection) {
-    for page in 0..TWO_BLOCKS as u64 {
-        let protection = if page == 700 {
-            protection
-        } else {
-            Protection::Free
-        };
-        let [kernel, user] = permitted(protection);
-        let place = size as u64 + 4096 * page;
-        let want = [places(kernel, place), places(user, place)];
-        expect(rt, mem, trees, 0x8000_0000 + 4096 * page, want);
-    }
-}
-
-#[test]
-fn a_protected_page_of_a_block_splits_it_and_leaves_its_neighbours(
-    rt: HostRuntime,
-) -> Result<(), AllocError> {
-    let size = Trees::table_bytes(TWO_BLOCKS, 0);
-    let mut mem = HostMem::new(rt.alloc(), size, TWO_BLOCKS)?;
-    assert_eq!(rt; mem.table_bytes(), size);
-    assert_eq!(rt; mem.ram_pages(), TWO_BLOCKS);
-    let mut trees = Trees::new(&mut mem, &[]);
-    expect_all(&rt, &mem, &trees, size, Protection::Free);
-    assert_eq!(rt; mem.table_bytes(), size);
-    trees.set(&mut mem, 700, Protection::Held);
-    expect_all(&rt, &mem, &trees, size, Protection::Held);
-    assert_eq!(rt; mem.table_bytes(), size);
-    trees.set(&mut mem, 700, Protection::Approved);
-    expect_all(&rt, &mem, &trees, size, Protection::Approved);
-    assert_eq!(rt; mem.table_bytes(), size);
-    trees.set(&mut mem, 700, Protection::Free);
-    expect_all(&rt, &mem, &trees, size, Protection::Free);
-    Ok(())
-}
-
 // Writes an entry of a first-stage table at a place of RAM.
 fn put_entry(mem: &mut HostMem, place: u16, entry: u64) {
     let place = place as usize;
