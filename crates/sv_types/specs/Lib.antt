@@ -1,3 +1,4 @@
+pub mod BlockNumbers
 pub mod ImageFaults
 pub mod RelocationKinds
 pub mod ApprovedPages

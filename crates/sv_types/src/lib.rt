@@ -1,6 +1,7 @@
 //! The plain data that every layer of SecVisor names. In `specs/` stand the definitions that contracts cite.
 #![tactic(auto)]
 
+mod block;
 mod event;
 mod failed;
 mod image_fault;
@@ -15,6 +16,7 @@ mod sbi;
 mod status;
 mod view;
 
+pub use block::{BlockCommand, BlockState, BlockStatus};
 pub use event::{Counts, Event, Note, Rule, Verdict};
 pub use failed::Failed;
 pub use image_fault::{HeaderFault, ImageFault};
@@ -24,7 +26,7 @@ pub use name::{MOST_NAME_BYTES, Name};
 pub use policy::{Export, ModulePolicy, Policy};
 pub use protection::Protection;
 pub use relocation_kind::RelocationKind;
-pub use saved::{BlockState, SavedModule};
+pub use saved::SavedModule;
 pub use sbi::SbiCode;
 pub use status::Status;
 pub use view::View;
