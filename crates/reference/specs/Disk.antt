@@ -1,8 +1,11 @@
 -- The block device: its registers and its beats, with one definition each for a load, a store, a beat and the line.
 -- This project's own. It knows no machine: a beat is told RAM and which pages may be written.
-use Rattle.std.specs.Prelude.{ℕ, ◌+◌, ◌*◌, ◌%◌, ◌^◌, Bool, false, not, ◌&&◌, ◌||◌, List, length, ◌==◌, if◌then◌else◌, nat_le, nat_lt, Option, Some, None, option_map, slice_get, unwrap_or}
+use Rattle.std.specs.Prelude.{ℕ, ◌+◌, ◌*◌, ◌%◌, ◌^◌, Bool, true, false, not, ◌&&◌, ◌||◌, List, length, ◌==◌, if◌then◌else◌, nat_le, nat_lt, Option, Some, None, option_map, slice_get, unwrap_or}
 use Rattle.processor.specs.Bytes.{part, overwrite, in_ram, ram_place, page_of}
-use Rattle.sv_types.specs.declared.saved.BlockState.{BlockState}
+use Rattle.sv_types.specs.BlockNumbers.{command_of, status_number}
+use Rattle.sv_types.specs.declared.block.BlockCommand.{BlockCommand}
+use Rattle.sv_types.specs.declared.block.BlockState.{BlockState}
+use Rattle.sv_types.specs.declared.block.BlockStatus.{BlockStatus}
 use Rattle.reference.specs.States.{Disk}
 
 -- ---- registers
@@ -24,7 +27,7 @@ block_value b Sector = b.sector
 block_value b Address = b.gpa
 block_value b Count = b.count
 block_value b Command = 0
-block_value b Status = b.status
+block_value b Status = status_number b.status
 
 -- what a load gives; none where no register has that offset and width
 unfoldable pub disk_load : Disk → ℕ → ℕ → Option ℕ
@@ -39,54 +42,40 @@ sector_size = 512
 abbrev pub beat_size : ℕ
 beat_size = 64
 
--- the status: idle, a transfer under way, and how the last one ended
-abbrev pub idle : ℕ
-idle = 0
-
-abbrev pub busy : ℕ
-busy = 1
-
-abbrev pub done : ℕ
-done = 2
-
-abbrev pub denied : ℕ
-denied = 3
-
-abbrev pub out_of_range : ℕ
-out_of_range = 4
-
--- the two commands
-abbrev pub disk_to_memory : ℕ
-disk_to_memory = 1
-
-abbrev pub memory_to_disk : ℕ
-memory_to_disk = 2
-
 -- a transfer is under way
+abbrev pub is_under_way : BlockStatus → Bool
+is_under_way BlockStatus.Idle = false
+is_under_way (BlockStatus.Busy command done) = true
+is_under_way BlockStatus.Done = false
+is_under_way BlockStatus.Denied = false
+is_under_way BlockStatus.OutOfRange = false
+
 abbrev pub is_busy : BlockState → Bool
-is_busy b = b.status == busy
+is_busy b = is_under_way b.status
 
 -- there are sectors, all on the disk, and the address is a multiple of a beat's bytes
 abbrev pub can_begin : BlockState → ℕ → Bool
 can_begin b disk_size = nat_lt 0 b.count && nat_le (sector_size * (b.sector + b.count)) disk_size && b.gpa % beat_size == 0
 
 -- no transfer is under way any more
-abbrev pub block_ended : BlockState → ℕ → BlockState
-block_ended b status = record b { status = status; command = 0; done = 0 }
+abbrev pub block_ended : BlockState → BlockStatus → BlockState
+block_ended b status = record b { status = status }
 
 -- a transfer begins, or is out of range; an unknown command is ignored
+abbrev pub block_told : BlockState → ℕ → Option BlockCommand → BlockState
+block_told b disk_size None = b
+block_told b disk_size (Some command) =
+    if can_begin b disk_size then record b { status = BlockStatus.Busy command 0 } else block_ended b BlockStatus.OutOfRange
+
 abbrev pub after_command : BlockState → ℕ → ℕ → BlockState
-after_command b disk_size command =
-    if command == disk_to_memory || command == memory_to_disk
-    then (if can_begin b disk_size then record b { status = busy; command = command; done = 0 } else block_ended b out_of_range)
-    else b
+after_command b disk_size number = block_told b disk_size (command_of number)
 
 abbrev pub block_stored : BlockState → ℕ → BlockRegister → ℕ → BlockState
 block_stored b disk_size Sector value = record b { sector = value }
 block_stored b disk_size Address value = record b { gpa = value }
 block_stored b disk_size Count value = record b { count = value }
 block_stored b disk_size Command value = after_command b disk_size value
-block_stored b disk_size Status value = block_ended b idle
+block_stored b disk_size Status value = block_ended b BlockStatus.Idle
 
 -- all stores are ignored while a transfer is under way
 abbrev pub unless_busy : BlockState → BlockState → BlockState
@@ -100,8 +89,15 @@ disk_store d offset width value =
 -- ---- the line
 
 -- a transfer has ended
+abbrev pub has_ended : BlockStatus → Bool
+has_ended BlockStatus.Idle = false
+has_ended (BlockStatus.Busy command done) = false
+has_ended BlockStatus.Done = true
+has_ended BlockStatus.Denied = true
+has_ended BlockStatus.OutOfRange = true
+
 unfoldable pub disk_line : Disk → Bool
-disk_line d = nat_le done d.block.status
+disk_line d = has_ended d.block.status
 
 -- ---- beats
 
@@ -123,18 +119,44 @@ pub record Beaten : Type 0 where
   pub disk : Disk
   pub move : Move
 
+-- the beats that are done, and one more
+abbrev pub beats_done : BlockStatus → ℕ
+beats_done BlockStatus.Idle = 0
+beats_done (BlockStatus.Busy command done) = done
+beats_done BlockStatus.Done = 0
+beats_done BlockStatus.Denied = 0
+beats_done BlockStatus.OutOfRange = 0
+
+abbrev pub one_further : BlockStatus → BlockStatus
+one_further BlockStatus.Idle = BlockStatus.Idle
+one_further (BlockStatus.Busy command done) = BlockStatus.Busy command (done + 1)
+one_further BlockStatus.Done = BlockStatus.Done
+one_further BlockStatus.Denied = BlockStatus.Denied
+one_further BlockStatus.OutOfRange = BlockStatus.OutOfRange
+
+-- the transfer under way goes from the disk to memory
+abbrev pub is_to_memory : BlockStatus → Bool
+is_to_memory BlockStatus.Idle = false
+is_to_memory (BlockStatus.Busy BlockCommand.DiskToMemory done) = true
+is_to_memory (BlockStatus.Busy BlockCommand.MemoryToDisk done) = false
+is_to_memory BlockStatus.Done = false
+is_to_memory BlockStatus.Denied = false
+is_to_memory BlockStatus.OutOfRange = false
+
 -- where the next beat goes: in memory, and on the disk
 abbrev pub beat_gpa : BlockState → ℕ
-beat_gpa b = b.gpa + beat_size * b.done
+beat_gpa b = b.gpa + beat_size * beats_done b.status
 
 abbrev pub beat_place : BlockState → ℕ
-beat_place b = sector_size * b.sector + beat_size * b.done
+beat_place b = sector_size * b.sector + beat_size * beats_done b.status
 
 -- one beat is done; the last one ends the transfer
 abbrev pub block_after_beat : BlockState → BlockState
-block_after_beat b = if beat_size * (b.done + 1) == sector_size * b.count then block_ended b done else record b { done = b.done + 1 }
+block_after_beat b =
+    if beat_size * (beats_done b.status + 1) == sector_size * b.count then block_ended b BlockStatus.Done
+    else record b { status = one_further b.status }
 
-abbrev pub transfer_ended : Disk → ℕ → Move → Beaten
+abbrev pub transfer_ended : Disk → BlockStatus → Move → Beaten
 transfer_ended d status move = record { disk = record d { block = block_ended d.block status }; move = move }
 
 abbrev pub to_memory : Disk → (ℕ → Bool) → Beaten
@@ -144,7 +166,7 @@ to_memory d may_write =
       disk = record d { block = block_after_beat d.block };
       move = IntoRam (beat_gpa d.block) (part d.bytes (beat_place d.block) beat_size);
     }
-    else transfer_ended d denied (DeniedAt (beat_gpa d.block))
+    else transfer_ended d BlockStatus.Denied (DeniedAt (beat_gpa d.block))
 
 abbrev pub to_disk : Disk → List ℕ → Beaten
 to_disk d ram = record {
@@ -159,8 +181,8 @@ to_disk d ram = record {
 unfoldable pub disk_beat : Disk → List ℕ → (ℕ → Bool) → Beaten
 disk_beat d ram may_write =
     if not (is_busy d.block) then record { disk = d; move = Idle }
-    else if not (in_ram ram (beat_gpa d.block) beat_size) then transfer_ended d out_of_range OutsideRam
-    else if d.block.command == disk_to_memory then to_memory d may_write
+    else if not (in_ram ram (beat_gpa d.block) beat_size) then transfer_ended d BlockStatus.OutOfRange OutsideRam
+    else if is_to_memory d.block.status then to_memory d may_write
     else to_disk d ram
 
 -- whether a device may write a page, by one bit a page; one past the end may not be written

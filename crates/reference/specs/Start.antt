@@ -7,12 +7,13 @@ use Rattle.sv_types.specs.Kernel.{header_entry, kernel_refusal, kernel_segments,
 use Rattle.sv_types.specs.Policies.{Rules, rules_within}
 use Rattle.sv_types.specs.ApprovedPages.{approved_pages, numbers_from}
 use Rattle.sv_types.specs.declared.event.Verdict.TheVariants.{Running}
-use Rattle.sv_types.specs.declared.saved.BlockState.{BlockState}
+use Rattle.sv_types.specs.declared.block.BlockState.{BlockState}
+use Rattle.sv_types.specs.declared.block.BlockStatus.{BlockStatus}
 use Rattle.reference.specs.States.{State, Hart, has_number}
 use Rattle.reference.specs.Calls.{hart_at, stopped_hart, registers_at_boot}
 
 abbrev pub block_at_boot : BlockState
-block_at_boot = record { sector = 0; gpa = 0; count = 0; command = 0; status = 0; done = 0 }
+block_at_boot = record { sector = 0; gpa = 0; count = 0; status = BlockStatus.Idle }
 
 -- hart 0 at its entry, and the others stopped
 abbrev pub harts_at_boot : ℕ → ℕ → List Hart

@@ -15,7 +15,7 @@ use Rattle.sv_types.specs.declared.protection.Protection.TheVariants.{Free, Held
 use Rattle.sv_types.specs.declared.event.Note.{Note}
 use Rattle.sv_types.specs.declared.event.Verdict.{Verdict}
 use Rattle.sv_types.specs.declared.saved.SavedModule.{SavedModule}
-use Rattle.sv_types.specs.declared.saved.BlockState.{BlockState}
+use Rattle.sv_types.specs.declared.block.BlockState.{BlockState}
 
 pub record Hart : Type 0 where
   pub started : Bool
