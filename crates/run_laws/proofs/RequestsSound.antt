@@ -21,8 +21,11 @@ use Rattle.sv_types.specs.declared.event.Rule.TheVariants.{Entry, Write}
 use Rattle.sv_types.specs.declared.event.Verdict.TheVariants.{Stopped}
 use Rattle.reference.specs.States.{State, Hart, Disk, Devices, Journal, is_protected}
 use Rattle.reference.specs.Counting.{counted, count_trap, count_return, count_retired, machine_ended, printed_low}
-use Rattle.sv_types.specs.declared.saved.BlockState.{BlockState}
-use Rattle.reference.specs.Disk.{BlockRegister, block_register, block_stored, unless_busy, is_busy, can_begin, block_ended, beat_size, disk_load, disk_store, Sector, Address, Count, Command, Status, sector_size}
+use Rattle.sv_types.specs.BlockNumbers.{command_of}
+use Rattle.sv_types.specs.declared.block.BlockCommand.{BlockCommand}
+use Rattle.sv_types.specs.declared.block.BlockState.{BlockState}
+use Rattle.sv_types.specs.declared.block.BlockStatus.{BlockStatus}
+use Rattle.reference.specs.Disk.{BlockRegister, block_register, block_stored, unless_busy, is_busy, can_begin, block_ended, block_told, beat_size, disk_load, disk_store, Sector, Address, Count, Command, Status, sector_size}
 use Rattle.reference.specs.Devices.{DeviceLoad, DeviceStore, Port, ConsoleAt, DiskAt, Nowhere, port_at, device_load_of, port_load, port_store, device_load, device_store}
 use Rattle.reference.specs.Requests.{carried_out, carried_out_writing, settings_of, Source, NoSource, FromRam, FromDevice, Target, NoTarget, Guarded, ToRam, ToDevice, target_at, store_target, target_of, ram_word, carry_out_device_load, carry_out_load, carry_out_load_reserved, carry_out_device_store, carry_out_store, write_stopped, carry_out_store_conditional, carry_out_amo, carry_out_csr, csr_now, with_csr_set}
 use Rattle.reference.specs.Trapping.{trap_from, exception, returned_from_trap, hart_at_trap, hart_at_return, may_enter}
@@ -70,21 +73,20 @@ can_aligned b size e =
 abbrev pub IsSoundBlock : BlockState → Type 0
 IsSoundBlock b = is_busy b ≡ true → b.gpa % beat_size ≡ 0
 
-begun_sound : (b : BlockState) (command : ℕ) (can : Bool) → (can ≡ true → b.gpa % beat_size ≡ 0)
-    → IsSoundBlock (if can then record b { status = 1; command = command; done = 0 } else block_ended b 4)
+begun_sound : (b : BlockState) (command : BlockCommand) (can : Bool) → (can ≡ true → b.gpa % beat_size ≡ 0)
+    → IsSoundBlock (if can then record b { status = BlockStatus.Busy command 0 } else block_ended b BlockStatus.OutOfRange)
 begun_sound b command true aligned busy = aligned refl
 begun_sound b command false aligned busy = cc
 
-command_sound : (b : BlockState) (size command : ℕ) (known : Bool) → IsSoundBlock b
-    → IsSoundBlock (if known then (if can_begin b size then record b { status = 1; command = command; done = 0 } else block_ended b 4) else b)
-command_sound b size command true k = begun_sound b command (can_begin b size) (λ e. can_aligned b size e)
-command_sound b size command false k = k
+command_sound : (b : BlockState) (size : ℕ) (command : Option BlockCommand) → IsSoundBlock b → IsSoundBlock (block_told b size command)
+command_sound b size (Some command) k = begun_sound b command (can_begin b size) (λ e. can_aligned b size e)
+command_sound b size None k = k
 
 stored_sound : (b : BlockState) (size : ℕ) (register : BlockRegister) (value : ℕ) → is_busy b ≡ false → IsSoundBlock (block_stored b size register value)
 stored_sound b size Sector value idle busy = cc
 stored_sound b size Address value idle busy = cc
 stored_sound b size Count value idle busy = cc
-stored_sound b size Command value idle busy = command_sound b size value (value == 1 || value == 2) (λ on. cc) busy
+stored_sound b size Command value idle busy = command_sound b size (command_of value) (λ on. cc) busy
 stored_sound b size Status value idle busy = cc
 
 unless_sound : (b : BlockState) (size : ℕ) (register : BlockRegister) (value : ℕ) (busy : Bool) → is_busy b ≡ busy → IsSoundBlock b

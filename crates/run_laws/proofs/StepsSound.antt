@@ -21,9 +21,10 @@ use Rattle.processor.specs.declared.mode.Mode.TheVariants.{Kernel, User}
 use Rattle.sv_types.specs.declared.event.Note.TheVariants.{Demote, Denied}
 use Rattle.sv_types.specs.declared.event.Verdict.{Verdict}
 use Rattle.sv_types.specs.declared.event.Verdict.TheVariants.{Running, Shutdown, Stopped}
+use Rattle.sv_types.specs.declared.block.BlockStatus.{BlockStatus}
 use Rattle.reference.specs.States.{State, Hart, Binding, Disk, Loading, is_protected}
 use Rattle.reference.specs.Counting.{count, counted, noted, count_turn, count_beat, count_key, count_tick, count_retired, count_demote, count_denied, count_dropped}
-use Rattle.reference.specs.Disk.{Beaten, Move, Idle, FromRam, IntoRam, DeniedAt, OutsideRam, disk_beat, to_memory, to_disk, transfer_ended, block_ended, block_after_beat, beat_gpa, beat_place, beat_size, is_busy, sector_size}
+use Rattle.reference.specs.Disk.{Beaten, Move, Idle, FromRam, IntoRam, DeniedAt, OutsideRam, disk_beat, to_memory, to_disk, transfer_ended, block_ended, block_after_beat, beat_gpa, beat_place, beat_size, beats_done, one_further, is_busy, is_to_memory, sector_size}
 use Rattle.reference.specs.Devices.{lines_at, with_disk, with_bytes, after_move, beat, key, tick}
 use Rattle.reference.specs.Trapping.{exception}
 use Rattle.reference.specs.Origins.{ownership}
@@ -179,8 +180,8 @@ pub record IsSoundBeat (r : State) (b : Beaten) : Type 0 where
   pub move : FreeMove r b.move
 
 block_sound : (d : Disk) (last : Bool) → d.block.gpa % beat_size ≡ 0
-    → ((if last then block_ended d.block 2 else record d.block { done = d.block.done + 1 }).status == 1) ≡ true
-    → (if last then block_ended d.block 2 else record d.block { done = d.block.done + 1 }).gpa % beat_size ≡ 0
+    → is_busy (if last then block_ended d.block BlockStatus.Done else record d.block { status = one_further d.block.status }) ≡ true
+    → (if last then block_ended d.block BlockStatus.Done else record d.block { status = one_further d.block.status }).gpa % beat_size ≡ 0
 block_sound d true aligned busy = aligned
 block_sound d false aligned busy = aligned
 
@@ -210,11 +211,11 @@ memory_sound : (r : State) (d : Disk) (free : Bool) → d.block.gpa % beat_size 
     → not (is_protected r (page_of (beat_gpa d.block))) ≡ free
     → IsSoundBeat r (if free
     then record { disk = record d { block = block_after_beat d.block }; move = IntoRam (beat_gpa d.block) (part d.bytes (beat_place d.block) beat_size) }
-    else transfer_ended d 3 (DeniedAt (beat_gpa d.block)))
+    else transfer_ended d BlockStatus.Denied (DeniedAt (beat_gpa d.block)))
 memory_sound r d true aligned inside free = record {
-  disk = block_sound d (beat_size * (d.block.done + 1) == sector_size * d.block.count) aligned;
+  disk = block_sound d (beat_size * (beats_done d.block.status + 1) == sector_size * d.block.count) aligned;
   move = record {
-    aligned = place_aligned d.block.gpa d.block.done aligned;
+    aligned = place_aligned d.block.gpa (beats_done d.block.status) aligned;
     short = part_short d.bytes (beat_place d.block) beat_size;
     inside = inside;
     free = free;
@@ -225,17 +226,17 @@ memory_sound r d false aligned inside free = record { disk = λ busy. cc; move =
 reads_sound : (r : State) (d : Disk) (memory : Bool) → d.block.gpa % beat_size ≡ 0 → in_ram r.ram (beat_gpa d.block) beat_size ≡ true
     → IsSoundBeat r (if memory then to_memory d (λ page. not (is_protected r page)) else to_disk d r.ram)
 reads_sound r d true aligned inside = memory_sound r d (not (is_protected r (page_of (beat_gpa d.block)))) aligned inside refl
-reads_sound r d false aligned inside = record { disk = block_sound d (beat_size * (d.block.done + 1) == sector_size * d.block.count) aligned; move = tt }
+reads_sound r d false aligned inside = record { disk = block_sound d (beat_size * (beats_done d.block.status + 1) == sector_size * d.block.count) aligned; move = tt }
 
 inside_sound : (r : State) (d : Disk) (inside : Bool) → d.block.gpa % beat_size ≡ 0 → in_ram r.ram (beat_gpa d.block) beat_size ≡ inside
-    → IsSoundBeat r (if not inside then transfer_ended d 4 OutsideRam else if d.block.command == 1 then to_memory d (λ page. not (is_protected r page)) else to_disk d r.ram)
-inside_sound r d true aligned inside = reads_sound r d (d.block.command == 1) aligned inside
+    → IsSoundBeat r (if not inside then transfer_ended d BlockStatus.OutOfRange OutsideRam else if is_to_memory d.block.status then to_memory d (λ page. not (is_protected r page)) else to_disk d r.ram)
+inside_sound r d true aligned inside = reads_sound r d (is_to_memory d.block.status) aligned inside
 inside_sound r d false aligned inside = record { disk = λ busy. cc; move = tt }
 
 busy_sound : (r : State) (d : Disk) (busy : Bool) → IsSoundDisk d → is_busy d.block ≡ busy
     → IsSoundBeat r (if not busy then record { disk = d; move = Idle }
-    else if not (in_ram r.ram (beat_gpa d.block) beat_size) then transfer_ended d 4 OutsideRam
-    else if d.block.command == 1 then to_memory d (λ page. not (is_protected r page)) else to_disk d r.ram)
+    else if not (in_ram r.ram (beat_gpa d.block) beat_size) then transfer_ended d BlockStatus.OutOfRange OutsideRam
+    else if is_to_memory d.block.status then to_memory d (λ page. not (is_protected r page)) else to_disk d r.ram)
 busy_sound r d true k at = inside_sound r d (in_ram r.ram (beat_gpa d.block) beat_size) (k at) refl
 busy_sound r d false k at = record { disk = k; move = tt }
 
