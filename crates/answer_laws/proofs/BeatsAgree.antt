@@ -4,8 +4,9 @@ use Rattle.std.specs.Prelude.{Option, Some, unwrap_or, option_map, if◌then◌e
 use Rattle.std.proofs.lemmas.Bool.Decides.{nat_tests}
 use Rattle.processor.specs.Bytes.{part, overwrite, in_ram, ram_base, ram_place, page_of, page_size}
 use Rattle.sv_types.specs.declared.protection.Protection.{Protection}
+use Rattle.sv_types.specs.declared.block.BlockStatus.{BlockStatus}
 use Rattle.reference.specs.States.{State, Disk, protection_in, protection_by, is_protected, is_approved_in, has_number}
-use Rattle.reference.specs.Disk.{disk_beat, is_writable, to_memory, to_disk, block_after_beat, beat_place, Move, Idle, FromRam, IntoRam, DeniedAt, OutsideRam, beat_gpa, beat_size, is_busy, transfer_ended}
+use Rattle.reference.specs.Disk.{disk_beat, is_writable, to_memory, to_disk, block_after_beat, beat_place, Move, Idle, FromRam, IntoRam, DeniedAt, OutsideRam, beat_gpa, beat_size, is_busy, is_to_memory, transfer_ended}
 use Rattle.reference.specs.Devices.{beat, after_beaten, after_move, with_bytes}
 use Rattle.reference.specs.Protections.{is_free}
 use Rattle.machine_model.specs.HostEvents.{beat_served, after_host_beaten, after_host_move}
@@ -41,18 +42,18 @@ bit_of r page below =
 -- ---- the beat asks at one page in RAM
 
 beat_by : (d : Disk) (ram : List ℕ) (f g : ℕ → Bool) (busy inside reads : Bool) → (inside ≡ true → f (page_of (beat_gpa d.block)) ≡ g (page_of (beat_gpa d.block)))
-    → (if not busy then record { disk = d; move = Idle } else if not inside then transfer_ended d 4 OutsideRam else if reads then to_memory d f else to_disk d ram)
-    ≡ (if not busy then record { disk = d; move = Idle } else if not inside then transfer_ended d 4 OutsideRam else if reads then to_memory d g else to_disk d ram)
+    → (if not busy then record { disk = d; move = Idle } else if not inside then transfer_ended d BlockStatus.OutOfRange OutsideRam else if reads then to_memory d f else to_disk d ram)
+    ≡ (if not busy then record { disk = d; move = Idle } else if not inside then transfer_ended d BlockStatus.OutOfRange OutsideRam else if reads then to_memory d g else to_disk d ram)
 beat_by d ram f g false inside reads same = refl
 beat_by d ram f g true false reads same = refl
 beat_by d ram f g true true true same =
-    ap (λ (b : Bool). if b then record { disk = record d { block = block_after_beat d.block }; move = IntoRam (beat_gpa d.block) (part d.bytes (beat_place d.block) beat_size) } else transfer_ended d 3 (DeniedAt (beat_gpa d.block))) (same refl)
+    ap (λ (b : Bool). if b then record { disk = record d { block = block_after_beat d.block }; move = IntoRam (beat_gpa d.block) (part d.bytes (beat_place d.block) beat_size) } else transfer_ended d BlockStatus.Denied (DeniedAt (beat_gpa d.block))) (same refl)
 beat_by d ram f g true true false same = refl
 
 beat_meets : (d : Disk) (ram : List ℕ) (f g : ℕ → Bool) → (in_ram ram (beat_gpa d.block) beat_size ≡ true → f (page_of (beat_gpa d.block)) ≡ g (page_of (beat_gpa d.block)))
     → disk_beat d ram f ≡ disk_beat d ram g
 unfolding disk_beat
-beat_meets d ram f g same = beat_by d ram f g (is_busy d.block) (in_ram ram (beat_gpa d.block) beat_size) (d.block.command == 1) same
+beat_meets d ram f g same = beat_by d ram f g (is_busy d.block) (in_ram ram (beat_gpa d.block) beat_size) (is_to_memory d.block.status) same
 
 pub page_of_beat : (ram : List ℕ) (gpa n : ℕ) → length ram ≡ page_size * n → in_ram ram gpa beat_size ≡ true → page_of gpa < n
 page_of_beat ram gpa n size inside =
