@@ -1,8 +1,10 @@
 -- The registers as the code names them, and what holds of the device at each moment.
-use Rattle.std.specs.Prelude.{◌≡◌, ℕ, ◌+◌, ◌*◌, ◌%◌, ◌<◌, ◌≤◌, Bool, not, if◌then◌else◌, List, length}
+use Rattle.std.specs.Prelude.{◌≡◌, ℕ, ◌+◌, ◌*◌, ◌%◌, ◌<◌, ◌≤◌, Bool, not, if◌then◌else◌, List, length, true}
 use Rattle.processor.specs.Bytes.{in_ram}
+use Rattle.sv_types.specs.declared.block.BlockStatus.{BlockStatus}
 use Rattle.reference.specs.States.{Disk}
-use Rattle.reference.specs.Disk.{BlockRegister, Sector, Address, Count, Command, Status, Beaten, OutsideRam, beat_size, sector_size, busy, out_of_range, beat_gpa, transfer_ended, to_memory, to_disk}
+use Rattle.reference.specs.Start.{block_at_boot}
+use Rattle.reference.specs.Disk.{BlockRegister, Sector, Address, Count, Command, Status, Beaten, OutsideRam, beat_size, sector_size, is_busy, beats_done, beat_gpa, transfer_ended, to_memory, to_disk}
 use Rattle.block_device.specs.declared.registers.Register.{Register}
 
 abbrev pub register_named : Register → BlockRegister
@@ -21,19 +23,19 @@ width_of Register.Status = 4
 
 -- a transfer under way begins at a multiple of a beat's bytes, has beats left, and lies on the disk
 pub record IsSound (d : Disk) : Type 0 where
-  pub aligned : d.block.status ≡ busy → d.block.gpa % beat_size ≡ 0
-  pub left : d.block.status ≡ busy → beat_size * d.block.done < sector_size * d.block.count
-  pub inside : d.block.status ≡ busy → sector_size * (d.block.sector + d.block.count) ≤ length d.bytes
+  pub aligned : is_busy d.block ≡ true → d.block.gpa % beat_size ≡ 0
+  pub left : is_busy d.block ≡ true → beat_size * beats_done d.block.status < sector_size * d.block.count
+  pub inside : is_busy d.block ≡ true → sector_size * (d.block.sector + d.block.count) ≤ length d.bytes
 
 -- an idle device with a disk
 abbrev pub idle_disk : List ℕ → Disk
-idle_disk bytes = record { block = record { sector = 0; gpa = 0; count = 0; command = 0; status = 0; done = 0 }; bytes = bytes }
+idle_disk bytes = record { block = block_at_boot; bytes = bytes }
 
 -- a beat of each command, where a transfer is under way
 abbrev pub beat_to_memory : Disk → List ℕ → (ℕ → Bool) → Beaten
 beat_to_memory d ram may_write =
-    if not (in_ram ram (beat_gpa d.block) beat_size) then transfer_ended d out_of_range OutsideRam else to_memory d may_write
+    if not (in_ram ram (beat_gpa d.block) beat_size) then transfer_ended d BlockStatus.OutOfRange OutsideRam else to_memory d may_write
 
 abbrev pub beat_to_disk : Disk → List ℕ → Beaten
 beat_to_disk d ram =
-    if not (in_ram ram (beat_gpa d.block) beat_size) then transfer_ended d out_of_range OutsideRam else to_disk d ram
+    if not (in_ram ram (beat_gpa d.block) beat_size) then transfer_ended d BlockStatus.OutOfRange OutsideRam else to_disk d ram

@@ -1,9 +1,11 @@
 //! A block device: a disk in memory, behind five registers, that moves 64 bytes in each beat of a transfer.
 #![tactic(auto)]
 
-ghost use Rattle.std.specs.Prelude.{◌≡◌, ◌≢◌, ◌+◌, ◌%◌, ◌^◌, ◌<◌, ◌≤◌, length, true, false};
+ghost use Rattle.std.specs.Prelude.{◌≡◌, ◌+◌, ◌%◌, ◌^◌, ◌<◌, ◌≤◌, Some, length, true, false};
 ghost use Rattle.processor.specs.Bytes.{overwrite};
-ghost use Rattle.reference.specs.Disk.{is_writable, is_busy, can_begin, block_ended, after_command, block_value, block_stored, block_after_beat, beat_gpa, beat_place, busy};
+ghost use Rattle.reference.specs.Disk.{is_writable, is_busy, can_begin, block_ended, block_told, block_value, block_stored, block_after_beat, beat_gpa, beat_place, beat_size, beats_done, is_under_way};
+ghost use Rattle.sv_types.specs.declared.block.BlockCommand.TheVariants.{DiskToMemory, MemoryToDisk};
+ghost use Rattle.sv_types.specs.declared.block.BlockStatus.TheVariants.{Busy};
 ghost use Rattle.dma_guard.specs.Transfers.{told, after_move};
 ghost use Rattle.block_device.specs.Registers.{idle_disk, register_named, width_of, beat_to_memory, beat_to_disk};
 
@@ -13,29 +15,15 @@ use crate::registers::{Register, register_at};
 use dma_guard::{Beaten, DiskPort, DmaGuard, DmaRefused};
 use host_mem::HostMem;
 use std::marker::Model;
-use sv_types::BlockState;
+use sv_types::{BlockCommand, BlockState, BlockStatus};
 
 /// The bytes of a sector.
 pub const SECTOR_BYTES: u64 = 512;
 
-/// The bytes of a beat.
-const BEAT_BYTES: u64 = 64;
+/// The bytes of a beat, as a length and as a number.
+const BEAT_LENGTH: usize = 64;
 
-/// How a device stands.
-const IDLE: u8 = 0;
-
-const BUSY: u8 = 1;
-
-const DONE: u8 = 2;
-
-const DENIED: u8 = 3;
-
-const OUT_OF_RANGE: u8 = 4;
-
-/// The commands.
-const DISK_TO_MEMORY: u8 = 1;
-
-const MEMORY_TO_DISK: u8 = 2;
+const BEAT_BYTES: u64 = BEAT_LENGTH as u64;
 
 /// A block device with its disk. Contracts see its registers, its transfer and the bytes of the disk.
 #[derive(Drop)]
@@ -68,9 +56,7 @@ impl Block {
                 sector: 0,
                 gpa: 0,
                 count: 0,
-                command: 0,
-                status: IDLE,
-                done: 0,
+                status: BlockStatus::Idle,
             },
             bytes: disk,
         }
@@ -86,7 +72,7 @@ impl Block {
     fn is_busy(&self) -> bool
         ensures { result ≡ is_busy self.now.block }
     {
-        self.block.status == BUSY
+        matches!(self.block.status, BlockStatus::Busy { .. })
     }
 
     // There are sectors, all on the disk, and the address is a multiple of a beat's bytes. No test wraps.
@@ -100,27 +86,21 @@ impl Block {
     }
 
     // No transfer is under way any more.
-    fn end(&mut self, status: u8)
-        requires { status ≢ busy }
+    fn end(&mut self, status: BlockStatus)
+        requires { is_under_way status ≡ false }
         ensures { self.new ≡ record self.old { block = block_ended self.old.block status } }
     {
         self.block.status = status;
-        self.block.command = 0;
-        self.block.done = 0;
     }
 
-    fn begin(&mut self, command: u64)
+    fn begin(&mut self, command: BlockCommand)
         requires { is_busy self.old.block ≡ false }
-        ensures { self.new ≡ record self.old { block = after_command self.old.block (length self.old.bytes) command } }
+        ensures { self.new ≡ record self.old { block = block_told self.old.block (length self.old.bytes) (Some command) } }
     {
-        if command == DISK_TO_MEMORY as u64 || command == MEMORY_TO_DISK as u64 {
-            if self.can_begin() {
-                self.block.status = BUSY;
-                self.block.command = command as u8;
-                self.block.done = 0;
-            } else {
-                self.end(OUT_OF_RANGE);
-            }
+        if self.can_begin() {
+            self.block.status = BlockStatus::Busy { command, done: 0 };
+        } else {
+            self.end(BlockStatus::OutOfRange);
         }
     }
 
@@ -134,32 +114,39 @@ impl Block {
             Register::Sector => self.block.sector = value,
             Register::Address => self.block.gpa = value,
             Register::Count => self.block.count = value as u32,
-            Register::Command => self.begin(value),
-            Register::Status => self.end(IDLE),
+            Register::Command => {
+                if let Some(command) = BlockCommand::of(value) {
+                    self.begin(command);
+                }
+            }
+            Register::Status => self.end(BlockStatus::Idle),
         }
     }
 
     // A beat of the disk's bytes into memory.
     #[tactic(auto, unfolding(dma_guard::specs::Transfers::write_answer, dma_guard::specs::Transfers::after_write))]
-    fn write_memory(&mut self, guard: &DmaGuard, mem: &mut HostMem, gpa: u64) -> Beaten
-        requires busy { is_busy self.old.block ≡ true }
+    fn write_memory(&mut self, guard: &DmaGuard, mem: &mut HostMem, done: u64, gpa: u64) -> Beaten
+        requires busy { self.old.block.status ≡ Busy DiskToMemory done }
         requires gpa { gpa ≡ beat_gpa self.old.block }
         ensures device { self.new ≡ (beat_to_memory self.old mem.old.ram (is_writable guard.now)).disk }
         ensures told { result ≡ told (beat_to_memory self.old mem.old.ram (is_writable guard.now)).move }
         ensures memory { mem.new ≡ after_move mem.old (beat_to_memory self.old mem.old.ram (is_writable guard.now)).move }
     {
-        let place = self.beat_place();
-        match guard.write(mem, gpa, &self.bytes[place..place + 64]) {
+        let place = self.beat_place(done);
+        match guard.write(mem, gpa, &self.bytes[place..place + BEAT_LENGTH]) {
             Ok(()) => {
-                self.advance();
-                Beaten::Wrote { gpa, len: 64 }
+                self.advance(BlockCommand::DiskToMemory, done);
+                Beaten::Wrote {
+                    gpa,
+                    len: BEAT_LENGTH as u32,
+                }
             }
             Err(DmaRefused::Protected { page: _ }) => {
-                self.end(DENIED);
+                self.end(BlockStatus::Denied);
                 Beaten::Denied { gpa }
             }
             Err(DmaRefused::OutOfRam) => {
-                self.end(OUT_OF_RANGE);
+                self.end(BlockStatus::OutOfRange);
                 Beaten::Range
             }
         }
@@ -167,54 +154,56 @@ impl Block {
 
     // A beat of memory's bytes onto the disk.
     #[tactic(auto, unfolding(dma_guard::specs::Transfers::read_answer, dma_guard::specs::Transfers::after_read))]
-    fn read_memory(&mut self, guard: &DmaGuard, mem: &HostMem, gpa: u64) -> Beaten
-        requires busy { is_busy self.old.block ≡ true }
+    fn read_memory(&mut self, guard: &DmaGuard, mem: &HostMem, done: u64, gpa: u64) -> Beaten
+        requires busy { self.old.block.status ≡ Busy MemoryToDisk done }
         requires gpa { gpa ≡ beat_gpa self.old.block }
         ensures device { self.new ≡ (beat_to_disk self.old mem.now.ram).disk }
         ensures told { result ≡ told (beat_to_disk self.old mem.now.ram).move }
     {
-        let mut bytes = [0; 64];
+        let mut bytes = [0; BEAT_LENGTH];
         match guard.read(mem, gpa, &mut bytes) {
             Ok(()) => {
-                self.keep(&bytes);
-                self.advance();
+                self.keep(done, &bytes);
+                self.advance(BlockCommand::MemoryToDisk, done);
                 Beaten::Read { gpa }
             }
             Err(_) => {
-                self.end(OUT_OF_RANGE);
+                self.end(BlockStatus::OutOfRange);
                 Beaten::Range
             }
         }
     }
 
     // The bytes of a beat go onto the disk.
-    fn keep(&mut self, bytes: &[u8; 64])
-        requires { is_busy self.old.block ≡ true }
+    fn keep(&mut self, done: u64, bytes: &[u8; BEAT_LENGTH])
+        requires { self.old.block.status ≡ Busy MemoryToDisk done }
         ensures { self.new ≡ record self.old { bytes = overwrite self.old.bytes (beat_place self.old.block) bytes.now } }
     {
-        let place = self.beat_place();
-        self.bytes[place..place + 64].copy_from_slice(bytes);
+        let place = self.beat_place(done);
+        self.bytes[place..place + BEAT_LENGTH].copy_from_slice(bytes);
     }
 
-    // Where the next beat goes on the disk.
-    fn beat_place(&self) -> usize
-        requires { is_busy self.now.block ≡ true }
+    // Where the next beat goes on the disk, after so many.
+    fn beat_place(&self, done: u64) -> usize
+        requires busy { is_busy self.now.block ≡ true }
+        requires done { done ≡ beats_done self.now.block.status }
         ensures place { result ≡ beat_place self.now.block }
-        ensures inside { result + 64 ≤ length self.now.bytes }
+        ensures inside { result + beat_size ≤ length self.now.bytes }
     {
-        (SECTOR_BYTES * self.block.sector + BEAT_BYTES * self.block.done) as usize
+        (SECTOR_BYTES * self.block.sector + BEAT_BYTES * done) as usize
     }
 
-    // One beat is done; the last one ends the transfer.
-    fn advance(&mut self)
-        requires { is_busy self.old.block ≡ true }
+    // One beat is done after so many; the last one ends the transfer.
+    fn advance(&mut self, command: BlockCommand, done: u64)
+        requires { self.old.block.status ≡ Busy command done }
         ensures { self.new ≡ record self.old { block = block_after_beat self.old.block } }
     {
-        let done = self.block.done + 1;
-        if BEAT_BYTES * done == SECTOR_BYTES * self.block.count as u64 {
-            self.end(DONE);
+        let whole = SECTOR_BYTES * self.block.count as u64;
+        let done = done + 1;
+        if BEAT_BYTES * done == whole {
+            self.end(BlockStatus::Done);
         } else {
-            self.block.done = done;
+            self.block.status = BlockStatus::Busy { command, done };
         }
     }
 }
@@ -229,7 +218,7 @@ impl DiskPort for Block {
             Register::Address => Some(self.block.gpa),
             Register::Count => Some(self.block.count as u64),
             Register::Command => Some(0),
-            Register::Status => Some(self.block.status as u64),
+            Register::Status => Some(self.block.status.number() as u64),
         }
     }
 
@@ -247,24 +236,26 @@ impl DiskPort for Block {
 
     #[tactic(auto, unfolding(reference::specs::Disk::disk_beat))]
     fn beat(&mut self, guard: &DmaGuard, mem: &mut HostMem) -> Beaten {
-        if !self.is_busy() {
+        let BlockStatus::Busy { command, done } = self.block.status else {
             return Beaten::Idle;
-        }
+        };
         let _ram_pages = mem.ram_pages();
-        let Some(gpa) = self.block.gpa.checked_add(BEAT_BYTES * self.block.done) else {
-            self.end(OUT_OF_RANGE);
+        let Some(gpa) = self.block.gpa.checked_add(BEAT_BYTES * done) else {
+            self.end(BlockStatus::OutOfRange);
             return Beaten::Range;
         };
-        if self.block.command == DISK_TO_MEMORY {
-            self.write_memory(guard, mem, gpa)
-        } else {
-            self.read_memory(guard, mem, gpa)
+        match command {
+            BlockCommand::DiskToMemory => self.write_memory(guard, mem, done, gpa),
+            BlockCommand::MemoryToDisk => self.read_memory(guard, mem, done, gpa),
         }
     }
 
     #[tactic(auto, unfolding(reference::specs::Disk::disk_line))]
     fn line(&self) -> bool {
-        self.block.status >= DONE
+        matches!(
+            self.block.status,
+            BlockStatus::Done | BlockStatus::Denied | BlockStatus::OutOfRange
+        )
     }
 
     fn disk(&self) -> &[u8] {

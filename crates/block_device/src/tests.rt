@@ -6,6 +6,7 @@ use dma_guard::{Beaten, DiskPort, DmaGuard};
 use host_mem::HostMem;
 use std::alloc::{AllocError, Global};
 use std::test::Fail;
+use sv_types::{BlockCommand, BlockStatus};
 
 const SECTOR: u64 = 0x00;
 
@@ -195,7 +196,13 @@ fn stores_during_a_transfer_are_ignored(rt: HostRuntime) -> Result<(), Fail> {
     );
     assert!(rt; !block.store(SECTOR, 4, 0));
     assert_eq!(rt; block.load(STATUS, 8), None);
-    assert_eq!(rt; block.state().done, 2);
+    assert_eq!(rt;
+        block.state().status,
+        BlockStatus::Busy {
+            command: BlockCommand::DiskToMemory,
+            done: 2
+        }
+    );
     assert_eq!(rt; block.disk().len(), 1024);
     Ok(())
 }
