@@ -26,7 +26,7 @@ use Rattle.processor.specs.declared.mode.Mode.TheVariants.{Kernel, User}
 use Rattle.reference.specs.Calls.{hart_at, started_hart}
 use Rattle.reference.specs.Counting.{count, counted, count_dropped, count_turn, count_beat, count_key, stopped_by}
 use Rattle.reference.specs.Devices.{beat, key, tick, lines_at, with_disk, with_bytes, after_move, hart_after_write}
-use Rattle.reference.specs.Disk.{Beaten, Move, Idle, FromRam, IntoRam, DeniedAt, OutsideRam, disk_beat, to_memory, beat_gpa, beat_size, is_busy}
+use Rattle.reference.specs.Disk.{Beaten, Move, Idle, FromRam, IntoRam, DeniedAt, OutsideRam, disk_beat, to_memory, beat_gpa, beat_size, is_busy, is_to_memory}
 use Rattle.reference.specs.Requests.{Guarded, target_of, carry_out_store, carry_out_store_conditional, carry_out_amo}
 use Rattle.reference.specs.Run.{run, step, happen, happen_under}
 use Rattle.reference.specs.Soundness.{IsSound}
@@ -126,7 +126,7 @@ unfolding disk_beat
 denied_beat d ram may_write e =
     choose_no_write (not (is_busy d.block)) _ _ tt
     (choose_no_write (not (in_ram ram (beat_gpa d.block) beat_size)) _ _ tt
-    (choose_no_write (d.block.command == 1) _ _ (denied_to_memory d may_write e) tt))
+    (choose_no_write (is_to_memory d.block.status) _ _ (denied_to_memory d may_write e) tt))
 
 abbrev NothingMoves : State → State → Type 0
 NothingMoves q next = (next.ram ≡ q.ram) × (next.harts ≡ q.harts)
