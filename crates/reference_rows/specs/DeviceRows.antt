@@ -3,7 +3,11 @@ use Rattle.std.specs.Prelude.{◌≡◌, ℕ, List, [], ◌∷◌, ◌++◌, rep
 use Rattle.sv_types.specs.Clock.{clock_at_boot}
 use Rattle.sv_types.specs.declared.event.Event.TheVariants.{Beat, Key, Tick}
 use Rattle.sv_types.specs.declared.event.Note.TheVariants.{Denied}
-use Rattle.sv_types.specs.declared.saved.BlockState.{BlockState}
+use Rattle.sv_types.specs.BlockNumbers.{status_number}
+use Rattle.sv_types.specs.declared.block.BlockCommand.{BlockCommand}
+use Rattle.sv_types.specs.declared.block.BlockCommand.TheVariants.{DiskToMemory, MemoryToDisk}
+use Rattle.sv_types.specs.declared.block.BlockState.{BlockState}
+use Rattle.sv_types.specs.declared.block.BlockStatus.{BlockStatus}
 use Rattle.processor.specs.Bytes.{part}
 use Rattle.reference.specs.States.{State, Devices, Disk, with_hart}
 use Rattle.reference.specs.Devices.{DeviceLoad, device_load, device_store, external_line}
@@ -34,18 +38,28 @@ abbrev pub block_after : Option Disk → BlockState
 block_after None = block_at_boot
 block_after (Some disk) = disk.block
 
--- the status after a command
-abbrev pub status_after : BlockState → (command : ℕ) → ℕ
-status_after block command = (block_after (disk_store (disk_with block) 0x14 4 command)).status
+-- what the device is after a command, and how it stands then
+abbrev pub told : BlockState → (command : ℕ) → BlockState
+told block command = block_after (disk_store (disk_with block) 0x14 4 command)
 
-abbrev pub busy_with : (command gpa done : ℕ) → BlockState
-busy_with command gpa done = record (set_up 0 gpa 1) { status = 1; command = command; done = done }
+abbrev pub status_after : BlockState → (command : ℕ) → ℕ
+status_after block command = status_number (told block command).status
+
+abbrev pub busy_with : (command : BlockCommand) → (gpa done : ℕ) → BlockState
+busy_with command gpa done = record (set_up 0 gpa 1) { status = BlockStatus.Busy command done }
+
+abbrev pub denied : BlockState → BlockState
+denied block = record block { status = BlockStatus.Denied }
 
 abbrev pub machine_with : BlockState → State
 machine_with block = record (small 0 0x01020304) { devices = devices_with [] block }
 
 abbrev pub beaten : BlockState → State
 beaten block = step (machine_with block) Beat
+
+-- the status after a beat
+abbrev pub status_beaten : (command : BlockCommand) → (gpa done : ℕ) → ℕ
+status_beaten command gpa done = status_number (beaten (busy_with command gpa done)).devices.disk.block.status
 
 abbrev pub input : List ℕ
 input = 65 ∷ 66 ∷ []
@@ -64,40 +78,40 @@ pub record DeviceRows : Type 0 where
   pub sector : disk_load (disk_with (set_up 3 0x80001040 2)) 0 8 ≡ Some 3
   pub address : disk_load (disk_with (set_up 3 0x80001040 2)) 8 8 ≡ Some 0x80001040
   pub count : disk_load (disk_with (set_up 3 0x80001040 2)) 0x10 4 ≡ Some 2
-  pub command_reads_zero : disk_load (disk_with (busy_with 1 0 0)) 0x14 4 ≡ Some 0
-  pub status : disk_load (disk_with (busy_with 1 0 0)) 0x18 4 ≡ Some 1
+  pub command_reads_zero : disk_load (disk_with (busy_with DiskToMemory 0 0)) 0x14 4 ≡ Some 0
+  pub status : disk_load (disk_with (busy_with DiskToMemory 0 0)) 0x18 4 ≡ Some 1
   pub no_register : disk_load (disk_with block_at_boot) 0x1C 4 ≡ None
   pub another_width : disk_load (disk_with block_at_boot) 0 4 ≡ None
   pub sector_stored : (block_after (disk_store (disk_with block_at_boot) 0 8 5)).sector ≡ 5
   pub low_bytes_alone : (block_after (disk_store (disk_with block_at_boot) 0x10 4 (2 ^ 32 * 9 - 1))).count ≡ 2 ^ 32 - 1
-  pub store_while_busy : block_after (disk_store (disk_with (busy_with 1 0x80001000 0)) 0 8 5) ≡ busy_with 1 0x80001000 0
-  pub status_cleared : (block_after (disk_store (disk_with (record block_at_boot { status = 3 })) 0x18 4 9)).status ≡ 0
+  pub store_while_busy : block_after (disk_store (disk_with (busy_with DiskToMemory 0x80001000 0)) 0 8 5) ≡ busy_with DiskToMemory 0x80001000 0
+  pub status_cleared : (block_after (disk_store (disk_with (denied block_at_boot)) 0x18 4 9)).status ≡ BlockStatus.Idle
   -- ---- commands
-  pub reads_the_disk : block_after (disk_store (disk_with (set_up 0 0x80001000 2)) 0x14 4 1) ≡ record (set_up 0 0x80001000 2) { status = 1; command = 1 }
-  pub writes_the_disk : block_after (disk_store (disk_with (set_up 0 0x80001000 2)) 0x14 4 2) ≡ record (set_up 0 0x80001000 2) { status = 1; command = 2 }
+  pub reads_the_disk : told (set_up 0 0x80001000 2) 1 ≡ record (set_up 0 0x80001000 2) { status = BlockStatus.Busy DiskToMemory 0 }
+  pub writes_the_disk : told (set_up 0 0x80001000 2) 2 ≡ record (set_up 0 0x80001000 2) { status = BlockStatus.Busy MemoryToDisk 0 }
   pub unknown_command : status_after (set_up 0 0x80001000 1) 3 ≡ 0
   pub no_sectors : status_after (set_up 0 0x80001000 0) 1 ≡ 4
   pub past_the_disk : status_after (set_up 1 0x80001000 2) 1 ≡ 4
   pub crooked_address : status_after (set_up 0 0x80001020 1) 1 ≡ 4
-  pub command_after_a_denial : status_after (record (set_up 0 0x80001000 1) { status = 3 }) 1 ≡ 1
+  pub command_after_a_denial : status_after (denied (set_up 0 0x80001000 1)) 1 ≡ 1
   -- ---- the lines
   pub line_of_input : external_line (devices_with input block_at_boot) 0 ≡ true
-  pub line_of_an_end : external_line (devices_with [] (record block_at_boot { status = 2 })) 0 ≡ true
-  pub no_line_while_busy : external_line (devices_with [] (busy_with 1 0 0)) 0 ≡ false
+  pub line_of_an_end : external_line (devices_with [] (record block_at_boot { status = BlockStatus.Done })) 0 ≡ true
+  pub no_line_while_busy : external_line (devices_with [] (busy_with DiskToMemory 0 0)) 0 ≡ false
   pub line_of_hart_zero_alone : external_line (devices_with input block_at_boot) 1 ≡ false
   -- ---- beats
   pub idle_beat : (beaten block_at_boot).ram ≡ (machine_with block_at_boot).ram
   pub idle_beat_counts : (beaten block_at_boot).journal.counts.beats ≡ 1
-  pub beat_writes : part (beaten (busy_with 1 0x80002000 1)).ram 0x2040 65 ≡ replicate 64 7 ++ (0 ∷ [])
-  pub beat_goes_on : (beaten (busy_with 1 0x80002000 1)).devices.disk.block.done ≡ 2
-  pub last_beat : (beaten (busy_with 1 0x80002000 7)).devices.disk.block.status ≡ 2
-  pub beat_reads : part (beaten (busy_with 2 0x80001000 0)).devices.disk.bytes 0 5 ≡ 4 ∷ 3 ∷ 2 ∷ 1 ∷ 0 ∷ []
-  pub beat_into_a_protected_page : (beaten (busy_with 1 0x80000000 0)).journal.notes ≡ Denied 0x80000000 ∷ []
-  pub denied_moves_nothing : (beaten (busy_with 1 0x80000000 0)).ram ≡ (machine_with block_at_boot).ram
-  pub denied_status : (beaten (busy_with 1 0x80000000 0)).devices.disk.block.status ≡ 3
-  pub reads_protected_pages : (beaten (busy_with 2 0x80000000 0)).devices.disk.block.status ≡ 1
-  pub beat_outside_ram : (beaten (busy_with 1 0x90000000 0)).devices.disk.block.status ≡ 4
-  pub beat_takes_a_reservation : (hart_of (step (with_hart (machine_with (busy_with 1 0x80002000 1)) 1 (record (hart_of (small 0 0) 1) { reservation = Some 0x2040 })) Beat) 1).reservation ≡ None
+  pub beat_writes : part (beaten (busy_with DiskToMemory 0x80002000 1)).ram 0x2040 65 ≡ replicate 64 7 ++ (0 ∷ [])
+  pub beat_goes_on : (beaten (busy_with DiskToMemory 0x80002000 1)).devices.disk.block ≡ busy_with DiskToMemory 0x80002000 2
+  pub last_beat : status_beaten DiskToMemory 0x80002000 7 ≡ 2
+  pub beat_reads : part (beaten (busy_with MemoryToDisk 0x80001000 0)).devices.disk.bytes 0 5 ≡ 4 ∷ 3 ∷ 2 ∷ 1 ∷ 0 ∷ []
+  pub beat_into_a_protected_page : (beaten (busy_with DiskToMemory 0x80000000 0)).journal.notes ≡ Denied 0x80000000 ∷ []
+  pub denied_moves_nothing : (beaten (busy_with DiskToMemory 0x80000000 0)).ram ≡ (machine_with block_at_boot).ram
+  pub denied_status : status_beaten DiskToMemory 0x80000000 0 ≡ 3
+  pub reads_protected_pages : status_beaten MemoryToDisk 0x80000000 0 ≡ 1
+  pub beat_outside_ram : status_beaten DiskToMemory 0x90000000 0 ≡ 4
+  pub beat_takes_a_reservation : (hart_of (step (with_hart (machine_with (busy_with DiskToMemory 0x80002000 1)) 1 (record (hart_of (small 0 0) 1) { reservation = Some 0x2040 })) Beat) 1).reservation ≡ None
   -- ---- keys and time
   pub key : (step (small 0 0) (Key 65)).devices.console ≡ 65 ∷ []
   pub key_dropped : (step (record (small 0 0) { devices = devices_with (replicate 256 1) block_at_boot }) (Key 65)).journal.counts.dropped ≡ 1

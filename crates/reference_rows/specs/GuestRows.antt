@@ -3,6 +3,7 @@
 use Rattle.std.specs.Prelude.{◌≡◌, ℕ, zero, suc, ◌+◌, ◌*◌, ◌^◌, ◌%◌, ◌==◌, if◌then◌else◌, List, [], ◌∷◌, ◌++◌, replicate, None, codes}
 use Rattle.processor.specs.Bytes.{padded}
 use Rattle.sv_types.specs.Policies.{Rules}
+use Rattle.sv_types.specs.declared.block.BlockCommand.TheVariants.{DiskToMemory}
 use Rattle.sv_types.specs.declared.event.Event.{Event}
 use Rattle.sv_types.specs.declared.event.Event.TheVariants.{Turn, Beat}
 use Rattle.sv_types.specs.declared.event.Note.TheVariants.{Demote}
@@ -67,7 +68,7 @@ mapped_start = start mapped_rules mapped_ram (1 ∷ []) 0x80001000 new_entries
 
 abbrev pub mapped : State
 mapped = with_hart
-    (record mapped_start { devices = record mapped_start.devices { disk = record { block = busy_with 1 0x80004000 0; bytes = new_entries } } })
+    (record mapped_start { devices = record mapped_start.devices { disk = record { block = busy_with DiskToMemory 0x80004000 0; bytes = new_entries } } })
     0 (record (hart_in User 0x5000 (replicate 32 0)) { supervisor = record supervisor_at_boot { stvec = 0x1000; satp = 0x8000000000080002 } })
 
 pub record GuestRows : Type 0 where

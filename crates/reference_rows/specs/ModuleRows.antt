@@ -3,6 +3,7 @@ use Rattle.std.specs.Prelude.{◌≡◌, ℕ, List, [], ◌∷◌, ◌++◌, map
 use Rattle.processor.specs.Bytes.{padded}
 use Rattle.sv_types.specs.Policies.{Rules, ModuleRule}
 use Rattle.sv_types.specs.ApprovedPages.{ApprovedPage, approved_pages}
+use Rattle.sv_types.specs.declared.block.BlockCommand.TheVariants.{DiskToMemory}
 use Rattle.sv_types.specs.declared.event.Event.TheVariants.{Turn, Beat}
 use Rattle.sv_types.specs.declared.event.Note.TheVariants.{Demote, Denied, Load, Unload, Retire}
 use Rattle.sv_types.specs.declared.sbi.SbiCode.TheVariants.{Success, InvalidParameter, RefusedByMeasure, InvalidAddress, Already, UnderWay}
@@ -93,7 +94,7 @@ all_calls = asks (asks (loads (loads (loads (loads decided 0 0 0x80005000) 0 1 0
 
 -- a transfer of the disk into the module's first page is under way
 abbrev pub with_transfer : State → State
-with_transfer r = record r { devices = record r.devices { disk = disk_with (busy_with 1 0x80005000 0) } }
+with_transfer r = record r { devices = record r.devices { disk = disk_with (busy_with DiskToMemory 0x80005000 0) } }
 
 abbrev pub beat_after_a_page : State
 beat_after_a_page = run (loads (with_transfer first) 0 0 0x80005000) (Turn 0 ∷ Beat ∷ Turn 0 ∷ Turn 0 ∷ Turn 0 ∷ [])
