@@ -9,12 +9,12 @@ use Rattle.processor.specs.Bytes.{page_size}
 use Rattle.sv_types.specs.Policies.{is_between, harts_within, ram_pages_within, modules_count_within}
 use Rattle.processor.specs.Registers.{legal_status, legal_interrupts, legal_tvec, legal_counteren, legal_epc, legal_satp}
 use Rattle.sv_types.specs.declared.event.Verdict.{Verdict}
-use Rattle.sv_types.specs.declared.saved.BlockState.{BlockState}
+use Rattle.sv_types.specs.declared.block.BlockState.{BlockState}
 use Rattle.reference.specs.Disk.{sector_size}
 use Rattle.saved_machine.specs.declared.harts.SavedHart.{SavedHart}
 use Rattle.sv_types.specs.declared.event.Verdict.TheVariants as Verdict
 use Rattle.sv_types.specs.SbiCodes.{code_word}
-use Rattle.snapshot_form.specs.DeviceForms.{console, goes_with, has_beats, transfer, block, most_disk_bytes, holds_transfer, disk, devices}
+use Rattle.snapshot_form.specs.DeviceForms.{console, goes_with, has_beats, transfer, standing, block, most_disk_bytes, holds_transfer, disk, devices}
 use Rattle.snapshot_form.specs.Forms.{Form, spell_number, is_word, number, byte, plain, nothing, within, and_then, ◌⨾◌, made, always, spell_all, has_all, listed, counted, measured}
 use Rattle.snapshot_form.specs.HartForms.{flag, mode, place, is_nonzero, reservation, aligned, legal, side, trap_status, status, registers, begins_with_0, hart, harts}
 use Rattle.snapshot_form.specs.JournalForms.{count, event_counts, hart_counts, rule_counts, counts, codes_known, is_among, found_among, code, hart_number, is_kind, demote, denied, answer, load_note, unload, retire_of, retire_parts, retire, note_behind, note, notes, is_verdict, stopped_entry, stopped_write, verdict_behind, verdict, journal}
@@ -194,11 +194,15 @@ transfer_short gpa count =
     both_short _ _ 8 16 (numbers_short (λ n. nat_le n 2)) (λ command h.
     both_short _ _ 8 8 (numbers_short (goes_with gpa count command)) (λ now h. numbers_short (has_beats count now)))
 
+standing_short : (gpa count : ℕ) → IsAtMost (standing gpa count) 24
+unfolding standing
+standing_short gpa count = made_short _ _ always _ 24 (transfer_short gpa count)
+
 block_short : IsAtMost block 48
 unfolding block
 block_short =
     made_short _ _ always _ 48 (pair_short _ _ 8 40 number_short (both_short number _ 8 32 number_short (λ gpa h.
-    both_short _ (transfer gpa) 8 24 (numbers_short (λ n. nat_lt n (2 ^ 32))) (λ count h. transfer_short gpa count))))
+    both_short _ (standing gpa) 8 24 (numbers_short (λ n. nat_lt n (2 ^ 32))) (λ count h. standing_short gpa count))))
 
 devices_short : IsAtMost devices (320 + most_disk_bytes)
 unfolding devices console disk

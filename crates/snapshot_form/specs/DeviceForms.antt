@@ -1,8 +1,11 @@
 -- The forms of the devices: the console's input, the block device and its disk. This project's own.
-use Rattle.std.specs.Prelude.{ℕ, ◌+◌, ◌*◌, ◌/◌, ◌%◌, ◌^◌, List, Bool, not, ◌&&◌, ◌||◌, nat_lt, nat_le, ◌==◌, if◌then◌else◌}
-use Rattle.reference.specs.Disk.{busy, is_busy, disk_to_memory, memory_to_disk, beat_size, sector_size, out_of_range}
+use Rattle.std.specs.Prelude.{ℕ, Option, Some, None, is_some, ◌+◌, ◌*◌, ◌/◌, ◌%◌, ◌^◌, List, Bool, not, ◌&&◌, ◌||◌, nat_lt, nat_le, ◌==◌, if◌then◌else◌}
+use Rattle.reference.specs.Disk.{is_busy, beats_done, beat_size, sector_size}
 use Rattle.snapshot_form.specs.Forms.{Form, number, within, and_then, ◌⨾◌, made, always, measured}
-use Rattle.sv_types.specs.declared.saved.BlockState.{BlockState}
+use Rattle.sv_types.specs.BlockNumbers.{command_number, command_of, status_number}
+use Rattle.sv_types.specs.declared.block.BlockCommand.{BlockCommand}
+use Rattle.sv_types.specs.declared.block.BlockState.{BlockState}
+use Rattle.sv_types.specs.declared.block.BlockStatus.{BlockStatus}
 
 -- no more than 256 bytes
 unfoldable pub console : Form (List ℕ)
@@ -10,12 +13,16 @@ console = measured (λ n. nat_le n 256)
 
 -- ---- the block device
 
+-- the status of a transfer under way, whichever it is
+abbrev pub busy : ℕ
+busy = status_number (BlockStatus.Busy BlockCommand.DiskToMemory 0)
+
 -- a transfer under way has a command that was taken, and beats left; else there is neither
 abbrev pub goes_with : (gpa count command status : ℕ) → Bool
 goes_with gpa count command status =
     if status == busy
-    then (command == disk_to_memory || command == memory_to_disk) && nat_lt 0 count && gpa % beat_size == 0
-    else nat_le status out_of_range && command == 0
+    then is_some (command_of command) && nat_lt 0 count && gpa % beat_size == 0
+    else nat_le status (status_number BlockStatus.OutOfRange) && command == 0
 
 abbrev pub beats_of : ℕ → ℕ
 beats_of count = sector_size / beat_size * count
@@ -23,37 +30,63 @@ beats_of count = sector_size / beat_size * count
 abbrev pub has_beats : (count status beats : ℕ) → Bool
 has_beats count status beats = if status == busy then nat_lt beats (beats_of count) else beats == 0
 
+-- command, status, beats that are done
+abbrev pub StatusParts : Type 0
+StatusParts = ℕ × (ℕ × ℕ)
+
+unfoldable pub transfer : (gpa count : ℕ) → Form StatusParts
+transfer gpa count =
+    and_then (within (λ n. nat_le n 2) number) (λ command.
+    and_then (within (goes_with gpa count command) number) (λ now. within (has_beats count now) number))
+
+-- a status from its parts, and its parts: 0 is the command where no transfer is under way
+abbrev pub status_by : Option BlockCommand → StatusParts → BlockStatus
+status_by (Some command) x = BlockStatus.Busy command x.1.1
+status_by None x =
+    if x.1.0 == status_number BlockStatus.Done then BlockStatus.Done
+    else if x.1.0 == status_number BlockStatus.Denied then BlockStatus.Denied
+    else if x.1.0 == status_number BlockStatus.OutOfRange then BlockStatus.OutOfRange
+    else BlockStatus.Idle
+
+abbrev pub status_of : StatusParts → BlockStatus
+status_of x = status_by (command_of x.0) x
+
+abbrev pub command_under_way : BlockStatus → ℕ
+command_under_way BlockStatus.Idle = 0
+command_under_way (BlockStatus.Busy command done) = command_number command
+command_under_way BlockStatus.Done = 0
+command_under_way BlockStatus.Denied = 0
+command_under_way BlockStatus.OutOfRange = 0
+
+abbrev pub status_parts : BlockStatus → StatusParts
+status_parts status = (command_under_way status, (status_number status, beats_done status))
+
+unfoldable pub standing : (gpa count : ℕ) → Form BlockStatus
+standing gpa count = made status_of status_parts always (transfer gpa count)
+
+-- a number of 32 bits
+abbrev pub sectors : Form ℕ
+sectors = within (λ n. nat_lt n (2 ^ 32)) number
+
+-- sector, address, count, and how the device stands
 abbrev pub BlockParts : Type 0
-BlockParts = ℕ × (ℕ × (ℕ × (ℕ × (ℕ × ℕ))))
+BlockParts = ℕ × (ℕ × (ℕ × BlockStatus))
 
 abbrev pub block_of : BlockParts → BlockState
 block_of x = record {
   sector = x.0;
   gpa = x.1.0;
   count = x.1.1.0;
-  command = x.1.1.1.0;
-  status = x.1.1.1.1.0;
-  done = x.1.1.1.1.1;
+  status = x.1.1.1;
 }
 
 abbrev pub block_parts : BlockState → BlockParts
-block_parts b = (b.sector, (b.gpa, (b.count, (b.command, (b.status, b.done)))))
+block_parts b = (b.sector, (b.gpa, (b.count, b.status)))
 
--- command, status, beats that are done
-unfoldable pub transfer : (gpa count : ℕ) → Form (ℕ × (ℕ × ℕ))
-transfer gpa count =
-    and_then (within (λ n. nat_le n 2) number) (λ command.
-    and_then (within (goes_with gpa count command) number) (λ now. within (has_beats count now) number))
-
--- a number of 32 bits
-abbrev pub sectors : Form ℕ
-sectors = within (λ n. nat_lt n (2 ^ 32)) number
-
--- sector, address, count, and the transfer
 unfoldable pub block : Form BlockState
 block =
     made block_of block_parts always
-    (number ⨾ and_then number (λ gpa. and_then sectors (transfer gpa)))
+    (number ⨾ and_then number (λ gpa. and_then sectors (standing gpa)))
 
 -- ---- the disk
 

@@ -17,7 +17,7 @@ use Rattle.sv_types.specs.Policies.{harts_within, ram_pages_within}
 use Rattle.sv_types.specs.declared.event.Counts.{Counts}
 use Rattle.sv_types.specs.declared.event.Note.{Note}
 use Rattle.sv_types.specs.declared.event.Verdict.{Verdict}
-use Rattle.sv_types.specs.declared.saved.BlockState.{BlockState}
+use Rattle.sv_types.specs.declared.block.BlockState.{BlockState}
 use Rattle.sv_types.specs.declared.saved.SavedModule.{SavedModule}
 use Rattle.sv_types.specs.declared.protection.Protection.{Protection}
 
