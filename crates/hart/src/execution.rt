@@ -1,22 +1,20 @@
 // One attempt of a hart.
 
 ghost use Rattle.std.specs.Prelude.{◌≡◌, ◌<◌, ◌/◌, ◌%◌, ◌^◌, IsTrue, IfOk, Some, None};
-ghost use Rattle.processor.specs.Regions.{IsHostPlace};
-ghost use Rattle.processor.specs.SecondStage.{WalksApart};
-ghost use Rattle.processor.specs.CachedWalks.{CacheAgrees, FilledUnder};
 ghost use Rattle.processor.specs.Effects.{set_register};
-ghost use Rattle.processor.specs.Encoding.{fits};
 ghost use Rattle.processor.specs.HypervisorRegisters.{pending};
-ghost use Rattle.processor.specs.Requests.{IsRequest};
-ghost use Rattle.processor.specs.HardwareMemory.{load_htinst, store_htinst, atomic_htinst};
-ghost use Rattle.processor.specs.HardwareAttempt.{after_effect, after_instruction, after_word, after_fetch, attempt, OnlyWrites};
+ghost use Rattle.processor.specs.HardwareMemory.{translated};
+ghost use Rattle.processor.specs.declared.access.Access.TheVariants as Access;
+ghost use Rattle.processor.specs.HardwareAttempt.{after_word, after_fetch, attempt, OnlyWrites};
 ghost use Rattle.hart.specs.Cores.{core_of, step_of, attempted_of};
-ghost use Rattle.hart.specs.Conditions.{KeepsMode};
+ghost use Rattle.hart.specs.Conditions.{MayAttempt, StaysReady};
 
-use crate::decoder::Decoder;
+use crate::decoder::{Decoded, Decoder};
 use crate::hart::Core;
-use crate::memory::{reached, translated};
-use crate::requests::{Operation, atomic, load, load_reserved, retire, store, store_conditional};
+use crate::memory::{Request, reached, translated};
+use crate::requests::{
+    Format, Operation, Stored, atomic, load, load_reserved, retire, store, store_conditional,
+};
 use crate::system::{
     CsrAccess, call, csr, csr_reached, illegal, sret, supervisor_only, virtual_instruction,
 };
@@ -24,7 +22,7 @@ use crate::trap::{interrupt, plain_exception, raise};
 use crate::wires::Wires;
 use gstage_cache::Cache;
 use host_mem::HostMem;
-use processor::{Access, Cause, Effect, Exception, HRegs, Instr, Interrupt, Outcome};
+use processor::{Access, Cause, Effect, HRegs, Interrupt, Outcome};
 use rv64_exec::effect;
 use trap_entry::pending;
 
@@ -38,24 +36,14 @@ pub(crate) fn attempt<W: Wires>(
     mem: &mut HostMem,
     wires: &W,
 ) -> Outcome
-    requires aligned { core.old.pc % 4 ≡ 0 }
-    requires mode { KeepsMode regs.now }
-    requires second { regs.now.hgatp / 2 ^ 60 ≡ 8 }
-    requires apart { WalksApart mem.old regs.now.hgatp }
-    requires agrees { CacheAgrees mem.old.tables cache.old }
+    requires ready { MayAttempt mem.old core.old regs.now cache.old }
     ensures attempted { attempted_of mem.new core.new regs.now result ≡ attempt mem.old (core_of core.old regs.now) (W.seen wires.now) }
-    ensures pc { core.new.pc % 4 ≡ 0 }
-    ensures tables { mem.new.tables ≡ mem.old.tables }
-    ensures filled { FilledUnder mem.old.tables regs.now.hgatp cache.old cache.new }
-    ensures agrees { CacheAgrees mem.new.tables cache.new }
+    ensures kept { StaysReady mem.old mem.new core.new regs.now cache.old cache.new }
     ensures written { OnlyWrites mem.old mem.new result }
 {
     match interrupt_due(core, regs, wires) {
         Some(taken) => interrupt(core, regs, taken),
-        None => {
-            let place = translated(core, regs, cache, mem, Access::Fetch, core.pc, 0);
-            fetch(decoder, core, regs, cache, mem, wires, place)
-        }
+        None => fetch(decoder, core, regs, cache, mem, wires),
     }
 }
 
@@ -70,8 +58,8 @@ fn interrupt_due<W: Wires>(core: &Core, regs: &HRegs, wires: &W) -> Option<Inter
     pending(&core.csrs, regs, &wires.lines())
 }
 
-// The word at the place that the pc reached, carried out.
-#[tactic(auto, using(gstage_cache::specs::Fills::nothing_filled), unfolding(processor::specs::HardwareAttempt::after_fetch))]
+// What the pc leads to, carried out.
+#[tactic(auto, using(gstage_cache::specs::Fills::nothing_filled, gstage_cache::specs::Fills::filled_further), unfolding(processor::specs::HardwareAttempt::after_fetch))]
 fn fetch<W: Wires>(
     decoder: &mut Decoder,
     core: &mut Core,
@@ -79,95 +67,19 @@ fn fetch<W: Wires>(
     cache: &mut Cache,
     mem: &mut HostMem,
     wires: &W,
-    place: Result<u64, Exception>,
 ) -> Outcome
-    requires aligned { core.old.pc % 4 ≡ 0 }
-    requires mode { KeepsMode regs.now }
-    requires second { regs.now.hgatp / 2 ^ 60 ≡ 8 }
-    requires apart { WalksApart mem.old regs.now.hgatp }
-    requires agrees { CacheAgrees mem.old.tables cache.old }
-    requires place { IfOk place (λ hpa. IsHostPlace mem.old hpa 4) }
-    ensures attempted { attempted_of mem.new core.new regs.now result ≡ after_fetch mem.old (core_of core.old regs.now) (W.seen wires.now) place }
-    ensures pc { core.new.pc % 4 ≡ 0 }
-    ensures tables { mem.new.tables ≡ mem.old.tables }
-    ensures filled { FilledUnder mem.old.tables regs.now.hgatp cache.old cache.new }
+    requires ready { MayAttempt mem.old core.old regs.now cache.old }
+    ensures attempted { attempted_of mem.new core.new regs.now result ≡ after_fetch mem.old (core_of core.old regs.now) (W.seen wires.now) (translated mem.old (core_of core.old regs.now) Access.Fetch core.old.pc 0) }
+    ensures kept { StaysReady mem.old mem.new core.new regs.now cache.old cache.new }
 {
-    match place {
+    match translated(core, regs, cache, mem, Request::fetch(core.pc)) {
         Ok(hpa) => {
             let word = mem.read(hpa as usize, 4) as u32;
-            carry_out(decoder, core, regs, cache, mem, wires, word)
+            let decoded = decoder.decoded(core.pc, word);
+            carry_out(core, regs, cache, mem, wires, decoded)
         }
         Err(exception) => raise(core, regs, exception),
     }
-}
-
-#[tactic(auto, using(gstage_cache::specs::Fills::nothing_filled), unfolding(processor::specs::HardwareAttempt::after_word, processor::specs::HardwareAttempt::after_instruction))]
-fn carry_out<W: Wires>(
-    decoder: &mut Decoder,
-    core: &mut Core,
-    regs: &HRegs,
-    cache: &mut Cache,
-    mem: &mut HostMem,
-    wires: &W,
-    word: u32,
-) -> Outcome
-    requires aligned { core.old.pc % 4 ≡ 0 }
-    requires mode { KeepsMode regs.now }
-    requires second { regs.now.hgatp / 2 ^ 60 ≡ 8 }
-    requires apart { WalksApart mem.old regs.now.hgatp }
-    requires agrees { CacheAgrees mem.old.tables cache.old }
-    ensures attempted { attempted_of mem.new core.new regs.now result ≡ after_word mem.old (core_of core.old regs.now) (W.seen wires.now) word }
-    ensures pc { core.new.pc % 4 ≡ 0 }
-    ensures tables { mem.new.tables ≡ mem.old.tables }
-    ensures filled { FilledUnder mem.old.tables regs.now.hgatp cache.old cache.new }
-{
-    match &decoder.decoded(core.pc, word).instr {
-        Some(instr) => execute(core, regs, cache, mem, wires, word, instr),
-        None => raise(core, regs, illegal(word)),
-    }
-}
-
-#[tactic(auto, using(processor_laws::proofs::EffectRequests::is_request), unfolding(processor::specs::HardwareAttempt::after_instruction))]
-fn execute<W: Wires>(
-    core: &mut Core,
-    regs: &HRegs,
-    cache: &mut Cache,
-    mem: &mut HostMem,
-    wires: &W,
-    word: u32,
-    instr: &Instr,
-) -> Outcome
-    requires aligned { core.old.pc % 4 ≡ 0 }
-    requires mode { KeepsMode regs.now }
-    requires second { regs.now.hgatp / 2 ^ 60 ≡ 8 }
-    requires apart { WalksApart mem.old regs.now.hgatp }
-    requires agrees { CacheAgrees mem.old.tables cache.old }
-    requires fits { IsTrue (fits instr.now) }
-    ensures attempted { attempted_of mem.new core.new regs.now result ≡ after_instruction mem.old (core_of core.old regs.now) (W.seen wires.now) word (Some instr.now) }
-    ensures pc { core.new.pc % 4 ≡ 0 }
-    ensures tables { mem.new.tables ≡ mem.old.tables }
-    ensures filled { FilledUnder mem.old.tables regs.now.hgatp cache.old cache.new }
-{
-    let effect = effect(instr, &core.regs, core.pc);
-    apply(core, regs, cache, mem, wires, word, effect)
-}
-
-fn load_htinst(word: u32) -> u32
-    ensures { result ≡ load_htinst word }
-{
-    word & 0x0000_7FFF
-}
-
-fn store_htinst(word: u32) -> u32
-    ensures { result ≡ store_htinst word }
-{
-    word & 0x01F0_707F
-}
-
-fn atomic_htinst(word: u32) -> u32
-    ensures { result ≡ atomic_htinst word }
-{
-    word & 0xFFF0_7FFF
 }
 
 fn set(core: &mut Core, rd: u8, value: u64, next: u64) -> Outcome
@@ -180,28 +92,25 @@ fn set(core: &mut Core, rd: u8, value: u64, next: u64) -> Outcome
     Outcome::Retired { wrote: None }
 }
 
-#[tactic(auto, using(gstage_cache::specs::Fills::nothing_filled), unfolding(processor::specs::HardwareAttempt::after_effect))]
-fn apply<W: Wires>(
+// A word that was decoded, carried out.
+#[tactic(auto, using(gstage_cache::specs::Fills::nothing_filled, processor_laws::proofs::EffectRequests::is_request), unfolding(processor::specs::HardwareAttempt::after_word, processor::specs::HardwareAttempt::after_instruction, processor::specs::HardwareAttempt::after_effect))]
+fn carry_out<W: Wires>(
     core: &mut Core,
     regs: &HRegs,
     cache: &mut Cache,
     mem: &mut HostMem,
     wires: &W,
-    word: u32,
-    effect: Effect,
+    decoded: &Decoded,
 ) -> Outcome
-    requires aligned { core.old.pc % 4 ≡ 0 }
-    requires mode { KeepsMode regs.now }
-    requires second { regs.now.hgatp / 2 ^ 60 ≡ 8 }
-    requires apart { WalksApart mem.old regs.now.hgatp }
-    requires agrees { CacheAgrees mem.old.tables cache.old }
-    requires request { IsRequest effect }
-    ensures attempted { attempted_of mem.new core.new regs.now result ≡ after_effect mem.old (core_of core.old regs.now) (W.seen wires.now) word effect }
-    ensures pc { core.new.pc % 4 ≡ 0 }
-    ensures tables { mem.new.tables ≡ mem.old.tables }
-    ensures filled { FilledUnder mem.old.tables regs.now.hgatp cache.old cache.new }
+    requires ready { MayAttempt mem.old core.old regs.now cache.old }
+    ensures attempted { attempted_of mem.new core.new regs.now result ≡ after_word mem.old (core_of core.old regs.now) (W.seen wires.now) decoded.now.word }
+    ensures kept { StaysReady mem.old mem.new core.new regs.now cache.old cache.new }
 {
-    match effect {
+    let word = decoded.word;
+    let Some(instr) = &decoded.instr else {
+        return raise(core, regs, illegal(word));
+    };
+    match effect(instr, &core.regs, core.pc) {
         Effect::Set { rd, value, next } => set(core, rd, value, next),
         Effect::MisalignedJump { target } => {
             raise(core, regs, plain_exception(Cause::InstrMisaligned, target))
@@ -212,18 +121,16 @@ fn apply<W: Wires>(
             width,
             signed,
         } => {
-            let htinst = load_htinst(word);
-            let source = reached(core, regs, cache, mem, Access::Load, addr, width, htinst);
-            load(core, regs, mem, rd, width, signed, source)
+            let source = reached(core, regs, cache, mem, Request::load(addr, word), width);
+            load(core, regs, mem, rd, Format { width, signed }, source)
         }
         Effect::Store { addr, width, value } => {
-            let htinst = store_htinst(word);
-            let target = reached(core, regs, cache, mem, Access::Store, addr, width, htinst);
-            store(core, regs, mem, width, value, target)
+            let target = reached(core, regs, cache, mem, Request::store(addr, word), width);
+            store(core, regs, mem, Stored { width, value }, target)
         }
         Effect::LoadReserved { rd, addr, width } => {
-            let htinst = atomic_htinst(word);
-            let source = reached(core, regs, cache, mem, Access::Load, addr, width, htinst);
+            let request = Request::atomic(Access::Load, addr, word);
+            let source = reached(core, regs, cache, mem, request, width);
             load_reserved(core, regs, mem, rd, width, source)
         }
         Effect::StoreConditional {
@@ -232,9 +139,10 @@ fn apply<W: Wires>(
             width,
             value,
         } => {
-            let htinst = atomic_htinst(word);
-            let target = reached(core, regs, cache, mem, Access::Store, addr, width, htinst);
-            store_conditional(core, regs, mem, rd, width, value, target)
+            let request = Request::atomic(Access::Store, addr, word);
+            let target = reached(core, regs, cache, mem, request, width);
+            let stored = Stored { width, value };
+            store_conditional(core, regs, mem, rd, stored, target)
         }
         Effect::Amo {
             rd,
@@ -243,9 +151,10 @@ fn apply<W: Wires>(
             op,
             value,
         } => {
-            let htinst = atomic_htinst(word);
-            let place = reached(core, regs, cache, mem, Access::Store, addr, width, htinst);
-            atomic(core, regs, mem, rd, width, Operation { op, value }, place)
+            let request = Request::atomic(Access::Store, addr, word);
+            let place = reached(core, regs, cache, mem, request, width);
+            let operation = Operation { op, width, value };
+            atomic(core, regs, mem, rd, operation, place)
         }
         Effect::Csr {
             rd,

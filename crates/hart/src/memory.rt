@@ -3,9 +3,11 @@
 ghost use Rattle.std.specs.Prelude.{◌≡◌, ◌⊎◌, ◌≤◌, ℕ, ◌/◌, ◌%◌, ◌^◌, length, IfOk, IfSome, Ok};
 ghost use Rattle.processor.specs.Regions.{IsWidth, IsHostPlace};
 ghost use Rattle.processor.specs.SecondStage.{WalksApart};
-ghost use Rattle.processor.specs.CachedWalks.{CacheAgrees, FilledUnder};
-ghost use Rattle.processor.specs.HardwareMemory.{misaligned, page_fault, guest_page_fault, fault_exception, settings_at, translated, reached};
+ghost use Rattle.processor.specs.CachedWalks.{CacheAgrees};
+ghost use Rattle.processor.specs.HardwareMemory.{misaligned, page_fault, guest_page_fault, fault_exception, settings_at, translated, reached, load_htinst, store_htinst, atomic_htinst};
+ghost use Rattle.processor.specs.declared.access.Access.TheVariants as Access;
 ghost use Rattle.hart.specs.Cores.{core_of};
+ghost use Rattle.hart.specs.Conditions.{MayWalk, Walked};
 ghost use Rattle.sv39_walk.specs.Regimes.{settings_of};
 
 use crate::hart::Core;
@@ -48,17 +50,74 @@ fn guest_page_fault(access: Access) -> Cause
     }
 }
 
-// The exception of an access that translation refuses. `htinst` is that of an access refused itself.
-fn fault_exception(access: Access, va: u64, htinst: u32, fault: Fault) -> Exception
-    ensures { result ≡ fault_exception access va htinst fault }
+/// An access to a virtual address, and `htinst` of a guest-page fault of the access itself.
+#[derive(Clone, Copy, Drop)]
+pub(crate) struct Request {
+    pub(crate) access: Access,
+    pub(crate) address: u64,
+    pub(crate) htinst: u32,
+}
+
+impl Request {
+    pub(crate) fn fetch(pc: u64) -> Request
+        ensures { result ≡ record { access = Access.Fetch; address = pc; htinst = 0 } }
+    {
+        Request {
+            access: Access::Fetch,
+            address: pc,
+            htinst: 0,
+        }
+    }
+
+    /// That of a load, by its word.
+    pub(crate) fn load(address: u64, word: u32) -> Request
+        ensures { result ≡ record { access = Access.Load; address = address; htinst = load_htinst word } }
+    {
+        Request {
+            access: Access::Load,
+            address,
+            htinst: word & 0x0000_7FFF,
+        }
+    }
+
+    /// That of a store, by its word.
+    pub(crate) fn store(address: u64, word: u32) -> Request
+        ensures { result ≡ record { access = Access.Store; address = address; htinst = store_htinst word } }
+    {
+        Request {
+            access: Access::Store,
+            address,
+            htinst: word & 0x01F0_707F,
+        }
+    }
+
+    /// That of an atomic instruction, by its word.
+    pub(crate) fn atomic(access: Access, address: u64, word: u32) -> Request
+        ensures { result ≡ record { access = access; address = address; htinst = atomic_htinst word } }
+    {
+        Request {
+            access,
+            address,
+            htinst: word & 0xFFF0_7FFF,
+        }
+    }
+}
+
+// The exception of an access that translation refuses.
+fn fault_exception(request: Request, fault: Fault) -> Exception
+    ensures { result ≡ fault_exception request.access request.address request.htinst fault }
 {
     match fault {
-        Fault::Page => plain_exception(page_fault(access), va),
+        Fault::Page => plain_exception(page_fault(request.access), request.address),
         Fault::Guest { gpa, implicit } => Exception {
-            cause: guest_page_fault(access),
-            tval: va,
+            cause: guest_page_fault(request.access),
+            tval: request.address,
             htval: gpa >> 2,
-            htinst: if implicit { IMPLICIT_READ } else { htinst },
+            htinst: if implicit {
+                IMPLICIT_READ
+            } else {
+                request.htinst
+            },
         },
     }
 }
@@ -88,23 +147,24 @@ fn walked(
     regs: &HRegs,
     cache: &mut Cache,
     mem: &HostMem,
-    access: Access,
-    va: u64,
-    htinst: u32,
+    request: Request,
 ) -> Result<u64, Exception>
-    requires second { regs.now.hgatp / 2 ^ 60 ≡ 8 }
-    requires apart { WalksApart mem.now regs.now.hgatp }
-    requires agrees { CacheAgrees mem.now.tables cache.old }
-    ensures value { result ≡ translated mem.now (core_of core.now regs.now) access va htinst }
-    ensures place { (width : ℕ) → IsWidth width → va % width ≡ 0 → IfOk result (λ hpa. IsHostPlace mem.now hpa width) }
+    requires ready { MayWalk mem.now regs.now cache.old }
+    ensures value { result ≡ translated mem.now (core_of core.now regs.now) request.access request.address request.htinst }
+    ensures place { (width : ℕ) → IsWidth width → request.address % width ≡ 0 → IfOk result (λ hpa. IsHostPlace mem.now hpa width) }
     ensures ram { IfOk result (λ hpa. length mem.now.tables ≤ hpa) }
-    ensures agrees { CacheAgrees mem.now.tables cache.new }
-    ensures filled { FilledUnder mem.now.tables regs.now.hgatp cache.old cache.new }
+    ensures walked { Walked mem.now.tables regs.now.hgatp cache.old cache.new }
 {
     let _table_bytes = mem.table_bytes();
-    match translate_through(cache, mem, &regime(core, regs), va, access) {
+    match translate_through(
+        cache,
+        mem,
+        &regime(core, regs),
+        request.address,
+        request.access,
+    ) {
         Ok(place) => Ok(place.hpa),
-        Err(fault) => Err(fault_exception(access, va, htinst, fault)),
+        Err(fault) => Err(fault_exception(request, fault)),
     }
 }
 
@@ -115,18 +175,17 @@ fn held_place(
     regs: &HRegs,
     cache: &Cache,
     mem: &HostMem,
-    access: Access,
-    va: u64,
+    request: Request,
 ) -> Option<u64>
     requires apart { WalksApart mem.now regs.now.hgatp }
     requires agrees { CacheAgrees mem.now.tables cache.now }
-    ensures value { IfSome result (λ hpa. (htinst : ℕ) → translated mem.now (core_of core.now regs.now) access va htinst ≡ Ok hpa) }
-    ensures place { IfSome result (λ hpa. (width : ℕ) → IsWidth width → va % width ≡ 0 → IsHostPlace mem.now hpa width) }
+    ensures value { IfSome result (λ hpa. translated mem.now (core_of core.now regs.now) request.access request.address request.htinst ≡ Ok hpa) }
+    ensures place { IfSome result (λ hpa. (width : ℕ) → IsWidth width → request.address % width ≡ 0 → IsHostPlace mem.now hpa width) }
     ensures ram { IfSome result (λ hpa. length mem.now.tables ≤ hpa) }
 {
     let _table_bytes = mem.table_bytes();
     if core.csrs.vsatp >> 60 == 0 {
-        cache.held_place(mem, regs.hgatp, va, access)
+        cache.held_place(mem, regs.hgatp, request.address, request.access)
     } else {
         None
     }
@@ -140,22 +199,17 @@ pub(crate) fn translated(
     regs: &HRegs,
     cache: &mut Cache,
     mem: &HostMem,
-    access: Access,
-    va: u64,
-    htinst: u32,
+    request: Request,
 ) -> Result<u64, Exception>
-    requires second { regs.now.hgatp / 2 ^ 60 ≡ 8 }
-    requires apart { WalksApart mem.now regs.now.hgatp }
-    requires agrees { CacheAgrees mem.now.tables cache.old }
-    ensures value { result ≡ translated mem.now (core_of core.now regs.now) access va htinst }
-    ensures place { (width : ℕ) → IsWidth width → va % width ≡ 0 → IfOk result (λ hpa. IsHostPlace mem.now hpa width) }
+    requires ready { MayWalk mem.now regs.now cache.old }
+    ensures value { result ≡ translated mem.now (core_of core.now regs.now) request.access request.address request.htinst }
+    ensures place { (width : ℕ) → IsWidth width → request.address % width ≡ 0 → IfOk result (λ hpa. IsHostPlace mem.now hpa width) }
     ensures ram { IfOk result (λ hpa. length mem.now.tables ≤ hpa) }
-    ensures agrees { CacheAgrees mem.now.tables cache.new }
-    ensures filled { FilledUnder mem.now.tables regs.now.hgatp cache.old cache.new }
+    ensures walked { Walked mem.now.tables regs.now.hgatp cache.old cache.new }
 {
-    match held_place(core, regs, cache, mem, access, va) {
+    match held_place(core, regs, cache, mem, request) {
         Some(hpa) => Ok(hpa),
-        None => walked(core, regs, cache, mem, access, va, htinst),
+        None => walked(core, regs, cache, mem, request),
     }
 }
 
@@ -167,24 +221,19 @@ pub(crate) fn reached(
     regs: &HRegs,
     cache: &mut Cache,
     mem: &HostMem,
-    access: Access,
-    address: u64,
+    request: Request,
     width: u8,
-    htinst: u32,
 ) -> Result<u64, Exception>
-    requires second { regs.now.hgatp / 2 ^ 60 ≡ 8 }
-    requires apart { WalksApart mem.now regs.now.hgatp }
-    requires agrees { CacheAgrees mem.now.tables cache.old }
+    requires ready { MayWalk mem.now regs.now cache.old }
     requires width { IsWidth width }
-    ensures value { result ≡ reached mem.now (core_of core.now regs.now) access address width htinst }
+    ensures value { result ≡ reached mem.now (core_of core.now regs.now) request.access request.address width request.htinst }
     ensures place { IfOk result (λ hpa. IsHostPlace mem.now hpa width) }
     ensures ram { IfOk result (λ hpa. length mem.now.tables ≤ hpa) }
-    ensures agrees { CacheAgrees mem.now.tables cache.new }
-    ensures filled { FilledUnder mem.now.tables regs.now.hgatp cache.old cache.new }
+    ensures walked { Walked mem.now.tables regs.now.hgatp cache.old cache.new }
 {
-    if address.is_multiple_of(u64::from(width)) {
-        translated(core, regs, cache, mem, access, address, htinst)
+    if request.address.is_multiple_of(u64::from(width)) {
+        translated(core, regs, cache, mem, request)
     } else {
-        Err(plain_exception(misaligned(access), address))
+        Err(plain_exception(misaligned(request.access), request.address))
     }
 }

@@ -1,13 +1,13 @@
 // Loads, stores and atomic instructions, by the host place that they reached.
 
-ghost use Rattle.std.specs.Prelude.{◌≡◌, ◌⊎◌, ◌<◌, ◌≤◌, ◌%◌, ◌^◌, length, IfOk};
+ghost use Rattle.std.specs.Prelude.{true, ◌≡◌, ◌⊎◌, ◌<◌, ◌≤◌, ◌%◌, ◌^◌, length, IfOk};
 ghost use Rattle.processor.specs.Effects.{set_register, next_pc};
 ghost use Rattle.processor.specs.Regions.{IsWidth, IsHostPlace};
 ghost use Rattle.processor.specs.Requests.{loaded_value, reserved_at, covers};
 ghost use Rattle.processor.specs.Hardware.{with_region};
 ghost use Rattle.processor.specs.HardwareMemory.{retire, retire_with, after_load, after_load_reserved, after_store, after_store_conditional, after_amo};
 ghost use Rattle.hart.specs.Cores.{core_of, step_of, attempted_of};
-ghost use Rattle.hart.specs.Conditions.{KeepsMode};
+ghost use Rattle.hart.specs.Conditions.{MayStep};
 
 use crate::hart::Core;
 use crate::trap::raise;
@@ -34,17 +34,35 @@ pub(crate) fn retire_with(core: &mut Core, rd: u8, value: u64, wrote: Option<Wro
     retire(core, wrote)
 }
 
-// A word of `width` bytes as a register takes it.
+/// How many bytes a load reads, and whether the highest bit of these fills those above.
+#[derive(Clone, Copy, Drop)]
+pub(crate) struct Format {
+    pub(crate) width: u8,
+    pub(crate) signed: bool,
+}
+
+impl Format {
+    fn signed(width: u8) -> Format
+        ensures { result ≡ record { width = width; signed = true } }
+    {
+        Format {
+            width,
+            signed: true,
+        }
+    }
+}
+
+// A word that was read as a register takes it.
 #[tactic(auto, unfolding(processor::specs::Requests::loaded_value))]
-fn loaded_value(signed: bool, width: u8, word: u64) -> u64
-    requires width { IsWidth width }
-    requires small { word < 256 ^ width }
-    ensures { result ≡ loaded_value signed width word }
+fn loaded_value(format: Format, word: u64) -> u64
+    requires width { IsWidth format.width }
+    requires small { word < 256 ^ format.width }
+    ensures { result ≡ loaded_value format.signed format.width word }
 {
-    if !signed {
+    if !format.signed {
         return word;
     }
-    match width {
+    match format.width {
         1 => i64::from((word as u8).cast_signed()).cast_unsigned(),
         2 => i64::from((word as u16).cast_signed()).cast_unsigned(),
         4 => i64::from((word as u32).cast_signed()).cast_unsigned(),
@@ -59,22 +77,20 @@ pub(crate) fn load(
     regs: &HRegs,
     mem: &HostMem,
     rd: u8,
-    width: u8,
-    signed: bool,
+    format: Format,
     place: Result<u64, Exception>,
 ) -> Outcome
-    requires aligned { core.old.pc % 4 ≡ 0 }
-    requires mode { KeepsMode regs.now }
+    requires ready { MayStep core.old regs.now }
     requires register { rd < 32 }
-    requires width { IsWidth width }
-    requires place { IfOk place (λ hpa. IsHostPlace mem.now hpa width) }
-    ensures step { step_of core.new regs.now result ≡ after_load mem.now (core_of core.old regs.now) rd width signed place }
+    requires width { IsWidth format.width }
+    requires place { IfOk place (λ hpa. IsHostPlace mem.now hpa format.width) }
+    ensures step { step_of core.new regs.now result ≡ after_load mem.now (core_of core.old regs.now) rd format.width format.signed place }
     ensures pc { core.new.pc % 4 ≡ 0 }
 {
     match place {
         Ok(hpa) => {
-            let word = mem.read(hpa as usize, width);
-            retire_with(core, rd, loaded_value(signed, width, word), None)
+            let word = mem.read(hpa as usize, format.width);
+            retire_with(core, rd, loaded_value(format, word), None)
         }
         Err(exception) => raise(core, regs, exception),
     }
@@ -90,8 +106,7 @@ pub(crate) fn load_reserved(
     width: u8,
     place: Result<u64, Exception>,
 ) -> Outcome
-    requires aligned { core.old.pc % 4 ≡ 0 }
-    requires mode { KeepsMode regs.now }
+    requires ready { MayStep core.old regs.now }
     requires register { rd < 32 }
     requires width { IsWidth width }
     requires place { IfOk place (λ hpa. IsHostPlace mem.now hpa width) }
@@ -102,39 +117,44 @@ pub(crate) fn load_reserved(
         Ok(hpa) => {
             let word = mem.read(hpa as usize, width);
             core.reservation = Some(hpa - hpa % 8);
-            retire_with(core, rd, loaded_value(true, width, word), None)
+            retire_with(core, rd, loaded_value(Format::signed(width), word), None)
         }
         Err(exception) => raise(core, regs, exception),
     }
 }
 
-/// A store of the `width` lowest bytes of a value.
+/// The `width` lowest bytes of a value.
+#[derive(Clone, Copy, Drop)]
+pub(crate) struct Stored {
+    pub(crate) width: u8,
+    pub(crate) value: u64,
+}
+
+/// A store.
 #[tactic(auto, using(gstage_cache::proofs::WritesAndWalks::write_behind), unfolding(processor::specs::HardwareMemory::after_store))]
 pub(crate) fn store(
     core: &mut Core,
     regs: &HRegs,
     mem: &mut HostMem,
-    width: u8,
-    value: u64,
+    stored: Stored,
     place: Result<u64, Exception>,
 ) -> Outcome
-    requires aligned { core.old.pc % 4 ≡ 0 }
-    requires mode { KeepsMode regs.now }
-    requires place { IfOk place (λ hpa. IsHostPlace mem.old hpa width) }
+    requires ready { MayStep core.old regs.now }
+    requires place { IfOk place (λ hpa. IsHostPlace mem.old hpa stored.width) }
     requires ram { IfOk place (λ hpa. length mem.old.tables ≤ hpa) }
-    ensures attempted { attempted_of mem.new core.new regs.now result ≡ after_store mem.old (core_of core.old regs.now) width value place }
+    ensures attempted { attempted_of mem.new core.new regs.now result ≡ after_store mem.old (core_of core.old regs.now) stored.width stored.value place }
     ensures tables { mem.new.tables ≡ mem.old.tables }
     ensures pc { core.new.pc % 4 ≡ 0 }
 {
     match place {
         Ok(hpa) => {
-            mem.write(hpa as usize, width, value);
-            core.forget(hpa, u64::from(width));
+            mem.write(hpa as usize, stored.width, stored.value);
+            core.forget(hpa, u64::from(stored.width));
             retire(
                 core,
                 Some(Wrote {
                     hpa,
-                    width: u64::from(width),
+                    width: u64::from(stored.width),
                 }),
             )
         }
@@ -159,32 +179,30 @@ pub(crate) fn store_conditional(
     regs: &HRegs,
     mem: &mut HostMem,
     rd: u8,
-    width: u8,
-    value: u64,
+    stored: Stored,
     place: Result<u64, Exception>,
 ) -> Outcome
-    requires aligned { core.old.pc % 4 ≡ 0 }
-    requires mode { KeepsMode regs.now }
+    requires ready { MayStep core.old regs.now }
     requires register { rd < 32 }
-    requires place { IfOk place (λ hpa. IsHostPlace mem.old hpa width) }
+    requires place { IfOk place (λ hpa. IsHostPlace mem.old hpa stored.width) }
     requires ram { IfOk place (λ hpa. length mem.old.tables ≤ hpa) }
-    ensures attempted { attempted_of mem.new core.new regs.now result ≡ after_store_conditional mem.old (core_of core.old regs.now) rd width value place }
+    ensures attempted { attempted_of mem.new core.new regs.now result ≡ after_store_conditional mem.old (core_of core.old regs.now) rd stored.width stored.value place }
     ensures tables { mem.new.tables ≡ mem.old.tables }
     ensures pc { core.new.pc % 4 ≡ 0 }
 {
     match place {
         Ok(hpa) => {
-            let holds = covers(core.reservation, hpa, width);
+            let holds = covers(core.reservation, hpa, stored.width);
             core.reservation = None;
             if holds {
-                mem.write(hpa as usize, width, value);
+                mem.write(hpa as usize, stored.width, stored.value);
                 retire_with(
                     core,
                     rd,
                     0,
                     Some(Wrote {
                         hpa,
-                        width: u64::from(width),
+                        width: u64::from(stored.width),
                     }),
                 )
             } else {
@@ -195,10 +213,11 @@ pub(crate) fn store_conditional(
     }
 }
 
-/// What an atomic instruction makes of the word that it reads and the value of rs2.
+/// What an atomic instruction makes of the word of `width` bytes that it reads and the value of rs2.
 #[derive(Clone, Copy, Drop)]
 pub(crate) struct Operation {
     pub(crate) op: AmoOp,
+    pub(crate) width: u8,
     pub(crate) value: u64,
 }
 
@@ -209,36 +228,34 @@ pub(crate) fn atomic(
     regs: &HRegs,
     mem: &mut HostMem,
     rd: u8,
-    width: u8,
     operation: Operation,
     place: Result<u64, Exception>,
 ) -> Outcome
-    requires aligned { core.old.pc % 4 ≡ 0 }
-    requires mode { KeepsMode regs.now }
+    requires ready { MayStep core.old regs.now }
     requires register { rd < 32 }
-    requires width { (width ≡ 4) ⊎ (width ≡ 8) }
-    requires place { IfOk place (λ hpa. IsHostPlace mem.old hpa width) }
+    requires width { (operation.width ≡ 4) ⊎ (operation.width ≡ 8) }
+    requires place { IfOk place (λ hpa. IsHostPlace mem.old hpa operation.width) }
     requires ram { IfOk place (λ hpa. length mem.old.tables ≤ hpa) }
-    ensures attempted { attempted_of mem.new core.new regs.now result ≡ after_amo mem.old (core_of core.old regs.now) rd width operation.op operation.value place }
+    ensures attempted { attempted_of mem.new core.new regs.now result ≡ after_amo mem.old (core_of core.old regs.now) rd operation.width operation.op operation.value place }
     ensures tables { mem.new.tables ≡ mem.old.tables }
     ensures pc { core.new.pc % 4 ≡ 0 }
 {
     match place {
         Ok(hpa) => {
-            let word = mem.read(hpa as usize, width);
+            let word = mem.read(hpa as usize, operation.width);
             mem.write(
                 hpa as usize,
-                width,
-                amo(operation.op, width, word, operation.value),
+                operation.width,
+                amo(operation.op, operation.width, word, operation.value),
             );
-            core.forget(hpa, u64::from(width));
+            core.forget(hpa, u64::from(operation.width));
             retire_with(
                 core,
                 rd,
-                loaded_value(true, width, word),
+                loaded_value(Format::signed(operation.width), word),
                 Some(Wrote {
                     hpa,
-                    width: u64::from(width),
+                    width: u64::from(operation.width),
                 }),
             )
         }

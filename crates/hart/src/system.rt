@@ -5,7 +5,7 @@ ghost use Rattle.processor.specs.Requests.{csr_value};
 ghost use Rattle.processor.specs.Hardware.{plain_exception, raise};
 ghost use Rattle.processor.specs.HardwareAttempt.{illegal, virtual_instruction, csr_exception, csr_reached, csr_read, with_csr, after_csr, after_supervisor_only, after_sret, call_cause};
 ghost use Rattle.hart.specs.Cores.{core_of, step_of};
-ghost use Rattle.hart.specs.Conditions.{KeepsMode};
+ghost use Rattle.hart.specs.Conditions.{MayStep};
 
 use crate::hart::Core;
 use crate::requests::{retire, retire_with};
@@ -95,8 +95,7 @@ pub(crate) fn csr(
     access: CsrAccess,
     reached: Result<Csr, Exception>,
 ) -> Outcome
-    requires aligned { core.old.pc % 4 ≡ 0 }
-    requires mode { KeepsMode regs.now }
+    requires ready { MayStep core.old regs.now }
     requires register { rd < 32 }
     ensures step { step_of core.new regs.now result ≡ after_csr (core_of core.old regs.now) lines.now rd access.op access.value access.writes reached }
     ensures pc { core.new.pc % 4 ≡ 0 }
@@ -113,8 +112,7 @@ pub(crate) fn csr(
 /// An instruction of supervisor mode that changes the pc alone.
 #[tactic(auto, unfolding(processor::specs::HardwareAttempt::after_supervisor_only))]
 pub(crate) fn supervisor_only(core: &mut Core, regs: &HRegs, word: u32) -> Outcome
-    requires aligned { core.old.pc % 4 ≡ 0 }
-    requires mode { KeepsMode regs.now }
+    requires ready { MayStep core.old regs.now }
     ensures step { step_of core.new regs.now result ≡ after_supervisor_only (core_of core.old regs.now) word regs.now.mode }
     ensures pc { core.new.pc % 4 ≡ 0 }
 {
@@ -127,8 +125,7 @@ pub(crate) fn supervisor_only(core: &mut Core, regs: &HRegs, word: u32) -> Outco
 /// SRET, which the hypervisor carries out: VTSR is set.
 #[tactic(auto, using(crate::proofs::Returns::sret_raises))]
 pub(crate) fn sret(core: &mut Core, regs: &HRegs, word: u32) -> Outcome
-    requires aligned { core.old.pc % 4 ≡ 0 }
-    requires mode { KeepsMode regs.now }
+    requires ready { MayStep core.old regs.now }
     ensures step { step_of core.new regs.now result ≡ after_sret (core_of core.old regs.now) word regs.now.mode }
     ensures pc { core.new.pc % 4 ≡ 0 }
 {
@@ -137,8 +134,7 @@ pub(crate) fn sret(core: &mut Core, regs: &HRegs, word: u32) -> Outcome
 
 /// ECALL.
 pub(crate) fn call(core: &mut Core, regs: &HRegs) -> Outcome
-    requires aligned { core.old.pc % 4 ≡ 0 }
-    requires mode { KeepsMode regs.now }
+    requires ready { MayStep core.old regs.now }
     ensures step { step_of core.new regs.now result ≡ raise (core_of core.old regs.now) (plain_exception (call_cause regs.now.mode) 0) }
     ensures pc { core.new.pc % 4 ≡ 0 }
 {

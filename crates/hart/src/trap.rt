@@ -5,7 +5,7 @@ ghost use Rattle.processor.specs.Hardware.{raise, after_interrupt, leave, guest_
 ghost use Rattle.processor.specs.Traps.{is_interrupt, guest_number};
 ghost use Rattle.processor.specs.declared.mode.Mode.TheVariants as Mode;
 ghost use Rattle.hart.specs.Cores.{core_of, step_of};
-ghost use Rattle.hart.specs.Conditions.{KeepsMode};
+ghost use Rattle.hart.specs.Conditions.{MayStep};
 
 use crate::hart::Core;
 use processor::{Cause, Exception, Exit, ExitCause, HRegs, Interrupt, Mode, Outcome, has_bit};
@@ -26,8 +26,7 @@ pub(crate) fn plain_exception(cause: Cause, tval: u64) -> Exception
 /// An exception is taken by the guest's kernel where `hedeleg` has its bit, and else by the hypervisor.
 #[tactic(auto, unfolding(processor::specs::Hardware::raise))]
 pub(crate) fn raise(core: &mut Core, regs: &HRegs, exception: Exception) -> Outcome
-    requires aligned { core.old.pc % 4 ≡ 0 }
-    requires mode { KeepsMode regs.now }
+    requires ready { MayStep core.old regs.now }
     ensures step { step_of core.new regs.now result ≡ raise (core_of core.old regs.now) exception }
     ensures pc { core.new.pc % 4 ≡ 0 }
 {
@@ -49,8 +48,7 @@ pub(crate) fn raise(core: &mut Core, regs: &HRegs, exception: Exception) -> Outc
 /// An interrupt is taken by the guest's kernel where `hideleg` has its bit, and else by the hypervisor.
 #[tactic(auto, unfolding(processor::specs::Hardware::after_interrupt))]
 pub(crate) fn interrupt(core: &mut Core, regs: &HRegs, interrupt: Interrupt) -> Outcome
-    requires aligned { core.old.pc % 4 ≡ 0 }
-    requires mode { KeepsMode regs.now }
+    requires ready { MayStep core.old regs.now }
     ensures step { step_of core.new regs.now result ≡ after_interrupt (core_of core.old regs.now) interrupt }
     ensures pc { core.new.pc % 4 ≡ 0 }
 {
