@@ -34,7 +34,7 @@ each_flat : {A B : Type 0} (P : B → Type 0) (f : A → List B) (xs : List A) �
 each_flat P f [] each = tt
 each_flat P f (x ∷ xs) each = each_append P (f x) (flat_map f xs) (each x) (each_flat P f xs each)
 
-abbrev IfThere : {A : Type 0} → (A → Type 0) → Option A → Type 0
+abbrev pub IfThere : {A : Type 0} → (A → Type 0) → Option A → Type 0
 IfThere P None = Unit {0}
 IfThere P (Some x) = P x
 

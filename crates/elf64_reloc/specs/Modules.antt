@@ -7,7 +7,7 @@ use Rattle.std.specs.Cmp.Lexicographic.{slice_cmp}
 use Rattle.std.specs.List.{list_all}
 use Rattle.std.specs.Ordering.{nat_cmp}
 use Rattle.processor.specs.Effects.{plus, signed}
-use Rattle.sv_types.specs.Policies.{is_low_part, site_size, is_aligned, place_within, module_pages_within}
+use Rattle.sv_types.specs.Policies.{is_low_part, site_size, module_pages_within, sites_count_within, sites_within}
 use Rattle.sv_types.specs.declared.module.Site.{Site}
 use Rattle.sv_types.specs.declared.policy.Export.{Export}
 use Rattle.sv_types.specs.declared.relocation_kind.RelocationKind.{RelocationKind}
@@ -186,13 +186,10 @@ pub record Module : Type 0 where
 abbrev pub pages_of : List ℕ → ℕ
 pages_of text = length text / 4096
 
--- the field begins in a module of so many pages, at a multiple of its bytes
-abbrev pub site_fits : ℕ → Site → Bool
-site_fits pages site = place_within pages site.offset && is_aligned site.kind site.offset
-
--- the limits of a policy, for a module by itself
-abbrev pub module_fits : Module → Bool
-module_fits m = module_pages_within (pages_of m.text) && list_all (site_fits (pages_of m.text)) m.sites
+-- the limits of a policy with so many exports, for a module by itself
+abbrev pub module_fits : (exports : ℕ) → Module → Bool
+module_fits exports m =
+    module_pages_within (pages_of m.text) && sites_count_within 0 (length m.sites) && sites_within (pages_of m.text) exports m.sites
 
 abbrev pub is_too_large : List SectionHeader → List Site → Bool
 is_too_large sections sites = nat_lt 65536 (length sites) || nat_lt (4096 * 1024) (text_size sections)

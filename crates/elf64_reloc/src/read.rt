@@ -126,7 +126,7 @@ fn module_of(
 /// Reads a module's object: its text and the fields that relocations change, for a kernel with these exports, of which
 /// there are at most 4,096. Refuses an object for its first fault, and for want of memory. The time is linear in
 /// the file's relocations, but for looking names up and for sorting. A module of a file of at most 4 GiB is within the
-/// limits of a policy.
+/// limits of a policy with these exports.
 #[tactic(auto, unfolding(crate::specs::Modules::module_judged), using(crate::proofs::RefusedOn::refused_on))]
 pub fn read_module(
     alloc: Global,
@@ -135,7 +135,7 @@ pub fn read_module(
 ) -> Result<ModuleImage, RelocRefusal>
     requires { length exports.now ≤ 4096 }
     ensures module { IfOk result (λ image. spec.module_judged bytes.now exports.now ≡ Ok (module_view image)) }
-    ensures fits { length bytes.now ≤ 2 ^ 32 → IfOk result (λ image. spec.module_fits (module_view image) ≡ true) }
+    ensures fits { length bytes.now ≤ 2 ^ 32 → IfOk result (λ image. spec.module_fits (length exports.now) (module_view image) ≡ true) }
     ensures refused { IfErr result (Refuses (spec.module_judged bytes.now exports.now)) }
 {
     let object = read_object(alloc, bytes)?;

@@ -6,5 +6,7 @@ pub mod NamesOnce
 pub mod ExportNames
 pub mod ExportsWithin
 pub mod ModulesWithin
+pub mod MadeWithin
 pub mod WordLemmas
+pub mod WordsWithin
 pub mod Spans

@@ -1,4 +1,4 @@
--- Modules whose own values are within their limits.
+-- Modules that are within their limits each, whose names are new and whose fields are few.
 use Rattle.std.proofs.Common.{◌≡◌, ℕ, ◌+◌, ◌≤◌, Bool, true, not, ◌&&◌, List, [], ◌∷◌, ◌++◌, length, map, refl, ap, sym, ◌∙◌, subst, arith}
 use Rattle.std.specs.Prelude.{nat_le, sum}
 use Rattle.std.specs.List.{list_all}
@@ -7,7 +7,14 @@ use Rattle.std.proofs.lemmas.Bool.Decides.{nat_tests}
 use Rattle.std.proofs.lemmas.List.{map-append}
 use Rattle.std.proofs.lemmas.List.Sums.{sum_by-append, sum_by-cons}
 use Rattle.sv_types.specs.Policies.{ModuleRule, modules_within, module_within, module_pages_within, sites_count_within, sites_within, sites_of, is_module, each_within}
-use Rattle.policy_making.specs.Ranges.{is_new, is_within}
+
+-- a module's own values, beside so many exports
+abbrev pub is_within : ℕ → ModuleRule → Bool
+is_within exports m = module_pages_within m.pages && sites_count_within 0 (length m.sites) && sites_within m.pages exports m.sites
+
+-- no module before it has its name
+abbrev pub is_new : List ModuleRule → ModuleRule → Bool
+is_new before m = not (is_module m.name before)
 
 abbrev counts : List ModuleRule → List ℕ
 counts ms = map (λ (m : ModuleRule). length m.sites) ms
@@ -28,10 +35,11 @@ both a b p q = rw (p, q) refl
 one_within : (exports : ℕ) (before : List ModuleRule) (m : ModuleRule) → is_new before m ≡ true → is_within exports m ≡ true → sites_of before + length m.sites ≤ 131072
     → module_within exports before m ≡ true
 one_within exports before m new own few =
-    let a = and_parts (module_pages_within m.pages && nat_le (length m.sites) 65536) (sites_within m.pages exports m.sites) own in
-    let b = and_parts (module_pages_within m.pages) (nat_le (length m.sites) 65536) a.0 in
+    let a = and_parts (module_pages_within m.pages && sites_count_within 0 (length m.sites)) (sites_within m.pages exports m.sites) own in
+    let b = and_parts (module_pages_within m.pages) (sites_count_within 0 (length m.sites)) a.0 in
+    let few_own = (and_parts (nat_le (length m.sites) 65536) (nat_le (0 + length m.sites) 131072) b.1).0 in
     let all : nat_le (sites_of before + length m.sites) 131072 ≡ true = grind (arith, nat_tests) in
-    let counted : sites_count_within (sites_of before) (length m.sites) ≡ true = both (nat_le (length m.sites) 65536) (nat_le (sites_of before + length m.sites) 131072) b.1 all in
+    let counted : sites_count_within (sites_of before) (length m.sites) ≡ true = both (nat_le (length m.sites) 65536) (nat_le (sites_of before + length m.sites) 131072) few_own all in
     let sized = both (module_pages_within m.pages) (sites_count_within (sites_of before) (length m.sites)) b.0 counted in
     let fielded = both (module_pages_within m.pages && sites_count_within (sites_of before) (length m.sites)) (sites_within m.pages exports m.sites) sized a.1 in
     both (module_pages_within m.pages && sites_count_within (sites_of before) (length m.sites) && sites_within m.pages exports m.sites) (not (is_module m.name before)) fielded new

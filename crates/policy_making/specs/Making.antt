@@ -1,13 +1,13 @@
 -- The policy of a kernel and its modules: its exports are the names that the modules want, its digests and relocated
 -- fields those of the files. The judgements come in the order of the stages. This project's own.
-use Rattle.std.specs.Prelude.{ℕ, List, [], ◌∷◌, ◌++◌, length, ◌==◌, if◌then◌else◌}
+use Rattle.std.specs.Prelude.{ℕ, Bool, List, [], ◌∷◌, ◌++◌, length, map, ◌==◌, nat_le, if◌then◌else◌}
 use Rattle.std.specs.Prelude.{Option, Some, None, Ok, Err}
 use Rattle.std.specs.BTreeSet.{replace_key}
 use Rattle.std.specs.Cmp.Lexicographic.{slice_cmp}
 use Rattle.std.specs.Ordering.{nat_cmp}
 use Rattle.sv_types.specs.Kernel.{kernel_refusal, kernel_segments, text_of}
 use Rattle.sv_types.specs.Measure.{measure}
-use Rattle.sv_types.specs.Policies.{Rules, ModuleRule, rules_within}
+use Rattle.sv_types.specs.Policies.{Rules, ModuleRule, sites_of}
 use Rattle.sv_types.specs.declared.image_fault.ImageFault.{ImageFault}
 use Rattle.sv_types.specs.declared.module.Span.{Span}
 use Rattle.sv_types.specs.declared.policy.Export.{Export}
@@ -18,7 +18,7 @@ use Rattle.elf64_reloc.specs.Modules.{Module, pages_of, names_judged, module_jud
 use Rattle.policy_making.specs.Refusals.{Judged, in_image, in_module}
 use Rattle.policy_making.specs.declared.object_file.ObjectFile.{ObjectFile}
 use Rattle.policy_making.specs.declared.policy.Settings.{Settings}
-use Rattle.policy_making.specs.declared.refusal.MakingFault.TheVariants.{Image, Limits}
+use Rattle.policy_making.specs.declared.refusal.MakingFault.TheVariants.{Image, TooManySites}
 
 -- ---- what is given
 
@@ -29,6 +29,9 @@ pub record ModuleFile : Type 0 where
 
 abbrev pub file_of : ObjectFile → ModuleFile
 file_of o = record { name = o.name; bytes = o.bytes.items }
+
+abbrev pub file_names : List ModuleFile → List (List ℕ)
+file_names objects = map (λ object. object.name) objects
 
 -- what a policy says beside its files
 pub record Terms : Type 0 where
@@ -105,12 +108,15 @@ rules_with s digest exports modules = record {
   modules = modules;
 }
 
--- every value is within its limit, the number of all sites together among them
-abbrev pub within_limits : Rules → Judged Rules
-within_limits r = if rules_within r then Ok r else Err Limits
+-- the modules' sites together are few enough
+abbrev pub few_sites : List ModuleRule → Bool
+few_sites modules = nat_le (sites_of modules) 131072
+
+abbrev pub if_few_sites : Rules → Judged Rules
+if_few_sites r = if few_sites r.modules then Ok r else Err TooManySites
 
 -- the stages behind those of the kernel and of the wanted names
 unfoldable pub policy_behind : Terms → (kernel digest : List ℕ) → List (List ℕ) → List ModuleFile → Judged Rules
 policy_behind s kernel digest names objects =
     exports_wanted kernel names >>= λ exports. modules_made exports objects >>= λ modules.
-    within_limits (rules_with s digest exports modules)
+    if_few_sites (rules_with s digest exports modules)

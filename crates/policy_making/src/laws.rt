@@ -1,13 +1,14 @@
 // Laws of the definitions alone. A law takes no argument and does nothing; its clauses are the theorem.
 
-ghost use Rattle.std.specs.Prelude.{◌≡◌, ◌≤◌, ℕ, Bool, true, List, [], Ok, length, map};
+ghost use Rattle.std.specs.Prelude.{◌≡◌, ℕ, All, Bool, true, List, Ok, map};
 ghost use Rattle.std.specs.Cmp.Lexicographic.{slice_cmp};
-ghost use Rattle.std.specs.List.{list_all, list_any};
+ghost use Rattle.std.specs.List.{list_any};
 ghost use Rattle.std.specs.List.Sorted.{IsStrictlySortedBy};
 ghost use Rattle.std.specs.Ordering.{nat_cmp};
-ghost use Rattle.policy_making.specs.Making.{Terms, each_once, exports_wanted, rules_with};
-ghost use Rattle.policy_making.specs.Ranges.{is_new, is_within, terms_within};
-ghost use Rattle.sv_types.specs.Policies.{ModuleRule, each_within, rules_within, sites_of};
+ghost use Rattle.policy_making.specs.Making.{ModuleFile, Terms, each_once, exports_wanted, file_names, policy_behind};
+ghost use Rattle.policy_making.specs.Ranges.{IsShort, terms_within};
+ghost use Rattle.policy_making.specs.WordRanges.{are_module_names};
+ghost use Rattle.sv_types.specs.Policies.{Rules, rules_within};
 ghost use Rattle.sv_types.specs.declared.policy.Export.{Export};
 
 /// Exports have the names that are wanted, each once: the names rise in the order of their bytes, and what some wanted name
@@ -18,8 +19,8 @@ pub fn law_exports_of_names()
     ensures same { (names : List (List ℕ)) (test : List ℕ → Bool) → list_any test (each_once names) ≡ list_any test names }
 {}
 
-/// Where the words are in their ranges, the exports are those that are wanted, no name of a module stands twice and each
-/// module's own values are within their limits, a policy of at most 131,072 sites together is within its limits.
+/// A policy that is made is within its limits, where the words are in their ranges, the objects have names of modules and
+/// each file of an object is at most 4 GiB.
 pub fn law_within_limits()
-    ensures { (s : Terms) (digest kernel : List ℕ) (names : List (List ℕ)) (exports : List Export) (modules : List ModuleRule) → terms_within s ≡ true → exports_wanted kernel names ≡ Ok exports → length modules ≤ 64 → each_within is_new [] modules ≡ true → list_all (is_within (length exports)) modules ≡ true → sites_of modules ≤ 131072 → rules_within (rules_with s digest exports modules) ≡ true }
+    ensures { (s : Terms) (digest kernel : List ℕ) (names : List (List ℕ)) (objects : List ModuleFile) (rules : Rules) → terms_within s ≡ true → are_module_names (file_names objects) ≡ true → All IsShort objects → policy_behind s kernel digest names objects ≡ Ok rules → rules_within rules ≡ true }
 {}

@@ -1,12 +1,12 @@
 // What a policy says of modules.
 
 ghost use Rattle.std.specs.Prelude.{◌≡◌, ◌≤◌, ◌%◌, ◌/◌, Ok, IsTrue, map, length, All, IfOk, IfErr};
-ghost use Rattle.std.specs.List.{list_all};
 ghost use Rattle.sv_types.specs.Measure as measures;
 ghost use Rattle.sv_types.specs.Policies.{module_pages_within, module_rule};
 ghost use Rattle.reference.specs.Relocations.{masked};
-ghost use Rattle.elf64_reloc.specs.Modules.{pages_of, site_fits};
+ghost use Rattle.elf64_reloc.specs.Modules.{pages_of};
 ghost use Rattle.elf64_reloc.specs.ModuleViews.{module_view};
+ghost use Rattle.relocated_fields.specs.Pieces.{piece_sites, IsAligned};
 ghost use Rattle.policy_making.specs.Making as spec;
 ghost use Rattle.policy_making.specs.Refusals.{Refuses};
 
@@ -21,7 +21,6 @@ use std::thread::Threads;
 use sv_types::{Export, ModulePolicy, Name, Site};
 
 // The measure of a text with each field cleared.
-#[tactic(auto, using(crate::proofs::FittingSites::all_lie_in, crate::proofs::FittingSites::all_aligned))]
 fn masked_digest<R: Threads + Sync>(
     rt: &R,
     alloc: Global,
@@ -29,7 +28,8 @@ fn masked_digest<R: Threads + Sync>(
     sites: &[Site],
 ) -> Result<[u8; 32], AllocError>
     requires whole { length text.old % 4096 ≡ 0 }
-    requires fit { IsTrue (list_all (site_fits (pages_of text.old)) sites.now) }
+    requires inside { piece_sites 0 (length text.old) sites.now ≡ sites.now }
+    requires aligned { All IsAligned sites.now }
     ensures { IfOk result (λ digest. digest ≡ measures.measure (masked text.old sites.now)) }
 {
     mask(text, 0, sites);
@@ -45,7 +45,8 @@ fn rule_of<R: Threads + Sync>(
 ) -> Result<ModulePolicy, AllocError>
     requires whole { length image.text.items % 4096 ≡ 0 }
     requires pages { IsTrue (module_pages_within (pages_of image.text.items)) }
-    requires fit { IsTrue (list_all (site_fits (pages_of image.text.items)) image.sites.items) }
+    requires inside { piece_sites 0 (length image.text.items) image.sites.items ≡ image.sites.items }
+    requires aligned { All IsAligned image.sites.items }
     ensures { IfOk result (λ made. module_rule made ≡ spec.rule_of name (module_view image)) }
 {
     let ModuleImage { mut text, sites } = image;

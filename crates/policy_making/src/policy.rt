@@ -1,18 +1,20 @@
 // The policy of a kernel and its modules.
 
 ghost use Rattle.std.specs.Prelude.{◌≡◌, true, Ok, map, IfOk, IfErr};
-ghost use Rattle.sv_types.specs.Policies.{rules_of, rules_within};
+ghost use Rattle.sv_types.specs.Policies.{module_rule, rules_of, rules_within};
 ghost use Rattle.policy_making.specs.Making as spec;
+ghost use Rattle.policy_making.specs.Ranges.{terms_within};
 ghost use Rattle.policy_making.specs.Refusals.{Refuses};
+ghost use Rattle.policy_making.specs.WordRanges.{are_module_names};
 
 use crate::exports::wanted_exports;
 use crate::modules::made_modules;
 use crate::object_file::ObjectFile;
 use crate::refusal::{MakingFault, MakingRefusal};
-use policy_limits::within;
+use policy_limits::MOST_SITES;
 use std::alloc::Global;
 use std::thread::Threads;
-use sv_types::{Name, Policy, Span};
+use sv_types::{ModulePolicy, Name, Policy, Span};
 
 /// What a policy says beside its files.
 #[derive(Drop)]
@@ -23,20 +25,34 @@ pub struct Settings {
     pub init: Option<Span>,
 }
 
-fn within_limits(policy: Policy) -> Result<Policy, MakingRefusal>
-    ensures policy { IfOk result (λ made. spec.within_limits (rules_of policy) ≡ Ok (rules_of made)) }
-    ensures within { IfOk result (λ made. rules_within (rules_of made) ≡ true) }
-    ensures refused { IfErr result (Refuses (spec.within_limits (rules_of policy))) }
+// The modules' sites together are few enough.
+fn few_sites(modules: &[ModulePolicy]) -> bool
+    ensures { result ≡ spec.few_sites (map module_rule modules.now) }
 {
-    if within(&policy) {
+    let mut room = MOST_SITES;
+    'modules: for module in modules {
+        if module.sites.len() > room {
+            return false;
+        }
+        room -= module.sites.len();
+    }
+    true
+}
+
+fn if_few_sites(policy: Policy) -> Result<Policy, MakingRefusal>
+    ensures policy { IfOk result (λ made. spec.if_few_sites (rules_of policy) ≡ Ok (rules_of made)) }
+    ensures refused { IfErr result (Refuses (spec.if_few_sites (rules_of policy))) }
+{
+    if few_sites(&policy.modules) {
         Ok(policy)
     } else {
-        Err(MakingRefusal::Fault(MakingFault::Limits))
+        Err(MakingRefusal::Fault(MakingFault::TooManySites))
     }
 }
 
 /// The policy of a kernel whose digest is known, and of modules, of which these names are wanted. Refuses the exports, the
-/// objects and a policy that is beyond its limits, and for want of memory. The policy is within its limits.
+/// objects and more than 131,072 sites of all modules, and for want of memory. Where the settings are in their ranges and
+/// the objects have names of modules, the policy is within its limits.
 #[tactic(auto, unfolding(crate::specs::Making::policy_behind), using(crate::proofs::Refused::refused_on))]
 pub fn policy_behind<R: Threads + Sync>(
     rt: &R,
@@ -48,7 +64,7 @@ pub fn policy_behind<R: Threads + Sync>(
     objects: &[ObjectFile],
 ) -> Result<Policy, MakingRefusal>
     ensures policy { IfOk result (λ policy. spec.policy_behind (spec.terms_of settings) kernel.now digest names.now (map spec.file_of objects.now) ≡ Ok (rules_of policy)) }
-    ensures within { IfOk result (λ policy. rules_within (rules_of policy) ≡ true) }
+    ensures within { terms_within (spec.terms_of settings) ≡ true → are_module_names (spec.file_names (map spec.file_of objects.now)) ≡ true → IfOk result (λ policy. rules_within (rules_of policy) ≡ true) }
     ensures refused { IfErr result (Refuses (spec.policy_behind (spec.terms_of settings) kernel.now digest names.now (map spec.file_of objects.now))) }
 {
     let exports = wanted_exports(alloc, kernel, names)?;
@@ -59,7 +75,7 @@ pub fn policy_behind<R: Threads + Sync>(
         entries,
         init,
     } = settings;
-    within_limits(Policy {
+    if_few_sites(Policy {
         format: 1,
         harts,
         ram_pages,

@@ -10,22 +10,22 @@ use std::alloc::{AllocError, AllocFailed};
 use sv_types::ImageFault;
 use thiserror::Error;
 
-/// What is wrong with the files of a policy, or with the policy.
+/// What is wrong with the files of a policy.
 #[derive(Clone, Copy, Debug, PartialEq, Eq, Drop)]
 pub enum MakingFault {
     /// The first fault of the kernel's image, or of the exports that are wanted of it.
     Image(ImageFault),
     /// The first fault of a module's object.
     Module(ObjectFault),
-    /// A value of the policy is beyond its limit.
-    Limits,
+    /// The modules have more than 131,072 sites together.
+    TooManySites,
 }
 
 /// Why no policy is made.
 #[derive(Clone, Copy, Debug, PartialEq, Eq, Drop, Error)]
 pub enum MakingRefusal {
     /// The first fault.
-    #[error("a fault of the files or of the policy")]
+    #[error("a fault of the files")]
     Fault(MakingFault),
     #[error("out of memory")]
     Memory,

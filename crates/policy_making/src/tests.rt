@@ -211,7 +211,7 @@ struct RefusedRow<'a> {
 
 #[test]
 fn refused_by_the_first_stage(rt: HostRuntime) -> Result<(), Fail> {
-    let table: [RefusedRow<'_>; 4] = [
+    let table: [RefusedRow<'_>; 3] = [
         RefusedRow {
             what: "a short kernel comes before a short object",
             kernel: 63,
@@ -229,12 +229,6 @@ fn refused_by_the_first_stage(rt: HostRuntime) -> Result<(), Fail> {
             kernel: KERNEL_BYTES,
             objects: &[OBJECT_BYTES, 63],
             fault: MakingFault::Module(ObjectFault::Header(HeaderFault::TooShort)),
-        },
-        RefusedRow {
-            what: "two modules of one name",
-            kernel: KERNEL_BYTES,
-            objects: &[OBJECT_BYTES, OBJECT_BYTES],
-            fault: MakingFault::Limits,
         },
     ];
     for row in table {

@@ -1,13 +1,18 @@
 -- The words of the command line.
-use Rattle.std.proofs.Common.{◌≡◌, ◌≢◌, ◌<◌, ℕ, List, [], ◌∷◌, Bool, true, false, IsTrue, length, refl, ap, subst, arith, cond, Option, Some, None, Result, Ok, Err}
+use Rattle.std.proofs.Common.{◌≡◌, ◌≢◌, ◌<◌, ℕ, List, [], ◌∷◌, Bool, true, false, ◌&&◌, IsTrue, length, refl, ap, subst, arith, cond, Option, Some, None, Result, Ok, Err}
+use Rattle.std.specs.Prelude.{if◌then◌else◌, nat_le, option_map, codes}
+use Rattle.std.specs.Str.{bytes_eq}
 use Rattle.std.specs.Option.{is_some}
 use Rattle.std.specs.Result.{is_ok}
-use Rattle.sv_types.specs.Numbers.{number_within, digest_of}
+use Rattle.sv_types.specs.Numbers.{is_number, decimal_value, number_within, digest_of}
+use Rattle.sv_types.specs.Policies.{harts_within, ram_pages_within, entries_count_within, entries_within, init_within, is_between}
 use Rattle.processor.specs.Regions.{most_ram_pages}
 use Rattle.sv_types.specs.declared.module.Span.{Span}
 use Rattle.sv_types.specs.declared.status.Status.{Status}
 use Rattle.policy_making.specs.Making.{Terms}
-use Rattle.policy_making.specs.WordRanges.{are_module_names}
+use Rattle.policy_making.specs.Ranges.{terms_within}
+use Rattle.policy_making.specs.WordRanges.{are_entries, entries_of, are_module_names, span_of}
+use Rattle.policy_making.proofs.WordsWithin.{entries_count, entries_good, span_of_within}
 use Rattle.command_words.specs.Commands.{Split, RunSplit, MeasureSplit, flat_split, gen_split, run_split, measure_split, split_words}
 use Rattle.secvisor_cli.specs.declared.refusal.Refusal.{Refusal}
 use Rattle.secvisor_cli.specs.declared.refusal.Refusal.TheVariants.{OutOfRange}
@@ -84,6 +89,70 @@ has_module_names words split is good = command_names split (subst (λ (o : Optio
 pub judged_by_name : (words : List (List ℕ)) (split : Split) → split_words words ≡ Some split → judged words ≡ command_judged split
 unfolding judged
 judged_by_name words split is = ap split_judged is
+
+-- ---- what a policy says beside its files is within its limits
+
+number_by : (low high value n : ℕ) (good above below : Bool) → nat_le low value ≡ above → nat_le value high ≡ below → (if good && above && below then Some value else None) ≡ Some n
+    → is_between low high n ≡ true
+number_by low high value n true true true above below is =
+    let same : value ≡ n = cc is in subst (λ (k : ℕ). is_between low high k ≡ true) same (rw (above, below) refl)
+number_by low high value n true true false above below is = absurd (cc is)
+number_by low high value n true false fits above below is = absurd (cc is)
+number_by low high value n false fits most above below is = absurd (cc is)
+
+number_between : (low high : ℕ) (text : List ℕ) (n : ℕ) → number_within low high text ≡ Some n → is_between low high n ≡ true
+unfolding number_within
+number_between low high text n is =
+    number_by low high (decimal_value 0 text) n (is_number text) (nat_le low (decimal_value 0 text)) (nat_le (decimal_value 0 text) high) refl refl is
+
+some_init : (ram_pages : ℕ) (word : List ℕ) (o : Option Span) (init : Option Span) → span_of ram_pages word ≡ o → option_map Some o ≡ Some init → init_within ram_pages init ≡ true
+some_init ram_pages word None init span is = absurd (cc is)
+some_init ram_pages word (Some s) init span is =
+    let same : Some s ≡ init = cc is in subst (λ (i : Option Span). init_within ram_pages i ≡ true) same (span_of_within ram_pages word s span)
+
+init_by : (ram_pages : ℕ) (word : List ℕ) (none : Bool) (init : Option Span) → (if none then Some None else option_map Some (span_of ram_pages word)) ≡ Some init → init_within ram_pages init ≡ true
+init_by ram_pages word true init is =
+    let same : None ≡ init = cc is in subst (λ (i : Option Span). init_within ram_pages i ≡ true) same refl
+init_by ram_pages word false init is = some_init ram_pages word (span_of ram_pages word) init refl is
+
+init_good : (ram_pages : ℕ) (word : List ℕ) (init : Option Span) → init_of ram_pages word ≡ Some init → init_within ram_pages init ≡ true
+unfolding init_of
+init_good ram_pages word init is = init_by ram_pages word (bytes_eq word (codes "none")) init is
+
+record AreEntries (entries : List ℕ) : Type 0 where
+  count : entries_count_within (length entries) ≡ true
+  each : entries_within entries ≡ true
+
+entries_by : (word entries : List ℕ) (good : Bool) → are_entries word ≡ good → (if good then Some (entries_of word) else None) ≡ Some entries → AreEntries entries
+entries_by word entries true good is =
+    let same : entries_of word ≡ entries = cc is in subst AreEntries same (record { count = entries_count word good; each = entries_good word good })
+entries_by word entries false good is = absurd (cc is)
+
+all_terms : (t : Terms) → harts_within t.harts ≡ true → ram_pages_within t.ram_pages ≡ true → AreEntries t.entries → init_within t.ram_pages t.init ≡ true → terms_within t ≡ true
+all_terms t harts ram entries init = rw (harts, ram, entries.count, entries.each, init) refl
+
+with_init : (ram_pages harts : ℕ) (entries word : List ℕ) (init : Option (Option Span)) (terms : Terms) → init_of ram_pages word ≡ init → terms_with ram_pages harts entries init ≡ Ok terms
+    → harts_within harts ≡ true → ram_pages_within ram_pages ≡ true → AreEntries entries → terms_within terms ≡ true
+unfolding terms_with
+with_init ram_pages harts entries word None terms is e of_harts of_ram of_entries = absurd (cc e)
+with_init ram_pages harts entries word (Some init) terms is e of_harts of_ram of_entries =
+    let made : Terms = record { harts = harts; ram_pages = ram_pages; entries = entries; init = init } in
+    let same : made ≡ terms = cc e in
+    subst (λ (t : Terms). terms_within t ≡ true) same (all_terms made of_harts of_ram of_entries (init_good ram_pages word init is))
+
+with_words : (ram harts entries init : List ℕ) (ram_pages count : Option ℕ) (addresses : Option (List ℕ)) (terms : Terms) → number_within 16 most_ram_pages ram ≡ ram_pages
+    → number_within 1 4 harts ≡ count → entries_judged entries ≡ addresses → terms_words init ram_pages count addresses ≡ Ok terms → terms_within terms ≡ true
+unfolding terms_words
+with_words ram harts entries init None count addresses terms of_ram of_harts of_entries e = absurd (cc e)
+with_words ram harts entries init (Some ram_pages) None addresses terms of_ram of_harts of_entries e = absurd (cc e)
+with_words ram harts entries init (Some ram_pages) (Some count) None terms of_ram of_harts of_entries e = absurd (cc e)
+with_words ram harts entries init (Some ram_pages) (Some count) (Some addresses) terms of_ram of_harts of_entries e =
+    with_init ram_pages count addresses init (init_of ram_pages init) terms refl e (number_between 1 4 harts count of_harts) (number_between 16 most_ram_pages ram ram_pages of_ram)
+    (entries_by entries addresses (are_entries entries) refl of_entries)
+
+pub terms_in_range : (ram harts entries init : List ℕ) (terms : Terms) → terms_judged ram harts entries init ≡ Ok terms → terms_within terms ≡ true
+terms_in_range ram harts entries init terms e =
+    with_words ram harts entries init (number_within 16 most_ram_pages ram) (number_within 1 4 harts) (entries_judged entries) terms refl refl refl e
 
 -- ---- what refuses the words is no read fault
 

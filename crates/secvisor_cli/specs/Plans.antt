@@ -231,7 +231,7 @@ most_object_bytes = 16 * 2 ^ 20
 abbrev pub making_fault : MakingFault → FileFault
 making_fault (making.Image fault) = FileFault.Image fault
 making_fault (making.Module fault) = FileFault.Module fault
-making_fault making.Limits = FileFault.Policy PolicyFault.BeyondLimit
+making_fault making.TooManySites = FileFault.Policy PolicyFault.BeyondLimit
 
 abbrev pub made_judged : {A : Type 0} → (A → Plan) → Made A → Plan
 made_judged next (Ok value) = next value

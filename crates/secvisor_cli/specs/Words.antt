@@ -3,6 +3,7 @@ use Rattle.std.specs.Prelude.{◌≡◌, ◌≤◌, ◌^◌, IsTrue, map, Result
 use Rattle.std.specs.Option.{option_copied}
 use Rattle.std.specs.Result.{is_ok}
 use Rattle.policy_making.specs.Making.{Terms}
+use Rattle.policy_making.specs.Ranges.{terms_within}
 use Rattle.policy_making.specs.WordRanges.{entries_of, are_module_names}
 use Rattle.command_words.specs.Commands.{Split}
 use Rattle.secvisor_cli.specs.declared.refusal.Refusal.{Refusal}
@@ -74,4 +75,4 @@ abbrev pub IsInRange : Asked → Type 0
 IsInRange (asked.Flat flat) = flat.events ≤ 2 ^ 32
 IsInRange (asked.Generated calls) = (1 ≤ calls) × (calls ≤ 1000000)
 IsInRange (asked.Run run) = run.events ≤ 2 ^ 32
-IsInRange (asked.MakePolicy policy) = IsTrue (are_module_names (map (λ name. name.now) policy.modules.items))
+IsInRange (asked.MakePolicy policy) = IsTrue (terms_within (terms_value policy.terms)) × IsTrue (are_module_names (map (λ name. name.now) policy.modules.items))

@@ -1,8 +1,9 @@
 // The command `measure`: a policy is made.
-ghost use Rattle.std.specs.Prelude.{◌≡◌, ◌<◌, ◌-◌, ◌^◌, IfOk, IfErr, IsTrue, OnOk, Err, true, map, string_bytes};
+ghost use Rattle.std.specs.Prelude.{◌≡◌, ◌<◌, ◌-◌, ◌^◌, ◌++◌, [], ◌∷◌, IfOk, IfErr, IsTrue, OnOk, Err, true, map, string_bytes};
 ghost use Rattle.std.specs.List.{list_all};
 ghost use Rattle.sv_types.specs.Policies.{rules_of, rules_within};
-ghost use Rattle.policy_making.specs.Making.{terms_of};
+ghost use Rattle.policy_making.specs.Making.{file_names, terms_of};
+ghost use Rattle.policy_making.specs.Ranges.{terms_within};
 ghost use Rattle.policy_making.specs.WordRanges.{is_name, are_module_names};
 ghost use Rattle.outside.specs.Outside.{FilesState};
 ghost use Rattle.secvisor_cli.specs.Plans.{Plan, Modules, digest_part, no_modules, module_part, modules_part, making_plan, measure_plan, measured_line};
@@ -47,6 +48,7 @@ pub fn prepare_policy<'a, R: Threads + Sync, F: Files>(
 ) -> Result<Ready<'a>, Stop>
     requires permitted { MayFollow (measure_plan (policy_value asked.now)) (F.state files.old) }
     requires reads { (F.state files.old).read_faults < 2 ^ 64 - 1 }
+    requires terms { IsTrue (terms_within (policy_value asked.now).terms) }
     requires names { IsTrue (are_module_names (policy_value asked.now).modules) }
     ensures { Prepares (measure_plan (policy_value asked.now)) (F.state files.old) (F.state files.new) result }
 {
@@ -83,7 +85,8 @@ fn read_modules<F: Files>(
     requires permitted { MayStage (modules_part (map (λ word. word.now) words.now) no_modules) (F.state files.old) }
     requires reads { (F.state files.old).read_faults < 2 ^ 64 - 1 }
     requires names { IsTrue (list_all (λ word. is_name word.now) words.now) }
-    ensures { Staged (modules_part (map (λ word. word.now) words.now) no_modules) modules_value (F.state files.old) (F.state files.new) result }
+    ensures staged { Staged (modules_part (map (λ word. word.now) words.now) no_modules) modules_value (F.state files.old) (F.state files.new) result }
+    ensures named { IfOk result (λ modules. file_names (modules_value modules).objects ≡ map (λ word. word.now) words.now) }
 {
     let mut modules = WantingModules {
         names: Vec::new(alloc),
@@ -106,6 +109,7 @@ fn read_module<F: Files>(
     requires reads { (F.state files.old).read_faults < 2 ^ 64 - 1 }
     requires name { IsTrue (is_name word.now) }
     ensures passes { OnOk result (Passes (module_part word.now (modules_value modules.old)) (modules_value modules.new) (F.state files.old) (F.state files.new)) }
+    ensures named { OnOk result (file_names (modules_value modules.new).objects ≡ file_names (modules_value modules.old).objects ++ word.now ∷ []) }
     ensures stopped { IfErr result (λ stop. (next : Modules → Plan) → Prepares (module_part word.now (modules_value modules.old) next) (F.state files.old) (F.state files.new) (Err stop)) }
 {
     let Some(name) = Name::new(word) else {
@@ -127,6 +131,8 @@ fn make_ready<'a, R: Threads + Sync>(
     kernel: &MeasuredKernel,
     modules: &WantingModules,
 ) -> Result<Ready<'a>, Stop>
+    requires terms { IsTrue (terms_within (policy_value asked.now).terms) }
+    requires names { IsTrue (are_module_names (file_names (modules_value modules.now).objects)) }
     ensures { (files : FilesState) → Prepares (making_plan (policy_value asked.now) (kernel_value kernel.now) (modules_value modules.now)) files files result }
 {
     let settings = settings(alloc, &asked.terms)?;

@@ -76,7 +76,7 @@ fn file_fault(fault: MakingFault) -> FileFault
     match fault {
         MakingFault::Image(fault) => FileFault::Image(fault),
         MakingFault::Module(fault) => FileFault::Module(fault),
-        MakingFault::Limits => FileFault::Policy(PolicyFault::BeyondLimit),
+        MakingFault::TooManySites => FileFault::Policy(PolicyFault::BeyondLimit),
     }
 }
 

@@ -5,7 +5,7 @@ use Rattle.elf64_reloc.specs.Modules.{module_fits, module_of, module_judged}
 use Rattle.elf64_reloc.specs.ModuleViews.{module_view}
 use Rattle.elf64_reloc.specs.Refusals.{Judged}
 use Rattle.elf64_reloc.specs.Objects.{Object}
-use Rattle.elf64_reloc.proofs.FieldPlaces.{image_within}
+use Rattle.elf64_reloc.proofs.ModuleLimits.{image_within}
 use Rattle.elf64_reloc.proofs.read.read_module.Goals as goal
 
 pub returns-clause-fits : goal.returns-clause-fits

@@ -1,6 +1,10 @@
-use Rattle.std.proofs.Common.{subst, sym, ◌∙◌}
+use Rattle.std.proofs.Common.{◌≡◌, List, true, map, subst, sym, ◌∙◌}
 use Rattle.sv_types.specs.Policies.{Rules, rules_of}
+use Rattle.policy_making.specs.Making.{Terms, file_names, file_of}
+use Rattle.policy_making.specs.Ranges.{terms_within}
 use Rattle.policy_making.specs.Refusals.{Judged, Refuses}
+use Rattle.policy_making.specs.WordRanges.{are_module_names}
+use Rattle.policy_making.specs.declared.object_file.ObjectFile.{ObjectFile}
 use Rattle.secvisor_cli.specs.declared.ready.Stop.TheVariants.{Memory}
 use Rattle.secvisor_cli.specs.Plans.{making_plan}
 use Rattle.secvisor_cli.specs.Ready.{Prepares, stop_of_making, kernel_value, modules_value}
@@ -22,6 +26,11 @@ returns-in_err-policy g c = λ files.
     (making_stops (policy_value c.args.asked.now) (kernel_value c.args.kernel.now) (modules_value c.args.modules.now) files c.in_err-policy.field-0.0
     (subst (λ (j : Judged Rules). Refuses j c.in_err-policy.field-0.0)
     (behind_same _ _ _ _ _ _ _ _ _ c.in_ok-settings.ensures c.deref.ensures.value c.deref-2.ensures.value c.deref-3.ensures.value) c.in_err-policy.ensures.refused))
+
+pub made-requires-clause-within : goal.made-requires-clause-within
+made-requires-clause-within g c =
+    c.in_ok-policy.ensures.within (subst (λ (t : Terms). terms_within t ≡ true) (sym c.in_ok-settings.ensures) c.requires.terms)
+    (subst (λ (os : List ObjectFile). are_module_names (file_names (map file_of os)) ≡ true) (sym c.deref-3.ensures.value) c.requires.names)
 
 pub returns-in_err-made : goal.returns-in_err-made
 returns-in_err-made g c = λ files.

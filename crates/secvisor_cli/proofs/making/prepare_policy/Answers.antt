@@ -1,9 +1,9 @@
 use Rattle.std.specs.List.{list_all}
-use Rattle.policy_making.specs.WordRanges.{is_name}
+use Rattle.policy_making.specs.WordRanges.{is_name, are_module_names}
 use Rattle.secvisor_cli.specs.Plans.{digest_part, modules_part, no_modules, making_plan, measure_plan, Kernel}
 use Rattle.secvisor_cli.specs.Ready.{Prepares, Passes, MayStage, kernel_value, modules_value}
 use Rattle.secvisor_cli.specs.Words.{policy_value}
-use Rattle.std.proofs.Common.{List, ℕ, IsTrue, map, subst, sym, Bor, Err}
+use Rattle.std.proofs.Common.{List, ℕ, IsTrue, map, subst, sym, ap, ◌∙◌, Bor, Err}
 use Rattle.secvisor_cli.proofs.ReadyLemmas.{err_by}
 use Rattle.secvisor_cli.proofs.StageLemmas.{pass_ready}
 use Rattle.secvisor_cli.proofs.MakingLemmas.{modules_named}
@@ -38,6 +38,11 @@ read_modules-requires-clause-names g c =
     subst (λ (ws : List (Bor (List ℕ))). IsTrue (list_all (λ w. is_name w.now) ws)) (sym c.deref.ensures.value)
     (modules_named (λ (w : Bor (List ℕ)). w.now) c.args.asked.now.modules.items c.requires.names)
 
+pub make_ready-requires-clause-names : goal.make_ready-requires-clause-names
+make_ready-requires-clause-names g c =
+    subst (λ (ns : List (List ℕ)). IsTrue (are_module_names ns))
+    (sym (c.in_ok-modules.ensures.named ∙ ap (λ (ws : List (Bor (List ℕ))). map (λ w. w.now) ws) c.deref.ensures.value)) c.requires.names
+
 pub returns-in_err-modules : goal.returns-in_err-modules
 unfolding measure_plan
 returns-in_err-modules g c =
@@ -49,7 +54,7 @@ returns-in_err-modules g c =
     (subst
     (λ (ws : List (Bor (List ℕ))). Prepares (modules_part (map (λ w. w.now) ws) no_modules (making_plan (policy_value c.args.asked.now) (kernel_value c.in_ok-kernel.kernel)))
     (g.F.Files.state c.measure_kernel.new.files) (g.F.Files.state c.read_modules.new.files) (Err c.in_err-modules.field-0.0))
-    c.deref.ensures.value (c.in_err-modules.ensures (making_plan (policy_value c.args.asked.now) (kernel_value c.in_ok-kernel.kernel)))))
+    c.deref.ensures.value (c.in_err-modules.ensures.staged (making_plan (policy_value c.args.asked.now) (kernel_value c.in_ok-kernel.kernel)))))
 
 pub returns : goal.returns
 unfolding measure_plan
@@ -59,7 +64,7 @@ returns g c =
     subst
     (λ (ws : List (Bor (List ℕ))). Passes (modules_part (map (λ w. w.now) ws) no_modules) (modules_value c.in_ok-modules.modules)
     (g.F.Files.state c.measure_kernel.new.files) (g.F.Files.state c.read_modules.new.files))
-    c.deref.ensures.value c.in_ok-modules.ensures in
+    c.deref.ensures.value c.in_ok-modules.ensures.staged in
     pass_ready (digest_part c.args.asked.now.kernel.now c.args.asked.now.terms.ram_pages) (kernel_value c.in_ok-kernel.kernel)
     (λ (kernel : Kernel). modules_part (map (λ (w : Bor (List ℕ)). w.now) c.args.asked.now.modules.items) no_modules (making_plan (policy_value c.args.asked.now) kernel)) _ _ _ c.make_ready.result
     c.in_ok-kernel.ensures

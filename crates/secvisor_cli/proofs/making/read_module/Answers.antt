@@ -1,5 +1,6 @@
 use Rattle.std.proofs.Common.{◌≡◌, List, [], ◌∷◌, ◌++◌, ℕ, map, ap, sym, subst, ◌∙◌, Ok, Err, Result, IfErr}
-use Rattle.policy_making.specs.Making.{ModuleFile, file_of, names_with}
+use Rattle.std.proofs.lemmas.List.{map-append}
+use Rattle.policy_making.specs.Making.{ModuleFile, file_names, file_of, names_with}
 use Rattle.policy_making.specs.Refusals.{Refuses}
 use Rattle.secvisor_cli.specs.declared.ready.Stop.{Stop}
 use Rattle.secvisor_cli.specs.declared.ready.Stop.TheVariants.{Memory}
@@ -42,3 +43,11 @@ returns-clause-passes g c =
     (sym objects)
     (module_passes c.args.word.now (modules_value c.args.modules.now) c.in_ok-bytes.bytes.items c.want_names.new.names.items _ _ c.in_ok-bytes.ensures
     (subst (λ (b : List ℕ). names_with c.args.modules.now.names.items b ≡ Ok c.want_names.new.names.items) c.deref.ensures.value c.in_ok-want_names.ensures.names))
+
+pub returns-clause-named : goal.returns-clause-named
+returns-clause-named g c =
+    let before : List ModuleFile = map file_of c.args.modules.now.objects.items in
+    let objects : map file_of c.push.new.self.items ≡ before ++ record { name = c.args.word.now; bytes = c.in_ok-bytes.bytes.items } ∷ [] =
+    ap (map file_of) c.in_ok-push.ensures.items ∙ files_with c.args.modules.now.objects.items _
+    ∙ ap (λ (n : List ℕ). before ++ record { name = n; bytes = c.in_ok-bytes.bytes.items } ∷ []) c.in-Some.ensures.name in
+    ap file_names objects ∙ map-append (λ (o : ModuleFile). o.name) before (record { name = c.args.word.now; bytes = c.in_ok-bytes.bytes.items } ∷ [])

@@ -20,5 +20,5 @@ returns-in_err-read_module g c =
     (module_ends (modules_part (map (λ (w : Bor (List ℕ)). w.now) c.args.words.now) no_modules) word.now (map (λ w. w.now) behind) (modules_value c.words.modules) _ _ _ c.in_err-read_module.field-0.0
     (subst
     (λ (ws : List (Bor (List ℕ))). GoesOn (modules_part (map (λ (w : Bor (List ℕ)). w.now) c.args.words.now) no_modules) (modules_part (map (λ w. w.now) ws) (modules_value c.words.modules))
-    (g.F.Files.state c.args.files.now) (g.F.Files.state c.words.files)) at c.words.invariant)
+    (g.F.Files.state c.args.files.now) (g.F.Files.state c.words.files)) at c.words.invariant.0)
     c.in_err-read_module.ensures.stopped)

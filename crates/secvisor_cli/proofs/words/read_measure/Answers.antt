@@ -1,0 +1,6 @@
+use Rattle.secvisor_cli.specs.Words.{terms_value}
+use Rattle.secvisor_cli.proofs.WordLemmas.{terms_in_range}
+use Rattle.secvisor_cli.proofs.words.read_measure.Goals as goal
+
+pub returns-clause-range : goal.returns-clause-range
+returns-clause-range c = (terms_in_range _ _ _ _ (terms_value c.in_ok-terms.terms) c.in_ok-terms.ensures, c.requires)
