@@ -49,7 +49,7 @@ pub(crate) struct Layout {
     pub(crate) text_size: u64,
 }
 
-fn is_good_alignment(section: &SectionHeader) -> bool
+pub(crate) fn is_good_alignment(section: &SectionHeader) -> bool
     ensures { result ≡ spec.is_good_alignment section.now }
 {
     section.alignment == 0

@@ -4,13 +4,16 @@
 
 mod asked;
 mod fault;
+mod kind_names;
 mod layout;
 mod names;
 mod object;
 mod order;
+mod place;
 mod read;
 mod refusal;
 mod relocations;
+mod section_names;
 mod sites;
 mod symbols;
 #[cfg(test)]
@@ -19,5 +22,6 @@ mod text;
 
 pub use fault::ObjectFault;
 pub use names::undefined_names;
+pub use place::refused_place;
 pub use read::{ModuleImage, read_module};
 pub use refusal::RelocRefusal;

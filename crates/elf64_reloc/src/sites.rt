@@ -187,7 +187,10 @@ fn fields_asked(
 
 /// The fields of a relocation, or its first fault.
 #[tactic(auto, unfolding(crate::specs::Modules::fields_judged))]
-fn fields_judged(judging: &Judging, relocation: &Relocation) -> Result<Found, ObjectFault>
+pub(crate) fn fields_judged(
+    judging: &Judging,
+    relocation: &Relocation,
+) -> Result<Found, ObjectFault>
     ensures { result ≡ spec.fields_judged (judging_view judging.now) relocation.now }
 {
     let asked = Asked::of(relocation.kind);

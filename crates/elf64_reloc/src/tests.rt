@@ -541,3 +541,46 @@ fn a_low_part_goes_by_its_high_part(rt: HostRuntime) -> Result<(), Fail> {
     assert_eq!(rt; module.sites, wanted);
     Ok(())
 }
+
+// An object with fields changed, and where it is refused for a kernel that exports `print`; the empty text where it isn't.
+struct PlaceRow<'a> {
+    fields: &'a [Field],
+    place: &'a str,
+}
+
+#[test]
+fn refused_places(rt: HostRuntime) -> Result<(), Fail> {
+    let table: [PlaceRow<'_>; 5] = [
+        PlaceRow {
+            fields: &[],
+            place: "",
+        },
+        PlaceRow {
+            fields: &[(0x170, 8, 3)],
+            place: "section .text",
+        },
+        PlaceRow {
+            fields: &[(0x88, 4, 20)],
+            place: "section .text, offset 0x0, R_RISCV_GOT_HI20 (20), symbol print",
+        },
+        PlaceRow {
+            fields: &[(0x68, 4, 1), (0x88, 4, 99)],
+            place: "section .text, offset 0x0, R_RISCV_unknown (99), symbol rela.text",
+        },
+        PlaceRow {
+            fields: &[(0x80, 8, 8), (62, 2, 9)],
+            place: "section 2, offset 0x8, R_RISCV_CALL (18), symbol print",
+        },
+    ];
+    let exports = print_exported(rt.alloc())?;
+    for row in &table {
+        let object = changed(rt.alloc(), row.fields, OBJECT_BYTES)?;
+        let place = refused_place(rt.alloc(), &object, &exports)?;
+        let told = match &place {
+            Some(place) => place.as_str(),
+            None => "",
+        };
+        assert!(rt; told == row.place, "{told}, not {}", row.place);
+    }
+    Ok(())
+}

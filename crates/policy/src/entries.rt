@@ -25,7 +25,7 @@ fn entry(value: &Value) -> Result<u64, PolicyFault>
     Ok(address)
 }
 
-fn each_entry(alloc: Global, items: &[Value]) -> Result<Vec<u64>, PolicyRefusal>
+pub(crate) fn each_entry(alloc: Global, items: &[Value]) -> Result<Vec<u64>, PolicyRefusal>
     ensures ok { IfOk result (λ entries. spec.each_entry [] (items_view items.now) ≡ Ok entries.items) }
     ensures refused { IfErr result (Refuses (spec.each_entry [] (items_view items.now))) }
 {
@@ -82,7 +82,7 @@ fn export(names: &BTreeSet<String>, value: &Value) -> Result<Export, PolicyFault
     export_of_items(names, items)
 }
 
-fn each_export(alloc: Global, items: &[Value]) -> Result<Vec<Export>, PolicyRefusal>
+pub(crate) fn each_export(alloc: Global, items: &[Value]) -> Result<Vec<Export>, PolicyRefusal>
     ensures ok { IfOk result (λ exports. spec.each_export [] (items_view items.now) ≡ Ok exports.items) }
     ensures count { IfOk result (λ exports. length exports.items ≡ length items.now) }
     ensures refused { IfErr result (Refuses (spec.each_export [] (items_view items.now))) }

@@ -11,6 +11,9 @@ use processor::{PAGE_BYTES, RAM_BASE};
 use sv_types::Span;
 use toml::{Table, Value};
 
+/// The keys of the table `kernel`.
+pub(crate) const KERNEL_KEYS: [&str; 2] = ["measure", "init"];
+
 fn page_address(value: &Value) -> Result<u64, PolicyFault>
     ensures { result ≡ spec.page_address_of (view value.now) }
 {
@@ -85,5 +88,5 @@ pub fn kernel(table: &Table) -> Result<&Table, PolicyFault>
 {
     let kernel = required(table, "kernel")?;
     let kernel = members(kernel)?;
-    with_known(["measure", "init"].as_slice(), kernel)
+    with_known(KERNEL_KEYS.as_slice(), kernel)
 }

@@ -2,14 +2,19 @@
 #![tactic(auto)]
 
 mod entries;
+mod first;
 mod kernel;
+mod module_place;
 mod modules;
+mod place;
 mod printing;
 mod refusal;
 mod sites;
 mod text;
 mod values;
 
+pub use first::first_refused;
+pub use place::refused_place;
 pub use policy_limits::within;
 pub use printing::write;
 pub use refusal::PolicyRefusal;

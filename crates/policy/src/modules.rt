@@ -14,6 +14,9 @@ use std::alloc::Global;
 use sv_types::{ModulePolicy, Name};
 use toml::{Table, Value};
 
+/// The keys of a table `module`.
+pub(crate) const MODULE_KEYS: [&str; 4] = ["name", "pages", "measure", "sites"];
+
 fn module_pages(value: &Value) -> Result<u32, PolicyFault>
     ensures value { result ≡ spec.module_pages_of (view value.now) }
     ensures within { IfOk result (λ pages. pages ≤ 1024) }
@@ -25,14 +28,14 @@ fn module_pages(value: &Value) -> Result<u32, PolicyFault>
     Ok(pages as u32)
 }
 
-fn key_name(table: &Table) -> Result<Name, PolicyFault>
+pub(crate) fn key_name(table: &Table) -> Result<Name, PolicyFault>
     ensures { result ≡ spec.key_name (table_view table.now) }
 {
     let value = required(table, "name")?;
     name(value)
 }
 
-fn key_pages(table: &Table) -> Result<u32, PolicyFault>
+pub(crate) fn key_pages(table: &Table) -> Result<u32, PolicyFault>
     ensures value { result ≡ spec.key_pages (table_view table.now) }
     ensures within { IfOk result (λ pages. pages ≤ 1024) }
 {
@@ -103,12 +106,12 @@ fn module(
     ensures few { IfOk result (λ m. sites_before + length m.sites.items ≤ 131072) }
 {
     let table = members(value)?;
-    let table = with_known(["name", "pages", "measure", "sites"].as_slice(), table)?;
+    let table = with_known(MODULE_KEYS.as_slice(), table)?;
     module_of_members(alloc, exports, before, sites_before, table)
 }
 
 #[tactic(auto, using(crate::proofs::Judging::refused_on))]
-fn each_module(
+pub(crate) fn each_module(
     alloc: Global,
     exports: usize,
     items: &[Value],

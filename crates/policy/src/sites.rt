@@ -133,7 +133,11 @@ fn site(bounds: Bounds, before: &[Site], value: &Value) -> Result<Site, PolicyFa
     site_of_items(bounds, before, items)
 }
 
-fn each_site(alloc: Global, bounds: Bounds, items: &[Value]) -> Result<Vec<Site>, PolicyRefusal>
+pub(crate) fn each_site(
+    alloc: Global,
+    bounds: Bounds,
+    items: &[Value],
+) -> Result<Vec<Site>, PolicyRefusal>
     ensures ok { IfOk result (λ sites. spec.each_site bounds.pages bounds.exports [] (items_view items.now) ≡ Ok sites.items) }
     ensures count { IfOk result (λ sites. length sites.items ≡ length items.now) }
     ensures refused { IfErr result (Refuses (spec.each_site bounds.pages bounds.exports [] (items_view items.now))) }

@@ -17,7 +17,18 @@ use std::str;
 use sv_types::{Policy, Span};
 use toml::Table;
 
-fn format(table: &Table) -> Result<u8, PolicyFault>
+/// The keys of the outermost table.
+pub(crate) const POLICY_KEYS: [&str; 7] = [
+    "format",
+    "harts",
+    "ram_pages",
+    "entries",
+    "exports",
+    "kernel",
+    "module",
+];
+
+pub(crate) fn format(table: &Table) -> Result<u8, PolicyFault>
     ensures { result ≡ spec.format_of (table_view table.now) }
 {
     let value = required(table, "format")?;
@@ -29,7 +40,7 @@ fn format(table: &Table) -> Result<u8, PolicyFault>
     }
 }
 
-fn harts(table: &Table) -> Result<u8, PolicyFault>
+pub(crate) fn harts(table: &Table) -> Result<u8, PolicyFault>
     ensures { result ≡ spec.key_harts (table_view table.now) }
 {
     let value = required(table, "harts")?;
@@ -40,7 +51,7 @@ fn harts(table: &Table) -> Result<u8, PolicyFault>
     Ok(harts as u8)
 }
 
-fn ram_pages(table: &Table) -> Result<u32, PolicyFault>
+pub(crate) fn ram_pages(table: &Table) -> Result<u32, PolicyFault>
     ensures { result ≡ spec.key_ram_pages (table_view table.now) }
 {
     let value = required(table, "ram_pages")?;
@@ -51,7 +62,7 @@ fn ram_pages(table: &Table) -> Result<u32, PolicyFault>
     Ok(pages as u32)
 }
 
-fn key_entries(alloc: Global, table: &Table) -> Result<Vec<u64>, PolicyRefusal>
+pub(crate) fn key_entries(alloc: Global, table: &Table) -> Result<Vec<u64>, PolicyRefusal>
     ensures ok { IfOk result (λ entries. spec.key_entries (table_view table.now) ≡ Ok entries.items) }
     ensures refused { IfErr result (Refuses (spec.key_entries (table_view table.now))) }
 {
@@ -62,16 +73,7 @@ fn key_entries(alloc: Global, table: &Table) -> Result<Vec<u64>, PolicyRefusal>
 fn known_keys(table: &Table) -> Result<&Table, PolicyFault>
     ensures { judged_map (λ m. table_view m.now) result ≡ spec.known_keys (table_view table.now) }
 {
-    let keys = [
-        "format",
-        "harts",
-        "ram_pages",
-        "entries",
-        "exports",
-        "kernel",
-        "module",
-    ];
-    with_known(keys.as_slice(), table)
+    with_known(POLICY_KEYS.as_slice(), table)
 }
 
 // The kernel's digest and its init pages.

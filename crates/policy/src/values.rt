@@ -130,6 +130,17 @@ fn has_unknown(keys: &[&str], table: &Table) -> bool
     false
 }
 
+/// The first key that is none of these.
+pub(crate) fn first_unknown<'a>(keys: &[&str], table: &'a Table) -> Option<&'a str> {
+    for key in table.keys() {
+        let key = key.as_str();
+        if !is_among(keys, key) {
+            return Some(key);
+        }
+    }
+    None
+}
+
 /// The members, if each key is one of these.
 pub fn with_known<'a>(keys: &[&str], table: &'a Table) -> Result<&'a Table, PolicyFault>
     ensures { judged_map (λ m. table_view m.now) result ≡ spec.with_known (map (λ k. k.now) keys.now) (table_view table.now) }

@@ -6,4 +6,6 @@ mod changes;
 #[cfg(test)]
 mod largest;
 #[cfg(test)]
+mod places;
+#[cfg(test)]
 mod texts;

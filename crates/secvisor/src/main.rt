@@ -1,13 +1,19 @@
 //! The program `secvisor`: its words, the files of the operating system, standard input and standard output.
 #![tactic(auto)]
 
+mod again;
 mod help;
 
+use again::PlainFiles;
 use help::help;
 use live_cli::secvisor_live;
 use live_keys::{ReaderKeys, Still};
 use outside::{RealFiles, StdSink};
-use secvisor_cli::{Bench, Status, secvisor};
+use remarks::{MostBytes, remark};
+use secvisor_cli::{
+    Bench, MOST_DISK_BYTES, MOST_FLAT_BYTES, MOST_IMAGE_BYTES, MOST_OBJECT_BYTES,
+    MOST_POLICY_BYTES, MOST_SCRIPT_BYTES, Status, secvisor,
+};
 use std::alloc::AllocError;
 use std::env;
 use std::io::{ErrorKind, IsTerminal};
@@ -42,8 +48,8 @@ fn main(rt: HostRuntime) -> ExitCode {
     } else {
         secvisor(&rt, rt.alloc(), &words, &mut files, &mut out, &mut bench)
     };
-    if status == Status::Usage {
-        explain(&rt);
+    if rt.stderr().is_terminal() {
+        explain(&rt, &words, status);
     }
     ExitCode::from(status.number())
 }
@@ -56,15 +62,35 @@ fn asks_live(words: &[String]) -> bool {
     }
 }
 
+/// The most bytes of each part, as the top call reads them.
+const MOST_BYTES: MostBytes = MostBytes {
+    flat: MOST_FLAT_BYTES,
+    policy: MOST_POLICY_BYTES,
+    image: MOST_IMAGE_BYTES,
+    disk: MOST_DISK_BYTES,
+    script: MOST_SCRIPT_BYTES,
+    module: MOST_OBJECT_BYTES,
+};
+
 // To a person at a terminal alone, so that other programs read of a refusal the one line. A failure changes nothing.
-fn explain(rt: &HostRuntime) {
-    if rt.stderr().is_terminal() {
-        let _written = eprint!(rt; "{}", help());
+#[inline(never)]
+fn explain(rt: &HostRuntime, words: &[String], status: Status) {
+    match status {
+        Status::Usage => {
+            let _written = eprint!(rt; "{}", help());
+        }
+        Status::Refused => {
+            let files = PlainFiles { rt };
+            if let Some(said) = remark(rt.alloc(), words, &files, &MOST_BYTES) {
+                let _written = eprintln!(rt; "secvisor: {said}");
+            }
+        }
+        _ => {}
     }
 }
 
 // The words behind the program's name. Where one is no UTF-8 text they are none, which are of no command. It is
-// out of line for where that lays the loop over the events (README, "Speed").
+// out of line for where that lays the loop over the events (docs/SPEED.md).
 #[inline(never)]
 fn words(rt: &HostRuntime) -> Result<Vec<String>, AllocError> {
     let mut words = Vec::new(rt.alloc());

@@ -16,7 +16,8 @@ use script::rounds;
 use std::alloc::Global;
 use std::thread::Threads;
 
-const MOST_FLAT_BYTES: usize = 65536;
+/// The most bytes of plain pages.
+pub const MOST_FLAT_BYTES: usize = 65536;
 
 /// Reads the pages, judges and measures them, and boots a machine.
 pub fn prepare_flat<R: Threads + Sync, F: Files>(

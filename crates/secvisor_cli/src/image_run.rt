@@ -24,14 +24,17 @@ use std::alloc::Global;
 use std::thread::Threads;
 use sv_types::Policy;
 
-const MOST_POLICY_BYTES: usize = 16 << 20;
+/// The most bytes of a policy's text.
+pub const MOST_POLICY_BYTES: usize = 16 << 20;
 
 /// The most bytes of an image.
 pub const MOST_IMAGE_BYTES: usize = 64 << 20;
 
-const MOST_DISK_BYTES: usize = 64 << 20;
+/// The most bytes of a disk.
+pub const MOST_DISK_BYTES: usize = 64 << 20;
 
-const MOST_SCRIPT_BYTES: usize = 1 << 20;
+/// The most bytes of a script's text.
+pub const MOST_SCRIPT_BYTES: usize = 1 << 20;
 
 /// Reads the policy, the image, the disk and the script, each judged before the next, and boots a machine.
 pub fn prepare_run<'a, R: Threads + Sync, F: Files>(

@@ -18,8 +18,12 @@ mod words;
 
 pub use answer::{Bench, finish, refuse, secvisor};
 pub use file_fault::{FileFault, Part};
-pub use image_run::prepare_run;
+pub use flat::MOST_FLAT_BYTES;
+pub use image_run::{
+    MOST_DISK_BYTES, MOST_IMAGE_BYTES, MOST_POLICY_BYTES, MOST_SCRIPT_BYTES, prepare_run,
+};
 pub use judgement::any_has_dash;
+pub use making::MOST_OBJECT_BYTES;
 pub use ready::{Booted, Made, Ready, Stop};
 pub use refusal::{Refusal, Word};
 pub use sv_types::Status;

@@ -23,7 +23,8 @@ use std::thread::Threads;
 use sv_types::{Name, Policy};
 use text_numbers::digest_text;
 
-const MOST_OBJECT_BYTES: usize = 16 << 20;
+/// The most bytes of a module's object.
+pub const MOST_OBJECT_BYTES: usize = 16 << 20;
 
 /// A kernel's file and its digest.
 #[derive(Drop)]

@@ -1,0 +1,110 @@
+// The words of a command.
+
+use crate::files::{Again, Found, MostBytes};
+use crate::making::{MakingNames, making_files};
+use crate::running::{RunNames, flat_file, run_files};
+use std::alloc::Global;
+
+/// What there is to say of the file that is refused of a command with these words, beyond the line that refuses it: its
+/// name, where in it, and the fault. None where no file is refused, or one can't be read again.
+pub fn remark<A: Again>(
+    alloc: Global,
+    words: &[String],
+    files: &A,
+    most: &MostBytes,
+) -> Option<String> {
+    match judged(alloc, words, files, most) {
+        Err(Found::Remark(text)) => Some(text),
+        Ok(()) | Err(Found::Nothing) => None,
+    }
+}
+
+fn judged<A: Again>(
+    alloc: Global,
+    words: &[String],
+    files: &A,
+    most: &MostBytes,
+) -> Result<(), Found> {
+    match words {
+        [name, rest @ ..] => match name.as_str() {
+            "flat" => flat_words(alloc, rest, files, most),
+            "run" => run_words(alloc, rest, files, most),
+            "live" => live_words(alloc, rest, files, most),
+            "measure" => measure_words(alloc, rest, files, most),
+            _ => Ok(()),
+        },
+        [] => Ok(()),
+    }
+}
+
+fn flat_words<A: Again>(
+    alloc: Global,
+    words: &[String],
+    files: &A,
+    most: &MostBytes,
+) -> Result<(), Found> {
+    match words {
+        [file, _, _] => flat_file(alloc, files, most.flat, file.as_str()),
+        _ => Ok(()),
+    }
+}
+
+fn run_words<A: Again>(
+    alloc: Global,
+    words: &[String],
+    files: &A,
+    most: &MostBytes,
+) -> Result<(), Found> {
+    match words {
+        [image, policy, disk, script, _, _] => {
+            let names = RunNames {
+                image: image.as_str(),
+                policy: policy.as_str(),
+                disk: disk.as_str(),
+                script: script.as_str(),
+            };
+            run_files(alloc, files, most, &names)
+        }
+        _ => Ok(()),
+    }
+}
+
+fn live_words<A: Again>(
+    alloc: Global,
+    words: &[String],
+    files: &A,
+    most: &MostBytes,
+) -> Result<(), Found> {
+    match words {
+        [image, policy, disk, _, _] => {
+            let names = RunNames {
+                image: image.as_str(),
+                policy: policy.as_str(),
+                disk: disk.as_str(),
+                script: "none",
+            };
+            run_files(alloc, files, most, &names)
+        }
+        _ => Ok(()),
+    }
+}
+
+fn measure_words<A: Again>(
+    alloc: Global,
+    words: &[String],
+    files: &A,
+    most: &MostBytes,
+) -> Result<(), Found> {
+    match words {
+        [out, kernel, ram, _, _, _, modules @ ..] => {
+            let names = MakingNames {
+                out: out.as_str(),
+                kernel: kernel.as_str(),
+                ram: ram.as_str(),
+                modules,
+            };
+            making_files(alloc, files, most, &names)
+        }
+        _ => Ok(()),
+    }
+}

@@ -1,0 +1,127 @@
+// The files of `measure`.
+
+ghost use Rattle.std.specs.Prelude.{◌≤◌, length, IfOk};
+
+use crate::faults::{image_fault, object_fault, policy_fault};
+use crate::files::{Again, Found, MostBytes, read_part, said, said_at};
+use crate::running::kernel_file;
+use elf64_load::{ElfRefusal, read_exports};
+use elf64_reloc::{RelocRefusal, read_module, refused_place};
+use policy::first_refused;
+use policy_limits::{MOST_RAM_PAGES, PolicyFault};
+use policy_making::{MakingFault, MakingRefusal, want_names, wanted_exports};
+use std::alloc::Global;
+use sv_types::{Export, ImageFault, Name};
+use text_numbers::number_within;
+
+/// The words of `measure` that name files, and the one of RAM.
+#[derive(Clone, Copy, Drop)]
+pub(crate) struct MakingNames<'a> {
+    pub(crate) out: &'a str,
+    pub(crate) kernel: &'a str,
+    pub(crate) ram: &'a str,
+    pub(crate) modules: &'a [String],
+}
+
+/// The files that a policy is made of, in the order in which they are judged.
+pub(crate) fn making_files<A: Again>(
+    alloc: Global,
+    files: &A,
+    most: &MostBytes,
+    names: &MakingNames<'_>,
+) -> Result<(), Found> {
+    let Some(ram_pages) = number_within(names.ram.as_bytes(), 0, u64::from(MOST_RAM_PAGES)) else {
+        return Err(Found::Nothing);
+    };
+    let kernel = read_part(alloc, files, names.kernel, most.image)?;
+    kernel_file(alloc, names.kernel, &kernel, ram_pages as u32)?;
+    let wanted = all_wanted(alloc, files, most.module, names.modules)?;
+    let exports = exports_in(alloc, names.kernel, &kernel, &wanted)?;
+    for module in names.modules {
+        let object = read_part(alloc, files, module.as_str(), most.module)?;
+        module_file(alloc, module.as_str(), &object, &exports)?;
+    }
+    // Each file is good, so that the fields of all modules together are too many.
+    Err(said(alloc, names.out, policy_fault(PolicyFault::BeyondLimit)))
+}
+
+// The names that the modules want of the kernel.
+fn all_wanted<A: Again>(
+    alloc: Global,
+    files: &A,
+    most: usize,
+    modules: &[String],
+) -> Result<Vec<Name>, Found> {
+    let mut names = Vec::new(alloc);
+    for module in modules {
+        let module = module.as_str();
+        let object = read_part(alloc, files, module, most)?;
+        if let Err(refusal) = want_names(alloc, &mut names, &object) {
+            return Err(making_fault(alloc, module, refusal));
+        }
+    }
+    Ok(names)
+}
+
+fn making_fault(alloc: Global, name: &str, refusal: MakingRefusal) -> Found {
+    match refusal {
+        MakingRefusal::Fault(MakingFault::Image(fault)) => said(alloc, name, image_fault(fault)),
+        MakingRefusal::Fault(MakingFault::Module(fault)) => said(alloc, name, object_fault(fault)),
+        MakingRefusal::Fault(MakingFault::Limits) => {
+            said(alloc, name, policy_fault(PolicyFault::BeyondLimit))
+        }
+        MakingRefusal::Memory => Found::Nothing,
+    }
+}
+
+// The kernel's exports, or the first wanted name that it doesn't define.
+fn exports_in(
+    alloc: Global,
+    name: &str,
+    kernel: &[u8],
+    wanted: &[Name],
+) -> Result<Vec<Export>, Found>
+    ensures { IfOk result (λ exports. length exports.items ≤ 4096) }
+{
+    match wanted_exports(alloc, kernel, wanted) {
+        Ok(exports) => Ok(exports),
+        Err(refusal) => Err(match undefined(alloc, kernel, wanted) {
+            Some(undefined) => {
+                let symbol = format!(in alloc; "symbol {}", undefined.text())?;
+                let fault = image_fault(ImageFault::UndefinedName);
+                said_at(alloc, name, Some(symbol), fault)
+            }
+            None => making_fault(alloc, name, refusal),
+        }),
+    }
+}
+
+// The first name that the kernel doesn't define.
+fn undefined(alloc: Global, kernel: &[u8], wanted: &[Name]) -> Option<Name> {
+    let first = first_refused(wanted, |names| match read_exports(alloc, kernel, names) {
+        Err(ElfRefusal::Fault(ImageFault::UndefinedName)) => true,
+        _ => false,
+    });
+    match first {
+        Some(i) => wanted.get(i).copied(),
+        None => None,
+    }
+}
+
+fn module_file(
+    alloc: Global,
+    name: &str,
+    object: &[u8],
+    exports: &[Export],
+) -> Result<(), Found>
+    requires { length exports.now ≤ 4096 }
+{
+    match read_module(alloc, object, exports) {
+        Ok(_) => Ok(()),
+        Err(RelocRefusal::Fault(fault)) => {
+            let place = refused_place(alloc, object, exports)?;
+            Err(said_at(alloc, name, place, object_fault(fault)))
+        }
+        Err(RelocRefusal::Memory) => Err(Found::Nothing),
+    }
+}

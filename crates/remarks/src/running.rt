@@ -1,0 +1,124 @@
+// The files of `flat`, `run` and `live`.
+
+ghost use Rattle.std.specs.Prelude.{◌<◌, ◌≤◌, IfOk, IsTrue};
+ghost use Rattle.sv_types.specs.Policies.{rules_of, rules_within};
+
+use crate::faults::{image_fault, policy_fault};
+use crate::files::{Again, Found, MostBytes, read_part, said, said_at};
+use elf64_load::{ElfRefusal, read_kernel};
+use policy::PolicyRefusal;
+use policy_limits::PolicyFault;
+use processor::PAGE_SIZE;
+use script::ScriptRefusal;
+use std::alloc::Global;
+use sv_types::Policy;
+
+/// The bytes of a disk's sector.
+const SECTOR_SIZE: usize = 512;
+
+/// The names of a run's files.
+#[derive(Clone, Copy, Drop)]
+pub(crate) struct RunNames<'a> {
+    pub(crate) image: &'a str,
+    pub(crate) policy: &'a str,
+    pub(crate) disk: &'a str,
+    pub(crate) script: &'a str,
+}
+
+/// The plain pages of `flat`.
+pub(crate) fn flat_file<A: Again>(
+    alloc: Global,
+    files: &A,
+    most: usize,
+    name: &str,
+) -> Result<(), Found> {
+    let bytes = read_part(alloc, files, name, most)?;
+    if bytes.is_empty() || bytes.len() % PAGE_SIZE != 0 {
+        return Err(said(alloc, name, "no whole pages of 4096 bytes"));
+    }
+    Ok(())
+}
+
+/// The files of a run, in the order in which they are judged.
+pub(crate) fn run_files<A: Again>(
+    alloc: Global,
+    files: &A,
+    most: &MostBytes,
+    names: &RunNames<'_>,
+) -> Result<(), Found> {
+    let policy = policy_file(alloc, files, most.policy, names.policy)?;
+    let image = read_part(alloc, files, names.image, most.image)?;
+    kernel_file(alloc, names.image, &image, policy.ram_pages)?;
+    disk_file(alloc, files, most.disk, names.disk)?;
+    script_file(alloc, files, most.script, names.script, policy.harts)
+}
+
+fn policy_file<A: Again>(
+    alloc: Global,
+    files: &A,
+    most: usize,
+    name: &str,
+) -> Result<Policy, Found>
+    ensures { IfOk result (λ policy. IsTrue (rules_within (rules_of policy))) }
+{
+    let text = read_part(alloc, files, name, most)?;
+    match policy::read(alloc, &text) {
+        Ok(policy) => Ok(policy),
+        Err(PolicyRefusal::Fault(fault)) => {
+            let place = policy::refused_place(alloc, &text)?;
+            match (fault, place) {
+                (PolicyFault::NotToml, Some(place)) => Err(said(alloc, name, place.as_str())),
+                (fault, place) => Err(said_at(alloc, name, place, policy_fault(fault))),
+            }
+        }
+        Err(PolicyRefusal::Memory) => Err(Found::Nothing),
+    }
+}
+
+/// A kernel's file.
+pub(crate) fn kernel_file(
+    alloc: Global,
+    name: &str,
+    image: &[u8],
+    ram_pages: u32,
+) -> Result<(), Found> {
+    match read_kernel(alloc, image, ram_pages) {
+        Ok(_) => Ok(()),
+        Err(ElfRefusal::Fault(fault)) => Err(said(alloc, name, image_fault(fault))),
+        Err(ElfRefusal::Memory) => Err(Found::Nothing),
+    }
+}
+
+fn disk_file<A: Again>(alloc: Global, files: &A, most: usize, name: &str) -> Result<(), Found> {
+    if name == "none" {
+        return Ok(());
+    }
+    let disk = read_part(alloc, files, name, most)?;
+    if disk.len() % SECTOR_SIZE != 0 {
+        return Err(said(alloc, name, "no whole sectors of 512 bytes"));
+    }
+    Ok(())
+}
+
+fn script_file<A: Again>(
+    alloc: Global,
+    files: &A,
+    most: usize,
+    name: &str,
+    harts: u8,
+) -> Result<(), Found>
+    requires some { 0 < harts }
+    requires few { harts ≤ 4 }
+{
+    if name == "none" || name.starts_with("auto:") {
+        return Ok(());
+    }
+    let text = read_part(alloc, files, name, most)?;
+    match script::read(alloc, &text, harts) {
+        Err(ScriptRefusal::Line { line }) => {
+            let what = format!(in alloc; "line {line} is of no form")?;
+            Err(said(alloc, name, what.as_str()))
+        }
+        Ok(_) | Err(ScriptRefusal::Memory) => Ok(()),
+    }
+}

@@ -1,0 +1,109 @@
+// What is said of refused files.
+use super::*;
+use std::alloc::Global;
+use std::test::Fail;
+
+/// Files of a few names, by their texts.
+struct Held;
+
+impl Again for Held {
+    fn first_bytes(&self, alloc: Global, name: &str, most: usize) -> Option<Vec<u8>> {
+        let bytes: &[u8] = match name {
+            "one" => b"x",
+            "bad.policy" => b"format = 1\nharts = 9\n",
+            "good.policy" => b"format = 1\nharts = 1\nram_pages = 16\nentries = [\"0x80000000\"]\n[kernel]\nmeasure = \"00112233445566778899aabbccddeeff00112233445566778899aabbccddeeff\"\n",
+            _ => return None,
+        };
+        let mut held = Vec::new(alloc);
+        match held.extend_from_slice(&bytes[..most.min(bytes.len())]) {
+            Ok(()) => Some(held),
+            Err(_) => None,
+        }
+    }
+}
+
+struct Row {
+    words: &'static [&'static str],
+    said: &'static str,
+}
+
+static ROWS: [Row; 9] = [
+    Row {
+        words: &["flat", "one", "00", "5"],
+        said: "one: no whole pages of 4096 bytes",
+    },
+    Row {
+        words: &["flat", "two", "00", "5"],
+        said: "",
+    },
+    Row {
+        words: &["run", "one", "bad.policy", "none", "none", "5", "none"],
+        said: "bad.policy: key harts: a number, a length or an address is beyond its limit",
+    },
+    Row {
+        words: &["run", "one", "one", "none", "none", "5", "none"],
+        said: "one: TOML parse error at line 1, column 2: key with no value, expected `=`",
+    },
+    Row {
+        words: &["live", "one", "good.policy", "none", "5", "keys"],
+        said: "one: shorter than an ELF-64 header",
+    },
+    Row {
+        words: &["measure", "out", "one", "64", "1", "0x80000000", "none"],
+        said: "one: shorter than an ELF-64 header",
+    },
+    Row {
+        words: &["measure", "out", "good.policy", "64", "1", "0x80000000", "none"],
+        said: "good.policy: no ELF file",
+    },
+    Row {
+        words: &["run", "one", "good.policy"],
+        said: "",
+    },
+    Row {
+        words: &[],
+        said: "",
+    },
+];
+
+const MOST: MostBytes = MostBytes {
+    flat: 65536,
+    policy: 1024,
+    image: 1024,
+    disk: 1024,
+    script: 1024,
+    module: 1024,
+};
+
+#[test]
+fn remarks(rt: HostRuntime) -> Result<(), Fail> {
+    for row in &ROWS {
+        let mut words = Vec::new(rt.alloc());
+        for word in row.words {
+            words.push(String::from_str(rt.alloc(), word)?)?;
+        }
+        let said = remark(rt.alloc(), &words, &Held, &MOST);
+        let told = match &said {
+            Some(said) => said.as_str(),
+            None => "",
+        };
+        assert!(rt; told == row.said, "{told}, not {}", row.said);
+    }
+    Ok(())
+}
+
+#[test]
+fn too_long(rt: HostRuntime) -> Result<(), Fail> {
+    let mut words = Vec::new(rt.alloc());
+    for word in ["flat", "good.policy", "00", "5"] {
+        words.push(String::from_str(rt.alloc(), word)?)?;
+    }
+    let most = MostBytes { flat: 9, ..MOST };
+    let said = remark(rt.alloc(), &words, &Held, &most);
+    let told = match &said {
+        Some(said) => said.as_str(),
+        None => "",
+    };
+    assert!(rt; told == "good.policy: longer than 9 bytes", "{told}");
+    Ok(())
+}
