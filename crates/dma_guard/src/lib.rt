@@ -11,7 +11,7 @@ mod port;
 
 use host_mem::HostMem;
 pub use port::{Beaten, DiskPort};
-use processor::{PAGE_SIZE, RAM_BASE};
+use processor::PAGE_SIZE;
 use std::alloc::{AllocError, Global};
 use std::marker::Model;
 
@@ -69,10 +69,9 @@ impl DmaGuard {
         ensures answer { result ≡ write_answer mem.old.ram self.now gpa (length bytes.now) }
         ensures memory { mem.new ≡ after_write mem.old self.now gpa bytes.now }
     {
-        if !is_in_ram(mem, gpa, bytes.len()) {
+        let Some(place) = mem.place_in_ram(gpa, bytes.len() as u64) else {
             return Err(DmaRefused::OutOfRam);
-        }
-        let place = (gpa - RAM_BASE) as usize;
+        };
         let page = (place / PAGE_SIZE) as u32;
         if !self.may_write(page) {
             return Err(DmaRefused::Protected { page });
@@ -87,24 +86,12 @@ impl DmaGuard {
         ensures answer { result ≡ read_answer mem.now.ram gpa (length into.old) }
         ensures read { into.new ≡ after_read mem.now.ram gpa into.old }
     {
-        if !is_in_ram(mem, gpa, into.len()) {
+        let Some(place) = mem.place_in_ram(gpa, into.len() as u64) else {
             return Err(DmaRefused::OutOfRam);
-        }
-        let place = (gpa - RAM_BASE) as usize;
+        };
         into.copy_from_slice(&mem.ram()[place..place + into.len()]);
         Ok(())
     }
-}
-
-// Whether bytes all lie in RAM. Neither test can wrap.
-fn is_in_ram(mem: &HostMem, gpa: u64, len: usize) -> bool
-    ensures value { result ≡ in_ram mem.now.ram gpa len }
-    ensures begins { IsTrue result → ram_base ≤ gpa }
-    ensures ends { IsTrue result → ram_place gpa + len ≤ length mem.now.ram }
-    ensures region { IsRegion mem.now }
-{
-    let size = PAGE_SIZE * mem.ram_pages();
-    gpa >= RAM_BASE && len <= size && gpa - RAM_BASE <= (size - len) as u64
 }
 
 #[cfg(test)]

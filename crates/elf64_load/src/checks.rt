@@ -8,7 +8,7 @@ ghost use Rattle.sv_types.specs.Kernel.{first_refusal, header_checks, table_chec
 use crate::headers::PROGRAM_HEADER_BYTES;
 use crate::shared_text::text_is_shared;
 use elf64_sections::{double, file_refusal, half};
-use processor::{PAGE_BYTES, RAM_BASE, has_bit};
+use processor::{PAGE_BYTES, has_bit, is_in_ram};
 use std::alloc::{AllocError, Global};
 use sv_types::{ImageFault, ProgramHeader};
 
@@ -69,9 +69,7 @@ fn is_writable(header: &ProgramHeader) -> bool
 fn memory_in_ram(ram_pages: u32, header: &ProgramHeader) -> bool
     ensures { result ≡ memory_in_ram ram_pages header.now }
 {
-    header.gpa >= RAM_BASE
-        && end_of(header.gpa - RAM_BASE, header.memory_size)
-            <= (PAGE_BYTES * ram_pages as u64) as u128
+    is_in_ram(header.gpa, header.memory_size, PAGE_BYTES * ram_pages as u64)
 }
 
 /// The first fault of a segment.

@@ -7,7 +7,7 @@ ghost use Rattle.elf64_load.specs.Images.{segment_of, segments_of, text_owner};
 
 use elf64_sections::push_zeros;
 use policy_limits::MOST_RAM_PAGES;
-use processor::{PAGE_BYTES, RAM_BASE};
+use processor::{PAGE_BYTES, ram_place};
 use std::alloc::{AllocError, Global};
 
 /// A segment that is loaded: its bytes, which stay in the file, and zeros behind them up to the size in memory.
@@ -72,7 +72,7 @@ fn text_range(segment: &Segment) -> PageRange
     if !segment.executable {
         return PageRange { first: 0, end: 0 };
     }
-    let place = segment.gpa.saturating_sub(RAM_BASE);
+    let place = ram_place(segment.gpa);
     let end = (place as u128 + segment.memory as u128).div_ceil(PAGE_BYTES as u128);
     PageRange {
         first: (place / PAGE_BYTES).min(u64::from(MOST_RAM_PAGES)) as usize,
@@ -114,7 +114,7 @@ fn filled_part<'a>(page: usize, segment: &Segment<'a>) -> &'a [u8]
     ensures part { result.now ≡ filled_part page (segment_of segment.now) }
     ensures short { length result.now ≤ 4096 }
 {
-    let place = segment.gpa.saturating_sub(RAM_BASE);
+    let place = ram_place(segment.gpa);
     let start = (PAGE_BYTES * (page as u64).saturating_sub(place / PAGE_BYTES)) as usize;
     let bytes = segment.bytes;
     let from = start.min(bytes.len());

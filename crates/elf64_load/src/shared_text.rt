@@ -7,14 +7,14 @@ ghost use Rattle.sv_types.specs.Kernel.{first_page, last_page, text_is_shared};
 ghost use Rattle.elf64_load.specs.Headers.{HasMemory};
 
 use crate::checks::{end_of, is_executable};
-use processor::{PAGE_BYTES, RAM_BASE};
+use processor::{PAGE_BYTES, RAM_BASE, page_of};
 use std::alloc::{AllocError, Global};
 use sv_types::ProgramHeader;
 
 fn first_page(header: &ProgramHeader) -> u64
     ensures { result ≡ first_page header.now }
 {
-    header.gpa.saturating_sub(RAM_BASE) / PAGE_BYTES
+    page_of(header.gpa)
 }
 
 fn last_page(header: &ProgramHeader) -> u64

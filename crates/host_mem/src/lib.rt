@@ -1,8 +1,8 @@
 //! Host memory: one region of bytes, the table part and behind it guest RAM.
 #![tactic(auto)]
 
-ghost use Rattle.std.specs.Prelude.{◌≡◌, ◌+◌, ◌-◌, ◌*◌, ◌<◌, ◌≤◌, ◌%◌, ◌^◌, length, IfOk, replicate};
-ghost use Rattle.processor.specs.Bytes.{page_size, page_bytes, overwrite};
+ghost use Rattle.std.specs.Prelude.{◌≡◌, ◌+◌, ◌-◌, ◌*◌, ◌<◌, ◌≤◌, ◌%◌, ◌^◌, length, Some, None, IfOk, IfSome, if◌then◌else◌, replicate};
+ghost use Rattle.processor.specs.Bytes.{page_size, page_bytes, overwrite, in_ram, ram_base, ram_place};
 ghost use Rattle.processor.specs.Regions.{Region, IsRegion, IsHostPlace, most_ram_pages, host_bytes, host_word, write_host};
 
 mod steps;
@@ -10,7 +10,7 @@ mod words;
 
 pub use crate::steps::Steps;
 pub use crate::words::{put_word, word_at};
-use processor::PAGE_SIZE;
+use processor::{PAGE_BYTES, PAGE_SIZE, is_in_ram, ram_place};
 use raw_bytes::RawBytes;
 use std::alloc::{AllocError, Global};
 use std::marker::Model;
@@ -73,6 +73,21 @@ impl HostMem {
         ensures region { IsRegion self.now }
     {
         self.ram_pages
+    }
+
+    /// The place in RAM of `len` bytes at a guest-physical address, where they all lie in RAM.
+    pub fn place_in_ram(&self, gpa: u64, len: u64) -> Option<usize>
+        ensures value { result ≡ (if in_ram self.now.ram gpa len then Some (ram_place gpa) else None) }
+        ensures begins { IfSome result (λ place. ram_base ≤ gpa) }
+        ensures ends { IfSome result (λ place. place + len ≤ length self.now.ram) }
+        ensures region { IsRegion self.now }
+    {
+        let ram_bytes = PAGE_BYTES * self.ram_pages() as u64;
+        if is_in_ram(gpa, len, ram_bytes) {
+            Some(ram_place(gpa) as usize)
+        } else {
+            None
+        }
     }
 
     /// The word of `width` bytes at a host place, the lowest byte first. The width is 1, 2, 4 or 8, and the place a

@@ -7,7 +7,7 @@ ghost use Rattle.elf64_load.specs.Images.{segment_of};
 ghost use Rattle.image_loader.specs.Whole.{covers, IsLastWhole, SkipsOwned};
 
 use elf64_load::Segment;
-use processor::{PAGE_BYTES, RAM_BASE};
+use processor::{PAGE_BYTES, ram_place};
 use std::alloc::{AllocError, Global};
 
 /// Pages from the first on, before the end.
@@ -24,7 +24,7 @@ fn whole_range(segment: &Segment, pages: usize) -> PageRange
     ensures within { result.end ≤ pages }
     ensures whole { (page : ℕ) → page < pages → covers page (segment_of segment.now) ≡ (nat_le result.first page && nat_lt page result.end) }
 {
-    let place = segment.gpa.saturating_sub(RAM_BASE);
+    let place = ram_place(segment.gpa);
     let end = (place as u128 + segment.memory as u128) / PAGE_BYTES as u128;
     let end = end.min(pages as u128) as usize;
     let first = place.div_ceil(PAGE_BYTES).min(end as u64) as usize;

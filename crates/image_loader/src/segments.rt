@@ -13,7 +13,7 @@ ghost use Rattle.image_loader.specs.Whole.{byte_of, covers, has_byte, loaded_byt
 use crate::owners::last_owners;
 use elf64_load::{KernelImage, Segment};
 use host_mem::HostMem;
-use processor::{PAGE_BYTES, RAM_BASE};
+use processor::{PAGE_BYTES, ram_place};
 use std::alloc::{AllocError, Global};
 
 /// Puts an image's segments into guest RAM, which holds zeros. Fails where memory is wanting.
@@ -56,7 +56,7 @@ fn put_piece(mem: &mut HostMem, segment: &Segment, page: usize, zeros: &[u8])
     ensures tables { mem.new.tables ≡ mem.old.tables }
     ensures size { length mem.new.ram ≡ length mem.old.ram }
 {
-    let place = segment.gpa.saturating_sub(RAM_BASE) as usize;
+    let place = ram_place(segment.gpa) as usize;
     let page_start = PAGE_BYTES as usize * page;
     let start = place.max(page_start);
     let end = (place + segment.memory as usize).min(page_start + PAGE_BYTES as usize);
@@ -157,7 +157,7 @@ fn put_edge(mem: &mut HostMem, segment: &Segment, number: usize, owners: &[usize
     if segment.memory == 0 {
         return;
     }
-    let place = segment.gpa.saturating_sub(RAM_BASE) as usize;
+    let place = ram_place(segment.gpa) as usize;
     let first = place / PAGE_BYTES as usize;
     let last = (place + segment.memory as usize - 1) / PAGE_BYTES as usize;
     put_due(owners[first] <= number, mem, segment, first, zeros);

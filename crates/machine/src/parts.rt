@@ -28,7 +28,7 @@ use host_mem::HostMem;
 use journal_records::Journal;
 use module_answers::{Modules, load_turn};
 use page_guard::{Entries, Guard};
-use processor::{Mode, Outcome, RAM_BASE};
+use processor::{Mode, Outcome, ram_place};
 use std::marker::Model;
 use sv_types::{Counts, Event, Policy, Verdict};
 
@@ -181,7 +181,7 @@ impl Parts {
         self.journal.count_beat();
         match beat_disk(&mut self.devices, self.guard.dma(), &mut self.mem) {
             Beaten::Wrote { gpa, len } => {
-                let hpa = self.mem.table_bytes() as u64 + (gpa - RAM_BASE);
+                let hpa = self.mem.table_bytes() as u64 + ram_place(gpa);
                 forget(&mut self.seats, hpa, u64::from(len));
             }
             Beaten::Denied { gpa } => self.journal.deny(gpa),

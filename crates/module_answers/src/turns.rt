@@ -17,7 +17,8 @@ ghost use Rattle.module_answers.specs.Parts.{moduled, loading_of};
 use crate::decisions::load_decision;
 use crate::modules::{Modules, UnderWay, put_load};
 use host_mem::HostMem;
-use module_gate::{Load, page_number, pages_of};
+use module_gate::{Load, pages_of};
+use processor::page_of;
 use reference::Answer;
 use sv_types::Policy;
 
@@ -31,7 +32,7 @@ fn next_page<'a>(load: &Load, mem: &'a HostMem, policy: &Policy) -> &'a [u8]
     ensures size { length result.now ≡ page_size }
 {
     let about = load.about();
-    let first = page_number(about.gpa);
+    let first = page_of(about.gpa);
     let ram_pages = mem.ram_pages() as u64;
     prove!(first < ram_pages);
     let counted = pages_of(policy, about.id) - load.left();

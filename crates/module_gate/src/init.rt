@@ -9,7 +9,8 @@ ghost use Rattle.machine_model.specs.HostCalls.{is_approved_one};
 ghost use Rattle.page_guard.specs.Guarded.{IsTheirs, IsInRam};
 ghost use Rattle.module_gate.specs.Retiring.{is_modules, is_kernels, kernel_pages};
 
-use crate::rules::{page_number, pages_of};
+use crate::rules::pages_of;
+use processor::page_of;
 use host_mem::HostMem;
 use page_guard::Guard;
 use sv_types::{Policy, Protection, SavedModule, Span};
@@ -25,7 +26,7 @@ fn is_between(first: u64, count: u32, page: u32) -> bool
 fn is_page_of(policy: &Policy, about: &SavedModule, page: u32) -> bool
     ensures { result ≡ has_number (module_pages (rules_of policy.now) about.now) page }
 {
-    is_between(page_number(about.gpa), pages_of(policy, about.id), page)
+    is_between(page_of(about.gpa), pages_of(policy, about.id), page)
 }
 
 // Whether a page is one of the loaded modules'.

@@ -9,19 +9,16 @@ ghost use Rattle.module_gate.specs.Gates.{is_place, is_good_place, is_taken};
 use crate::rules::pages_at;
 use host_mem::HostMem;
 use page_guard::Guard;
-use processor::{PAGE_BYTES, RAM_BASE};
+use processor::PAGE_BYTES;
 use sv_types::{Protection, SavedModule, Span};
 
 // Whether both addresses are multiples of a page's bytes, and so many pages from the first on are in RAM.
 fn is_place(mem: &HostMem, gpa: u64, va: u64, count: u32) -> bool
     ensures { result ≡ is_place mem.now.ram gpa va count }
 {
-    let ram_bytes = PAGE_BYTES * mem.ram_pages() as u64;
     gpa % PAGE_BYTES == 0
         && va % PAGE_BYTES == 0
-        && gpa >= RAM_BASE
-        && PAGE_BYTES * count as u64 <= ram_bytes
-        && gpa - RAM_BASE <= ram_bytes - PAGE_BYTES * count as u64
+        && mem.place_in_ram(gpa, PAGE_BYTES * count as u64).is_some()
 }
 
 // Whether a page is approved or held.

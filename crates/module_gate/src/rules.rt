@@ -6,7 +6,7 @@ ghost use Rattle.sv_types.specs.Policies.{rules_of, module_rule};
 ghost use Rattle.reference.specs.States.{pages_in_rule};
 ghost use Rattle.module_gate.specs.Gates.{pages_at, module_span};
 
-use processor::{PAGE_BYTES, RAM_BASE};
+use processor::page_of;
 use sv_types::{ModulePolicy, Policy, SavedModule, Span};
 
 /// The policy's rule of a module.
@@ -26,20 +26,13 @@ pub fn pages_of(policy: &Policy, id: u64) -> u32
     }
 }
 
-/// The number of the page of a guest-physical address.
-pub fn page_number(gpa: u64) -> u64
-    ensures { result ≡ page_of gpa }
-{
-    gpa.saturating_sub(RAM_BASE) / PAGE_BYTES
-}
-
 /// So many pages from a guest-physical address on.
 pub fn pages_at(gpa: u64, count: u32) -> Span
     requires { page_of gpa < 2 ^ 32 }
     ensures { result ≡ pages_at gpa count }
 {
     Span {
-        first: page_number(gpa) as u32,
+        first: page_of(gpa) as u32,
         count,
     }
 }

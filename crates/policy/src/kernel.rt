@@ -7,7 +7,7 @@ ghost use Rattle.policy.specs.Text as spec;
 
 use crate::values::{address, items, members, natural, required, with_known};
 use policy_limits::PolicyFault;
-use processor::{PAGE_BYTES, RAM_BASE};
+use processor::{PAGE_BYTES, RAM_BASE, page_of};
 use sv_types::Span;
 use toml::{Table, Value};
 
@@ -41,7 +41,7 @@ fn span(ram_pages: u32, address: u64, count: u64) -> Result<Span, PolicyFault>
     if address < RAM_BASE || count > u64::from(ram_pages) {
         return Err(PolicyFault::BeyondLimit);
     }
-    let first = (address - RAM_BASE) / PAGE_BYTES;
+    let first = page_of(address);
     if first + count > u64::from(ram_pages) {
         return Err(PolicyFault::BeyondLimit);
     }

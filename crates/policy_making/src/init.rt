@@ -3,7 +3,7 @@
 ghost use Rattle.std.specs.Prelude.{◌≡◌, ◌≤◌};
 ghost use Rattle.policy_making.specs.WordRanges as spec;
 
-use processor::{PAGE_BYTES, RAM_BASE};
+use processor::{PAGE_BYTES, RAM_BASE, page_of};
 use sv_types::Span;
 use text_numbers::{address_of, number_within};
 
@@ -15,7 +15,7 @@ fn span_at(ram_pages: u32, address: u64, count: u64) -> Option<Span>
     if address < RAM_BASE || address % PAGE_BYTES != 0 {
         return None;
     }
-    let first = (address - RAM_BASE) / PAGE_BYTES;
+    let first = page_of(address);
     if first + count > u64::from(ram_pages) {
         return None;
     }

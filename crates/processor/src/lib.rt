@@ -32,7 +32,7 @@ pub use instruction::{
 };
 pub use interrupt::Interrupt;
 pub use lines::Lines;
-pub use memory::{PAGE_BYTES, PAGE_SIZE, RAM_BASE};
+pub use memory::{PAGE_BYTES, PAGE_SIZE, RAM_BASE, is_in_ram, page_of, ram_place};
 pub use mode::Mode;
 pub use outcome::{Exception, Outcome, Wrote};
 pub use pte_bits::PteBits;

@@ -1,4 +1,7 @@
-// Where guest RAM lies, and the size of its pages.
+// Where guest RAM lies, and its pages.
+
+ghost use Rattle.std.specs.Prelude.{◌≡◌, ◌+◌, ◌≤◌, ◌&&◌, IsTrue, nat_le};
+ghost use Rattle.processor.specs.Bytes.{ram_base, ram_place, page_of};
 
 /// Where guest RAM begins, as a guest-physical address.
 pub const RAM_BASE: u64 = 0x8000_0000;
@@ -8,3 +11,26 @@ pub const PAGE_BYTES: u64 = 4096;
 
 /// The bytes of a page, as a length of what lies in memory.
 pub const PAGE_SIZE: usize = PAGE_BYTES as usize;
+
+/// The place in RAM of a guest-physical address, in bytes from RAM's first; 0 below RAM.
+pub fn ram_place(gpa: u64) -> u64
+    ensures { result ≡ ram_place gpa }
+{
+    gpa.saturating_sub(RAM_BASE)
+}
+
+/// The number of the page of a guest-physical address, counted from RAM's first; 0 below RAM.
+pub fn page_of(gpa: u64) -> u64
+    ensures { result ≡ page_of gpa }
+{
+    ram_place(gpa) / PAGE_BYTES
+}
+
+/// Whether so many bytes from a guest-physical address on all lie in RAM of `ram_bytes` bytes. No test wraps.
+pub fn is_in_ram(gpa: u64, len: u64, ram_bytes: u64) -> bool
+    ensures value { result ≡ (nat_le ram_base gpa && nat_le (ram_place gpa + len) ram_bytes) }
+    ensures begins { IsTrue result → ram_base ≤ gpa }
+    ensures ends { IsTrue result → ram_place gpa + len ≤ ram_bytes }
+{
+    gpa >= RAM_BASE && len <= ram_bytes && gpa - RAM_BASE <= ram_bytes - len
+}

@@ -3,8 +3,8 @@
 use crate::cause::Cause;
 use crate::exit::Exit;
 
-/// The bytes that an attempt wrote: `width` of them from a host place on. All fields are words, as those of an exit, so
-/// that an outcome is handed on by whole words.
+/// The bytes that an attempt wrote: `width` of them from a host place on. Both are words, as the first fields of an exit
+/// are, so that an outcome is handed on by whole words.
 #[derive(Clone, Copy, Debug, PartialEq, Eq, Drop)]
 pub struct Wrote {
     pub hpa: u64,

@@ -5,7 +5,7 @@ ghost use Rattle.processor.specs.Bytes.{in_ram};
 ghost use Rattle.machine_model.specs.Served.{is_implicit, exit_gpa, device_gpa};
 
 use host_mem::HostMem;
-use processor::{Exit, PAGE_BYTES, RAM_BASE};
+use processor::Exit;
 
 /// The transformed instruction of an implicit read of a first-stage entry.
 const IMPLICIT_READ: u32 = 0x3000;
@@ -28,16 +28,12 @@ fn low_bits(exit: &Exit) -> u64
 pub(crate) fn gpa_in_ram(mem: &HostMem, exit: &Exit, width: u64) -> Option<u64>
     ensures { result ≡ (if in_ram mem.now.ram (exit_gpa exit.now) width then Some (exit_gpa exit.now) else None) }
 {
-    let size = PAGE_BYTES * mem.ram_pages() as u64;
     if exit.htval >= 1 << 40 {
         return None;
     }
     let gpa = 4 * exit.htval + low_bits(exit);
-    if gpa >= RAM_BASE && gpa - RAM_BASE <= size && size - (gpa - RAM_BASE) >= width {
-        Some(gpa)
-    } else {
-        None
-    }
+    mem.place_in_ram(gpa, width)?;
+    Some(gpa)
 }
 
 /// The guest-physical address of an access to a device, or the last one of all where it lies beyond.

@@ -13,11 +13,11 @@ ghost use Rattle.virtio_blk.specs.Held.{HaveRings, HasHeader, IsPlaced, IsOnDisk
 
 use crate::Virtio;
 use crate::chain::read_chain;
-use crate::requests::{DONE, is_good, is_in_ram, result_by};
+use crate::requests::{DONE, is_good, lies_in_ram, result_by};
 use crate::state::{MOST_PARTS, VirtioPart, VirtioRequest};
 use dma_guard::Beaten;
 use host_mem::{HostMem, word_at};
-use processor::RAM_BASE;
+use processor::ram_place;
 
 /// Indices of the queue count modulo this.
 const INDICES: u64 = 65536;
@@ -58,7 +58,7 @@ fn new_request(
     ensures { result ≡ new_of head (sector_of ram.now parts.now) size used (result_by ram.now disk_size (type_of ram.now parts.now) (sector_of ram.now parts.now) (data_of parts.now)) parts.now }
 {
     let last = parts.len() - 1;
-    let header = (parts[0].gpa - RAM_BASE) as usize;
+    let header = ram_place(parts[0].gpa) as usize;
     let sector = word_at(ram, header + 8, 8);
     let result = result_by(
         ram,
@@ -113,9 +113,9 @@ impl Virtio {
         ensures rings { IsTrue result → HaveRings (device_of self.now) ram.now }
     {
         let size = self.state.size as u64;
-        is_in_ram(ram, self.state.descriptors, 16 * size)
-            && is_in_ram(ram, self.state.available, 4 + 2 * size)
-            && is_in_ram(ram, self.state.used, 4 + 8 * size)
+        lies_in_ram(ram, self.state.descriptors, 16 * size)
+            && lies_in_ram(ram, self.state.available, 4 + 2 * size)
+            && lies_in_ram(ram, self.state.used, 4 + 8 * size)
     }
 
     // The index of the available ring.
@@ -124,7 +124,7 @@ impl Virtio {
         ensures value { result ≡ available_index (device_of self.now) ram.now }
         ensures small { result < 65536 }
     {
-        word_at(ram, (self.state.available - RAM_BASE) as usize + 2, 2)
+        word_at(ram, ram_place(self.state.available) as usize + 2, 2)
     }
 
     // The head that stands where the next request is expected.
@@ -137,7 +137,7 @@ impl Virtio {
         let place = (self.state.accepted % self.state.size as u64) as usize;
         word_at(
             ram,
-            (self.state.available - RAM_BASE) as usize + 4 + 2 * place,
+            ram_place(self.state.available) as usize + 4 + 2 * place,
             2,
         )
     }
@@ -178,7 +178,7 @@ impl Virtio {
         ensures told { result ≡ told (accept (device_of self.old) ram.now head (chain most_parts ram.now (ram_place self.old.state.descriptors) self.old.state.size head)).move }
         ensures still { (region : Region) → after_move region (accept (device_of self.old) ram.now head (chain most_parts ram.now (ram_place self.old.state.descriptors) self.old.state.size head)).move ≡ region }
     {
-        let table = (self.state.descriptors - RAM_BASE) as usize;
+        let table = ram_place(self.state.descriptors) as usize;
         let Some(parts) = read_chain(ram, table, self.state.size as u64, head) else {
             self.break_down();
             return Beaten::Range;

@@ -11,11 +11,11 @@ ghost use Rattle.virtio_blk.specs.Held.{IsPlaced, IsOnDisk, CanBeMade, device_of
 use crate::Virtio;
 use crate::bus::NEEDS_RESET;
 use crate::moves::take_move;
-use crate::requests::{FAILED, is_in_ram};
+use crate::requests::{FAILED, lies_in_ram};
 use crate::state::{VirtioMove, VirtioRequest};
 use dma_guard::{Beaten, DmaGuard, DmaRefused};
 use host_mem::{HostMem, put_word};
-use processor::{RAM_BASE, has_bit};
+use processor::{has_bit, ram_place};
 
 /// The place of the status bit that says that the driver is ready.
 const DRIVER_OK_PLACE: u8 = 2;
@@ -251,11 +251,11 @@ impl Virtio {
         ensures memory { after_move mem.now (to_disk (device_of self.old) (request_of self.old.state.accepted request.now) gpa place size mem.now.ram).move ≡ mem.now }
     {
         let ram = mem.ram();
-        if !is_in_ram(ram, gpa, size) {
+        if !lies_in_ram(ram, gpa, size) {
             self.break_down();
             return Beaten::Range;
         }
-        let at = (gpa - RAM_BASE) as usize;
+        let at = ram_place(gpa) as usize;
         self.keep_bytes(place as usize, &ram[at..at + size as usize]);
         self.keep(*request);
         Beaten::Read { gpa }

@@ -9,7 +9,7 @@ ghost use Rattle.virtio_blk.specs.Requests.{bytes_in, lies_in, fits_type, are_se
 
 use crate::SECTOR_BYTES;
 use crate::state::VirtioPart;
-use processor::RAM_BASE;
+use processor::is_in_ram;
 
 /// The bytes of a request's header, and of its result.
 const HEADER_BYTES: u32 = 16;
@@ -28,21 +28,20 @@ pub const FAILED: u8 = 1;
 
 const UNKNOWN_TYPE: u8 = 2;
 
-/// Whether so many bytes all lie in RAM. No test wraps.
-pub fn is_in_ram(ram: &[u8], gpa: u64, len: u64) -> bool
+/// Whether so many bytes all lie in RAM, which is given whole.
+pub fn lies_in_ram(ram: &[u8], gpa: u64, len: u64) -> bool
     ensures value { result ≡ in_ram ram.now gpa len }
     ensures begins { IsTrue result → ram_base ≤ gpa }
     ensures ends { IsTrue result → ram_place gpa + len ≤ length ram.now }
 {
-    let size = ram.len() as u64;
-    gpa >= RAM_BASE && len <= size && gpa - RAM_BASE <= size - len
+    is_in_ram(gpa, len, ram.len() as u64)
 }
 
 // Whether a part's bytes lie in RAM, where it has any.
 fn lies_in(ram: &[u8], part: &VirtioPart) -> bool
     ensures { result ≡ lies_in ram.now part.now }
 {
-    part.len == 0 || is_in_ram(ram, part.gpa, part.len as u64)
+    part.len == 0 || lies_in_ram(ram, part.gpa, part.len as u64)
 }
 
 // Whether the device may do to data what a type asks for.
@@ -118,7 +117,7 @@ fn is_header(ram: &[u8], part: &VirtioPart) -> bool
     ensures begins { IsTrue result → ram_base ≤ part.now.gpa }
     ensures ends { IsTrue result → ram_place part.now.gpa + 16 ≤ length ram.now }
 {
-    part.len == HEADER_BYTES && !part.write && is_in_ram(ram, part.gpa, HEADER_BYTES as u64)
+    part.len == HEADER_BYTES && !part.write && lies_in_ram(ram, part.gpa, HEADER_BYTES as u64)
 }
 
 /// Whether a chain is one of a request: a header, data, and a byte for the result.
