@@ -12,7 +12,7 @@ use crate::fields::{pad, push_code};
 use page_measure::{join_digests, page_digest};
 use processor::PAGE_SIZE;
 use std::alloc::{AllocError, Global};
-use sv_types::Policy;
+use sv_types::{Digest, Policy};
 
 // The page of text, for so many calls.
 #[tactic(auto, unfolding(crate::specs::Generated::generated_text))]
@@ -30,7 +30,7 @@ fn text(alloc: Global, n: u64) -> Result<Vec<u8>, AllocError>
 }
 
 #[tactic(auto, using(crate::proofs::OnePage::measure_of_page))]
-fn measure(page: &[u8]) -> [u8; 32]
+fn measure(page: &[u8]) -> Digest
     requires { length page.now ≡ page_size }
     ensures { result ≡ measure page.now }
 {

@@ -3,12 +3,13 @@ ghost use Rattle.std.specs.Prelude.{◌≡◌};
 ghost use Rattle.machine.specs.declared.boot.BootRefusal.TheVariants.{Memory};
 
 use std::alloc::{AllocError, AllocFailed};
+use sv_types::Digest;
 
 /// Why a machine isn't booted.
 #[derive(Clone, Copy, Debug, PartialEq, Eq, Drop)]
 pub enum BootRefusal {
     /// The pages measure to another digest than the one that is wanted.
-    Measure { found: [u8; 32], wanted: [u8; 32] },
+    Measure { found: Digest, wanted: Digest },
     /// The hart would begin at an address that isn't permitted.
     Entry { entry: u64 },
     /// Memory was wanting.

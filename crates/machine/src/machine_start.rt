@@ -15,7 +15,7 @@ use crate::parts::Parts;
 use elf64_load::KernelImage;
 use std::alloc::Global;
 use std::thread::Threads;
-use sv_types::Policy;
+use sv_types::{Digest, Policy};
 
 impl Machine {
     /// A machine of 16 pages of RAM with these pages at their start, all of them approved, where the hart begins. It has
@@ -25,7 +25,7 @@ impl Machine {
         rt: &R,
         alloc: Global,
         pages: &[u8],
-        wanted: [u8; 32],
+        wanted: Digest,
     ) -> Result<Machine, BootRefusal>
         requires whole { length pages.now % 4096 ≡ 0 }
         requires size { length pages.now ≤ 65536 }

@@ -30,7 +30,7 @@ use page_measure::{Silent, measure};
 use processor::{PAGE_SIZE, RAM_BASE};
 use std::alloc::{AllocError, Global};
 use std::thread::Threads;
-use sv_types::{Policy, Span};
+use sv_types::{Digest, Policy, Span};
 
 /// The pages of RAM of a machine of plain pages.
 const FLAT_PAGES: usize = 16;
@@ -86,7 +86,7 @@ impl Parts {
         rt: &R,
         alloc: Global,
         pages: &[u8],
-        wanted: [u8; 32],
+        wanted: Digest,
     ) -> Result<Parts, BootRefusal>
         requires whole { length pages.now % 4096 ≡ 0 }
         requires size { length pages.now ≤ 65536 }
@@ -160,7 +160,7 @@ pub(crate) fn judge_measure<R: Threads + Sync>(
     rt: &R,
     alloc: Global,
     pages: &[u8],
-    wanted: [u8; 32],
+    wanted: Digest,
 ) -> Result<(), BootRefusal>
     requires { length pages.now % 4096 ≡ 0 }
     ensures measured { OnOk result (measure pages.now ≡ wanted) }
@@ -174,14 +174,14 @@ pub(crate) fn judge_measure<R: Threads + Sync>(
     }
 }
 
-fn is_same(a: &[u8; 32], b: &[u8; 32]) -> bool
+fn is_same(a: &Digest, b: &Digest) -> bool
     ensures { IsTrue result ↔ (a.now ≡ b.now) }
 {
     a.as_slice() == b.as_slice()
 }
 
 #[tactic(auto, using(crate::proofs::Starting::flat_made))]
-fn assemble(alloc: Global, pages: &[u8], wanted: [u8; 32]) -> Result<Parts, AllocError>
+fn assemble(alloc: Global, pages: &[u8], wanted: Digest) -> Result<Parts, AllocError>
     requires whole { length pages.now % 4096 ≡ 0 }
     requires size { length pages.now ≤ 65536 }
     ensures start { IfOk result (λ p. p ≡ flat_machine p.region.tables pages.now wanted) }
@@ -194,7 +194,7 @@ fn assemble(alloc: Global, pages: &[u8], wanted: [u8; 32]) -> Result<Parts, Allo
     Parts::at_boot(alloc, policy, mem, guard, Vec::new(alloc), RAM_BASE)
 }
 
-fn flat_policy(alloc: Global, wanted: [u8; 32]) -> Result<Policy, AllocError>
+fn flat_policy(alloc: Global, wanted: Digest) -> Result<Policy, AllocError>
     ensures { IfOk result (λ policy. rules_of policy ≡ flat_rules wanted) }
 {
     let entries = FLAT_ENTRIES.as_slice().to_vec(alloc)?;

@@ -18,7 +18,7 @@ use host_mem::HostMem;
 use page_guard::Guard;
 use std::alloc::{AllocError, Global};
 use std::marker::Model;
-use sv_types::{Policy, SavedModule, Span};
+use sv_types::{Digest, Policy, SavedModule, Span};
 
 /// The most modules of a policy.
 const MOST_MODULES: usize = 64;
@@ -32,7 +32,7 @@ const MOST_MODULE_PAGES: usize = 1024;
 pub struct Gate {
     loaded: Vec<SavedModule>,
     /// For a load's digests, until a load takes it.
-    room: Option<Vec<[u8; 32]>>,
+    room: Option<Vec<Digest>>,
     retired: bool,
 }
 
@@ -172,7 +172,7 @@ impl Gate {
     }
 
     /// The load under way is over, and gives its room back.
-    pub(crate) fn end_load(&mut self, mut room: Vec<[u8; 32]>)
+    pub(crate) fn end_load(&mut self, mut room: Vec<Digest>)
         requires { most_module_pages ≤ vec_capacity room }
         ensures { self.new ≡ record self.old { loading = false } }
     {

@@ -20,7 +20,7 @@ use page_measure::{join_digests, page_digest};
 use processor::{PAGE_BYTES, PAGE_SIZE};
 use relocated_fields::{fields_right, mask};
 use std::marker::Model;
-use sv_types::{Bases, Policy, SavedModule, Site};
+use sv_types::{Bases, Digest, Policy, SavedModule, Site};
 
 /// A load under way, which can't be dropped. Contracts see the arguments of the load, the pages of the module, how many of
 /// them are left to count, and of those that were counted the digests and whether their fields are right.
@@ -29,7 +29,7 @@ pub struct Load {
     pub(crate) about: SavedModule,
     pub(crate) pages: u32,
     pub(crate) left: u32,
-    pub(crate) digests: Vec<[u8; 32]>,
+    pub(crate) digests: Vec<Digest>,
     pub(crate) right: bool,
 }
 
@@ -148,7 +148,7 @@ impl Load {
 }
 
 // The digest of a page with the fields cleared that begin in it. The page begins at the byte `first` of the text.
-fn masked_digest(bytes: &[u8], first: u32, sites: &[Site]) -> [u8; 32]
+fn masked_digest(bytes: &[u8], first: u32, sites: &[Site]) -> Digest
     requires page { length bytes.now ≡ page_size }
     requires start { first % 4096 ≡ 0 }
     requires aligned { All IsAligned sites.now }

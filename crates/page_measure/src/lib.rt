@@ -11,10 +11,11 @@ mod meter;
 
 pub use meter::{Meter, Silent};
 use processor::PAGE_SIZE;
-use sha2::{Digest, Sha256};
+use sha2::{Digest as _, Sha256};
 use std::alloc::{AllocError, Global};
 use std::thread;
 use std::thread::Threads;
+use sv_types::Digest;
 
 /// The bytes of a chunk: 64 pages.
 const CHUNK_BYTES: usize = 64 * PAGE_SIZE;
@@ -26,7 +27,7 @@ pub fn measure<R: Threads + Sync, M: Meter + Sync>(
     alloc: Global,
     pages: &[u8],
     meter: &M,
-) -> Result<[u8; 32], AllocError>
+) -> Result<Digest, AllocError>
     requires whole_pages { length pages.now % page_size ≡ 0 }
     ensures { IfOk result (λ digest. digest ≡ spec.measure pages.now) }
 {
@@ -35,14 +36,14 @@ pub fn measure<R: Threads + Sync, M: Meter + Sync>(
 }
 
 /// The digest of one page.
-pub fn page_digest(page: &[u8]) -> [u8; 32]
+pub fn page_digest(page: &[u8]) -> Digest
     ensures { result ≡ spec.page_digest page.now }
 {
     Sha256::digest(page)
 }
 
 /// The digest of pages whose digests are given, in the order of the pages.
-pub fn join_digests(digests: &[[u8; 32]]) -> [u8; 32]
+pub fn join_digests(digests: &[Digest]) -> Digest
     ensures { result ≡ spec.joined_digests digests.now }
 {
     let mut hasher = Sha256::new();
@@ -58,7 +59,7 @@ fn digest_chunks<R: Threads + Sync, M: Meter + Sync>(
     alloc: Global,
     pages: &[u8],
     meter: &M,
-) -> Result<Vec<[u8; 32]>, AllocError>
+) -> Result<Vec<Digest>, AllocError>
     requires whole_pages { length pages.now % page_size ≡ 0 }
     ensures { IfOk result (λ digests. digests.items ≡ digests_of pages.now) }
 {
@@ -85,7 +86,7 @@ fn digest_chunk<M: Meter>(
     number: usize,
     pages: &[u8],
     meter: &M,
-) -> Result<Vec<[u8; 32]>, AllocError>
+) -> Result<Vec<Digest>, AllocError>
     requires whole_pages { length pages.now % page_size ≡ 0 }
     ensures { IfOk result (λ digests. digests.items ≡ digests_of pages.now) }
 {
@@ -95,7 +96,7 @@ fn digest_chunk<M: Meter>(
     Ok(digests)
 }
 
-fn digest_pages(alloc: Global, pages: &[u8]) -> Result<Vec<[u8; 32]>, AllocError>
+fn digest_pages(alloc: Global, pages: &[u8]) -> Result<Vec<Digest>, AllocError>
     requires whole_pages { length pages.now % page_size ≡ 0 }
     ensures { IfOk result (λ digests. digests.items ≡ digests_of pages.now) }
 {

@@ -11,7 +11,7 @@ use crate::sites::{Bounds, sites};
 use crate::values::{items, measure, members, name, natural, required, with_known};
 use policy_limits::{MOST_MODULE_PAGES, MOST_MODULES, PolicyFault, is_module};
 use std::alloc::Global;
-use sv_types::{ModulePolicy, Name};
+use sv_types::{Digest, ModulePolicy, Name};
 use toml::{Table, Value};
 
 /// The keys of a table `module`.
@@ -43,7 +43,7 @@ pub(crate) fn key_pages(table: &Table) -> Result<u32, PolicyFault>
     module_pages(value)
 }
 
-pub fn key_measure(table: &Table) -> Result<[u8; 32], PolicyFault>
+pub fn key_measure(table: &Table) -> Result<Digest, PolicyFault>
     ensures { result ≡ spec.key_measure (table_view table.now) }
 {
     let value = required(table, "measure")?;

@@ -12,7 +12,7 @@ ghost use Rattle.policy.specs.Printed as spec;
 
 use processor::{PAGE_BYTES, RAM_BASE};
 use std::alloc::{AllocError, Global};
-use sv_types::{Export, ModulePolicy, Policy, Site, Span};
+use sv_types::{Digest, Export, ModulePolicy, Policy, Site, Span};
 use text_numbers::address_text;
 use toml::{Table, Value};
 
@@ -39,7 +39,7 @@ fn address(alloc: Global, address: u64) -> Result<Value, AllocError>
     Ok(Value::from(text))
 }
 
-fn measure(alloc: Global, digest: &[u8; 32]) -> Result<Value, AllocError>
+fn measure(alloc: Global, digest: &Digest) -> Result<Value, AllocError>
     ensures printed { IfOk result (λ v. view v ≡ spec.measure_data digest.now) }
     ensures typed { OnOk result (IsDigest digest.now) }
 {

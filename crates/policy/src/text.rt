@@ -14,7 +14,7 @@ use crate::values::{integer, natural, optional, required, with_known};
 use policy_limits::{FEWEST_RAM_PAGES, MOST_HARTS, MOST_RAM_PAGES, PolicyFault};
 use std::alloc::Global;
 use std::str;
-use sv_types::{Policy, Span};
+use sv_types::{Digest, Policy, Span};
 use toml::Table;
 
 /// The keys of the outermost table.
@@ -77,7 +77,7 @@ fn known_keys(table: &Table) -> Result<&Table, PolicyFault>
 }
 
 // The kernel's digest and its init pages.
-fn kernel_rule(ram_pages: u32, table: &Table) -> Result<([u8; 32], Option<Span>), PolicyFault>
+fn kernel_rule(ram_pages: u32, table: &Table) -> Result<(Digest, Option<Span>), PolicyFault>
     ensures { result ≡ spec.kernel_rule ram_pages (table_view table.now) }
 {
     let kernel = kernel(table)?;

@@ -9,7 +9,7 @@ ghost use Rattle.policy.specs.Refusals.{judged_map};
 ghost use Rattle.policy.specs.Values as spec;
 
 use policy_limits::PolicyFault;
-use sv_types::Name;
+use sv_types::{Digest, Name};
 use text_numbers::{address_of, digest_of};
 use toml::{Table, Value};
 
@@ -97,7 +97,7 @@ pub fn address(value: &Value) -> Result<u64, PolicyFault>
 }
 
 /// The 32 bytes of a digest.
-pub fn measure(value: &Value) -> Result<[u8; 32], PolicyFault>
+pub fn measure(value: &Value) -> Result<Digest, PolicyFault>
     ensures { result ≡ spec.measure_of (view value.now) }
 {
     let text = text(value)?;

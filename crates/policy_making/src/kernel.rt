@@ -12,13 +12,14 @@ use elf64_load::{KernelImage, read_kernel};
 use page_measure::{Silent, measure};
 use std::alloc::{AllocError, Global};
 use std::thread::Threads;
+use sv_types::Digest;
 
 #[tactic(auto, using(crate::proofs::WholePages::text_is_whole))]
 fn text_digest<R: Threads + Sync>(
     rt: &R,
     alloc: Global,
     image: &KernelImage,
-) -> Result<[u8; 32], AllocError>
+) -> Result<Digest, AllocError>
     ensures { IfOk result (λ digest. digest ≡ measures.measure (text_of (segments_of image.now))) }
 {
     let text = image.text(alloc)?;
@@ -33,7 +34,7 @@ pub fn kernel_digest<R: Threads + Sync>(
     alloc: Global,
     kernel: &[u8],
     ram_pages: u32,
-) -> Result<[u8; 32], MakingRefusal>
+) -> Result<Digest, MakingRefusal>
     ensures digest { IfOk result (λ digest. spec.kernel_digest kernel.now ram_pages ≡ Ok digest) }
     ensures refused { IfErr result (Refuses (spec.kernel_digest kernel.now ram_pages)) }
 {

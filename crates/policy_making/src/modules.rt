@@ -18,7 +18,7 @@ use processor::PAGE_BYTES;
 use relocated_fields::mask;
 use std::alloc::{AllocError, Global};
 use std::thread::Threads;
-use sv_types::{Export, ModulePolicy, Name, Site};
+use sv_types::{Digest, Export, ModulePolicy, Name, Site};
 
 // The measure of a text with each field cleared.
 fn masked_digest<R: Threads + Sync>(
@@ -26,7 +26,7 @@ fn masked_digest<R: Threads + Sync>(
     alloc: Global,
     text: &mut [u8],
     sites: &[Site],
-) -> Result<[u8; 32], AllocError>
+) -> Result<Digest, AllocError>
     requires whole { length text.old % 4096 ≡ 0 }
     requires inside { piece_sites 0 (length text.old) sites.now ≡ sites.now }
     requires aligned { All IsAligned sites.now }

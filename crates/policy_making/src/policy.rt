@@ -14,7 +14,7 @@ use crate::refusal::{MakingFault, MakingRefusal};
 use policy_limits::MOST_SITES;
 use std::alloc::Global;
 use std::thread::Threads;
-use sv_types::{ModulePolicy, Name, Policy, Span};
+use sv_types::{Digest, ModulePolicy, Name, Policy, Span};
 
 /// What a policy says beside its files.
 #[derive(Drop)]
@@ -59,7 +59,7 @@ pub fn policy_behind<R: Threads + Sync>(
     alloc: Global,
     settings: Settings,
     kernel: &[u8],
-    digest: [u8; 32],
+    digest: Digest,
     names: &[Name],
     objects: &[ObjectFile],
 ) -> Result<Policy, MakingRefusal>

@@ -15,6 +15,7 @@ use processor::PAGE_SIZE;
 use script::rounds;
 use std::alloc::Global;
 use std::thread::Threads;
+use sv_types::Digest;
 
 /// The most bytes of plain pages.
 pub const MOST_FLAT_BYTES: usize = 65536;
@@ -52,7 +53,7 @@ fn boot<R: Threads + Sync>(
     rt: &R,
     alloc: Global,
     pages: &[u8],
-    wanted: [u8; 32],
+    wanted: Digest,
     events: u64,
 ) -> Result<Ready<'static>, Stop>
     requires whole { length pages.now % 4096 ≡ 0 }

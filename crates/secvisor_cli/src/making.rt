@@ -20,7 +20,7 @@ use outside::Files;
 use policy_making::{ObjectFile, Settings, entries_of, kernel_digest, policy_behind, want_names};
 use std::alloc::{AllocError, Global};
 use std::thread::Threads;
-use sv_types::{Name, Policy};
+use sv_types::{Digest, Name, Policy};
 use text_numbers::digest_text;
 
 /// The most bytes of a module's object.
@@ -30,7 +30,7 @@ pub const MOST_OBJECT_BYTES: usize = 16 << 20;
 #[derive(Drop)]
 pub struct MeasuredKernel {
     pub file: Vec<u8>,
-    pub digest: [u8; 32],
+    pub digest: Digest,
 }
 
 /// Modules' objects, and the names that they want of the kernel.
@@ -172,7 +172,7 @@ fn made<'a>(alloc: Global, name: &'a str, policy: &Policy) -> Result<Made<'a>, A
     Ok(Made { name, text, line })
 }
 
-fn measured_line(alloc: Global, digest: &[u8; 32]) -> Result<String, AllocError>
+fn measured_line(alloc: Global, digest: &Digest) -> Result<String, AllocError>
     ensures { IfOk result (λ line. string_bytes line ≡ measured_line digest.now) }
 {
     let digest = digest_text(alloc, digest)?;

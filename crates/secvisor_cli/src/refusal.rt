@@ -7,7 +7,7 @@ use crate::file_fault::{FileFault, Part};
 use crate::trouble::Trouble;
 use outside::{Sink, write_all};
 use std::alloc::{AllocError, Global};
-use sv_types::Status;
+use sv_types::{Digest, Status};
 use text_numbers::{address_text, digest_text};
 
 /// A word by its name.
@@ -36,7 +36,7 @@ pub enum Refusal {
     /// A file is refused.
     File { fault: FileFault },
     /// The text measures to another digest than the one that is wanted.
-    Measure { found: [u8; 32], wanted: [u8; 32] },
+    Measure { found: Digest, wanted: Digest },
     /// The machine would begin at an address that isn't permitted.
     Entry { entry: u64 },
 }
@@ -135,7 +135,7 @@ fn file_line(alloc: Global, fault: FileFault) -> Result<String, AllocError>
 }
 
 #[tactic(auto, unfolding(crate::specs::Refusals::refusal_line))]
-fn measure_line(alloc: Global, found: &[u8; 32], wanted: &[u8; 32]) -> Result<String, AllocError>
+fn measure_line(alloc: Global, found: &Digest, wanted: &Digest) -> Result<String, AllocError>
     ensures { IfOk result (λ t. string_bytes t ≡ refusal_line (Refusal.Measure found.now wanted.now)) }
 {
     let found = digest_text(alloc, found)?;

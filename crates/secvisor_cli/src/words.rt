@@ -12,7 +12,7 @@ use crate::refusal::{Refusal, Word};
 use command_words::{CommandWords, FlatWords, MeasureWords, RunWords};
 use policy_limits::{FEWEST_RAM_PAGES, MOST_HARTS, MOST_RAM_PAGES};
 use policy_making::{are_entries, span_of};
-use sv_types::Span;
+use sv_types::{Digest, Span};
 use text_numbers::{digest_of, number_within};
 
 const MOST_EVENTS: u64 = 1 << 32;
@@ -33,7 +33,7 @@ pub enum Command<'a> {
 #[derive(Drop)]
 pub struct Flat<'a> {
     pub file: &'a str,
-    pub wanted: [u8; 32],
+    pub wanted: Digest,
     pub events: u64,
 }
 

@@ -1,12 +1,13 @@
 // A machine between two events, as a file keeps it.
 
 use saved_machine::Saved;
+use sv_types::Digest;
 
 /// A page of the kernel's text, and the SHA-256 of the bytes that it was approved with.
 #[derive(Clone, Copy, Debug, PartialEq, Eq, Drop)]
 pub struct TextPage {
     pub page: u32,
-    pub digest: [u8; 32],
+    pub digest: Digest,
 }
 
 /// A machine, with what its state alone doesn't tell.

@@ -2,6 +2,7 @@
 #![tactic(auto)]
 
 mod block;
+mod digest;
 mod event;
 mod failed;
 mod image_fault;
@@ -17,6 +18,7 @@ mod status;
 mod view;
 
 pub use block::{BlockCommand, BlockState, BlockStatus};
+pub use digest::Digest;
 pub use event::{Counts, Event, Note, Rule, Verdict};
 pub use failed::Failed;
 pub use image_fault::{HeaderFault, ImageFault};

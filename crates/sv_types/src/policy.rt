@@ -1,5 +1,6 @@
 // What a policy holds.
 
+use crate::digest::Digest;
 use crate::module::{Site, Span};
 use crate::name::Name;
 
@@ -15,7 +16,7 @@ pub struct Export {
 pub struct ModulePolicy {
     pub name: Name,
     pub pages: u32,
-    pub measure: [u8; 32],
+    pub measure: Digest,
     pub sites: Vec<Site>,
 }
 
@@ -29,7 +30,7 @@ pub struct Policy {
     /// The guest-physical address that each entry is bound to in format 2; empty in format 1.
     pub bound: Vec<u64>,
     pub exports: Vec<Export>,
-    pub kernel: [u8; 32],
+    pub kernel: Digest,
     pub init: Option<Span>,
     pub modules: Vec<ModulePolicy>,
 }

@@ -1,0 +1,4 @@
+// Digests.
+
+/// A SHA-256 digest (FIPS 180-4): of a page, of the digests of pages one behind another, or of a masked module.
+pub type Digest = [u8; 32];
