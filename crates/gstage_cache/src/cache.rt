@@ -52,6 +52,7 @@ impl Cache {
 
     // The line of a page under an `hgatp` value, if it is held.
     #[tactic(auto, unfolding(crate::specs::Lookup::line_for))]
+    #[inline(always)]
     fn line(&self, hgatp: u64, page: u64) -> Option<CacheLine>
         ensures { result ≡ line_for self.now hgatp page }
     {

@@ -53,6 +53,7 @@ impl Cpu {
     ///
     /// `hgatp` has mode 8 (Sv39x4). Walks under it read the tables alone and lead to RAM, and every line of the cache
     /// agrees with the tables.
+    #[inline(always)]
     pub fn attempt<W: Wires>(
         &mut self,
         core: &mut Core,

@@ -28,6 +28,7 @@ use trap_entry::pending;
 
 /// What `Cpu::attempt` does, without the count.
 #[tactic(auto, using(gstage_cache::specs::Fills::nothing_filled, gstage_cache::specs::Fills::filled_further), unfolding(processor::specs::HardwareAttempt::attempt, processor::specs::HardwareAttempt::after_pending))]
+#[inline(always)]
 pub(crate) fn attempt<W: Wires>(
     decoder: &mut Decoder,
     core: &mut Core,
@@ -49,6 +50,7 @@ pub(crate) fn attempt<W: Wires>(
 
 // The interrupt that is taken. Where none is enabled, no wire is read.
 #[tactic(auto, unfolding(processor::specs::HypervisorRegisters::pending, processor::specs::HypervisorRegisters::is_taken))]
+#[inline(always)]
 fn interrupt_due<W: Wires>(core: &Core, regs: &HRegs, wires: &W) -> Option<Interrupt>
     ensures { result ≡ pending regs.now core.now.csrs (W.seen wires.now) }
 {
@@ -60,6 +62,7 @@ fn interrupt_due<W: Wires>(core: &Core, regs: &HRegs, wires: &W) -> Option<Inter
 
 // What the pc leads to, carried out.
 #[tactic(auto, using(gstage_cache::specs::Fills::nothing_filled, gstage_cache::specs::Fills::filled_further), unfolding(processor::specs::HardwareAttempt::after_fetch))]
+#[inline(always)]
 fn fetch<W: Wires>(
     decoder: &mut Decoder,
     core: &mut Core,
@@ -82,6 +85,7 @@ fn fetch<W: Wires>(
     }
 }
 
+#[inline(always)]
 fn set(core: &mut Core, rd: u8, value: u64, next: u64) -> Outcome
     requires { rd < 32 }
     ensures core { core.new ≡ record core.old { regs = set_register core.old.regs rd value; pc = next } }
@@ -94,6 +98,7 @@ fn set(core: &mut Core, rd: u8, value: u64, next: u64) -> Outcome
 
 // A word that was decoded, carried out.
 #[tactic(auto, using(gstage_cache::specs::Fills::nothing_filled, processor_laws::proofs::EffectRequests::is_request), unfolding(processor::specs::HardwareAttempt::after_word, processor::specs::HardwareAttempt::after_instruction, processor::specs::HardwareAttempt::after_effect))]
+#[inline(always)]
 fn carry_out<W: Wires>(
     core: &mut Core,
     regs: &HRegs,

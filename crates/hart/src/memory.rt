@@ -216,6 +216,7 @@ pub(crate) fn translated(
 /// The host place of `width` bytes at an address, or the exception of an access there: first that it is no multiple of
 /// the width, then those of its translation.
 #[tactic(auto, unfolding(processor::specs::HardwareMemory::reached))]
+#[inline(always)]
 pub(crate) fn reached(
     core: &Core,
     regs: &HRegs,

@@ -16,6 +16,7 @@ use processor::{AmoOp, Exception, HRegs, Outcome, Wrote};
 use rv64_exec::amo;
 
 /// The hart goes on behind an instruction that is done.
+#[inline(always)]
 pub(crate) fn retire(core: &mut Core, wrote: Option<Wrote>) -> Outcome
     ensures core { core.new ≡ record core.old { pc = next_pc core.old.pc } }
     ensures outcome { result ≡ Outcome.Retired wrote }
@@ -25,6 +26,7 @@ pub(crate) fn retire(core: &mut Core, wrote: Option<Wrote>) -> Outcome
 }
 
 /// The same with a register set.
+#[inline(always)]
 pub(crate) fn retire_with(core: &mut Core, rd: u8, value: u64, wrote: Option<Wrote>) -> Outcome
     requires { rd < 32 }
     ensures core { core.new ≡ record core.old { regs = set_register core.old.regs rd value; pc = next_pc core.old.pc } }
@@ -72,6 +74,7 @@ fn loaded_value(format: Format, word: u64) -> u64
 
 /// A load.
 #[tactic(auto, unfolding(processor::specs::HardwareMemory::after_load))]
+#[inline(always)]
 pub(crate) fn load(
     core: &mut Core,
     regs: &HRegs,
@@ -98,6 +101,7 @@ pub(crate) fn load(
 
 /// A load that reserves its place.
 #[tactic(auto, unfolding(processor::specs::HardwareMemory::after_load_reserved))]
+#[inline(always)]
 pub(crate) fn load_reserved(
     core: &mut Core,
     regs: &HRegs,
@@ -132,6 +136,7 @@ pub(crate) struct Stored {
 
 /// A store.
 #[tactic(auto, using(gstage_cache::proofs::WritesAndWalks::write_behind), unfolding(processor::specs::HardwareMemory::after_store))]
+#[inline(always)]
 pub(crate) fn store(
     core: &mut Core,
     regs: &HRegs,
@@ -174,6 +179,7 @@ fn covers(reservation: Option<u64>, hpa: u64, width: u8) -> bool
 
 /// A store that is carried out where its bytes lie in the hart's reservation, which goes in both cases.
 #[tactic(auto, using(gstage_cache::proofs::WritesAndWalks::write_behind), unfolding(processor::specs::HardwareMemory::after_store_conditional))]
+#[inline(always)]
 pub(crate) fn store_conditional(
     core: &mut Core,
     regs: &HRegs,
@@ -223,6 +229,7 @@ pub(crate) struct Operation {
 
 /// An atomic instruction: a load, and a store of what the operation makes of the loaded word.
 #[tactic(auto, using(gstage_cache::proofs::WritesAndWalks::write_behind), unfolding(processor::specs::HardwareMemory::after_amo))]
+#[inline(always)]
 pub(crate) fn atomic(
     core: &mut Core,
     regs: &HRegs,

@@ -87,6 +87,7 @@ fn exchange(core: &mut Core, regs: &HRegs, lines: &Lines, access: CsrAccess, csr
 
 /// An access to a register.
 #[tactic(auto, unfolding(processor::specs::HardwareAttempt::after_csr))]
+#[inline(always)]
 pub(crate) fn csr(
     core: &mut Core,
     regs: &HRegs,
@@ -111,6 +112,7 @@ pub(crate) fn csr(
 
 /// An instruction of supervisor mode that changes the pc alone.
 #[tactic(auto, unfolding(processor::specs::HardwareAttempt::after_supervisor_only))]
+#[inline(always)]
 pub(crate) fn supervisor_only(core: &mut Core, regs: &HRegs, word: u32) -> Outcome
     requires ready { MayStep core.old regs.now }
     ensures step { step_of core.new regs.now result ≡ after_supervisor_only (core_of core.old regs.now) word regs.now.mode }
@@ -124,6 +126,7 @@ pub(crate) fn supervisor_only(core: &mut Core, regs: &HRegs, word: u32) -> Outco
 
 /// SRET, which the hypervisor carries out: VTSR is set.
 #[tactic(auto, using(crate::proofs::Returns::sret_raises))]
+#[inline(always)]
 pub(crate) fn sret(core: &mut Core, regs: &HRegs, word: u32) -> Outcome
     requires ready { MayStep core.old regs.now }
     ensures step { step_of core.new regs.now result ≡ after_sret (core_of core.old regs.now) word regs.now.mode }
@@ -133,6 +136,7 @@ pub(crate) fn sret(core: &mut Core, regs: &HRegs, word: u32) -> Outcome
 }
 
 /// ECALL.
+#[inline(always)]
 pub(crate) fn call(core: &mut Core, regs: &HRegs) -> Outcome
     requires ready { MayStep core.old regs.now }
     ensures step { step_of core.new regs.now result ≡ raise (core_of core.old regs.now) (plain_exception (call_cause regs.now.mode) 0) }

@@ -25,6 +25,7 @@ pub(crate) fn plain_exception(cause: Cause, tval: u64) -> Exception
 
 /// An exception is taken by the guest's kernel where `hedeleg` has its bit, and else by the hypervisor.
 #[tactic(auto, unfolding(processor::specs::Hardware::raise))]
+#[inline(always)]
 pub(crate) fn raise(core: &mut Core, regs: &HRegs, exception: Exception) -> Outcome
     requires ready { MayStep core.old regs.now }
     ensures step { step_of core.new regs.now result ≡ raise (core_of core.old regs.now) exception }
@@ -47,6 +48,7 @@ pub(crate) fn raise(core: &mut Core, regs: &HRegs, exception: Exception) -> Outc
 
 /// An interrupt is taken by the guest's kernel where `hideleg` has its bit, and else by the hypervisor.
 #[tactic(auto, unfolding(processor::specs::Hardware::after_interrupt))]
+#[inline(always)]
 pub(crate) fn interrupt(core: &mut Core, regs: &HRegs, interrupt: Interrupt) -> Outcome
     requires ready { MayStep core.old regs.now }
     ensures step { step_of core.new regs.now result ≡ after_interrupt (core_of core.old regs.now) interrupt }
@@ -69,6 +71,7 @@ pub(crate) fn interrupt(core: &mut Core, regs: &HRegs, interrupt: Interrupt) -> 
 
 // Only kernel mode has a trap delegated, so the mode stays.
 #[tactic(auto, unfolding(processor::specs::Hardware::guest_trap))]
+#[inline(always)]
 fn guest_trap(core: &mut Core, regs: &HRegs, cause: ExitCause, tval: u64) -> Outcome
     requires aligned { core.old.pc % 4 ≡ 0 }
     requires kernel { regs.now.mode ≡ Mode.Kernel }
@@ -81,6 +84,7 @@ fn guest_trap(core: &mut Core, regs: &HRegs, cause: ExitCause, tval: u64) -> Out
 }
 
 #[tactic(auto, unfolding(processor::specs::Hardware::leave))]
+#[inline(always)]
 fn leave(core: &mut Core, regs: &HRegs, exit: Exit) -> Outcome
     requires aligned { core.old.pc % 4 ≡ 0 }
     requires exit { exit.pc % 4 ≡ 0 }

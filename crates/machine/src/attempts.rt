@@ -13,6 +13,7 @@ use host_mem::HostMem;
 use processor::Outcome;
 
 // An attempt of a hart on its side, with its cache.
+#[inline(always)]
 fn attempt_in_seat<W: Wires>(
     cpu: &mut Cpu,
     seat: &mut Seat,
@@ -38,6 +39,7 @@ fn attempt_in_seat<W: Wires>(
 
 /// One attempt of a hart among all harts, each with its cache.
 #[tactic(auto)]
+#[inline(always)]
 pub(crate) fn attempt<W: Wires>(
     cpu: &mut Cpu,
     seats: &mut [Seat],
@@ -71,6 +73,7 @@ pub(crate) fn attempt<W: Wires>(
 
 // Clears the reservations that an attempt's write touches.
 #[tactic(auto, unfolding(machine_model::specs::Machine::all_forget))]
+#[inline(always)]
 fn forget_wrote(seats: &mut [Seat], outcome: Outcome)
     ensures hosts { hosts_of seats.new ≡ all_forget outcome (hosts_of seats.old) }
     ensures number { length seats.new ≡ length seats.old }
