@@ -10,7 +10,7 @@ use Rattle.reference.specs.States.{Devices, Journal}
 use Rattle.machine_model.specs.HostHarts.{host_with, host_passed, host_exception, host_device_load, host_device_store}
 use Rattle.machine_model.specs.Machine.{Machine, HostHart}
 use Rattle.trap_answers.proofs.Places.{update_there}
-use Rattle.device_bus.specs.Bus.{devices_loaded, devices_stored, journal_stored}
+use Rattle.devices.specs.Bus.{devices_loaded, devices_stored, journal_stored}
 use Rattle.access_answers.specs.Accessed.{accessed}
 
 pub loaded_there : (m : Machine) (h : ℕ) (host : HostHart) (mode : Mode) (rd address width : ℕ) (signed : Bool)

@@ -1,9 +1,9 @@
 //! SecVisor's answers to loads and stores that reach a device's register.
 #![tactic(auto)]
 
-mod devices;
+mod accesses;
 #[cfg(test)]
 mod tests;
 mod values;
 
-pub use devices::{Load, Store, device_load, device_store};
+pub use accesses::{Load, Store, device_load, device_store};

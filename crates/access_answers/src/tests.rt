@@ -1,7 +1,6 @@
 // A hart that reads and writes device registers.
 use super::{Load, Store, device_load, device_store};
-use block_device::Block;
-use device_bus::Devices;
+use devices::{Block, Devices};
 use gstage_tables::Trees;
 use hart::Hart;
 use hart_answers::{Seat, start};

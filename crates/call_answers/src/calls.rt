@@ -9,7 +9,7 @@ ghost use Rattle.hart_answers.specs.Hosts.{hosts_of};
 ghost use Rattle.call_answers.specs.Known.{StartsOneOf};
 
 use crate::places::{reply_at, start_at};
-use device_bus::Devices;
+use devices::Devices;
 use dma_guard::DiskPort;
 use hart_answers::{Seat, interrupt};
 use journal_records::Journal;

@@ -1,7 +1,6 @@
 // Calls of a hart beside another one, on guarded memory.
 use super::{answer_of, give};
-use block_device::Block;
-use device_bus::Devices;
+use devices::{Block, Devices};
 use gstage_tables::Trees;
 use hart::Hart;
 use hart_answers::{ALL_HARTS, Asked, Seat, start};

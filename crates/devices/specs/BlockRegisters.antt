@@ -5,7 +5,7 @@ use Rattle.sv_types.specs.declared.block.BlockStatus.{BlockStatus}
 use Rattle.reference.specs.States.{Disk}
 use Rattle.reference.specs.Start.{block_at_boot}
 use Rattle.reference.specs.Disk.{BlockRegister, Sector, Address, Count, Command, Status, Beaten, OutsideRam, beat_size, sector_size, is_busy, beats_done, beat_gpa, transfer_ended, to_memory, to_disk}
-use Rattle.block_device.specs.declared.registers.Register.{Register}
+use Rattle.devices.specs.declared.block.registers.Register.{Register}
 
 abbrev pub register_named : Register → BlockRegister
 register_named Register.Sector = Sector

@@ -3,7 +3,7 @@ use Rattle.std.specs.Prelude.{[], Option, Some, None}
 use Rattle.sv_types.specs.Clock.{clock_at_boot}
 use Rattle.reference.specs.States.{Devices, Disk, Journal}
 use Rattle.reference.specs.Devices.{Port, ConsoleAt, DiskAt, Nowhere, DeviceLoad, DeviceStore}
-use Rattle.device_bus.specs.declared.ports.Place.{Place}
+use Rattle.devices.specs.declared.ports.Place.{Place}
 
 -- a device's place, as the definition names it
 abbrev pub port_named : Place → Port

@@ -1,5 +1,4 @@
-//! A block device: a disk in memory, behind five registers, that moves 64 bytes in each beat of a transfer.
-#![tactic(auto)]
+// A block device: a disk in memory, behind five registers, that moves 64 bytes in each beat of a transfer.
 
 ghost use Rattle.std.specs.Prelude.{◌≡◌, ◌+◌, ◌%◌, ◌^◌, ◌<◌, ◌≤◌, Some, length, true, false};
 ghost use Rattle.processor.specs.Bytes.{overwrite};
@@ -7,11 +6,11 @@ ghost use Rattle.reference.specs.Disk.{is_writable, is_busy, can_begin, block_en
 ghost use Rattle.sv_types.specs.declared.block.BlockCommand.TheVariants.{DiskToMemory, MemoryToDisk};
 ghost use Rattle.sv_types.specs.declared.block.BlockStatus.TheVariants.{Busy};
 ghost use Rattle.dma_guard.specs.Transfers.{told, after_move};
-ghost use Rattle.block_device.specs.Registers.{idle_disk, register_named, width_of, beat_to_memory, beat_to_disk};
+ghost use Rattle.devices.specs.BlockRegisters.{idle_disk, register_named, width_of, beat_to_memory, beat_to_disk};
 
 mod registers;
 
-use crate::registers::{Register, register_at};
+use crate::block::registers::{Register, register_at};
 use dma_guard::{Beaten, DiskPort, DmaGuard, DmaRefused};
 use host_mem::HostMem;
 use std::marker::Model;
@@ -38,7 +37,7 @@ impl Model for Block {
     ghost Value = { Disk };
 
     ghost use Rattle.std.specs.Prelude.{◌≡◌};
-    ghost use Rattle.block_device.specs.Registers.{IsSound};
+    ghost use Rattle.devices.specs.BlockRegisters.{IsSound};
 
     ghost view = { λ b. record { block = b.block; bytes = b.bytes.items } };
 

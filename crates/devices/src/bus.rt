@@ -5,10 +5,11 @@ ghost use Rattle.sv_types.specs.Console.{has_room, after_key, without_first};
 ghost use Rattle.reference.specs.Devices.{DeviceLoad, device_load, device_store, lines_at, external_line};
 ghost use Rattle.reference.specs.Disk.{is_writable, disk_beat};
 ghost use Rattle.dma_guard.specs.Transfers.{told, after_move};
-ghost use Rattle.device_bus.specs.Bus.{devices_at_boot, devices_loaded, devices_stored, journal_stored};
+ghost use Rattle.devices.specs.Bus.{devices_at_boot, devices_loaded, devices_stored, journal_stored};
 
+use crate::clock::Clock;
+use crate::console::Console;
 use crate::ports::{Place, place_at};
-use console_timer::{Clock, Console};
 use dma_guard::{Beaten, DiskPort, DmaGuard};
 use host_mem::HostMem;
 use journal_records::Journal;
@@ -175,3 +176,6 @@ impl<D: DiskPort> Devices<D> {
         self.disk.disk()
     }
 }
+
+#[cfg(test)]
+mod tests;

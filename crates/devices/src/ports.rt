@@ -1,7 +1,7 @@
 // Which device lies where.
 ghost use Rattle.std.specs.Prelude.{◌≡◌};
 ghost use Rattle.reference.specs.Devices.{port_at};
-ghost use Rattle.device_bus.specs.Bus.{port_named};
+ghost use Rattle.devices.specs.Bus.{port_named};
 
 /// Where the console's registers begin, and then those of the block device; each has 4 KiB.
 const CONSOLE_BASE: u64 = 0x1000_0000;

@@ -1,5 +1,6 @@
 // Worked rows of the two devices.
-use super::*;
+use crate::clock::Clock;
+use crate::console::Console;
 
 const MOST: u64 = u64::MAX;
 

@@ -69,7 +69,11 @@ fn is_writable(header: &ProgramHeader) -> bool
 fn memory_in_ram(ram_pages: u32, header: &ProgramHeader) -> bool
     ensures { result ≡ memory_in_ram ram_pages header.now }
 {
-    is_in_ram(header.gpa, header.memory_size, PAGE_BYTES * ram_pages as u64)
+    is_in_ram(
+        header.gpa,
+        header.memory_size,
+        PAGE_BYTES * ram_pages as u64,
+    )
 }
 
 /// The first fault of a segment.

@@ -2,7 +2,7 @@
 #![tactic(auto)]
 
 #[cfg(test)]
-mod devices;
+mod device_runs;
 #[cfg(test)]
 mod faults;
 #[cfg(test)]

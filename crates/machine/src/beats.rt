@@ -5,8 +5,7 @@ ghost use Rattle.reference.specs.Disk.{disk_beat, is_writable};
 ghost use Rattle.dma_guard.specs.Transfers.{told, after_move};
 ghost use Rattle.machine.specs.Beats.{ToldInRam};
 
-use block_device::Block;
-use device_bus::Devices;
+use devices::{Block, Devices};
 use dma_guard::{Beaten, DmaGuard};
 use host_mem::HostMem;
 

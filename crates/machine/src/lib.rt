@@ -16,7 +16,7 @@ mod start;
 mod tests;
 mod wires;
 
-pub use block_device::SECTOR_BYTES;
 pub use boot::BootRefusal;
+pub use devices::SECTOR_BYTES;
 pub use journal_records::PRINTED_ROOM;
 pub use machine::Machine;

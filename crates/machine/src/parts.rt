@@ -17,9 +17,8 @@ ghost use Rattle.machine.specs.Turns.{AreOutside, IsGuarded, MayAttempt, Finishe
 use crate::attempts::attempt;
 use crate::beats::beat_disk;
 use crate::wires::HartWires;
-use block_device::Block;
 use call_answers::law_starts;
-use device_bus::Devices;
+use devices::{Block, Devices};
 use dma_guard::Beaten;
 use gstage_cache::Cache;
 use hart::Cpu;

@@ -11,8 +11,7 @@ ghost use Rattle.machine.specs.Keeping.{gpa_behind, AreKeepable, IsKeepable, kep
 
 use crate::machine::Machine;
 use crate::parts::Parts;
-use block_device::Block;
-use device_bus::Devices;
+use devices::{Block, Devices};
 use hart_answers::Seat;
 use module_answers::Modules;
 use processor::RAM_BASE;

@@ -16,8 +16,7 @@ ghost use Rattle.machine.specs.Boot.{RefusesFlat};
 
 use crate::boot::BootRefusal;
 use crate::parts::Parts;
-use block_device::Block;
-use device_bus::Devices;
+use devices::{Block, Devices};
 use gstage_cache::Cache;
 use gstage_tables::Trees;
 use hart::{Cpu, Hart};

@@ -3,8 +3,7 @@
 ghost use Rattle.std.specs.Prelude.{◌<◌};
 ghost use Rattle.reference.specs.Devices.{lines_at};
 
-use block_device::Block;
-use device_bus::Devices;
+use devices::{Block, Devices};
 use hart::Wires;
 use processor::Lines;
 

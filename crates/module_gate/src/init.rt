@@ -10,9 +10,9 @@ ghost use Rattle.page_guard.specs.Guarded.{IsTheirs, IsInRam};
 ghost use Rattle.module_gate.specs.Retiring.{is_modules, is_kernels, kernel_pages};
 
 use crate::rules::pages_of;
-use processor::page_of;
 use host_mem::HostMem;
 use page_guard::Guard;
+use processor::page_of;
 use sv_types::{Policy, Protection, SavedModule, Span};
 
 // Whether a page is one of so many from the first one on.

@@ -36,7 +36,8 @@ pub(crate) fn image_fault(fault: ImageFault) -> &'static str {
         ImageFault::Header(fault) => header_fault(fault),
         ImageFault::ProgramHeaders => "program headers outside the file, or not of 56 bytes",
         ImageFault::OutsideFile => "a segment's bytes are outside the file",
-        ImageFault::OutsideRam => "a segment's memory is outside RAM, whose pages the policy counts",
+        ImageFault::OutsideRam =>
+            "a segment's memory is outside RAM, whose pages the policy counts",
         ImageFault::ShortMemory => "a segment has more bytes in the file than in memory",
         ImageFault::WritableText => "a segment is executable and writable",
         ImageFault::TextInsidePage => "an executable segment doesn't begin at a page's start",
@@ -58,7 +59,8 @@ pub(crate) fn object_fault(fault: ObjectFault) -> &'static str {
         ObjectFault::Kind { number: _ } => "no module may have a relocation of this kind",
         ObjectFault::Symbol => "the symbol stands for nothing that a relocation may use",
         ObjectFault::OutsideSection => "the field is outside its section",
-        ObjectFault::NoHighPart => "a low part with an addend, or without its high part in the text",
+        ObjectFault::NoHighPart =>
+            "a low part with an addend, or without its high part in the text",
         ObjectFault::TooLarge => "more than 65536 fields, or a text of more than 1024 pages",
         ObjectFault::Overlap => "two fields overlap",
         ObjectFault::NoText => "no section is executable",

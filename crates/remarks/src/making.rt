@@ -67,7 +67,7 @@ fn making_fault(alloc: Global, name: &str, refusal: MakingRefusal) -> Found {
     match refusal {
         MakingRefusal::Fault(MakingFault::Image(fault)) => said(alloc, name, image_fault(fault)),
         MakingRefusal::Fault(MakingFault::Module(fault)) => said(alloc, name, object_fault(fault)),
-        MakingRefusal::Fault(MakingFault::Limits) => {
+        MakingRefusal::Fault(MakingFault::TooManySites) => {
             said(alloc, name, policy_fault(PolicyFault::BeyondLimit))
         }
         MakingRefusal::Memory => Found::Nothing,
@@ -108,12 +108,7 @@ fn undefined(alloc: Global, kernel: &[u8], wanted: &[Name]) -> Option<Name> {
     }
 }
 
-fn module_file(
-    alloc: Global,
-    name: &str,
-    object: &[u8],
-    exports: &[Export],
-) -> Result<(), Found>
+fn module_file(alloc: Global, name: &str, object: &[u8], exports: &[Export]) -> Result<(), Found>
     requires { length exports.now ≤ 4096 }
 {
     match read_module(alloc, object, exports) {

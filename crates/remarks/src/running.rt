@@ -53,12 +53,7 @@ pub(crate) fn run_files<A: Again>(
     script_file(alloc, files, most.script, names.script, policy.harts)
 }
 
-fn policy_file<A: Again>(
-    alloc: Global,
-    files: &A,
-    most: usize,
-    name: &str,
-) -> Result<Policy, Found>
+fn policy_file<A: Again>(alloc: Global, files: &A, most: usize, name: &str) -> Result<Policy, Found>
     ensures { IfOk result (λ policy. IsTrue (rules_within (rules_of policy))) }
 {
     let text = read_part(alloc, files, name, most)?;

@@ -11,7 +11,8 @@ impl Again for Held {
         let bytes: &[u8] = match name {
             "one" => b"x",
             "bad.policy" => b"format = 1\nharts = 9\n",
-            "good.policy" => b"format = 1\nharts = 1\nram_pages = 16\nentries = [\"0x80000000\"]\n[kernel]\nmeasure = \"00112233445566778899aabbccddeeff00112233445566778899aabbccddeeff\"\n",
+            "good.policy" =>
+                b"format = 1\nharts = 1\nram_pages = 16\nentries = [\"0x80000000\"]\n[kernel]\nmeasure = \"00112233445566778899aabbccddeeff00112233445566778899aabbccddeeff\"\n",
             _ => return None,
         };
         let mut held = Vec::new(alloc);
@@ -53,7 +54,15 @@ static ROWS: [Row; 9] = [
         said: "one: shorter than an ELF-64 header",
     },
     Row {
-        words: &["measure", "out", "good.policy", "64", "1", "0x80000000", "none"],
+        words: &[
+            "measure",
+            "out",
+            "good.policy",
+            "64",
+            "1",
+            "0x80000000",
+            "none",
+        ],
         said: "good.policy: no ELF file",
     },
     Row {

@@ -1,7 +1,7 @@
 // The registers, by their offsets and widths.
 ghost use Rattle.std.specs.Prelude.{◌≡◌, ◌%◌, ◌^◌, ◌⊎◌, IfSome, option_map};
 ghost use Rattle.reference.specs.Disk.{block_register};
-ghost use Rattle.block_device.specs.Registers.{register_named, width_of};
+ghost use Rattle.devices.specs.BlockRegisters.{register_named, width_of};
 
 /// A register of the device.
 #[derive(Clone, Copy, Debug, PartialEq, Eq, Drop)]

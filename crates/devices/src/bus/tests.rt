@@ -1,6 +1,6 @@
 // A guest's accesses over a disk of one sector and one page of RAM.
 use super::Devices;
-use block_device::Block;
+use crate::block::Block;
 use dma_guard::{Beaten, DmaGuard};
 use host_mem::HostMem;
 use journal_records::Journal;

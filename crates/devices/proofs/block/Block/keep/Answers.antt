@@ -3,8 +3,8 @@ use borrow.Rule.Slice.PartMut.{put_mid}
 use Rattle.host_mem.proofs.WordFacts.{part_put}
 use Rattle.processor.specs.Bytes.{overwrite}
 use Rattle.reference.specs.Disk.{beat_place}
-use Rattle.block_device.proofs.Writes.{written_over}
-use Rattle.block_device.proofs.Block.keep.Goals as goal
+use Rattle.devices.proofs.Writes.{written_over}
+use Rattle.devices.proofs.block.Block.keep.Goals as goal
 
 pub returns : goal.returns
 returns c =

@@ -2,7 +2,7 @@ use Rattle.std.proofs.Common.{◌∙◌, sym}
 use Rattle.reference.specs.Devices.{device_store}
 use Rattle.hart_answers.specs.Hosts.{host_at}
 use Rattle.access_answers.proofs.DeviceAnswers.{stored_there, not_stored}
-use Rattle.access_answers.proofs.devices.device_store.Goals as goal
+use Rattle.access_answers.proofs.accesses.device_store.Goals as goal
 
 pub returns-then-store : goal.returns-then-store
 returns-then-store g c = record {

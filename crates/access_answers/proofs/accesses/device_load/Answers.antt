@@ -2,7 +2,7 @@ use Rattle.std.proofs.Common.{◌∙◌, sym}
 use Rattle.reference.specs.Devices.{device_load}
 use Rattle.hart_answers.specs.Hosts.{host_at}
 use Rattle.access_answers.proofs.DeviceAnswers.{loaded_there, not_loaded}
-use Rattle.access_answers.proofs.devices.device_load.Goals as goal
+use Rattle.access_answers.proofs.accesses.device_load.Goals as goal
 
 pub returns-in-Some : goal.returns-in-Some
 returns-in-Some g c = record {

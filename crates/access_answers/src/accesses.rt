@@ -10,7 +10,7 @@ ghost use Rattle.hart_answers.specs.Hosts.{host_at};
 ghost use Rattle.access_answers.specs.Accessed.{accessed};
 
 use crate::values::loaded_value;
-use device_bus::Devices;
+use devices::Devices;
 use dma_guard::DiskPort;
 use hart_answers::{Seat, Trap, pass, set};
 use journal_records::Journal;

@@ -1,0 +1,2 @@
+pub mod BlockRegisters
+pub mod Bus

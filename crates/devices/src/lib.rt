@@ -1,0 +1,13 @@
+//! The devices behind one bus: the console, a block device and the clock.
+#![tactic(auto)]
+
+mod block;
+mod bus;
+mod clock;
+mod console;
+mod ports;
+#[cfg(test)]
+mod tests;
+
+pub use block::{Block, SECTOR_BYTES};
+pub use bus::Devices;
