@@ -10,6 +10,8 @@ use Rattle.processor.specs.declared.instruction.OpImmOp.TheVariants.{Addi}
 use Rattle.processor.specs.declared.instruction.OpImm32Op.TheVariants.{Addiw}
 use Rattle.processor.specs.declared.instruction.OpOp.TheVariants.{Add}
 use Rattle.processor.specs.declared.instruction.CsrOp.TheVariants.{Csrrw}
+use Rattle.sv_types.specs.BlockNumbers.{command_number}
+use Rattle.sv_types.specs.declared.block.BlockCommand.TheVariants.{DiskToMemory}
 
 -- ---- registers
 
@@ -98,10 +100,6 @@ disk_count = 16
 abbrev pub disk_command : ℕ
 disk_command = 20
 
--- the command that moves sectors to memory
-abbrev pub disk_to_memory : ℕ
-disk_to_memory = 1
-
 -- the numbers of the calls that print a byte and that shut down, and the byte
 abbrev pub print_call : ℕ
 print_call = 1
@@ -122,7 +120,7 @@ setup calls =
     ∷ Instr.Lui s0 (upper calls) ∷ addiw s0 s0 (lower calls)
     ∷ Instr.Lui t2 (pos disk) ∷ addi t3 t0 (minus 768) ∷ sd t3 (pos disk_gpa) t2
     ∷ addi t4 x0 (pos 2) ∷ sw t4 (pos disk_count) t2
-    ∷ addi t4 x0 (pos disk_to_memory) ∷ sw t4 (pos disk_command) t2
+    ∷ addi t4 x0 (pos (command_number DiskToMemory)) ∷ sw t4 (pos disk_command) t2
     ∷ csrw sepc s1 ∷ Instr.Sret ∷ []
 
 -- the trap vector: the number of calls left is stored a page behind the user's loop and counted down. While some are

@@ -7,6 +7,7 @@ ghost use Rattle.guest_gen.specs.GuestCode as spec;
 
 use processor::{BranchOp, CsrOp, OpImm32Op, OpImmOp, OpOp, StoreOp};
 use rv64_encode::Instr;
+use sv_types::BlockCommand;
 
 const X0: u8 = 0;
 
@@ -41,9 +42,6 @@ const DISK_GPA: i64 = 8;
 const DISK_COUNT: i64 = 16;
 
 const DISK_COMMAND: i64 = 20;
-
-/// The command that moves sectors to memory.
-const DISK_TO_MEMORY: i64 = 1;
 
 /// The call that prints a byte.
 const PRINT_CALL: i64 = 1;
@@ -157,7 +155,7 @@ pub fn setup(calls: u64) -> [Instr; 16]
         sd(T3, DISK_GPA, T2),
         addi(T4, X0, 2),
         sw(T4, DISK_COUNT, T2),
-        addi(T4, X0, DISK_TO_MEMORY),
+        addi(T4, X0, i64::from(BlockCommand::DiskToMemory.number())),
         sw(T4, DISK_COMMAND, T2),
         csrw(SEPC, S1),
         Instr::Sret,

@@ -5,8 +5,9 @@ use Rattle.std.proofs.lemmas.Bool.Decides.{nat_tests}
 use Rattle.processor.specs.Bytes.{in_ram, ram_base, ram_place, page_of, part}
 use Rattle.processor.specs.Regions.{Region}
 use Rattle.processor_laws.proofs.ByteLemmas.{length_overwrite}
+use Rattle.sv_types.specs.declared.block.BlockStatus.{BlockStatus}
 use Rattle.reference.specs.States.{Disk}
-use Rattle.reference.specs.Disk.{disk_beat, is_busy, to_disk, transfer_ended, block_after_beat, beat_gpa, beat_place, beat_size, disk_to_memory, out_of_range, denied, Move, Idle, FromRam, IntoRam, DeniedAt, OutsideRam}
+use Rattle.reference.specs.Disk.{disk_beat, is_busy, to_disk, transfer_ended, block_after_beat, beat_gpa, beat_place, beat_size, is_to_memory, Move, Idle, FromRam, IntoRam, DeniedAt, OutsideRam}
 use Rattle.dma_guard.specs.Transfers.{told, after_move}
 use Rattle.run_laws.proofs.Lookups.{part_short}
 use Rattle.machine.specs.Beats.{ToldInRam}
@@ -19,11 +20,11 @@ ends ram gpa n small e = grind (arith, nat_tests)
 
 fits_by : (d : Disk) (ram : List ℕ) (may_write : ℕ → Bool) (busy inside into free : Bool) → in_ram ram (beat_gpa d.block) beat_size ≡ inside
     → ToldInRam ram (told (if not busy then record { disk = d; move = Idle }
-    else if not inside then transfer_ended d out_of_range OutsideRam
+    else if not inside then transfer_ended d BlockStatus.OutOfRange OutsideRam
     else if into
     then (if free
     then record { disk = record d { block = block_after_beat d.block }; move = IntoRam (beat_gpa d.block) (part d.bytes (beat_place d.block) beat_size) }
-    else transfer_ended d denied (DeniedAt (beat_gpa d.block)))
+    else transfer_ended d BlockStatus.Denied (DeniedAt (beat_gpa d.block)))
     else to_disk d ram).move)
 fits_by d ram may_write false inside into free e = tt
 fits_by d ram may_write true false into free e = tt
@@ -38,7 +39,7 @@ fits_by d ram may_write true true true true e = record {
 pub beat_fits : (d : Disk) (ram : List ℕ) (may_write : ℕ → Bool) → ToldInRam ram (told (disk_beat d ram may_write).move)
 unfolding disk_beat
 beat_fits d ram may_write =
-    fits_by d ram may_write (is_busy d.block) (in_ram ram (beat_gpa d.block) beat_size) (d.block.command == disk_to_memory) (may_write (page_of (beat_gpa d.block))) refl
+    fits_by d ram may_write (is_busy d.block) (in_ram ram (beat_gpa d.block) beat_size) (is_to_memory d.block.status) (may_write (page_of (beat_gpa d.block))) refl
 
 pub move_keeps_tables : (r : Region) (x : Move) → (after_move r x).tables ≡ r.tables
 move_keeps_tables r Idle = refl
