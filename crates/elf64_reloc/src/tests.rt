@@ -543,6 +543,7 @@ fn a_low_part_goes_by_its_high_part(rt: HostRuntime) -> Result<(), Fail> {
 }
 
 // An object with fields changed, and where it is refused for a kernel that exports `print`; the empty text where it isn't.
+#[derive(Clone, Copy, Drop)]
 struct PlaceRow<'a> {
     fields: &'a [Field],
     place: &'a str,

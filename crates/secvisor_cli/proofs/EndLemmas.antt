@@ -35,10 +35,6 @@ finish_whole m old mid new printed text first printed_is second text_is =
     let whole : printed ++ text ≡ machine_output m = ap (λ (p : List ℕ). p ++ text) printed_is ∙ ap (λ (t : List ℕ). m.journal.printed ++ t) text_is in
     second ∙ ap (λ (k : SinkState). after_taking k text) first ∙ after_taking-append old printed text ∙ ap (λ (b : List ℕ). after_taking old b) whole
 
-pub printed_broke : (m : Machine) (old new : SinkState) (printed : List ℕ) → printed ≡ m.journal.printed → BreaksOff old new printed → TookPrefix old new (machine_output m)
-printed_broke m old new printed is broke =
-    prefix_of_front old new m.journal.printed (report m.journal) (prefix_same old new _ _ is broke.prefix)
-
 -- ---- the console only grows
 
 printed_grows : (r : State) (es : List Event) → (more : List ℕ) × ((run r es).journal.printed ≡ r.journal.printed ++ more)
