@@ -7,6 +7,7 @@ use std::io::Read;
 use std::{fs, io};
 
 /// The plain files of the operating system. What isn't one, as a pipe, gives its bytes only once.
+#[derive(Drop)]
 pub struct PlainFiles<'a> {
     pub rt: &'a HostRuntime,
 }
