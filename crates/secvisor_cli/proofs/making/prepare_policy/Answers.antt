@@ -39,7 +39,7 @@ read_modules-requires-clause-names g c =
     (modules_named (λ (w : Bor (List ℕ)). w.now) c.args.asked.now.modules.items c.requires.names)
 
 pub make_ready-requires-clause-names : goal.make_ready-requires-clause-names
-make_ready-requires-clause-names g c =
+make_ready-requires-clause-names g c κs within =
     subst (λ (ns : List (List ℕ)). IsTrue (are_module_names ns))
     (sym (c.in_ok-modules.ensures.named ∙ ap (λ (ws : List (Bor (List ℕ))). map (λ w. w.now) ws) c.deref.ensures.value)) c.requires.names
 

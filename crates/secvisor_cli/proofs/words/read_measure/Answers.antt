@@ -3,4 +3,7 @@ use Rattle.secvisor_cli.proofs.WordLemmas.{terms_in_range}
 use Rattle.secvisor_cli.proofs.words.read_measure.Goals as goal
 
 pub returns-clause-range : goal.returns-clause-range
-returns-clause-range c = (terms_in_range _ _ _ _ (terms_value c.in_ok-terms.terms) c.in_ok-terms.ensures, c.requires)
+returns-clause-range c = (
+  terms_in_range c.args.words.ram.now c.args.words.harts.now c.args.words.entries.now c.args.words.init.now (terms_value c.in_ok-terms.terms) c.in_ok-terms.ensures,
+  c.requires,
+)
