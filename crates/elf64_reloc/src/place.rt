@@ -100,10 +100,17 @@ fn relocation_text(
         .position(|section| is_home(section, relocation));
     let section = section_text(alloc, object, home.unwrap_or(0))?;
     let offset = relocation.offset;
-    let kind = relocation.kind;
-    let name = kind_name(kind).unwrap_or("unknown");
+    let kind = kind_text(alloc, relocation.kind)?;
     let symbol = symbol_text(alloc, object, relocation.symbol)?;
-    format!(in alloc; "{section}, offset 0x{offset:x}, R_RISCV_{name} ({kind}){symbol}")
+    format!(in alloc; "{section}, offset 0x{offset:x}, {kind}{symbol}")
+}
+
+// A kind by its name and its number.
+fn kind_text(alloc: Global, kind: u32) -> Result<String, AllocError> {
+    match kind_name(kind) {
+        Some(name) => format!(in alloc; "R_RISCV_{name} ({kind})"),
+        None => format!(in alloc; "relocation {kind}"),
+    }
 }
 
 // A section by its name, or else by its number.

@@ -557,19 +557,19 @@ fn refused_places(rt: HostRuntime) -> Result<(), Fail> {
             place: "",
         },
         PlaceRow {
-            fields: &[(0x170, 8, 3)],
+            fields: &[(0x140, 4, 6), (0x170, 8, 3)],
             place: "section .text",
         },
         PlaceRow {
-            fields: &[(0x88, 4, 20)],
+            fields: &[(0x140, 4, 6), (0x88, 4, 20)],
             place: "section .text, offset 0x0, R_RISCV_GOT_HI20 (20), symbol print",
         },
         PlaceRow {
             fields: &[(0x68, 4, 1), (0x88, 4, 99)],
-            place: "section .text, offset 0x0, R_RISCV_unknown (99), symbol rela.text",
+            place: "section 2, offset 0x0, relocation 99, symbol .rela.text",
         },
         PlaceRow {
-            fields: &[(0x80, 8, 8), (62, 2, 9)],
+            fields: &[(0x140, 4, 6), (0x80, 8, 8), (62, 2, 9)],
             place: "section 2, offset 0x8, R_RISCV_CALL (18), symbol print",
         },
     ];
