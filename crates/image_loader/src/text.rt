@@ -5,7 +5,7 @@ ghost use Rattle.processor.specs.Bytes.{page_size};
 ghost use Rattle.sv_types.specs.Kernel.{text_pages};
 ghost use Rattle.sv_types.specs.declared.protection.Protection.TheVariants.{Free, Held, Approved};
 ghost use Rattle.reference.specs.Protections.{with_each};
-ghost use Rattle.page_guard.specs.Guarded.{IsTheirs};
+ghost use Rattle.page_guard.specs.Guarded.{IsTheirs, StaysTheirs};
 ghost use Rattle.elf64_load.specs.Images.{segments_of, text_owner};
 ghost use Rattle.image_loader.specs.Placed.{ArePlaced};
 
@@ -28,9 +28,7 @@ pub fn approve_text(
     requires placed { ArePlaced (length guard.old) (segments_of image.now) }
     ensures guard { OnOk result (guard.new ≡ with_each guard.old (text_pages (segments_of image.now)) Approved) }
     ensures kept { OnErr result ((guard.new ≡ guard.old) × (mem.new ≡ mem.old)) }
-    ensures size { length guard.new ≡ length guard.old }
-    ensures theirs { IsTheirs mem.new guard.new }
-    ensures ram { mem.new.ram ≡ mem.old.ram }
+    ensures theirs { StaysTheirs mem.old mem.new guard.old guard.new }
 {
     let owners = image.page_owners(alloc)?;
     let segments = image.segments.as_slice();
@@ -47,9 +45,7 @@ fn approve_if(is_text: bool, guard: &mut Guard, mem: &mut HostMem, page: u32)
     requires free { slice_get guard.old page ≡ Some Free }
     requires theirs { IsTheirs mem.old guard.old }
     ensures guard { guard.new ≡ (if is_text then slice_set guard.old page Approved else guard.old) }
-    ensures size { length guard.new ≡ length guard.old }
-    ensures theirs { IsTheirs mem.new guard.new }
-    ensures ram { mem.new.ram ≡ mem.old.ram }
+    ensures theirs { StaysTheirs mem.old mem.new guard.old guard.new }
 {
     if is_text {
         approve_page(guard, mem, page);
@@ -62,9 +58,7 @@ fn approve_page(guard: &mut Guard, mem: &mut HostMem, page: u32)
     requires free { slice_get guard.old page ≡ Some Free }
     requires theirs { IsTheirs mem.old guard.old }
     ensures guard { guard.new ≡ slice_set guard.old page Approved }
-    ensures size { length guard.new ≡ length guard.old }
-    ensures theirs { IsTheirs mem.new guard.new }
-    ensures ram { mem.new.ram ≡ mem.old.ram }
+    ensures theirs { StaysTheirs mem.old mem.new guard.old guard.new }
 {
     let span = Span {
         first: page,

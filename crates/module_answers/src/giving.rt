@@ -8,7 +8,7 @@ ghost use Rattle.machine_model.specs.HostCalls.{host_pages_beside};
 ghost use Rattle.machine_model.specs.GivenAnswers.{IsGiven};
 ghost use Rattle.machine_model.specs.HostExits.{with_tables};
 ghost use Rattle.machine_model.specs.Machine.{Machine};
-ghost use Rattle.page_guard.specs.Guarded.{with_span, IsTheirs};
+ghost use Rattle.page_guard.specs.Guarded.{with_span, IsTheirs, StaysTheirs};
 ghost use Rattle.module_gate.specs.Gates.{begun, is_good_place, load_span};
 ghost use Rattle.module_answers.specs.Changes.{sets_protections};
 ghost use Rattle.module_answers.specs.Conditions.{AreJoined, AreGuarded, MayEnd};
@@ -37,9 +37,7 @@ fn begin_load(
     requires place { is_good_place mem.old.ram guard.old about (pages_in_rule (slice_get (rules_of policy.now).modules about.id)) ≡ true }
     ensures modules { modules.new ≡ record { gate = record modules.old.gate { loading = true }; loading = Some (record { hart = which; load = begun about (pages_in_rule (slice_get (rules_of policy.now).modules about.id)) }) } }
     ensures guard { guard.new ≡ with_span guard.old (load_span (begun about (pages_in_rule (slice_get (rules_of policy.now).modules about.id)))) Held }
-    ensures size { length guard.new ≡ length guard.old }
-    ensures theirs { IsTheirs mem.new guard.new }
-    ensures ram { mem.new.ram ≡ mem.old.ram }
+    ensures theirs { StaysTheirs mem.old mem.new guard.old guard.new }
 {
     let load = modules.gate.begin(guard, mem, policy, about);
     put_load(modules, which, load);
@@ -53,9 +51,7 @@ fn approve_load(guard: &mut Guard, mem: &mut HostMem, modules: &mut Modules)
     requires counted { IfSome modules.old.loading (λ u. u.load.left ≡ 0) }
     ensures modules { IfSome modules.old.loading (λ u. modules.new ≡ record { gate = record modules.old.gate { loaded = with_module modules.old.gate.loaded u.load.about; loading = false }; loading = None }) }
     ensures guard { IfSome modules.old.loading (λ u. guard.new ≡ with_span guard.old (load_span u.load) Approved) }
-    ensures size { length guard.new ≡ length guard.old }
-    ensures theirs { IsTheirs mem.new guard.new }
-    ensures ram { mem.new.ram ≡ mem.old.ram }
+    ensures theirs { StaysTheirs mem.old mem.new guard.old guard.new }
 {
     let Some(UnderWay { hart: _, load }) = modules.loading.take() else {
         unreachable!();
@@ -70,9 +66,7 @@ fn release_load(guard: &mut Guard, mem: &mut HostMem, modules: &mut Modules)
     requires there { IsSome modules.old.loading }
     ensures modules { IfSome modules.old.loading (λ u. modules.new ≡ record { gate = record modules.old.gate { loading = false }; loading = None }) }
     ensures guard { IfSome modules.old.loading (λ u. guard.new ≡ with_span guard.old (load_span u.load) Free) }
-    ensures size { length guard.new ≡ length guard.old }
-    ensures theirs { IsTheirs mem.new guard.new }
-    ensures ram { mem.new.ram ≡ mem.old.ram }
+    ensures theirs { StaysTheirs mem.old mem.new guard.old guard.new }
 {
     let Some(UnderWay { hart: _, load }) = modules.loading.take() else {
         unreachable!();
@@ -100,9 +94,7 @@ pub fn give_pages(
     ensures changed { result ≡ sets_protections beside.now }
     ensures kept { result ≡ false → (guard.new ≡ guard.old) × (mem.new ≡ mem.old) }
     ensures joined { AreJoined (rules_of policy.now) modules.new }
-    ensures size { length guard.new ≡ length guard.old }
-    ensures theirs { IsTheirs mem.new guard.new }
-    ensures ram { mem.new.ram ≡ mem.old.ram }
+    ensures theirs { StaysTheirs mem.old mem.new guard.old guard.new }
 {
     match *beside {
         Beside::BeginsLoad { about, pages: _ } => {

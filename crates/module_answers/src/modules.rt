@@ -1,7 +1,7 @@
 // The gate of modules with the load that is under way.
 
 ghost use Rattle.std.specs.Prelude.{◌≡◌, Some, None, IfOk, IfSome, is_some};
-ghost use Rattle.page_guard.specs.Guarded.{IsTheirs};
+ghost use Rattle.page_guard.specs.Guarded.{IsTheirs, StaysTheirs};
 ghost use Rattle.module_gate.specs.Gates.{no_modules};
 ghost use Rattle.module_answers.specs.Conditions.{MayEnd};
 ghost use Rattle.module_answers.specs.Parts.{loading_of, without_load};
@@ -52,8 +52,7 @@ impl Modules {
         requires may { IfSome self.loading (MayEnd guard.old self.gate.loaded) }
         requires theirs { IsTheirs mem.old guard.old }
         ensures guard { guard.new ≡ without_load guard.old self.loading }
-        ensures theirs { IsTheirs mem.new guard.new }
-        ensures ram { mem.new.ram ≡ mem.old.ram }
+        ensures theirs { StaysTheirs mem.old mem.new guard.old guard.new }
     {
         let Modules { mut gate, loading } = self;
         if let Some(UnderWay { hart: _, load }) = loading {

@@ -5,7 +5,7 @@ ghost use Rattle.sv_types.specs.Policies.{rules_of, rules_within};
 ghost use Rattle.sv_types.specs.declared.protection.Protection.TheVariants.{Free, Held};
 ghost use Rattle.reference.specs.Protections.{with_each};
 ghost use Rattle.reference.specs.States.{find_module, with_module, without_module, pages_in_rule};
-ghost use Rattle.page_guard.specs.Guarded.{with_span, IsTheirs};
+ghost use Rattle.page_guard.specs.Guarded.{with_span, IsTheirs, StaysTheirs};
 ghost use Rattle.module_gate.specs.Ascending.{AscendsFrom, most_modules};
 ghost use Rattle.module_gate.specs.Retiring.{kernel_pages};
 ghost use Rattle.module_gate.specs.Gates.{most_module_pages, no_modules, begun, is_good_place, load_span, module_span, AreApproved};
@@ -108,9 +108,7 @@ impl Gate {
         ensures load { result ≡ begun about (pages_in_rule (slice_get (rules_of policy.now).modules about.id)) }
         ensures gate { self.new ≡ record self.old { loading = true } }
         ensures guard { guard.new ≡ with_span guard.old (load_span result) Held }
-        ensures size { length guard.new ≡ length guard.old }
-        ensures theirs { IsTheirs mem.new guard.new }
-        ensures ram { mem.new.ram ≡ mem.old.ram }
+        ensures theirs { StaysTheirs mem.old mem.new guard.old guard.new }
     {
         let Some(rule) = rule_of(policy, about.id) else {
             unreachable!();
@@ -146,9 +144,7 @@ impl Gate {
         requires theirs { IsTheirs mem.old guard.old }
         ensures gate { self.new ≡ record self.old { loaded = without_module self.old.loaded about.now.id } }
         ensures guard { guard.new ≡ with_span guard.old (module_span (rules_of policy.now) about.now) Free }
-        ensures size { length guard.new ≡ length guard.old }
-        ensures theirs { IsTheirs mem.new guard.new }
-        ensures ram { mem.new.ram ≡ mem.old.ram }
+        ensures theirs { StaysTheirs mem.old mem.new guard.old guard.new }
     {
         guard.unapprove(mem, module_pages(policy, about));
         remove_module(&mut self.loaded, about.id);
@@ -163,9 +159,7 @@ impl Gate {
         requires theirs { IsTheirs mem.old guard.old }
         ensures gate { self.new ≡ record self.old { retired = true } }
         ensures guard { guard.new ≡ with_each guard.old (kernel_pages (rules_of policy.now) self.old.loaded guard.old init) Free }
-        ensures size { length guard.new ≡ length guard.old }
-        ensures theirs { IsTheirs mem.new guard.new }
-        ensures ram { mem.new.ram ≡ mem.old.ram }
+        ensures theirs { StaysTheirs mem.old mem.new guard.old guard.new }
     {
         self.retired = true;
         free_pages(guard, mem, policy, &self.loaded, init);

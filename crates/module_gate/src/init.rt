@@ -6,7 +6,7 @@ ghost use Rattle.sv_types.specs.declared.protection.Protection.TheVariants.{Free
 ghost use Rattle.reference.specs.Protections.{protection_at, freed_one, with_each};
 ghost use Rattle.reference.specs.States.{has_number, module_pages};
 ghost use Rattle.machine_model.specs.HostCalls.{is_approved_one};
-ghost use Rattle.page_guard.specs.Guarded.{IsTheirs, IsInRam};
+ghost use Rattle.page_guard.specs.Guarded.{IsTheirs, StaysTheirs, IsInRam};
 ghost use Rattle.module_gate.specs.Retiring.{is_modules, is_kernels, kernel_pages};
 
 use crate::rules::pages_of;
@@ -61,9 +61,7 @@ fn free_page(
     requires inside { page < length guard.old }
     requires theirs { IsTheirs mem.old guard.old }
     ensures guard { guard.new ≡ freed_one (is_kernels (rules_of policy.now) loaded.now) guard.old page }
-    ensures size { length guard.new ≡ length guard.old }
-    ensures theirs { IsTheirs mem.new guard.new }
-    ensures ram { mem.new.ram ≡ mem.old.ram }
+    ensures theirs { StaysTheirs mem.old mem.new guard.old guard.new }
 {
     if is_kernels(guard, policy, loaded, page) {
         guard.unapprove(
@@ -87,9 +85,7 @@ pub fn free_pages(
     requires inside { IsInRam guard.old span }
     requires theirs { IsTheirs mem.old guard.old }
     ensures guard { guard.new ≡ with_each guard.old (kernel_pages (rules_of policy.now) loaded.now guard.old span) Free }
-    ensures size { length guard.new ≡ length guard.old }
-    ensures theirs { IsTheirs mem.new guard.new }
-    ensures ram { mem.new.ram ≡ mem.old.ram }
+    ensures theirs { StaysTheirs mem.old mem.new guard.old guard.new }
 {
     'pages: for i in 0..span.count {
         free_page(guard, mem, policy, loaded, span.first + i);

@@ -9,7 +9,7 @@ ghost use Rattle.reference.specs.Relocations.{masked};
 ghost use Rattle.reference.specs.States.{find_module, with_module, pages_in_rule};
 ghost use Rattle.machine_model.specs.HostExits.{host_is_good};
 ghost use Rattle.relocated_fields.specs.Pieces.{piece_sites, IsAligned};
-ghost use Rattle.page_guard.specs.Guarded.{with_span, IsInRam, AllAre, IsTheirs};
+ghost use Rattle.page_guard.specs.Guarded.{with_span, IsInRam, AllAre, IsTheirs, StaysTheirs};
 ghost use Rattle.module_gate.specs.Gates.{host_load, load_span, next_counted};
 
 use crate::gate::Gate;
@@ -106,9 +106,7 @@ impl Load {
         requires theirs { IsTheirs mem.old guard.old }
         ensures gate { gate.new ≡ record gate.old { loaded = with_module gate.old.loaded self.about; loading = false } }
         ensures guard { guard.new ≡ with_span guard.old (load_span self) Approved }
-        ensures size { length guard.new ≡ length guard.old }
-        ensures theirs { IsTheirs mem.new guard.new }
-        ensures ram { mem.new.ram ≡ mem.old.ram }
+        ensures theirs { StaysTheirs mem.old mem.new guard.old guard.new }
     {
         let Load {
             hold,
@@ -130,9 +128,7 @@ impl Load {
         requires theirs { IsTheirs mem.old guard.old }
         ensures gate { gate.new ≡ record gate.old { loading = false } }
         ensures guard { guard.new ≡ with_span guard.old (load_span self) Free }
-        ensures size { length guard.new ≡ length guard.old }
-        ensures theirs { IsTheirs mem.new guard.new }
-        ensures ram { mem.new.ram ≡ mem.old.ram }
+        ensures theirs { StaysTheirs mem.old mem.new guard.old guard.new }
     {
         let Load {
             hold,

@@ -31,3 +31,9 @@ pub record IsTheirs (r : Region) (guard : List Protection) : Type 0 where
   pub ram : length r.ram ≡ page_size * length guard
   pub views : AreViews r.tables (length guard) [] (protection_at guard)
   pub trees : HoldsTrees r.tables (length guard) [] (protection_at guard)
+
+-- a list of the same length after changes, which the tables follow again; RAM is as it was
+pub record StaysTheirs (before after : Region) (old new : List Protection) : Type 0 where
+  pub size : length new ≡ length old
+  pub theirs : IsTheirs after new
+  pub ram : after.ram ≡ before.ram

@@ -7,7 +7,7 @@ ghost use Rattle.sv_types.specs.declared.protection.Protection.TheVariants.{Free
 ghost use Rattle.gstage_tables.specs.Layout.{table_size};
 ghost use Rattle.reference.specs.Protections.{with_pages};
 ghost use Rattle.reference.specs.Protections.{is_free};
-ghost use Rattle.page_guard.specs.Guarded.{with_span, IsInRam, AllAre, first_taken, IsTheirs};
+ghost use Rattle.page_guard.specs.Guarded.{with_span, IsInRam, AllAre, first_taken, IsTheirs, StaysTheirs};
 
 use dma_guard::DmaGuard;
 use gstage_tables::Trees;
@@ -119,9 +119,7 @@ impl Guard {
         ensures hold { IfOk result (λ hold. hold ≡ span) }
         ensures taken { IfErr result (λ taken. first_taken self.old span ≡ Some taken.page) }
         ensures kept { OnErr result ((self.new ≡ self.old) × (mem.new ≡ mem.old)) }
-        ensures size { length self.new ≡ length self.old }
-        ensures theirs { IsTheirs mem.new self.new }
-        ensures ram { mem.new.ram ≡ mem.old.ram }
+        ensures theirs { StaysTheirs mem.old mem.new self.old self.new }
     {
         self.all_free(span)?;
         self.set_all(mem, span, Protection::Held);
@@ -135,9 +133,7 @@ impl Guard {
         requires theirs { IsTheirs mem.old self.old }
         ensures guard { self.new ≡ with_span self.old hold Approved }
         ensures approved { AllAre self.new hold Approved }
-        ensures size { length self.new ≡ length self.old }
-        ensures theirs { IsTheirs mem.new self.new }
-        ensures ram { mem.new.ram ≡ mem.old.ram }
+        ensures theirs { StaysTheirs mem.old mem.new self.old self.new }
     {
         let Hold { span: approved } = hold;
         self.set_all(mem, approved, Protection::Approved);
@@ -149,9 +145,7 @@ impl Guard {
         requires held { AllAre self.old hold Held }
         requires theirs { IsTheirs mem.old self.old }
         ensures guard { self.new ≡ with_span self.old hold Free }
-        ensures size { length self.new ≡ length self.old }
-        ensures theirs { IsTheirs mem.new self.new }
-        ensures ram { mem.new.ram ≡ mem.old.ram }
+        ensures theirs { StaysTheirs mem.old mem.new self.old self.new }
     {
         let Hold { span: released } = hold;
         self.set_all(mem, released, Protection::Free);
@@ -163,9 +157,7 @@ impl Guard {
         requires approved { AllAre self.old span Approved }
         requires theirs { IsTheirs mem.old self.old }
         ensures guard { self.new ≡ with_span self.old span Free }
-        ensures size { length self.new ≡ length self.old }
-        ensures theirs { IsTheirs mem.new self.new }
-        ensures ram { mem.new.ram ≡ mem.old.ram }
+        ensures theirs { StaysTheirs mem.old mem.new self.old self.new }
     {
         self.set_all(mem, span, Protection::Free);
     }
@@ -190,9 +182,7 @@ impl Guard {
         requires theirs { IsTheirs mem.old self.old }
         ensures guard { self.new ≡ with_span self.old span protection }
         ensures all { AllAre self.new span protection }
-        ensures size { length self.new ≡ length self.old }
-        ensures theirs { IsTheirs mem.new self.new }
-        ensures ram { mem.new.ram ≡ mem.old.ram }
+        ensures theirs { StaysTheirs mem.old mem.new self.old self.new }
     {
         'changed: for i in 0..span.count {
             self.set(mem, span.first + i, protection);
@@ -204,8 +194,7 @@ impl Guard {
         requires inside { page < length self.old }
         requires theirs { IsTheirs mem.old self.old }
         ensures guard { self.new ≡ slice_set self.old page protection }
-        ensures theirs { IsTheirs mem.new self.new }
-        ensures ram { mem.new.ram ≡ mem.old.ram }
+        ensures theirs { StaysTheirs mem.old mem.new self.old self.new }
     {
         self.trees.set(mem, page, protection);
         self.dma.set(page, is_free(protection));

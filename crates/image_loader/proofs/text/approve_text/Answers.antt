@@ -9,6 +9,7 @@ use Rattle.sv_types.specs.declared.protection.Protection.{Protection}
 use Rattle.sv_types.specs.declared.protection.Protection.TheVariants.{Approved}
 use Rattle.reference.specs.Protections.{with_each}
 use Rattle.elf64_load.specs.Images.{segment_of, segments_of, text_owner}
+use Rattle.page_guard.proofs.Stays.{stays_further}
 use Rattle.image_loader.proofs.FreePages.{approved_where, behind_kept, last_page, next_page}
 use Rattle.image_loader.proofs.TextPages.{owner_tells, same_item, text_in_ram}
 use Rattle.image_loader.proofs.text.approve_text.Goals as goal
@@ -37,7 +38,7 @@ pages-preserved c =
           ∙ sym (next_page picks guard page pages c.pages-test.true) ∙ before.0,
       (
         λ q low high. ap (λ (g : List Protection). slice_get g q) changed ∙ behind_kept (picks page) guard page q (omega arith) ∙ before.1.0 q (omega arith) high,
-        (c.approve_if.ensures.size ∙ before.1.1.0, (c.approve_if.ensures.theirs, c.approve_if.ensures.ram ∙ before.1.1.1.1)),
+        stays_further c.args.mem.now c.pages.mem c.approve_if.new.mem c.args.guard.now c.pages.guard c.approve_if.new.guard before.1.1 c.approve_if.ensures.theirs,
       ),
     )
 

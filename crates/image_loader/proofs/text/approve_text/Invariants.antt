@@ -5,7 +5,7 @@ use Rattle.sv_types.specs.ApprovedPages.{numbers_from}
 use Rattle.sv_types.specs.Kernel.{is_text_of}
 use Rattle.sv_types.specs.declared.protection.Protection.TheVariants.{Free, Approved}
 use Rattle.reference.specs.Protections.{with_each}
-use Rattle.page_guard.specs.Guarded.{IsTheirs}
+use Rattle.page_guard.specs.Guarded.{StaysTheirs}
 use Rattle.elf64_load.specs.Images.{segments_of}
 use Rattle.image_loader.proofs.text.approve_text.Given as goal
 
@@ -15,4 +15,4 @@ invariant-pages l =
     (with_each l.guard (filter (λ page. list_any (is_text_of page) (segments_of l.image)) (numbers_from l.page (l.pages - l.page))) Approved
     ≡ with_each l.fn.guard (filter (λ page. list_any (is_text_of page) (segments_of l.image)) (numbers_from 0 l.pages)) Approved)
     × (((q : ℕ) → l.page ≤ q → q < l.pages → slice_get l.guard q ≡ Some Free)
-    × ((length l.guard ≡ length l.fn.guard) × (IsTheirs l.mem l.guard × (l.mem.ram ≡ l.fn.mem.ram))))
+    × StaysTheirs l.fn.mem l.mem l.fn.guard l.guard)

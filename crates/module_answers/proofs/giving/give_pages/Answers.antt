@@ -87,7 +87,7 @@ returns-in-BeginsLoad-clause-machine c = λ m.
     let modules = c.args.modules.now in
     let may : MayBegin law c.args.mem.now.ram c.args.guard.now modules c.in-BeginsLoad.about c.in-BeginsLoad.pages =
     subst (MayDo law c.args.mem.now.ram c.args.guard.now modules) c.in-BeginsLoad.is (may_do law c.args.mem.now.ram c.args.guard.now modules c.args.beside.now c.requires.given) in
-    rw (c.in-BeginsLoad.is, c.begin_load.ensures.guard, c.begin_load.ensures.modules, c.begin_load.ensures.ram)
+    rw (c.in-BeginsLoad.is, c.begin_load.ensures.guard, c.begin_load.ensures.modules, c.begin_load.ensures.theirs.ram)
     (begins m law c.args.mem.now c.args.which c.args.guard.now modules c.begin_load.new.mem.tables c.in-BeginsLoad.about
     (pages_in_rule (slice_get law.modules c.in-BeginsLoad.about.id)) c.in-BeginsLoad.pages (ap pages_in_rule may.known ∙ may.number))
 
@@ -98,7 +98,7 @@ returns-in-ApprovesModule-clause-machine c = λ m.
     let may : IsCounted modules c.in-ApprovesModule.about =
     subst (MayDo law c.args.mem.now.ram c.args.guard.now modules) c.in-ApprovesModule.is (may_do law c.args.mem.now.ram c.args.guard.now modules c.args.beside.now c.requires.given) in
     let u = may.under_way in
-    rw (c.in-ApprovesModule.is, sym may.about_it, at_load _ modules.loading u may.there c.approve_load.ensures.guard, at_load _ modules.loading u may.there c.approve_load.ensures.modules, c.approve_load.ensures.ram)
+    rw (c.in-ApprovesModule.is, sym may.about_it, at_load _ modules.loading u may.there c.approve_load.ensures.guard, at_load _ modules.loading u may.there c.approve_load.ensures.modules, c.approve_load.ensures.theirs.ram)
     (approves m law c.args.mem.now c.args.which c.args.guard.now modules c.approve_load.new.mem.tables u.load (takes_its_pages law modules u c.requires.joined may.there))
 
 pub returns-in-ApprovesModule-clause-joined : goal.returns-in-ApprovesModule-clause-joined
@@ -116,7 +116,7 @@ returns-in-ReleasesModule-clause-machine c = λ m.
     let may : IsCounted modules c.in-ReleasesModule.about =
     subst (MayDo law c.args.mem.now.ram c.args.guard.now modules) c.in-ReleasesModule.is (may_do law c.args.mem.now.ram c.args.guard.now modules c.args.beside.now c.requires.given) in
     let u = may.under_way in
-    rw (c.in-ReleasesModule.is, sym may.about_it, at_load _ modules.loading u may.there c.release_load.ensures.guard, at_load _ modules.loading u may.there c.release_load.ensures.modules, c.release_load.ensures.ram)
+    rw (c.in-ReleasesModule.is, sym may.about_it, at_load _ modules.loading u may.there c.release_load.ensures.guard, at_load _ modules.loading u may.there c.release_load.ensures.modules, c.release_load.ensures.theirs.ram)
     (releases m law c.args.mem.now c.args.which c.args.guard.now modules c.release_load.new.mem.tables u.load (takes_its_pages law modules u c.requires.joined may.there))
 
 pub returns-in-ReleasesModule-clause-joined : goal.returns-in-ReleasesModule-clause-joined

@@ -1,7 +1,7 @@
 use Rattle.std.proofs.Common.{◌≡◌, length}
 use Rattle.sv_types.specs.Policies.{rules_of}
 use Rattle.reference.specs.Protections.{freed_by}
-use Rattle.page_guard.specs.Guarded.{IsTheirs}
+use Rattle.page_guard.specs.Guarded.{StaysTheirs}
 use Rattle.module_gate.specs.Retiring.{is_kernels}
 use Rattle.module_gate.proofs.init.free_pages.Given as goal
 
@@ -9,4 +9,4 @@ use Rattle.module_gate.proofs.init.free_pages.Given as goal
 abbrev pub invariant-pages : goal.invariant-pages
 invariant-pages l =
     (l.guard ≡ freed_by (is_kernels (rules_of l.policy) l.loaded) l.fn.guard l.span.first l.i)
-    × ((length l.guard ≡ length l.fn.guard) × (IsTheirs l.mem l.guard × (l.mem.ram ≡ l.fn.mem.ram)))
+    × StaysTheirs l.fn.mem l.mem l.fn.guard l.guard

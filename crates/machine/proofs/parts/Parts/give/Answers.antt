@@ -34,11 +34,11 @@ invariant_of-self c =
       few = subst (λ (n : ℕ). n ≤ 4) (sym number) c.self.invariant.few;
       caches = ap (λ (xs : List Lines). length xs) same ∙ c.fence.ensures.number ∙ ap (λ (xs : List Lines). length xs) c.deref_mut-2.ensures.value
           ∙ c.self.invariant.caches ∙ sym number;
-      theirs = pages.ensures.theirs;
+      theirs = pages.ensures.theirs.theirs;
       usable = subst (λ (caches : List Lines). AreUsable pages.new.mem.tables caches) (sym same)
           (usable_after pages.result c.self.inside.mem pages.new.mem c.self.inside.caches.items c.deref_mut-2.result.now c.fence.new.caches c.deref_mut-2.ensures.value
           c.self.invariant.usable pages.ensures.kept c.fence.ensures.usable c.fence.ensures.kept);
-      pages = pages.ensures.size ∙ c.self.invariant.pages;
+      pages = pages.ensures.theirs.size ∙ c.self.invariant.pages;
       modules = pages.ensures.joined;
     }
 
@@ -53,4 +53,4 @@ returns c =
     c.args.self.now c.self.view_is
     (c.give.ensures.hosts ∙ ap (λ (seats : List Seat). hosts_beside answer.beside (update (hosts_of seats) c.args.which (host_replied answer.reply))) c.deref_mut.ensures.value)
     c.give.ensures.devices c.give.ensures.journal (pages.ensures.machine (machine_of_parts c.self.inside))
-    c.self.invariant.theirs pages.ensures.theirs pages.ensures.size c.self.invariant.pages c.self.invariant.unbound)
+    c.self.invariant.theirs pages.ensures.theirs.theirs pages.ensures.theirs.size c.self.invariant.pages c.self.invariant.unbound)

@@ -26,8 +26,12 @@ returns-clause-theirs c =
     subst (λ (bound : List ℕ). AreViews c.set.new.mem.tables (length guard) bound (protect (protection_at guard) c.args.page c.args.protection)) unbound
     (subst (λ (n : ℕ). AreViews c.set.new.mem.tables n trees.bound (protect (protection_at guard) c.args.page c.args.protection)) pages
     (c.set.ensures.views (protection_at guard) drawn)) in
-    set_theirs c.set.new.mem guard c.args.page c.args.protection inside after.0 views
-    (ap (λ (xs : List ℕ). length xs) c.set.ensures.ram ∙ theirs.ram)
+    record {
+      size = length-set guard c.args.page c.args.protection ∙ ap (λ (g : List Protection). length g) (sym view);
+      theirs = set_theirs c.set.new.mem guard c.args.page c.args.protection inside after.0 views
+          (ap (λ (xs : List ℕ). length xs) c.set.ensures.ram ∙ theirs.ram);
+      ram = c.set.ensures.ram;
+    }
 
 pub invariant_of-self : goal.invariant_of-self
 invariant_of-self c =
