@@ -7,6 +7,7 @@ mod segments;
 #[cfg(test)]
 mod tests;
 mod text;
+mod zeros;
 
 pub use laws::law_accepted_segments;
 pub use segments::fill_ram;

@@ -7,13 +7,14 @@ ghost use Rattle.processor.specs.Bytes.{page_size, overwrite, padded, part, ram_
 ghost use Rattle.sv_types.specs.Kernel.{segments_ram};
 ghost use Rattle.processor.specs.Regions.{most_ram_pages};
 ghost use Rattle.elf64_load.specs.Images.{segment_of, segments_of};
-ghost use Rattle.image_loader.specs.Placed.{IsPlaced, ArePlaced};
+ghost use Rattle.image_loader.specs.Placed.{IsPlaced, ArePlaced, KeepsShape};
 ghost use Rattle.image_loader.specs.Whole.{byte_of, covers, has_byte, loaded_byte, segment_at, IsLastWhole};
 
 use crate::owners::last_owners;
+use crate::zeros::Zeros;
 use elf64_load::{KernelImage, Segment};
 use host_mem::HostMem;
-use processor::{PAGE_BYTES, ram_place};
+use processor::{PAGE_BYTES, PAGE_SIZE, ram_place};
 use std::alloc::{AllocError, Global};
 
 /// Puts an image's segments into guest RAM, which holds zeros. Fails where memory is wanting.
@@ -28,10 +29,9 @@ pub fn fill_ram(
     requires placed { ArePlaced ram_pages (segments_of image.now) }
     ensures ram { OnOk result (mem.new ≡ record mem.old { ram = segments_ram (segments_of image.now) ram_pages }) }
     ensures kept { OnErr result (mem.new ≡ mem.old) }
-    ensures tables { mem.new.tables ≡ mem.old.tables }
-    ensures size { length mem.new.ram ≡ length mem.old.ram }
+    ensures shape { KeepsShape mem.old mem.new }
 {
-    let zeros = zeros_of(alloc, PAGE_BYTES as usize)?;
+    let zeros = Zeros::new(alloc)?;
     let segments = image.segments.as_slice();
     let owners = last_owners(alloc, segments, mem.ram_pages())?;
     put_owned(mem, segments, &owners, &zeros);
@@ -39,22 +39,13 @@ pub fn fill_ram(
     Ok(())
 }
 
-// So many zeros.
-fn zeros_of(alloc: Global, count: usize) -> Result<Vec<u8>, AllocError>
-    ensures { IfOk result (λ zeros. zeros.items ≡ replicate count 0) }
-{
-    vec![in alloc; 0; count]
-}
-
 // Puts into a page the bytes that a segment has there, and zeros behind them.
-fn put_piece(mem: &mut HostMem, segment: &Segment, page: usize, zeros: &[u8])
-    requires zeros { zeros.now ≡ replicate 4096 0 }
+fn put_piece(mem: &mut HostMem, segment: &Segment, page: usize, zeros: &Zeros)
     requires placed { IsPlaced (length mem.old.ram) (segment_of segment.now) }
     requires page { page_size * page + page_size ≤ length mem.old.ram }
     requires few { length mem.old.ram ≤ page_size * most_ram_pages }
     ensures bytes { (at : ℕ) → slice_index_or mem.new.ram at 0 ≡ (if at / page_size == page && has_byte (segment_of segment.now) at then byte_of (segment_of segment.now) at else slice_index_or mem.old.ram at 0) }
-    ensures tables { mem.new.tables ≡ mem.old.tables }
-    ensures size { length mem.new.ram ≡ length mem.old.ram }
+    ensures shape { KeepsShape mem.old mem.new }
 {
     let place = ram_place(segment.gpa) as usize;
     let page_start = PAGE_BYTES as usize * page;
@@ -66,8 +57,7 @@ fn put_piece(mem: &mut HostMem, segment: &Segment, page: usize, zeros: &[u8])
 }
 
 // Puts `count` bytes at a place in RAM: those from `from` on, with zeros behind them.
-fn put_part(mem: &mut HostMem, place: usize, bytes: &[u8], from: usize, count: usize, zeros: &[u8])
-    requires zeros { zeros.now ≡ replicate 4096 0 }
+fn put_part(mem: &mut HostMem, place: usize, bytes: &[u8], from: usize, count: usize, zeros: &Zeros)
     requires inside { place + count ≤ length mem.old.ram }
     requires from { from ≤ length mem.old.ram }
     ensures { mem.new ≡ record mem.old { ram = overwrite mem.old.ram place (padded (part bytes.now from count) count) } }
@@ -81,30 +71,27 @@ fn put_part(mem: &mut HostMem, place: usize, bytes: &[u8], from: usize, count: u
 }
 
 // Puts so many zeros at a place in RAM.
-fn put_zeros(mem: &mut HostMem, place: usize, count: usize, zeros: &[u8])
-    requires zeros { zeros.now ≡ replicate 4096 0 }
+fn put_zeros(mem: &mut HostMem, place: usize, count: usize, zeros: &Zeros)
     requires inside { place + count ≤ length mem.old.ram }
     ensures { mem.new ≡ record mem.old { ram = overwrite mem.old.ram place (replicate count 0) } }
 {
     let start = mem.table_bytes() + place;
     let mut done = 0;
     'zeros: while done < count {
-        let next = (count - done).min(zeros.len());
-        mem.copy_in(start + done, &zeros[..next]);
+        let next = (count - done).min(PAGE_SIZE);
+        mem.copy_in(start + done, zeros.first(next));
         done += next;
     }
 }
 
 // Puts a page of the segment before `owner`, where there is one.
-fn put_owner(mem: &mut HostMem, segments: &[Segment], owner: usize, page: usize, zeros: &[u8])
-    requires zeros { zeros.now ≡ replicate 4096 0 }
+fn put_owner(mem: &mut HostMem, segments: &[Segment], owner: usize, page: usize, zeros: &Zeros)
     requires placed { All (IsPlaced (length mem.old.ram)) (map segment_of segments.now) }
     requires owner { owner ≤ length segments.now }
     requires page { page_size * page + page_size ≤ length mem.old.ram }
     requires few { length mem.old.ram ≤ page_size * most_ram_pages }
     ensures bytes { (at : ℕ) → slice_index_or mem.new.ram at 0 ≡ (if nat_lt 0 owner && (at / page_size == page && has_byte (segment_at (map segment_of segments.now) (owner - 1)) at) then byte_of (segment_at (map segment_of segments.now) (owner - 1)) at else slice_index_or mem.old.ram at 0) }
-    ensures tables { mem.new.tables ≡ mem.old.tables }
-    ensures size { length mem.new.ram ≡ length mem.old.ram }
+    ensures shape { KeepsShape mem.old mem.new }
 {
     if owner > 0 {
         put_piece(mem, &segments[owner - 1], page, zeros);
@@ -112,16 +99,14 @@ fn put_owner(mem: &mut HostMem, segments: &[Segment], owner: usize, page: usize,
 }
 
 // Puts each page of the last segment that covers it whole.
-fn put_owned(mem: &mut HostMem, segments: &[Segment], owners: &[usize], zeros: &[u8])
-    requires zeros { zeros.now ≡ replicate 4096 0 }
+fn put_owned(mem: &mut HostMem, segments: &[Segment], owners: &[usize], zeros: &Zeros)
     requires ram { length mem.old.ram ≡ page_size * length owners.now }
     requires placed { All (IsPlaced (length mem.old.ram)) (map segment_of segments.now) }
     requires few { length owners.now ≤ most_ram_pages }
     requires blank { (at : ℕ) → slice_index_or mem.old.ram at 0 ≡ 0 }
     requires owners { (page : ℕ) → page < length owners.now → IsLastWhole (map segment_of segments.now) (length segments.now) page (slice_index owners.now page) }
     ensures bytes { (at : ℕ) → at < length mem.old.ram → slice_index_or mem.new.ram at 0 ≡ loaded_byte (length mem.old.ram) (map segment_of segments.now) (slice_index owners.now (at / page_size)) at }
-    ensures tables { mem.new.tables ≡ mem.old.tables }
-    ensures size { length mem.new.ram ≡ length mem.old.ram }
+    ensures shape { KeepsShape mem.old mem.new }
 {
     'pages: for page in 0..owners.len() {
         put_owner(mem, segments, owners[page], page, zeros);
@@ -129,14 +114,12 @@ fn put_owned(mem: &mut HostMem, segments: &[Segment], owners: &[usize], zeros: &
 }
 
 // Puts a segment's bytes into a page where it is due.
-fn put_due(is_due: bool, mem: &mut HostMem, segment: &Segment, page: usize, zeros: &[u8])
-    requires zeros { zeros.now ≡ replicate 4096 0 }
+fn put_due(is_due: bool, mem: &mut HostMem, segment: &Segment, page: usize, zeros: &Zeros)
     requires placed { IsPlaced (length mem.old.ram) (segment_of segment.now) }
     requires page { page_size * page + page_size ≤ length mem.old.ram }
     requires few { length mem.old.ram ≤ page_size * most_ram_pages }
     ensures bytes { (at : ℕ) → slice_index_or mem.new.ram at 0 ≡ (if is_due && (at / page_size == page && has_byte (segment_of segment.now) at) then byte_of (segment_of segment.now) at else slice_index_or mem.old.ram at 0) }
-    ensures tables { mem.new.tables ≡ mem.old.tables }
-    ensures size { length mem.new.ram ≡ length mem.old.ram }
+    ensures shape { KeepsShape mem.old mem.new }
 {
     if is_due {
         put_piece(mem, segment, page, zeros);
@@ -144,15 +127,13 @@ fn put_due(is_due: bool, mem: &mut HostMem, segment: &Segment, page: usize, zero
 }
 
 // Puts a segment into the pages in which it begins and ends, where these have no later owner.
-fn put_edge(mem: &mut HostMem, segment: &Segment, number: usize, owners: &[usize], zeros: &[u8])
-    requires zeros { zeros.now ≡ replicate 4096 0 }
+fn put_edge(mem: &mut HostMem, segment: &Segment, number: usize, owners: &[usize], zeros: &Zeros)
     requires ram { length mem.old.ram ≡ page_size * length owners.now }
     requires placed { IsPlaced (length mem.old.ram) (segment_of segment.now) }
     requires few { length owners.now ≤ most_ram_pages }
     requires whole { (page : ℕ) → page < length owners.now → slice_index owners.now page ≤ number → covers page (segment_of segment.now) ≡ false }
     ensures bytes { (at : ℕ) → slice_index_or mem.new.ram at 0 ≡ (if nat_le (slice_index owners.now (at / page_size)) number && has_byte (segment_of segment.now) at then byte_of (segment_of segment.now) at else slice_index_or mem.old.ram at 0) }
-    ensures tables { mem.new.tables ≡ mem.old.tables }
-    ensures size { length mem.new.ram ≡ length mem.old.ram }
+    ensures shape { KeepsShape mem.old mem.new }
 {
     if segment.memory == 0 {
         return;
@@ -165,16 +146,14 @@ fn put_edge(mem: &mut HostMem, segment: &Segment, number: usize, owners: &[usize
 }
 
 // Puts each segment, in order, into the pages in which it begins and ends.
-fn put_edges(mem: &mut HostMem, segments: &[Segment], owners: &[usize], zeros: &[u8])
-    requires zeros { zeros.now ≡ replicate 4096 0 }
+fn put_edges(mem: &mut HostMem, segments: &[Segment], owners: &[usize], zeros: &Zeros)
     requires ram { length mem.old.ram ≡ page_size * length owners.now }
     requires placed { All (IsPlaced (length mem.old.ram)) (map segment_of segments.now) }
     requires few { length owners.now ≤ most_ram_pages }
     requires owners { (page : ℕ) → page < length owners.now → IsLastWhole (map segment_of segments.now) (length segments.now) page (slice_index owners.now page) }
     requires bytes { (at : ℕ) → at < length mem.old.ram → slice_index_or mem.old.ram at 0 ≡ loaded_byte (length mem.old.ram) (map segment_of segments.now) (slice_index owners.now (at / page_size)) at }
     ensures bytes { (at : ℕ) → at < length mem.old.ram → slice_index_or mem.new.ram at 0 ≡ loaded_byte (length mem.old.ram) (map segment_of segments.now) (length segments.now) at }
-    ensures tables { mem.new.tables ≡ mem.old.tables }
-    ensures size { length mem.new.ram ≡ length mem.old.ram }
+    ensures shape { KeepsShape mem.old mem.new }
 {
     'segments: for i in 0..segments.len() {
         put_edge(mem, &segments[i], i, owners, zeros);

@@ -18,11 +18,11 @@ returns-clause-ram c =
     let size = page_size * c.args.ram_pages in
     let all : length segments ≡ length ss = sym (length-map segments segment_of) ∙ ap length same in
     let before : length c.args.mem.now.ram ≡ size = ap length c.requires.zeros ∙ length-replicate {A = ℕ} size 0 in
-    let between : length c.put_owned.new.mem.ram ≡ size = c.put_owned.ensures.size ∙ before in
-    let ram = all_loaded size ss (length segments) c.put_edges.new.mem.ram all c.requires.placed (c.put_edges.ensures.size ∙ between)
+    let between : length c.put_owned.new.mem.ram ≡ size = c.put_owned.ensures.shape.size ∙ before in
+    let ram = all_loaded size ss (length segments) c.put_edges.new.mem.ram all c.requires.placed (c.put_edges.ensures.shape.size ∙ between)
     (λ at below. c.put_edges.ensures.bytes at (omega arith)
     ∙ ap (λ (n : ℕ). loaded_byte n (map segment_of segments) (length segments) at) between
     ∙ ap (λ (xs : List LoadedSegment). loaded_byte size xs (length segments) at) same) in
-    let tables = c.put_edges.ensures.tables ∙ c.put_owned.ensures.tables in
+    let tables = c.put_edges.ensures.shape.tables ∙ c.put_owned.ensures.shape.tables in
     ap {B = Region} (λ (xs : List ℕ). record { tables = c.put_edges.new.mem.tables; ram = xs }) ram
     ∙ ap {B = Region} (λ (xs : List ℕ). record { tables = xs; ram = segments_ram ss c.args.ram_pages }) tables

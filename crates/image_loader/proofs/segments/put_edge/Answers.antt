@@ -14,13 +14,13 @@ returns-clause-bytes c = λ at.
     let s = segment_of c.args.segment.now in
     let owners = c.args.owners.now in
     let number = c.args.number in
-    let place = c.saturating_sub-place.result in
+    let place = c.ram_place-place.result in
     let first = place / page_size in
     let last = (place + c.args.segment.now.memory - 1) / page_size in
     let page = at / page_size in
     let due = λ (p : ℕ). nat_le (get_or owners p 0) number in
     let old = get_or c.args.mem.now.ram at 0 in
-    let place_is : place ≡ ram_place s.gpa = c.saturating_sub-place.ensures in
+    let place_is : place ≡ ram_place s.gpa = c.ram_place-place.ensures in
     c.put_due-2.ensures.bytes at
     ∙ ap (λ (n : ℕ). if due last && (page == last && has_byte s at) then byte_of s at else n) (c.put_due.ensures.bytes at)
     ∙ edges_byte (due page) (due first) (due last) (page == first) (page == last) (has_byte s at) (byte_of s at) old

@@ -10,7 +10,7 @@ use Rattle.image_loader.proofs.Loaded.{next_edge}
 use Rattle.image_loader.proofs.segments.put_edges.Goals as goal
 
 pub put_edge-requires-clause-placed : goal.put_edge-requires-clause-placed
-put_edge-requires-clause-placed c = rw c.segments.invariant.1.0 (placed_item _ c.args.segments.now c.segments.i _ c.segments-test.true c.requires.placed)
+put_edge-requires-clause-placed c = rw c.segments.invariant.0.size (placed_item _ c.args.segments.now c.segments.i _ c.segments-test.true c.requires.placed)
 
 pub put_edge-requires-clause-whole : goal.put_edge-requires-clause-whole
 put_edge-requires-clause-whole c = λ page below due.
@@ -25,13 +25,10 @@ segments-preserved c =
     let before = c.segments.invariant in
     let ensures = c.put_edge.ensures in
     let more : i < length ss = rw (length-map segments segment_of) c.segments-test.true in (
-      ensures.tables ∙ before.0,
-      (
-        ensures.size ∙ before.1.0,
-        λ at below.
-            let owner = get_or c.args.owners.now (at / page_size) 0 in
-            let old = get_or c.segments.mem.ram at 0 in
-            next_edge size ss i owner at old (get_or c.put_edge.new.mem.ram at 0) c.requires.placed more (before.1.1 at below)
-            (ensures.bytes at ∙ ap (λ (s : LoadedSegment). if nat_le owner i && has_byte s at then byte_of s at else old) (item_at segments i _ c.segments-test.true)),
-      ),
+      record { tables = ensures.shape.tables ∙ before.0.tables; size = ensures.shape.size ∙ before.0.size },
+      λ at below.
+          let owner = get_or c.args.owners.now (at / page_size) 0 in
+          let old = get_or c.segments.mem.ram at 0 in
+          next_edge size ss i owner at old (get_or c.put_edge.new.mem.ram at 0) c.requires.placed more (before.1 at below)
+          (ensures.bytes at ∙ ap (λ (s : LoadedSegment). if nat_le owner i && has_byte s at then byte_of s at else old) (item_at segments i _ c.segments-test.true)),
     )

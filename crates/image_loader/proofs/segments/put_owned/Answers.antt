@@ -15,11 +15,8 @@ pages-preserved c =
     let page = c.pages.page in
     let before = c.pages.invariant in
     let ensures = c.put_owner.ensures in (
-      ensures.tables ∙ before.0,
-      (
-        ensures.size ∙ before.1.0,
-        λ at below. next_owned size ss (length segments) page (get_or owners page 0) at (get_or c.pages.mem.ram at 0) (get_or c.put_owner.new.mem.ram at 0)
-            (loaded_byte size ss (get_or owners (at / page_size) 0) at) (sym (length-map segments segment_of)) c.requires.placed (c.requires.owners page c.pages-test.true) (before.1.1 at below)
-            (λ same. ap (λ (p : ℕ). loaded_byte size ss (get_or owners p 0) at) same) (ensures.bytes at),
-      ),
+      record { tables = ensures.shape.tables ∙ before.0.tables; size = ensures.shape.size ∙ before.0.size },
+      λ at below. next_owned size ss (length segments) page (get_or owners page 0) at (get_or c.pages.mem.ram at 0) (get_or c.put_owner.new.mem.ram at 0)
+          (loaded_byte size ss (get_or owners (at / page_size) 0) at) (sym (length-map segments segment_of)) c.requires.placed (c.requires.owners page c.pages-test.true) (before.1 at below)
+          (λ same. ap (λ (p : ℕ). loaded_byte size ss (get_or owners p 0) at) same) (ensures.bytes at),
     )

@@ -2,12 +2,13 @@ use Rattle.std.proofs.Common.{◌≡◌, ◌<◌, ◌/◌, ℕ, length, map, get
 use Rattle.std.specs.Prelude.{nat_lt, if◌then◌else◌}
 use Rattle.processor.specs.Bytes.{page_size}
 use Rattle.elf64_load.specs.Images.{segment_of}
+use Rattle.image_loader.specs.Placed.{KeepsShape}
 use Rattle.image_loader.specs.Whole.{loaded_byte}
 use Rattle.image_loader.proofs.segments.put_owned.Given as goal
 
 -- the pages so far are there
 abbrev pub invariant-pages : goal.invariant-pages
 invariant-pages l =
-    (l.mem.tables ≡ l.fn.mem.tables) × ((length l.mem.ram ≡ length l.fn.mem.ram)
+    KeepsShape l.fn.mem l.mem
     × ((at : ℕ) → at < length l.fn.mem.ram
-    → get_or l.mem.ram at 0 ≡ (if nat_lt (at / page_size) l.page then loaded_byte (length l.fn.mem.ram) (map segment_of l.segments) (get_or l.owners (at / page_size) 0) at else 0)))
+    → get_or l.mem.ram at 0 ≡ (if nat_lt (at / page_size) l.page then loaded_byte (length l.fn.mem.ram) (map segment_of l.segments) (get_or l.owners (at / page_size) 0) at else 0))

@@ -4,8 +4,8 @@ use Rattle.elf64_load.proofs.Pages.{part_within}
 use Rattle.image_loader.proofs.Written.{part_put, part_size}
 use Rattle.image_loader.proofs.segments.put_part.Goals as goal
 
-pub put_zeros-requires-clause-inside : goal.put_zeros-requires-clause-inside
-put_zeros-requires-clause-inside c =
+pub put_zeros-requires : goal.put_zeros-requires
+put_zeros-requires c =
     let base = c.table_bytes-base.ensures.value in
     let from = c.min-start.ensures in
     let to = c.min-end.ensures in

@@ -16,8 +16,8 @@ returns-then-start-end-clause-bytes c = λ at.
     let page = c.args.page in
     let start = c.max-start.result in
     let end = c.min-end.result in
-    let place = c.saturating_sub-place.result in
-    let place_is : place ≡ ram_place c.args.segment.now.gpa = c.saturating_sub-place.ensures in
+    let place = c.ram_place-place.result in
+    let place_is : place ≡ ram_place c.args.segment.now.gpa = c.ram_place-place.ensures in
     let start_is : start ≡ max (ram_place c.args.segment.now.gpa) (4096 * page) = c.max-start.ensures ∙ ap (λ n. max n (4096 * page)) place_is in
     let end_is : end ≡ min (ram_place c.args.segment.now.gpa + memory) (4096 * page + 4096) =
     c.min-end.ensures ∙ ap (λ n. min (n + memory) (4096 * page + 4096)) place_is in
@@ -28,10 +28,13 @@ returns-then-start-end-clause-bytes c = λ at.
     ∙ part_byte ram bytes place start (end - start) at (omega arith) (omega arith) b (in_piece (ram_place c.args.segment.now.gpa) memory page start end at start_is end_is some)
     ∙ ap (λ (n : ℕ). if b then slice_index_or bytes (at - n) 0 else slice_index_or ram at 0) place_is
 
-pub returns-then-start-end-clause-size : goal.returns-then-start-end-clause-size
-returns-then-start-end-clause-size c =
+pub returns-then-start-end-clause-shape : goal.returns-then-start-end-clause-shape
+returns-then-start-end-clause-shape c =
     let some = c.if-start-end.true in
     let inside = c.requires.page in
     let end = c.min-end.ensures in
-    ap (λ (r : Region). length r.ram) c.put_part.ensures
-    ∙ padded_fits c.args.mem.now.ram c.args.segment.now.bytes.now c.max-start.result (c.max-start.result - c.saturating_sub-place.result) (c.min-end.result - c.max-start.result) (omega arith)
+    record {
+      tables = ap (λ (r : Region). r.tables) c.put_part.ensures;
+      size = ap (λ (r : Region). length r.ram) c.put_part.ensures
+          ∙ padded_fits c.args.mem.now.ram c.args.segment.now.bytes.now c.max-start.result (c.max-start.result - c.ram_place-place.result) (c.min-end.result - c.max-start.result) (omega arith);
+    }

@@ -16,7 +16,7 @@ copy_in-requires c =
     let ram : length c.zeros.mem.ram ≡ length c.args.mem.now.ram =
     ap (λ (r : Region). length r.ram) same ∙ zeros_fit c.args.mem.now.ram c.args.place c.zeros.done c.args.count c.requires.inside c.zeros.invariant.1 in
     let base = c.table_bytes.ensures.value in
-    let part = length-take c.min-next.result c.args.zeros.now in
+    let part = ap length c.first.ensures ∙ length-replicate {A = ℕ} c.min-next.result 0 in
     let next = c.min-next.ensures in
     let inside = c.requires.inside in
     let some = c.zeros.invariant.1 in
@@ -27,11 +27,8 @@ zeros-preserved c =
     let base = c.table_bytes.ensures.value in
     let inside = c.requires.inside in
     let next = c.min-next.ensures in
-    let some = c.zeros.invariant.1 in
-    let all : length c.args.zeros.now ≡ 4096 = ap length c.requires.zeros ∙ length-replicate {A = ℕ} 4096 0 in
-    let bytes : take c.min-next.result c.args.zeros.now ≡ replicate c.min-next.result 0 =
-    ap (take c.min-next.result) c.requires.zeros ∙ take-replicate c.min-next.result 4096 0 (omega arith) in (
+    let some = c.zeros.invariant.1 in (
       zeros_put c.args.mem.now c.zeros.mem c.copy_in.new.self c.args.place c.zeros.done c.min-next.result
-          (c.table_bytes.result + c.args.place + c.zeros.done) (take c.min-next.result c.args.zeros.now) (omega arith) (omega arith) bytes c.zeros.invariant.0 c.copy_in.ensures.ram,
+          (c.table_bytes.result + c.args.place + c.zeros.done) c.first.result.now (omega arith) (omega arith) c.first.ensures c.zeros.invariant.0 c.copy_in.ensures.ram,
       omega arith,
     )

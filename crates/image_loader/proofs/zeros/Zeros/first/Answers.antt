@@ -1,0 +1,7 @@
+use Rattle.std.proofs.Common.{◌∙◌, ap, List, ℕ, take}
+use Rattle.std.proofs.lemmas.List.{take-replicate}
+use Rattle.image_loader.proofs.zeros.Zeros.first.Goals as goal
+
+pub returns : goal.returns
+returns c =
+    ap (λ (zeros : List ℕ). take c.args.count zeros) (c.deref.ensures.value ∙ c.args.self.now.zeros) ∙ take-replicate c.args.count 4096 0 c.requires
