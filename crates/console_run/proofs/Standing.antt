@@ -5,11 +5,9 @@ use Rattle.std.proofs.Math.Seq.{take-add}
 use Rattle.processor.specs.Hardware.{Attempted}
 use Rattle.sv_types.specs.declared.event.Event.{Event}
 use Rattle.sv_types.specs.declared.event.Event.TheVariants.{Turn, Beat, Key, Tick}
-use Rattle.sv_types.specs.declared.event.Counts.{Counts}
 use Rattle.sv_types.specs.declared.event.Verdict.{Verdict}
 use Rattle.sv_types.specs.declared.event.Verdict.TheVariants.{Running, Shutdown, Stopped}
 use Rattle.processor.specs.declared.outcome.Outcome.{Outcome}
-use Rattle.reference.specs.Counting.{CountsAtMost}
 use Rattle.reference.specs.Report.{output, report}
 use Rattle.reference.specs.Run.{step}
 use Rattle.reference.specs.States.{State, Journal}
@@ -18,7 +16,6 @@ use Rattle.machine_model.specs.HostHarts.{asks_again}
 use Rattle.machine_model.specs.Machine.{Machine, HostHart}
 use Rattle.machine_model.specs.Reaches.{Cleared, IsNew}
 use Rattle.machine_model.specs.StandsFor.{StandsFor, machine_of, without_printed}
-use Rattle.run_laws.specs.GrowthLaws.{RiseByOne}
 use Rattle.run_laws.proofs.StepsGrow.{grows_law}
 use Rattle.answer_laws.proofs.RunsReach.{clear_law}
 use Rattle.outside.specs.Outside.{SinkState, after_taking}
@@ -39,9 +36,6 @@ journal_is m r s =
 
 cleared_few : (m : Machine) (r : State) → StandsFor m r → m.cleared ≤ length r.journal.printed
 cleared_few m r s = subst (λ (n : ℕ). n ≤ length r.journal.printed) (sym (cleared_is m r s)) s.unseen_is_right.cleared
-
-pub counts_are : (m : Machine) (r : State) → StandsFor m r → m.journal.counts ≡ r.journal.counts
-counts_are m r s = ap (λ (j : Journal). j.counts) (journal_is m r s)
 
 pub verdict_is : (m : Machine) (r : State) → StandsFor m r → m.journal.verdict ≡ r.journal.verdict
 verdict_is m r s = ap (λ (j : Journal). j.verdict) (journal_is m r s)
@@ -125,32 +119,6 @@ event_stays m e after ended it = ended_under m.journal.verdict m e after ended i
 
 pub prints_behind : (r : State) (e : Event) → (more : List ℕ) × ((step r e).journal.printed ≡ r.journal.printed ++ more)
 prints_behind r e = (grows_law r e).behind
-
-risen : (n : ℕ) (old new : Counts) → RiseByOne old new → CountsAtMost n old → CountsAtMost (n + 1) new
-risen n old new rise most = record {
-  turns = omega (arith, rise.turns, most.turns);
-  beats = omega (arith, rise.beats, most.beats);
-  keys = omega (arith, rise.keys, most.keys);
-  ticks = omega (arith, rise.ticks, most.ticks);
-  retired = omega (arith, rise.retired, most.retired);
-  traps = omega (arith, rise.traps, most.traps);
-  enters = omega (arith, rise.enters, most.enters);
-  leaves = omega (arith, rise.leaves, most.leaves);
-  demotes = omega (arith, rise.demotes, most.demotes);
-  denied = omega (arith, rise.denied, most.denied);
-  dropped = omega (arith, rise.dropped, most.dropped);
-  loads = omega (arith, rise.loads, most.loads);
-  unloads = omega (arith, rise.unloads, most.unloads);
-  refused = omega (arith, rise.refused, most.refused);
-  notes = omega (arith, rise.notes, most.notes);
-}
-
--- an event raises no count by more than one
-pub step_counts : (n : ℕ) (m next : Machine) (r : State) (e : Event) → StandsFor m r → StandsFor next (step r e) → CountsAtMost n m.journal.counts →
-    CountsAtMost (n + 1) next.journal.counts
-step_counts n m next r e s after counts =
-    subst (λ (c : Counts). CountsAtMost (n + 1) c) (sym (counts_are next (step r e) after))
-    (risen n r.journal.counts (step r e).journal.counts (grows_law r e).counts (subst (λ (c : Counts). CountsAtMost n c) (counts_are m r s) counts))
 
 left_over : (m : Machine) (r : State) → StandsFor m r → length m.journal.printed + m.cleared ≡ length r.journal.printed
 left_over m r s =

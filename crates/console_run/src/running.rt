@@ -7,6 +7,7 @@ ghost use Rattle.outside.specs.Outside.{BreaksOff};
 ghost use Rattle.console_run.specs.Standing.{HasState};
 ghost use Rattle.console_run.specs.Console.{is_due, Flushed, HasTaken, HasRunFromStart, RunBrokeFromStart};
 
+use crate::drawing::Drawing;
 use machine::{Machine, PRINTED_ROOM};
 use outside::{Failed, Sink, write_all};
 use script::Script;
@@ -47,7 +48,7 @@ pub fn flush_due<O: Sink>(machine: &mut Machine, out: &mut O) -> Result<(), Fail
 /// whenever 4,096 bytes stand. Where a write fails it stands after some of the events.
 pub fn run<O: Sink>(
     machine: &mut Machine,
-    mut script: Script,
+    script: Script,
     events: u64,
     out: &mut O,
 ) -> Result<(), Failed>
@@ -63,14 +64,13 @@ pub fn run<O: Sink>(
     ensures rest { OnOk result (IsFalse (is_due machine.new.journal.printed)) }
     ensures some { OnErr result (RunBrokeFromStart machine.old (first_events events script) machine.new (O.state out.old) (O.state out.new)) }
 {
-    'events: for i in 0..events {
+    let mut drawing = Drawing::new(script, events);
+    'events: while let Some(row) = drawing.draw() {
         if machine.verdict() != Verdict::Running {
             return Ok(());
         }
-        let Some(event) = script.next() else {
-            return Ok(());
-        };
-        machine.step(event);
+        let made = machine.repeat(row.event, row.count);
+        drawing.made(made);
         flush_due(machine, out)?;
     }
     Ok(())

@@ -5,7 +5,7 @@ use Rattle.reference.specs.Counting.{CountsAtMost}
 use Rattle.machine_model.specs.Machine.{Machine}
 use Rattle.machine_model.specs.Reaches.{IsNew}
 use Rattle.outside.specs.Outside.{FilesState}
-use Rattle.console_run.proofs.ConsoleLemmas.{counts_within}
+use Rattle.machine.proofs.Repeated.{counts_within}
 use Rattle.live_keys.specs.Journal.{HasRoom}
 use Rattle.live_keys.specs.Placed.{bytes_of}
 use Rattle.live_keys.specs.declared.live_key.LiveKey.{LiveKey}

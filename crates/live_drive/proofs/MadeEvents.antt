@@ -18,7 +18,9 @@ use Rattle.live_keys.specs.declared.journal.Journal.{Journal}
 use Rattle.console_run.specs.Standing.{HasState}
 use Rattle.console_run.specs.Console.{Flushed}
 use Rattle.console_run.proofs.Standing.{stands_away, cleared_none}
-use Rattle.console_run.proofs.ConsoleLemmas.{Steps, reaches_more, stands_next, counts_within}
+use Rattle.console_run.proofs.ConsoleLemmas.{reaches_more, stands_next}
+use Rattle.machine.proofs.Repeated.{counts_within}
+use Rattle.machine.specs.Repeats.{Makes}
 use Rattle.live_drive.specs.declared.live_run.LiveRun.{LiveRun}
 use Rattle.live_drive.specs.LiveRuns.{harts_of, events_made, IsUnderWay, MayStep, count_of}
 use Rattle.live_drive.specs.Drives.{GoesOn, Breaks}
@@ -71,7 +73,7 @@ cleared_verdict m after cleared = ap (λ (x : Machine). x.journal.verdict) clear
 taken_by : (sink before after : SinkState) (cleared more : List ℕ) → before ≡ after_taking sink cleared → after ≡ after_taking before more → after ≡ after_taking sink (cleared ++ more)
 taken_by sink before after cleared more first then = then ∙ ap (λ (s : SinkState). after_taking s more) first ∙ after_taking-append sink cleared more
 
-pub made_one : (m next flushed : Machine) (e : Event) (s t : SinkState) → Steps m e next → Flushed next flushed s t → (made : List Event) → GoesOn made (made ++ e ∷ []) m flushed s t
+pub made_one : (m next flushed : Machine) (e : Event) (s t : SinkState) → Makes m e next → Flushed next flushed s t → (made : List Event) → GoesOn made (made ++ e ∷ []) m flushed s t
 made_one m next flushed e s t steps f made = record {
   taken = record { bytes = f.cleared; taken = f.taken };
   ran = λ first start sink on. record {
@@ -82,7 +84,7 @@ made_one m next flushed e s t steps f made = record {
   };
 }
 
-pub broken_one : (m next : Machine) (e : Event) (s t : SinkState) → Steps m e next → BreaksOff s t next.journal.printed → (made : List Event) → Breaks made (made ++ e ∷ []) m next s t
+pub broken_one : (m next : Machine) (e : Event) (s t : SinkState) → Makes m e next → BreaksOff s t next.journal.printed → (made : List Event) → Breaks made (made ++ e ∷ []) m next s t
 broken_one m next e s t steps off made = record {
   broke = λ first start sink on. record {
     cleared = on.cleared;

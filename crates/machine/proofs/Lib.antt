@@ -10,5 +10,6 @@ pub mod Given
 pub mod BeatsFit
 pub mod Ready
 pub mod Stepped
+pub mod Repeated
 pub mod Kept
 pub mod Addressed

@@ -4,4 +4,5 @@ pub mod Boot
 pub mod Keeping
 pub mod Machines
 pub mod Parts
+pub mod Repeats
 pub mod Turns

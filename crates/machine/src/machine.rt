@@ -1,12 +1,13 @@
 // The machine.
 
-ghost use Rattle.std.specs.Prelude.{◌≡◌, ◌-◌, ◌<◌, ◌^◌, [], length};
+ghost use Rattle.std.specs.Prelude.{◌≡◌, ℕ, ◌+◌, ◌-◌, ◌<◌, ◌≤◌, ◌^◌, [], length, replicate};
 ghost use Rattle.reference.specs.Counting.{CountsAtMost};
-ghost use Rattle.reference.specs.Run.{step};
+ghost use Rattle.reference.specs.Run.{run, step};
 ghost use Rattle.reference.specs.States.{State};
 ghost use Rattle.machine_model.specs.HardwareEvent.{IsEvent};
 ghost use Rattle.machine_model.specs.Reaches.{Cleared};
 ghost use Rattle.machine_model.specs.StandsFor.{StandsFor};
+ghost use Rattle.machine.specs.Repeats.{Makes, Repeats};
 
 use crate::parts::Parts;
 use std::marker::Model;
@@ -32,12 +33,47 @@ impl Model for Machine {
 
 impl Machine {
     /// One event. The machine stands for the reference machine's state after it, and changes no more than the event may.
-    #[inline(never)]
     pub fn step(&mut self, event: Event)
         requires room { length self.old.journal.printed < 4096 }
         requires counts { CountsAtMost (2 ^ 64 - 2) self.old.journal.counts }
         ensures stands { (r : State) → StandsFor self.old r → StandsFor self.new (step r event) }
         ensures event { IsEvent self.old event self.new }
+    {
+        let _once = self.repeat(event, 1);
+    }
+
+    /// One event up to `count` times in a row, no more of it behind one that printed or that ended the run. Answers how
+    /// often it was made.
+    #[inline(never)]
+    pub fn repeat(&mut self, event: Event, count: u64) -> u64
+        requires asked { 0 < count }
+        requires room { length self.old.journal.printed < 4096 }
+        requires counts { CountsAtMost (2 ^ 64 - 1 - count) self.old.journal.counts }
+        ensures stands { (r : State) → StandsFor self.old r → StandsFor self.new (run r (replicate result event)) }
+        ensures chain { Repeats result self.old event self.new }
+        ensures counts { (n : ℕ) → CountsAtMost n self.old.journal.counts → CountsAtMost (n + result) self.new.journal.counts }
+        ensures some { 0 < result }
+        ensures most { result ≤ count }
+    {
+        let printed = self.printed().len();
+        let mut made = 0;
+        'events: while made < count {
+            self.make(event);
+            made += 1;
+            if self.printed().len() != printed || self.verdict() != Verdict::Running {
+                return made;
+            }
+        }
+        made
+    }
+
+    // One event, by the only caller of the parts' own step.
+    #[inline(always)]
+    fn make(&mut self, event: Event)
+        requires room { length self.old.journal.printed < 4096 }
+        requires counts { CountsAtMost (2 ^ 64 - 2) self.old.journal.counts }
+        ensures makes { Makes self.old event self.new }
+        ensures counts { (n : ℕ) → CountsAtMost n self.old.journal.counts → CountsAtMost (n + 1) self.new.journal.counts }
     {
         self.parts.step(event);
     }

@@ -32,7 +32,8 @@ use Rattle.secvisor_cli.specs.declared.ready.Stop.TheVariants.{Refused, Memory}
 use Rattle.secvisor_cli.specs.CommandLine.{most_events}
 use Rattle.secvisor_cli.specs.Plans.{Due, Refuse, RunFrom, Plan, End, Judge, Found, Faulty, Missing, Longer, Held, found_plan, read_part, measure_judged, pages_judged, is_whole_pages, gen_disk, gen_due}
 use Rattle.secvisor_cli.specs.Reading.{FoundAs}
-use Rattle.console_run.proofs.Standing.{counts_are, printed_few}
+use Rattle.console_run.proofs.Standing.{printed_few}
+use Rattle.machine.proofs.Repeated.{counts_are}
 use Rattle.secvisor_cli.specs.Ready.{unread, PartRead, stop_of, IsReady, IsReadyWhere, Prepares}
 
 -- ---- any plan

@@ -1,8 +1,9 @@
-use Rattle.std.proofs.Common.{◌<◌, ◌-◌, length, IsFalse}
+use Rattle.std.proofs.Common.{◌<◌, ◌≤◌, ◌-◌, length, IsFalse}
 use Rattle.sv_types.specs.Schedule.{first_events}
 use Rattle.reference.specs.Counting.{CountsAtMost}
 use Rattle.reference.specs.States.{State}
 use Rattle.machine_model.specs.Reaches.{IsNew}
+use Rattle.console_run.specs.Drawing.{count_left, events_left}
 use Rattle.console_run.specs.Standing.{HasState}
 use Rattle.console_run.specs.Console.{is_due, HasTaken}
 use Rattle.console_run.proofs.ConsoleLemmas.{RunsOn}
@@ -11,10 +12,14 @@ use Rattle.console_run.proofs.running.run.Given as goal
 abbrev pub invariant-events : goal.invariant-events
 invariant-events g l = record {
   on : (start : State) → IsNew l.initial.machine start →
-      RunsOn l.initial.machine start (first_events l.events l.initial.script) (l.events - l.i) l.script l.machine (g.O.Sink.state l.initial.out) (g.O.Sink.state l.out);
+      RunsOn l.initial.machine start (first_events l.events l.fn.script) (events_left l.drawing) l.machine (g.O.Sink.state l.initial.out) (g.O.Sink.state l.out);
   has : HasState l.machine;
   taken : HasTaken (g.O.Sink.state l.initial.out) (g.O.Sink.state l.out);
-  counts : CountsAtMost l.i l.machine.journal.counts;
+  few : count_left l.drawing ≤ l.events;
+  counts : CountsAtMost (l.events - count_left l.drawing) l.machine.journal.counts;
   room : length l.machine.journal.printed < 4096;
   rest : IsFalse (is_due l.machine.journal.printed);
 }
+
+abbrev pub decreases-events : goal.decreases-events
+decreases-events g l = count_left l.drawing

@@ -2,25 +2,27 @@ use Rattle.std.proofs.Common.{◌+◌, ◌∷◌, ◌++◌, [], sym, ◌∙◌, 
 use Rattle.reference.specs.Run.{step}
 use Rattle.machine_model.specs.Machine.{Machine}
 use Rattle.console_run.specs.Standing.{HasState}
-use Rattle.console_run.proofs.Standing.{event_stays, step_counts}
-use Rattle.console_run.proofs.ConsoleLemmas.{Steps, room_after}
+use Rattle.console_run.proofs.Standing.{event_stays}
+use Rattle.console_run.proofs.ConsoleLemmas.{room_after}
+use Rattle.machine.proofs.Repeated.{step_counts}
+use Rattle.machine.specs.Repeats.{Makes}
 use Rattle.live_drive.specs.Drives.{Breaks}
 use Rattle.live_drive.proofs.MadeEvents.{made_one, broken_one, cleared_state, cleared_counts, cleared_verdict, ok_map, err_both}
 use Rattle.live_drive.proofs.making.make.Goals as goal
 
 pub flush_due-requires-clause-room : goal.flush_due-requires-clause-room
 flush_due-requires-clause-room g c =
-    let steps : Steps c.args.machine.now c.args.event c.step.new.self = record { stands = c.step.ensures.stands; event = c.step.ensures.event } in
+    let steps : Makes c.args.machine.now c.args.event c.step.new.self = record { stands = c.step.ensures.stands; event = c.step.ensures.event } in
     room_after c.args.machine.now c.step.new.self c.args.event c.requires.may.state steps c.requires.may.room
 
 pub returns-clause-on : goal.returns-clause-on
 returns-clause-on g c =
-    let steps : Steps c.args.machine.now c.args.event c.step.new.self = record { stands = c.step.ensures.stands; event = c.step.ensures.event } in
+    let steps : Makes c.args.machine.now c.args.event c.step.new.self = record { stands = c.step.ensures.stands; event = c.step.ensures.event } in
     ok_map c.flush_due.result _ _ (λ f made. made_one _ _ _ _ _ _ steps f made) c.flush_due.ensures.flushed
 
 pub returns-clause-broke : goal.returns-clause-broke
 returns-clause-broke g c =
-    let steps : Steps c.args.machine.now c.args.event c.step.new.self = record { stands = c.step.ensures.stands; event = c.step.ensures.event } in
+    let steps : Makes c.args.machine.now c.args.event c.step.new.self = record { stands = c.step.ensures.stands; event = c.step.ensures.event } in
     err_both c.flush_due.result _ _ _
     (λ same off made.
     subst (λ (m : Machine). Breaks made (made ++ c.args.event ∷ []) c.args.machine.now m (g.O.Sink.state c.args.out.now) (g.O.Sink.state c.flush_due.new.out)) (sym same)

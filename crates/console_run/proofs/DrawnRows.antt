@@ -1,0 +1,21 @@
+-- Events that are drawn in rows.
+use Rattle.std.proofs.Common.{◌≡◌, ℕ, zero, suc, [], ◌++◌, replicate, refl, sym, ◌∙◌, ap, Option, None}
+use Rattle.sv_types.specs.declared.event.Event.{Event}
+use Rattle.sv_types.specs.Schedule.{Schedule, first_events, next_event, after_event, begun_with}
+
+begun_none : (n : ℕ) (script : Schedule) → next_event script ≡ None → first_events n script ≡ []
+unfolding first_events
+begun_none zero script is = refl
+begun_none (suc n) script is = ap (λ (o : Option Event). begun_with o (first_events n (after_event script))) is
+
+-- no event is at hand, and none is to be drawn
+pub none_asked : (count undrawn : ℕ) (event : Event) (script : Schedule) → count ≡ 0 → undrawn ≡ 0 → replicate count event ++ first_events undrawn script ≡ []
+unfolding first_events
+none_asked count undrawn event script none asked =
+    ap (λ (n : ℕ). replicate n event ++ first_events undrawn script) none ∙ ap (λ (n : ℕ). first_events n script) asked
+
+-- no event is at hand, and the script is at its end
+pub none_drawn : (count undrawn : ℕ) (event : Event) (script : Schedule) → count ≡ 0 → None ≡ next_event script →
+    replicate count event ++ first_events undrawn script ≡ []
+none_drawn count undrawn event script none end =
+    ap (λ (n : ℕ). replicate n event ++ first_events undrawn script) none ∙ begun_none undrawn script (sym end)

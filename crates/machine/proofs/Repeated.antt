@@ -1,0 +1,92 @@
+-- One event several times in a row: the state that the machine stands for behind it, and how far its counts rise.
+use Rattle.std.proofs.Common.{◌≡◌, ℕ, zero, suc, ◌+◌, ◌≤◌, List, [], ◌∷◌, ◌++◌, replicate, sym, ◌∙◌, ap, subst, arith, add-one}
+use Rattle.std.proofs.lemmas.List.{replicate-append-replicate}
+use Rattle.sv_types.specs.declared.event.Counts.{Counts}
+use Rattle.sv_types.specs.declared.event.Event.{Event}
+use Rattle.reference.specs.Counting.{CountsAtMost}
+use Rattle.reference.specs.Run.{run, step}
+use Rattle.reference.specs.States.{State}
+use Rattle.reference.proofs.Runs.{run_on}
+use Rattle.run_laws.specs.GrowthLaws.{RiseByOne}
+use Rattle.run_laws.proofs.StepsGrow.{grows_law}
+use Rattle.machine_model.specs.Machine.{Machine}
+use Rattle.machine_model.specs.StandsFor.{StandsFor, machine_of}
+use Rattle.machine.specs.Repeats.{IsQuiet, Makes, Repeats}
+
+-- ---- counts
+
+pub counts_are : (m : Machine) (r : State) → StandsFor m r → m.journal.counts ≡ r.journal.counts
+unfolding machine_of
+counts_are m r s = ap (λ (x : Machine). x.journal.counts) s.same
+
+risen : (n : ℕ) (old new : Counts) → RiseByOne old new → CountsAtMost n old → CountsAtMost (n + 1) new
+risen n old new rise most = record {
+  turns = omega (arith, rise.turns, most.turns);
+  beats = omega (arith, rise.beats, most.beats);
+  keys = omega (arith, rise.keys, most.keys);
+  ticks = omega (arith, rise.ticks, most.ticks);
+  retired = omega (arith, rise.retired, most.retired);
+  traps = omega (arith, rise.traps, most.traps);
+  enters = omega (arith, rise.enters, most.enters);
+  leaves = omega (arith, rise.leaves, most.leaves);
+  demotes = omega (arith, rise.demotes, most.demotes);
+  denied = omega (arith, rise.denied, most.denied);
+  dropped = omega (arith, rise.dropped, most.dropped);
+  loads = omega (arith, rise.loads, most.loads);
+  unloads = omega (arith, rise.unloads, most.unloads);
+  refused = omega (arith, rise.refused, most.refused);
+  notes = omega (arith, rise.notes, most.notes);
+}
+
+-- an event raises no count by more than one
+pub step_counts : (n : ℕ) (m next : Machine) (r : State) (e : Event) → StandsFor m r → StandsFor next (step r e) → CountsAtMost n m.journal.counts →
+    CountsAtMost (n + 1) next.journal.counts
+step_counts n m next r e s after counts =
+    subst (λ (c : Counts). CountsAtMost (n + 1) c) (sym (counts_are next (step r e) after))
+    (risen n r.journal.counts (step r e).journal.counts (grows_law r e).counts (subst (λ (c : Counts). CountsAtMost n c) (counts_are m r s) counts))
+
+pub counts_within : (n most : ℕ) (c : Counts) → n ≤ most → CountsAtMost n c → CountsAtMost most c
+counts_within n most c le at = record {
+  turns = omega arith;
+  beats = omega arith;
+  keys = omega arith;
+  ticks = omega arith;
+  retired = omega arith;
+  traps = omega arith;
+  enters = omega arith;
+  leaves = omega arith;
+  demotes = omega arith;
+  denied = omega arith;
+  dropped = omega arith;
+  loads = omega arith;
+  unloads = omega arith;
+  refused = omega arith;
+  notes = omega arith;
+}
+
+-- and so one more
+pub counts_more : (made : ℕ) (old now new : Counts) → ((n : ℕ) → CountsAtMost n old → CountsAtMost (n + made) now) → ((n : ℕ) → CountsAtMost n now → CountsAtMost (n + 1) new) →
+    (n : ℕ) → CountsAtMost n old → CountsAtMost (n + (made + 1)) new
+counts_more made old now new so_far one n counts =
+    let sum : n + made + 1 ≡ n + (made + 1) = omega arith in subst (λ (k : ℕ). CountsAtMost k new) sum (one (n + made) (so_far n counts))
+
+-- ---- in a row
+
+pub one_more : (n : ℕ) (e : Event) → replicate n e ++ e ∷ [] ≡ replicate (suc n) e
+one_more n e = replicate-append-replicate n 1 e ∙ ap (λ (k : ℕ). replicate k e) (add-one n)
+
+-- the machine stands for the state after all of them
+pub repeats_stand : (n : ℕ) (m after : Machine) (e : Event) → Repeats n m e after → (r : State) → StandsFor m r → StandsFor after (run r (replicate n e))
+repeats_stand zero m after e same r stands = subst (λ (x : Machine). StandsFor x r) (sym same) stands
+repeats_stand (suc n) m after e (before, (those, (quiet, makes))) r stands =
+    subst (λ (s : State). StandsFor after s) (sym (run_on r (replicate n e) (e ∷ [])) ∙ ap (λ (events : List Event). run r events) (one_more n e))
+    (makes.stands (run r (replicate n e)) (repeats_stand n m before e those r stands))
+
+pub repeats_more : (n : ℕ) (m before after : Machine) (e : Event) → Repeats n m e before → IsQuiet m before → Makes before e after → Repeats (n + 1) m e after
+repeats_more n m before after e those quiet makes = subst (λ (k : ℕ). Repeats k m e after) (sym (add-one n)) (before, (those, (quiet, makes)))
+
+-- once
+pub repeats_once : (n : ℕ) (m after : Machine) (e : Event) → n ≡ 1 → Repeats n m e after → Makes m e after
+repeats_once n m after e one repeats =
+    let those : Repeats (suc zero) m e after = subst (λ (k : ℕ). Repeats k m e after) one repeats in
+    subst (λ (x : Machine). Makes x e after) those.1.0 those.1.1.1

@@ -1,0 +1,43 @@
+use Rattle.std.proofs.Common.{subst}
+use Rattle.reference.specs.Run.{step}
+use Rattle.machine_model.specs.Machine.{Machine}
+use Rattle.machine_model.specs.StandsFor.{StandsFor}
+use Rattle.machine_model.specs.Steps.{IsStep}
+use Rattle.machine.proofs.Addressed.{step_addressed}
+use Rattle.machine.proofs.Ready.{guarded, may_attempt}
+use Rattle.machine.proofs.Repeated.{step_counts}
+use Rattle.machine.proofs.Stepped.{step_bounded, step_happens, step_stands}
+use Rattle.machine.proofs.machine.Machine.make.Goals as goal
+
+pub step-requires-clause-guarded : goal.step-requires-clause-guarded
+step-requires-clause-guarded c = guarded c.self.inside.parts c.self.invariant.state c.self.invariant.stands
+
+pub step-requires-clause-ready : goal.step-requires-clause-ready
+step-requires-clause-ready c = λ on h. may_attempt c.self.inside.parts c.self.invariant.state h c.self.invariant.stands on
+
+pub invariant_of-self : goal.invariant_of-self
+invariant_of-self c =
+    let bounded = step_bounded c.self.inside.parts c.step.new.self c.self.invariant.state c.args.event c.self.invariant.stands c.step.ensures.step c.step.ensures.outside
+    (record { attempts = c.self.invariant.attempts; printed = c.self.invariant.printed }) in
+    record {
+      state = step c.self.invariant.state c.args.event;
+      stands = step_stands c.self.inside.parts c.step.new.self c.args.event c.step.ensures.step c.self.invariant.state c.self.invariant.stands;
+      addresses = step_addressed c.self.invariant.state c.args.event c.self.invariant.stands.unseen_is_right.region.most c.self.invariant.addresses;
+      attempts = bounded.attempts;
+      printed = bounded.printed;
+    }
+
+pub returns-clause-makes : goal.returns-clause-makes
+returns-clause-makes c =
+    let steps : IsStep c.args.self.now c.args.event c.step.new.self = subst (λ (m : Machine). IsStep m c.args.event c.step.new.self) c.self.view_is c.step.ensures.step in
+    record {
+      stands = step_stands c.args.self.now c.step.new.self c.args.event steps;
+      event = step_happens c.args.self.now c.step.new.self c.self.invariant.state c.args.event
+          (subst (λ (m : Machine). StandsFor m c.self.invariant.state) c.self.view_is c.self.invariant.stands) steps;
+    }
+
+pub returns-clause-counts : goal.returns-clause-counts
+returns-clause-counts c = λ n counts.
+    let stands = subst (λ (m : Machine). StandsFor m c.self.invariant.state) c.self.view_is c.self.invariant.stands in
+    step_counts n c.args.self.now c.step.new.self c.self.invariant.state c.args.event stands
+    (step_stands c.args.self.now c.step.new.self c.args.event (subst (λ (m : Machine). IsStep m c.args.event c.step.new.self) c.self.view_is c.step.ensures.step) c.self.invariant.state stands) counts

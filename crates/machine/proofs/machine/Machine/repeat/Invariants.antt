@@ -1,0 +1,15 @@
+use Rattle.std.proofs.Common.{◌≡◌, ◌≤◌, ◌+◌, ◌-◌, ℕ, length}
+use Rattle.reference.specs.Counting.{CountsAtMost}
+use Rattle.machine.specs.Repeats.{Repeats}
+use Rattle.machine.proofs.machine.Machine.repeat.Given as goal
+
+abbrev pub invariant-events : goal.invariant-events
+invariant-events l = record {
+  chain : Repeats l.made l.initial.self l.event l.self;
+  quiet : length l.self.journal.printed ≡ length l.initial.self.journal.printed;
+  few : l.made ≤ l.count;
+  counts : (n : ℕ) → CountsAtMost n l.initial.self.journal.counts → CountsAtMost (n + l.made) l.self.journal.counts;
+}
+
+abbrev pub decreases-events : goal.decreases-events
+decreases-events l = l.count - l.made
