@@ -28,6 +28,7 @@ fn low_bits(exit: &Exit) -> u64
 pub(crate) fn gpa_in_ram(mem: &HostMem, exit: &Exit, width: u64) -> Option<u64>
     ensures { result ≡ (if in_ram mem.now.ram (exit_gpa exit.now) width then Some (exit_gpa exit.now) else None) }
 {
+    let _pages = mem.ram_pages();
     if exit.htval >= 1 << 40 {
         return None;
     }

@@ -1,0 +1,4 @@
+pub mod WrittenLists
+pub mod ReadLists
+pub mod ReadRegisters
+pub mod WholeRead

@@ -1,0 +1,38 @@
+-- Spelling values one after another, as a loop does.
+use Rattle.std.proofs.Common.{◌≡◌, ℕ, ◌+◌, ◌<◌, ◌≤◌, List, [], ◌∷◌, ◌++◌, length, get_or, take, refl, sym, ap, ◌∙◌, append_assoc}
+use Rattle.std.proofs.lemmas.List.{append-nil, take_all, take_more}
+use Rattle.snapshot_form.specs.Forms.{Form, spell_all}
+
+-- one value more is spelled
+pub spelled_one : {A : Type 0} (f : List A → Form A) (before values : List A) (a : A) → spell_all f before (values ++ a ∷ []) ≡ spell_all f before values ++ (f (before ++ values)).spell a
+unfolding spell_all
+spelled_one f before [] a = rw (append-nil before, append-nil ((f before).spell a)) refl
+spelled_one f before (x ∷ values) a =
+    let rest = spelled_one f (before ++ x ∷ []) values a in
+    rw (rest, append_assoc before (x ∷ []) values) (sym (append_assoc ((f before).spell x) (spell_all f (before ++ x ∷ []) values) ((f (before ++ (x ∷ values))).spell a)))
+
+-- ---- a loop over values: before it, at a step, behind it. The bytes before stand in front
+
+pub nothing_yet : {A : Type 0} (f : List A → Form A) (front : List ℕ) → front ≡ front ++ spell_all f [] []
+unfolding spell_all
+nothing_yet f front = sym (append-nil front)
+
+pub one_more : {A : Type 0} (d : A) (f : List A → Form A) (values : List A) (i : ℕ) (front out next : List ℕ) → i < length values
+    → out ≡ front ++ spell_all f [] (take i values)
+    → next ≡ out ++ (f (take i values)).spell (get_or values i d)
+    → next ≡ front ++ spell_all f [] (take (i + 1) values)
+one_more d f values i front out next lt so_far written =
+    let grown : spell_all f [] (take (i + 1) values) ≡ spell_all f [] (take i values) ++ (f (take i values)).spell (get_or values i d) =
+    ap (λ taken. spell_all f [] taken) (take_more values i d lt) ∙ spelled_one f [] (take i values) (get_or values i d) in
+    written ∙ ap (λ bytes. bytes ++ (f (take i values)).spell (get_or values i d)) so_far
+    ∙ append_assoc front (spell_all f [] (take i values)) ((f (take i values)).spell (get_or values i d))
+    ∙ ap (λ bytes. front ++ bytes) (sym grown)
+
+pub all_written : {A : Type 0} (f : List A → Form A) (values : List A) (i : ℕ) (front out : List ℕ) → length values ≤ i
+    → out ≡ front ++ spell_all f [] (take i values) → out ≡ front ++ spell_all f [] values
+all_written f values i front out le so_far = so_far ∙ ap (λ taken. front ++ spell_all f [] taken) (take_all i values le)
+
+-- behind the number of values
+pub all_counted : {A : Type 0} (f : List A → Form A) (values : List A) (i : ℕ) (front count out : List ℕ) → length values ≤ i
+    → out ≡ (front ++ count) ++ spell_all f [] (take i values) → out ≡ front ++ (count ++ spell_all f [] values)
+all_counted f values i front count out le so_far = all_written f values i (front ++ count) out le so_far ∙ append_assoc front count (spell_all f [] values)

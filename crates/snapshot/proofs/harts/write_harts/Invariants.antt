@@ -1,0 +1,7 @@
+use Rattle.std.proofs.Common.{◌≡◌, ℕ, ◌++◌, [], take}
+use Rattle.snapshot_form.specs.Forms.{spell_all}
+use Rattle.snapshot_form.specs.HartForms.{hart}
+use Rattle.snapshot.proofs.harts.write_harts.Given as goal
+
+abbrev pub invariant-harts : goal.invariant-harts
+invariant-harts l = (ram_pages : ℕ) → l.out.items ≡ l.fn.out.items ++ spell_all (λ before. hart ram_pages) [] (take l.h-index l.saved)

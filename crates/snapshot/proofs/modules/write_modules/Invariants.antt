@@ -1,0 +1,7 @@
+use Rattle.std.proofs.Common.{◌≡◌, ◌++◌, [], take, length}
+use Rattle.snapshot_form.specs.Forms.{spell_all, spell_number}
+use Rattle.snapshot_form.specs.PageForms.{next_module}
+use Rattle.snapshot.proofs.modules.write_modules.Given as goal
+
+abbrev pub invariant-modules : goal.invariant-modules
+invariant-modules l = l.out.items ≡ (l.fn.out.items ++ spell_number (length l.loaded)) ++ spell_all next_module [] (take l.m-index l.loaded)

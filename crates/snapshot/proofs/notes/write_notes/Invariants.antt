@@ -1,0 +1,7 @@
+use Rattle.std.proofs.Common.{◌≡◌, ℕ, ◌++◌, [], take, length}
+use Rattle.snapshot_form.specs.Forms.{spell_all, spell_number}
+use Rattle.snapshot_form.specs.JournalForms.{note}
+use Rattle.snapshot.proofs.notes.write_notes.Given as goal
+
+abbrev pub invariant-notes : goal.invariant-notes
+invariant-notes l = (harts : ℕ) → l.out.items ≡ (l.fn.out.items ++ spell_number (length l.kept)) ++ spell_all (λ before. note harts) [] (take l.n-index l.kept)

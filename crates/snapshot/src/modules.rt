@@ -1,0 +1,208 @@
+// The bytes of loaded modules and of a load under way.
+
+ghost use Rattle.std.specs.Prelude.{◌≡◌, ℕ, ◌≤◌, Bool, List, [], length, slice_get, ◌++◌, OnOk};
+ghost use Rattle.snapshot_form.specs.Forms.{listed, number, within};
+ghost use Rattle.saved_machine.specs.declared.harts.SavedHart.{SavedHart};
+ghost use Rattle.snapshot_form.specs.PageForms.{gate, is_above, last_id, load, loading, may_load, module_within, modules, next_module};
+ghost use Rattle.snapshot.specs.Reading.{Gives, Reads};
+ghost use Rattle.snapshot.specs.Views.{gate_parts};
+
+use crate::pages::is_above;
+use crate::read_error::ReadError;
+use crate::values::{in_range, read_aligned, read_flag, read_number, write_flag, write_number};
+use processor::{Mode, PAGE_BYTES};
+use saved_machine::{Saved, SavedHart, SavedLoad};
+use snapshot_form::SnapRefusal;
+use std::alloc::{AllocError, Global};
+use sv_types::SavedModule;
+
+const MOST_MODULES: u64 = 64;
+
+const MOST_MODULE_PAGES: u64 = 1024;
+
+#[tactic(auto, unfolding(snapshot_form::specs::PageForms::gate))]
+pub(crate) fn write_gate(out: &mut Vec<u8>, machine: &Saved) -> Result<(), AllocError>
+    ensures { (harts : List SavedHart) → OnOk result (out.new.items ≡ out.old.items ++ (gate harts).spell (machine.now.modules.items, (machine.now.retired, machine.now.loading))) }
+{
+    write_modules(out, &machine.modules)?;
+    write_flag(out, machine.retired)?;
+    write_loading(out, machine.loading)
+}
+
+fn write_modules(out: &mut Vec<u8>, loaded: &[SavedModule]) -> Result<(), AllocError>
+    ensures { OnOk result (out.new.items ≡ out.old.items ++ modules.spell loaded.now) }
+{
+    write_number(out, loaded.len() as u64)?;
+    'modules: for m in loaded {
+        write_module(out, m)?;
+    }
+    Ok(())
+}
+
+#[tactic(auto, unfolding(snapshot_form::specs::PageForms::module_within, snapshot_form::specs::HartForms::aligned))]
+fn write_module(out: &mut Vec<u8>, m: &SavedModule) -> Result<(), AllocError>
+    ensures { (good : ℕ → Bool) → OnOk result (out.new.items ≡ out.old.items ++ (module_within good).spell m.now) }
+{
+    write_number(out, m.id)?;
+    write_number(out, m.gpa)?;
+    write_number(out, m.va)?;
+    write_number(out, m.data_va)
+}
+
+#[tactic(auto, unfolding(snapshot_form::specs::PageForms::loading, snapshot_form::specs::PageForms::load_behind))]
+fn write_loading(out: &mut Vec<u8>, under_way: Option<SavedLoad>) -> Result<(), AllocError>
+    ensures { (harts : List SavedHart) → OnOk result (out.new.items ≡ out.old.items ++ (loading harts).spell under_way) }
+{
+    let Some(under_way) = under_way else {
+        return write_flag(out, false);
+    };
+    write_flag(out, true)?;
+    write_load(out, &under_way)
+}
+
+#[tactic(auto, unfolding(snapshot_form::specs::PageForms::load))]
+fn write_load(out: &mut Vec<u8>, under_way: &SavedLoad) -> Result<(), AllocError>
+    ensures { (harts : List SavedHart) → OnOk result (out.new.items ≡ out.old.items ++ (load harts).spell under_way.now) }
+{
+    write_number(out, u64::from(under_way.hart))?;
+    write_module(out, &under_way.module)?;
+    write_number(out, u64::from(under_way.left))
+}
+
+// ---- reading
+
+/// Loaded modules, whether init pages are retired, and the load under way.
+#[derive(Drop)]
+pub(crate) struct Gate {
+    pub(crate) modules: Vec<SavedModule>,
+    pub(crate) retired: bool,
+    pub(crate) loading: Option<SavedLoad>,
+}
+
+#[tactic(auto, unfolding(snapshot_form::specs::PageForms::gate))]
+pub(crate) fn read_gate<'a>(
+    alloc: Global,
+    bytes: &'a [u8],
+    harts: &[SavedHart],
+) -> Result<(Gate, &'a [u8]), ReadError>
+    requires { length harts.now ≤ 4 }
+    ensures { Reads (λ x. (gate_parts x.0, x.1.now)) result ((gate harts.now).taken bytes.now) }
+{
+    let (modules, rest) = read_modules(alloc, bytes)?;
+    let (retired, rest) = read_flag(rest)?;
+    let (loading, rest) = read_loading(rest, harts)?;
+    Ok((
+        Gate {
+            modules,
+            retired,
+            loading,
+        },
+        rest,
+    ))
+}
+
+#[tactic(auto, unfolding(snapshot_form::specs::PageForms::modules))]
+fn read_modules(alloc: Global, bytes: &[u8]) -> Result<(Vec<SavedModule>, &[u8]), ReadError>
+    ensures { Reads (λ x. (x.0.items, x.1.now)) result (modules.taken bytes.now) }
+{
+    let (count, rest) = read_number(bytes)?;
+    in_range(count <= MOST_MODULES)?;
+    read_loaded(alloc, rest, count)
+}
+
+fn read_loaded(
+    alloc: Global,
+    bytes: &[u8],
+    count: u64,
+) -> Result<(Vec<SavedModule>, &[u8]), ReadError>
+    ensures { Reads (λ x. (x.0.items, x.1.now)) result ((listed next_module [] count).taken bytes.now) }
+{
+    let mut read = Vec::new(alloc);
+    let mut rest = bytes;
+    'modules: for _ in 0..count {
+        let (loaded, after) = read_module(rest, last_id(&read))?;
+        read.push(loaded)?;
+        rest = after;
+    }
+    Ok((read, rest))
+}
+
+fn last_id(before: &[SavedModule]) -> Option<u64>
+    ensures { result ≡ last_id before.now }
+{
+    let last = before.last()?;
+    Some(last.id)
+}
+
+// A module whose id is above the last one.
+#[tactic(auto, unfolding(snapshot_form::specs::PageForms::module_within))]
+fn read_module(bytes: &[u8], last: Option<u64>) -> Result<(SavedModule, &[u8]), SnapRefusal>
+    ensures { Gives (λ x. (x.0, x.1.now)) result ((module_within (is_above last)).taken bytes.now) }
+{
+    let (id, rest) = read_number(bytes)?;
+    in_range(is_above(last, id))?;
+    let (gpa, rest) = read_aligned(rest, PAGE_BYTES)?;
+    let (va, rest) = read_aligned(rest, PAGE_BYTES)?;
+    let (data_va, rest) = read_number(rest)?;
+    Ok((
+        SavedModule {
+            id,
+            gpa,
+            va,
+            data_va,
+        },
+        rest,
+    ))
+}
+
+#[tactic(auto, unfolding(snapshot_form::specs::PageForms::loading, snapshot_form::specs::PageForms::load_behind))]
+fn read_loading<'a>(
+    bytes: &'a [u8],
+    harts: &[SavedHart],
+) -> Result<(Option<SavedLoad>, &'a [u8]), SnapRefusal>
+    requires { length harts.now ≤ 4 }
+    ensures { Gives (λ x. (x.0, x.1.now)) result ((loading harts.now).taken bytes.now) }
+{
+    let (is_under_way, rest) = read_flag(bytes)?;
+    if !is_under_way {
+        return Ok((None, rest));
+    }
+    let (under_way, rest) = read_load(rest, harts)?;
+    Ok((Some(under_way), rest))
+}
+
+#[tactic(auto, unfolding(snapshot_form::specs::PageForms::load))]
+fn read_load<'a>(bytes: &'a [u8], harts: &[SavedHart]) -> Result<(SavedLoad, &'a [u8]), SnapRefusal>
+    requires { length harts.now ≤ 4 }
+    ensures { Gives (λ x. (x.0, x.1.now)) result ((load harts.now).taken bytes.now) }
+{
+    let (hart, rest) = read_loading_hart(bytes, harts)?;
+    let (loaded, rest) = read_module(rest, None)?;
+    let (left, rest) = read_number(rest)?;
+    in_range(left <= MOST_MODULE_PAGES)?;
+    Ok((
+        SavedLoad {
+            hart,
+            module: loaded,
+            left: left as u32,
+        },
+        rest,
+    ))
+}
+
+// A hart that is there, started and in kernel mode.
+fn read_loading_hart<'a>(
+    bytes: &'a [u8],
+    harts: &[SavedHart],
+) -> Result<(u8, &'a [u8]), SnapRefusal>
+    requires { length harts.now ≤ 4 }
+    ensures { Gives (λ x. (x.0, x.1.now)) result ((within (λ h. may_load (slice_get harts.now h)) number).taken bytes.now) }
+{
+    let (n, rest) = read_number(bytes)?;
+    if n >= harts.len() as u64 {
+        return Err(SnapRefusal::OutOfRange);
+    }
+    let hart = harts[n as usize];
+    in_range(hart.started && hart.mode == Mode::Kernel)?;
+    Ok((n as u8, rest))
+}

@@ -1,0 +1,251 @@
+// The bytes of a whole snapshot.
+
+ghost use Rattle.std.specs.Prelude.{◌≡◌, ◌≤◌, ◌*◌, ◌++◌, true, length, Ok, OnOk, IfOk};
+ghost use Rattle.processor.specs.Bytes.{page_size};
+ghost use Rattle.snapshot_form.specs.Forms.{plain};
+ghost use Rattle.snapshot_form.specs.Snapshots.{Contents, beginning, body, contents, hart_count, header, magic, page_count, snapshot, snapshot_read, whole_body, whole_header, whole_of};
+ghost use Rattle.snapshot.specs.Reading.{Gives, Reads};
+ghost use Rattle.snapshot.specs.Views.{body_parts, header_view};
+
+use crate::devices::{Devices, read_devices, write_devices};
+use crate::harts::{read_harts, write_harts};
+use crate::journal::{Recorded, read_journal, write_journal};
+use crate::modules::{Gate, read_gate, write_gate};
+use crate::pages::{Pages, read_pages, write_pages};
+use crate::read_error::ReadError;
+use crate::values::{in_range, read_number, read_plain, write_number};
+use processor::PAGE_BYTES;
+use saved_machine::{Saved, SavedHart};
+use snapshot_form::{SnapRefusal, Snapshot};
+use std::alloc::{AllocError, Global};
+
+const MAGIC: &[u8; 8] = b"SVSNAP01";
+
+const MOST_BYTES: usize = 1300 << 20;
+
+const MOST_EVENTS: u64 = 1 << 32;
+
+const MOST_HARTS: u64 = 4;
+
+const LEAST_RAM_PAGES: u64 = 16;
+
+const MOST_RAM_PAGES: u64 = 262_144;
+
+/// The bytes of a snapshot. Want of memory is the one refusal.
+#[tactic(auto, unfolding(snapshot_form::specs::Snapshots::snapshot))]
+pub fn write(alloc: Global, s: &Snapshot) -> Result<Vec<u8>, AllocError>
+    ensures { IfOk result (λ bytes. bytes.items ≡ snapshot.spell (contents s.now)) }
+{
+    let mut out = Vec::new(alloc);
+    write_header(&mut out, s)?;
+    write_body(&mut out, s)?;
+    Ok(out)
+}
+
+#[tactic(auto, unfolding(snapshot_form::specs::Snapshots::header))]
+fn write_header(out: &mut Vec<u8>, s: &Snapshot) -> Result<(), AllocError>
+    ensures { OnOk result (out.new.items ≡ out.old.items ++ header.spell (whole_header (contents s.now))) }
+{
+    out.extend_from_slice(MAGIC)?;
+    write_number(out, s.events)?;
+    write_number(out, s.machine.harts.len() as u64)?;
+    write_number(out, s.machine.protection.len() as u64)?;
+    write_number(out, s.machine.time)
+}
+
+#[tactic(auto, unfolding(snapshot_form::specs::Snapshots::body))]
+fn write_body(out: &mut Vec<u8>, s: &Snapshot) -> Result<(), AllocError>
+    ensures { OnOk result (out.new.items ≡ out.old.items ++ (body (whole_header (contents s.now))).spell (whole_body (contents s.now))) }
+{
+    let machine = &s.machine;
+    write_harts(out, &machine.harts)?;
+    write_pages(out, &machine.protection, &s.text)?;
+    write_gate(out, machine)?;
+    write_devices(out, machine)?;
+    write_journal(out, machine)?;
+    out.extend_from_slice(&machine.ram)
+}
+
+// ---- reading
+
+/// The snapshot that some bytes are. What is read is spelled so, and each snapshot is read from its spelling; else the first
+/// refusal from left to right is answered, or want of memory.
+pub fn read(alloc: Global, bytes: &[u8]) -> Result<Snapshot, ReadError>
+    ensures read { Reads contents result (snapshot_read bytes.now) }
+    ensures spelled { IfOk result (λ s. bytes.now ≡ snapshot.spell (contents s)) }
+    ensures has { IfOk result (λ s. snapshot.has (contents s) ≡ true) }
+    ensures every { (s : Contents) → snapshot.has s ≡ true → bytes.now ≡ snapshot.spell s → Reads contents result (Ok s) }
+{
+    read_all(alloc, bytes)
+}
+
+#[tactic(auto, unfolding(snapshot_form::specs::Snapshots::snapshot_read))]
+fn read_all(alloc: Global, bytes: &[u8]) -> Result<Snapshot, ReadError>
+    ensures { Reads contents result (snapshot_read bytes.now) }
+{
+    if bytes.len() > MOST_BYTES {
+        return Err(ReadError::Refused(SnapRefusal::TooLong));
+    }
+    let (snapshot, rest) = read_snapshot(alloc, bytes)?;
+    if !rest.is_empty() {
+        return Err(ReadError::Refused(SnapRefusal::OtherLength));
+    }
+    Ok(snapshot)
+}
+
+#[tactic(auto, unfolding(snapshot_form::specs::Snapshots::snapshot))]
+fn read_snapshot(alloc: Global, bytes: &[u8]) -> Result<(Snapshot, &[u8]), ReadError>
+    ensures { Reads (λ x. (contents x.0, x.1.now)) result (snapshot.taken bytes.now) }
+{
+    let (header, rest) = read_header(bytes)?;
+    let (body, rest) = read_body(alloc, rest, header)?;
+    Ok((put_together(header, body), rest))
+}
+
+fn put_together(header: Header, body: Body) -> Snapshot
+    ensures { contents result ≡ whole_of (header_view header, body_parts body) }
+{
+    let Body {
+        harts,
+        pages: Pages { protection, text },
+        gate: Gate {
+            modules,
+            retired,
+            loading,
+        },
+        devices: Devices {
+            console,
+            block,
+            disk,
+        },
+        recorded: Recorded {
+            counts,
+            notes,
+            verdict,
+        },
+        ram,
+    } = body;
+    let machine = Saved {
+        harts,
+        ram,
+        protection,
+        modules,
+        retired,
+        loading,
+        console,
+        block,
+        disk,
+        time: header.time,
+        counts,
+        notes,
+        verdict,
+    };
+    Snapshot {
+        events: header.events,
+        machine,
+        text,
+    }
+}
+
+/// Events, harts, pages of RAM and time.
+#[derive(Clone, Copy, Drop)]
+struct Header {
+    events: u64,
+    harts: u8,
+    ram_pages: u32,
+    time: u64,
+}
+
+#[tactic(auto, unfolding(snapshot_form::specs::Snapshots::header))]
+fn read_header(bytes: &[u8]) -> Result<(Header, &[u8]), SnapRefusal>
+    ensures range { IfOk result (λ x. x.0.harts ≤ 4) }
+    ensures header { Gives (λ x. (header_view x.0, x.1.now)) result (header.taken bytes.now) }
+{
+    let rest = read_magic(bytes)?;
+    let (events, rest) = read_number(rest)?;
+    in_range(events <= MOST_EVENTS)?;
+    let (harts, rest) = read_hart_count(rest)?;
+    let (ram_pages, rest) = read_page_count(rest)?;
+    let (time, rest) = read_number(rest)?;
+    Ok((
+        Header {
+            events,
+            harts,
+            ram_pages,
+            time,
+        },
+        rest,
+    ))
+}
+
+#[tactic(auto, unfolding(snapshot_form::specs::Snapshots::magic_at))]
+fn read_magic(bytes: &[u8]) -> Result<&[u8], SnapRefusal>
+    ensures { Gives (λ rest. (magic, rest.now)) result (beginning.taken bytes.now) }
+{
+    let Some((front, rest)) = bytes.split_first_chunk::<8>() else {
+        return Err(SnapRefusal::OtherLength);
+    };
+    if front != MAGIC {
+        return Err(SnapRefusal::OtherBeginning);
+    }
+    Ok(rest)
+}
+
+fn read_hart_count(bytes: &[u8]) -> Result<(u8, &[u8]), SnapRefusal>
+    ensures range { IfOk result (λ x. x.0 ≤ 4) }
+    ensures count { Gives (λ x. (x.0, x.1.now)) result (hart_count.taken bytes.now) }
+{
+    let (n, rest) = read_number(bytes)?;
+    in_range(1 <= n && n <= MOST_HARTS)?;
+    Ok((n as u8, rest))
+}
+
+fn read_page_count(bytes: &[u8]) -> Result<(u32, &[u8]), SnapRefusal>
+    ensures { Gives (λ x. (x.0, x.1.now)) result (page_count.taken bytes.now) }
+{
+    let (n, rest) = read_number(bytes)?;
+    in_range(LEAST_RAM_PAGES <= n && n <= MOST_RAM_PAGES)?;
+    Ok((n as u32, rest))
+}
+
+/// What stands behind the header.
+#[derive(Drop)]
+struct Body {
+    harts: Vec<SavedHart>,
+    pages: Pages,
+    gate: Gate,
+    devices: Devices,
+    recorded: Recorded,
+    ram: Vec<u8>,
+}
+
+#[tactic(auto, unfolding(snapshot_form::specs::Snapshots::body))]
+fn read_body(alloc: Global, bytes: &[u8], header: Header) -> Result<(Body, &[u8]), ReadError>
+    requires { header.harts ≤ 4 }
+    ensures { Reads (λ x. (body_parts x.0, x.1.now)) result ((body (header_view header)).taken bytes.now) }
+{
+    let (harts, rest) = read_harts(alloc, bytes, header.ram_pages, header.harts)?;
+    let (pages, rest) = read_pages(alloc, rest, header.ram_pages)?;
+    let (gate, rest) = read_gate(alloc, rest, &harts)?;
+    let (devices, rest) = read_devices(alloc, rest)?;
+    let (recorded, rest) = read_journal(alloc, rest, header.events, header.harts)?;
+    let (ram, rest) = read_ram(alloc, rest, header.ram_pages)?;
+    Ok((
+        Body {
+            harts,
+            pages,
+            gate,
+            devices,
+            recorded,
+            ram,
+        },
+        rest,
+    ))
+}
+
+fn read_ram(alloc: Global, bytes: &[u8], ram_pages: u32) -> Result<(Vec<u8>, &[u8]), ReadError>
+    ensures { Reads (λ x. (x.0.items, x.1.now)) result ((plain (page_size * ram_pages)).taken bytes.now) }
+{
+    let (ram, rest) = read_plain(bytes, PAGE_BYTES * u64::from(ram_pages))?;
+    Ok((ram.to_vec(alloc)?, rest))
+}
