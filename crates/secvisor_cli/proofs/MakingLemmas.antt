@@ -160,6 +160,14 @@ pub module_may : (from : (Modules → Plan) → Plan) (name : List ℕ) (names :
     MayStage from old → MayStage (module_part name before) now
 module_may from name names before old now on may = record { next = λ m. modules_part names m may.next; may = on.may may.next may.may }
 
+pub module_more : (from : (Modules → Plan) → Plan) (name : List ℕ) (names : List (List ℕ)) (before after : Modules) (old now new : FilesState) →
+    GoesOn from (modules_part (name ∷ names) before) old now → Passes (module_part name before) after now new → GoesOn from (modules_part names after) old new
+module_more from name names before after old now new on pass = record {
+  follows = λ next last reached f. on.follows next last reached (pass.follows (λ m. modules_part names m next) last reached f);
+  may = λ next m. pass.may (λ m. modules_part names m next) (on.may next m);
+  faults = pass.faults ∙ on.faults;
+}
+
 pub module_ends : (from : (Modules → Plan) → Plan) (name : List ℕ) (names : List (List ℕ)) (before : Modules) (old now new : FilesState) (stop : Stop) →
     GoesOn from (modules_part (name ∷ names) before) old now → ((next : Modules → Plan) → Prepares (module_part name before next) now new (Err stop)) →
     (next : Modules → Plan) → Prepares (from next) old new (Err stop)
