@@ -6,15 +6,21 @@ use Rattle.std.specs.Option.{is_some, unwrap_or}
 use Rattle.std.specs.Str.{bytes_eq}
 use Rattle.std.proofs.lemmas.Slice.Eq.{bytes_eq-Decides}
 use Rattle.clap.specs.Words.{Text, subcommand_of, takes}
+use Rattle.command_words.specs.declared.command.DiskKind.{DiskKind}
 use Rattle.command_words.specs.Commands.{Split, Flat, Gen, Run, Measure, split_words, shape_split, flat_split, gen_split, run_split, measure_split, has_dash}
 use Rattle.command_words.specs.Parsing.{whole_app, split_found}
-use Rattle.command_words.proofs.Walks.{IsRead, flat_read, gen_read, run_read, measure_read}
+use Rattle.command_words.proofs.Walks.{IsRead, flat_read, gen_read, run_read, vrun_read, measure_read}
+
+-- the name of a command that runs an image with such a disk
+abbrev run_name : DiskKind → Text
+run_name DiskKind.Block = codes "run"
+run_name DiskKind.Virtio = codes "vrun"
 
 -- the words of a command: its name and its words in order
 abbrev words_of : Split → List Text
 words_of (Flat w) = codes "flat" ∷ w.file ∷ w.wanted ∷ w.events ∷ []
 words_of (Gen calls) = codes "gen" ∷ calls ∷ []
-words_of (Run w) = codes "run" ∷ w.image ∷ w.policy ∷ w.disk ∷ w.script ∷ w.events ∷ w.save ∷ []
+words_of (Run w) = run_name w.kind ∷ w.image ∷ w.policy ∷ w.disk ∷ w.script ∷ w.events ∷ w.save ∷ []
 words_of (Measure w) = codes "measure" ∷ w.out ∷ w.kernel ∷ w.ram ∷ w.harts ∷ w.entries ∷ w.init ∷ w.modules
 
 none_is_some : {X : Type 0} {x : X} → None ≡ Some x → ⊥
@@ -33,9 +39,9 @@ gen_kept : (rest : List Text) (s : Split) → gen_split rest ≡ Some s → code
 gen_kept (a ∷ []) s e = ap words_of (some_is _ s e)
 gen_kept _ s e = absurd (none_is_some e)
 
-run_kept : (rest : List Text) (s : Split) → run_split rest ≡ Some s → codes "run" ∷ rest ≡ words_of s
-run_kept (a ∷ b ∷ c ∷ d ∷ f ∷ g ∷ []) s e = ap words_of (some_is _ s e)
-run_kept _ s e = absurd (none_is_some e)
+run_kept : (kind : DiskKind) (rest : List Text) (s : Split) → run_split kind rest ≡ Some s → run_name kind ∷ rest ≡ words_of s
+run_kept kind (a ∷ b ∷ c ∷ d ∷ f ∷ g ∷ []) s e = ap words_of (some_is _ s e)
+run_kept kind _ s e = absurd (none_is_some e)
 
 measure_kept : (rest : List Text) (s : Split) → measure_split rest ≡ Some s → codes "measure" ∷ rest ≡ words_of s
 measure_kept (a ∷ b ∷ c ∷ d ∷ f ∷ g ∷ modules) s e = ap words_of (some_is _ s e)
@@ -50,20 +56,32 @@ module _ (name : Text) (rest : List Text) (s : Split) where
   by_measure true is e = at_name (codes "measure") is (measure_kept rest s e)
   by_measure false is e = absurd (none_is_some e)
 
-  by_run : (b : Bool) → bytes_eq name (codes "run") ≡ b
-      → cond b (run_split rest) (cond (bytes_eq name (codes "measure")) (measure_split rest) None) ≡ Some s → name ∷ rest ≡ words_of s
-  by_run true is e = at_name (codes "run") is (run_kept rest s e)
-  by_run false is e = by_measure (bytes_eq name (codes "measure")) refl e
+  -- what stands behind the test of a name
+  abbrev behind_vrun : Option Split
+  behind_vrun = cond (bytes_eq name (codes "measure")) (measure_split rest) None
+
+  abbrev behind_run : Option Split
+  behind_run = cond (bytes_eq name (codes "vrun")) (run_split DiskKind.Virtio rest) behind_vrun
+
+  abbrev behind_gen : Option Split
+  behind_gen = cond (bytes_eq name (codes "run")) (run_split DiskKind.Block rest) behind_run
+
+  by_vrun : (b : Bool) → bytes_eq name (codes "vrun") ≡ b → cond b (run_split DiskKind.Virtio rest) behind_vrun ≡ Some s → name ∷ rest ≡ words_of s
+  by_vrun true is e = at_name (codes "vrun") is (run_kept DiskKind.Virtio rest s e)
+  by_vrun false is e = by_measure (bytes_eq name (codes "measure")) refl e
+
+  by_run : (b : Bool) → bytes_eq name (codes "run") ≡ b → cond b (run_split DiskKind.Block rest) behind_run ≡ Some s → name ∷ rest ≡ words_of s
+  by_run true is e = at_name (codes "run") is (run_kept DiskKind.Block rest s e)
+  by_run false is e = by_vrun (bytes_eq name (codes "vrun")) refl e
 
   by_gen : (b : Bool) → bytes_eq name (codes "gen") ≡ b
-      → cond b (gen_split rest) (cond (bytes_eq name (codes "run")) (run_split rest) (cond (bytes_eq name (codes "measure")) (measure_split rest) None)) ≡ Some s
+      → cond b (gen_split rest) behind_gen ≡ Some s
       → name ∷ rest ≡ words_of s
   by_gen true is e = at_name (codes "gen") is (gen_kept rest s e)
   by_gen false is e = by_run (bytes_eq name (codes "run")) refl e
 
   by_flat : (b : Bool) → bytes_eq name (codes "flat") ≡ b
-      → cond b (flat_split rest) (cond (bytes_eq name (codes "gen")) (gen_split rest) (cond (bytes_eq name (codes "run")) (run_split rest)
-      (cond (bytes_eq name (codes "measure")) (measure_split rest) None))) ≡ Some s
+      → cond b (flat_split rest) (cond (bytes_eq name (codes "gen")) (gen_split rest) behind_gen) ≡ Some s
       → name ∷ rest ≡ words_of s
   by_flat true is e = at_name (codes "flat") is (flat_kept rest s e)
   by_flat false is e = by_gen (bytes_eq name (codes "gen")) refl e
@@ -84,10 +102,22 @@ split_kept words s e = by_dashes words s (list_any has_dash words) refl e
 
 -- ---- as `clap` reads them
 
+-- the words behind the name
+plain_behind : (kind : DiskKind) (words : List Text) → list_any has_dash (run_name kind ∷ words) ≡ false → list_any has_dash words ≡ false
+plain_behind DiskKind.Block words plain = plain
+plain_behind DiskKind.Virtio words plain = plain
+
+run_read_by : (kind : DiskKind) (a b c d f g : Text) → list_any has_dash (a ∷ b ∷ c ∷ d ∷ f ∷ g ∷ []) ≡ false
+    → IsRead (run_name kind ∷ a ∷ b ∷ c ∷ d ∷ f ∷ g ∷ [])
+    (Run (record { kind = kind; image = a; policy = b; disk = c; script = d; events = f; save = g }))
+run_read_by DiskKind.Block a b c d f g plain = run_read a b c d f g plain
+run_read_by DiskKind.Virtio a b c d f g plain = vrun_read a b c d f g plain
+
 read_of : (s : Split) → length (words_of s) ≤ 2 ^ 64 → list_any has_dash (words_of s) ≡ false → IsRead (words_of s) s
 read_of (Flat w) short plain = flat_read w.file w.wanted w.events plain
 read_of (Gen calls) short plain = gen_read calls plain
-read_of (Run w) short plain = run_read w.image w.policy w.disk w.script w.events w.save plain
+read_of (Run w) short plain = run_read_by w.kind w.image w.policy w.disk w.script w.events w.save
+    (plain_behind w.kind (w.image ∷ w.policy ∷ w.disk ∷ w.script ∷ w.events ∷ w.save ∷ []) plain)
 read_of (Measure w) short plain = measure_read w.out w.kernel w.ram w.harts w.entries w.init w.modules (omega arith) plain
 
 split_is_read : (words : List Text) (s : Split) → length words ≤ 2 ^ 64 → split_words words ≡ Some s → IsRead words s

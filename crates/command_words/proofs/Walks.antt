@@ -10,6 +10,7 @@ use Rattle.clap.specs.Walk.{Names, Walk, answers_to, arg_by_index, positional, s
 use Rattle.std.proofs.lemmas.Bool.{le-leb}
 use Rattle.clap.proofs.OnLiterals.{clap_on_literals}
 use Rattle.clap.proofs.WalkLemmas.{walk_stopped}
+use Rattle.command_words.specs.declared.command.DiskKind.{DiskKind}
 use Rattle.command_words.specs.Commands.{Split, Flat, Gen, Run, Measure, has_dash}
 use Rattle.command_words.specs.Parsing.{whole_app, split_found}
 use Rattle.command_words.proofs.PlainWords.{IsOn, NoneTrails, placed, placed_pass, pass_is, stopped_pass, walk_is}
@@ -97,6 +98,10 @@ run_is : IsNamed (codes "run") (shape_named (codes "run"))
 unfolding clap_on_literals
 run_is = record { met = refl; found = refl; trails = refl; turn = λ words. refl }
 
+vrun_is : IsNamed (codes "vrun") (shape_named (codes "vrun"))
+unfolding clap_on_literals
+vrun_is = record { met = refl; found = refl; trails = refl; turn = λ words. refl }
+
 measure_is : IsNamed (codes "measure") (shape_named (codes "measure"))
 unfolding clap_on_literals
 measure_is = record { met = refl; found = refl; trails = refl; turn = λ words. refl }
@@ -128,9 +133,15 @@ gen_read a plain = read_by _ _ gen_is _ _ plain refl refl
 
 pub run_read : (a b c d e f : Text) → list_any has_dash (a ∷ b ∷ c ∷ d ∷ e ∷ f ∷ []) ≡ false
     → IsRead (codes "run" ∷ a ∷ b ∷ c ∷ d ∷ e ∷ f ∷ [])
-    (Run (record { image = a; policy = b; disk = c; script = d; events = e; save = f }))
+    (Run (record { kind = DiskKind.Block; image = a; policy = b; disk = c; script = d; events = e; save = f }))
 unfolding clap_on_literals split_found
 run_read a b c d e f plain = read_by _ _ run_is _ _ plain refl refl
+
+pub vrun_read : (a b c d e f : Text) → list_any has_dash (a ∷ b ∷ c ∷ d ∷ e ∷ f ∷ []) ≡ false
+    → IsRead (codes "vrun" ∷ a ∷ b ∷ c ∷ d ∷ e ∷ f ∷ [])
+    (Run (record { kind = DiskKind.Virtio; image = a; policy = b; disk = c; script = d; events = e; save = f }))
+unfolding clap_on_literals split_found
+vrun_read a b c d e f plain = read_by _ _ vrun_is _ _ plain refl refl
 
 -- ---- any number of modules
 

@@ -2,6 +2,7 @@
 use Rattle.std.specs.Prelude.{ℕ, Bool, false, ◌==◌, List, [], ◌∷◌, Option, Some, None, codes, if◌then◌else◌}
 use Rattle.std.specs.List.{list_any}
 use Rattle.std.specs.Str.{bytes_eq}
+use Rattle.command_words.specs.declared.command.DiskKind.{DiskKind}
 
 -- flat FILE MEASURE EVENTS
 pub record FlatSplit : Type 0 where
@@ -9,8 +10,10 @@ pub record FlatSplit : Type 0 where
   pub wanted : List ℕ
   pub events : List ℕ
 
--- run IMAGE POLICY DISK SCRIPT EVENTS SAVE
+-- run IMAGE POLICY DISK SCRIPT EVENTS SAVE, or vrun with the same words
 pub record RunSplit : Type 0 where
+  -- which block device the machine has
+  pub kind : DiskKind
   pub image : List ℕ
   pub policy : List ℕ
   pub disk : List ℕ
@@ -45,8 +48,9 @@ abbrev pub gen_split : List (List ℕ) → Option Split
 gen_split (calls ∷ []) = Some (Gen calls)
 gen_split _ = None
 
-abbrev pub run_split : List (List ℕ) → Option Split
-run_split (image ∷ policy ∷ disk ∷ script ∷ events ∷ save ∷ []) = Some (Run (record {
+abbrev pub run_split : DiskKind → List (List ℕ) → Option Split
+run_split kind (image ∷ policy ∷ disk ∷ script ∷ events ∷ save ∷ []) = Some (Run (record {
+  kind = kind;
   image = image;
   policy = policy;
   disk = disk;
@@ -54,7 +58,7 @@ run_split (image ∷ policy ∷ disk ∷ script ∷ events ∷ save ∷ []) = So
   events = events;
   save = save;
 }))
-run_split _ = None
+run_split kind _ = None
 
 abbrev pub measure_split : List (List ℕ) → Option Split
 measure_split (out ∷ kernel ∷ ram ∷ harts ∷ entries ∷ init ∷ modules) = Some (Measure (record {
@@ -72,7 +76,8 @@ abbrev pub named_split : List ℕ → List (List ℕ) → Option Split
 named_split name rest =
     if bytes_eq name (codes "flat") then flat_split rest
     else if bytes_eq name (codes "gen") then gen_split rest
-    else if bytes_eq name (codes "run") then run_split rest
+    else if bytes_eq name (codes "run") then run_split DiskKind.Block rest
+    else if bytes_eq name (codes "vrun") then run_split DiskKind.Virtio rest
     else if bytes_eq name (codes "measure") then measure_split rest
     else None
 

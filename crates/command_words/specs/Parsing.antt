@@ -5,6 +5,7 @@ use Rattle.clap.specs.Words.{App, Row, Rule, Text, new_app, new_rule, with_rule,
 use Rattle.clap.specs.Simple.{on_top}
 use Rattle.clap.specs.Lexer.{usize_max}
 use Rattle.clap.specs.declared.builder.ArgAction.TheVariants.{Set, Append}
+use Rattle.command_words.specs.declared.command.DiskKind.{DiskKind}
 use Rattle.command_words.specs.Commands.{Split, Flat, Gen, Run, Measure}
 
 -- ---- the commands
@@ -48,6 +49,9 @@ gen_app = wanting (codes "gen") gen_names
 abbrev pub run_app : App
 run_app = wanting (codes "run") run_names
 
+abbrev pub vrun_app : App
+vrun_app = wanting (codes "vrun") run_names
+
 abbrev pub measure_app : App
 measure_app = with_rule (wanting (codes "measure") measure_names) (list_rule (codes "MODULES"))
 
@@ -61,7 +65,9 @@ bare_app = on_top (λ s. record s {
 }) (new_app (codes "secvisor"))
 
 abbrev pub whole_app : App
-whole_app = with_subcommand (with_subcommand (with_subcommand (with_subcommand bare_app flat_app.top) gen_app.top) run_app.top) measure_app.top
+whole_app =
+    with_subcommand (with_subcommand (with_subcommand (with_subcommand (with_subcommand bare_app flat_app.top) gen_app.top) run_app.top)
+    vrun_app.top) measure_app.top
 
 -- ---- the words under their names
 
@@ -75,9 +81,10 @@ flat_found rows = option_and_then (λ file. option_and_then (λ wanted. option_m
 abbrev pub gen_found : List Row → Option Split
 gen_found rows = option_map Gen (first_of (codes "N") rows)
 
-abbrev pub run_found : List Row → Option Split
-run_found rows = option_and_then (λ image. option_and_then (λ policy. option_and_then (λ disk. option_and_then (λ script.
+abbrev pub run_found : DiskKind → List Row → Option Split
+run_found kind rows = option_and_then (λ image. option_and_then (λ policy. option_and_then (λ disk. option_and_then (λ script.
     option_and_then (λ events. option_map (λ save. Run (record {
+      kind = kind;
       image = image;
       policy = policy;
       disk = disk;
@@ -120,7 +127,8 @@ abbrev pub named_found : Text × List Row → Option Split
 named_found found =
     if bytes_eq found.0 (codes "flat") then flat_found found.1
     else if bytes_eq found.0 (codes "gen") then gen_found found.1
-    else if bytes_eq found.0 (codes "run") then run_found found.1
+    else if bytes_eq found.0 (codes "run") then run_found DiskKind.Block found.1
+    else if bytes_eq found.0 (codes "vrun") then run_found DiskKind.Virtio found.1
     else if bytes_eq found.0 (codes "measure") then measure_found found.1
     else None
 

@@ -12,6 +12,7 @@ flat_split_of w = record { file = w.file.now; wanted = w.wanted.now; events = w.
 
 abbrev pub run_split_of : RunWords → RunSplit
 run_split_of w = record {
+  kind = w.kind;
   image = w.image.now;
   policy = w.policy.now;
   disk = w.disk.now;

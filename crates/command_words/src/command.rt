@@ -1,5 +1,14 @@
 // The words of a command by their names.
 
+/// Which block device a machine has.
+#[derive(Clone, Copy, Debug, PartialEq, Eq, Drop)]
+pub enum DiskKind {
+    /// The one of five registers.
+    Block,
+    /// A virtio block device.
+    Virtio,
+}
+
 /// The words of a command.
 #[derive(Drop)]
 pub enum CommandWords<'a> {
@@ -18,9 +27,10 @@ pub struct FlatWords<'a> {
     pub events: &'a str,
 }
 
-/// `run IMAGE POLICY DISK SCRIPT EVENTS SAVE`
+/// `run IMAGE POLICY DISK SCRIPT EVENTS SAVE`, or `vrun` with the same words, whose disk is a virtio block device.
 #[derive(Drop)]
 pub struct RunWords<'a> {
+    pub kind: DiskKind,
     pub image: &'a str,
     pub policy: &'a str,
     pub disk: &'a str,

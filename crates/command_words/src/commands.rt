@@ -2,7 +2,7 @@
 ghost use Rattle.std.specs.Prelude.{◌≡◌, IfOk, false, fold, map, take, drop};
 ghost use Rattle.clap.specs.Words.{app_of, rule_of};
 ghost use Rattle.clap.specs.declared.builder.Command.TheViews.{out-Command};
-ghost use Rattle.command_words.specs.Parsing.{wanted_rule, list_rule, with_wanted, wanting, measure_app, bare_app, whole_app, flat_app, gen_app, run_app};
+ghost use Rattle.command_words.specs.Parsing.{wanted_rule, list_rule, with_wanted, wanting, measure_app, bare_app, whole_app, flat_app, gen_app, run_app, vrun_app};
 
 use clap::{Arg, ArgAction, Command};
 use std::alloc::{AllocError, Global};
@@ -22,9 +22,11 @@ pub fn program<'a>(alloc: Global) -> Result<Command<'a>, AllocError>
     let flat = wanting(alloc, "flat", &FLAT)?;
     let generated = wanting(alloc, "gen", &GEN)?;
     let run = wanting(alloc, "run", &RUN)?;
+    let virtio_run = wanting(alloc, "vrun", &RUN)?;
     let measure = measure(alloc)?;
     let program = bare(alloc).subcommand(flat)?.subcommand(generated)?;
-    program.subcommand(run)?.subcommand(measure)
+    let program = program.subcommand(run)?.subcommand(virtio_run)?;
+    program.subcommand(measure)
 }
 
 // The words begin with the name of a command.

@@ -4,7 +4,7 @@ ghost use Rattle.clap.specs.Words.{found_of, first_of, rows_of, subcommand_rows_
 ghost use Rattle.command_words.specs.Parsing.{flat_found, gen_found, run_found, measure_found, measure_around, modules_found, named_found, split_found};
 ghost use Rattle.command_words.specs.Values.{split_of};
 
-use crate::command::{CommandWords, FlatWords, MeasureWords, RunWords};
+use crate::command::{CommandWords, DiskKind, FlatWords, MeasureWords, RunWords};
 use clap::ArgMatches;
 use std::alloc::{AllocError, Global};
 
@@ -32,7 +32,8 @@ fn named<'a>(
     match name {
         "flat" => Ok(flat(matches)),
         "gen" => Ok(generated(matches)),
-        "run" => Ok(run(matches)),
+        "run" => Ok(run(matches, DiskKind::Block)),
+        "vrun" => Ok(run(matches, DiskKind::Virtio)),
         "measure" => measure(alloc, matches),
         _ => Ok(None),
     }
@@ -64,8 +65,8 @@ fn generated<'a>(matches: &ArgMatches<'a>) -> Option<CommandWords<'a>>
     Some(CommandWords::Generated(calls))
 }
 
-fn run<'a>(matches: &ArgMatches<'a>) -> Option<CommandWords<'a>>
-    ensures { option_map split_of result ≡ run_found (rows_of (found_of matches.now)) }
+fn run<'a>(matches: &ArgMatches<'a>, kind: DiskKind) -> Option<CommandWords<'a>>
+    ensures { option_map split_of result ≡ run_found kind (rows_of (found_of matches.now)) }
 {
     let image = word(matches, "IMAGE")?;
     let policy = word(matches, "POLICY")?;
@@ -74,6 +75,7 @@ fn run<'a>(matches: &ArgMatches<'a>) -> Option<CommandWords<'a>>
     let events = word(matches, "EVENTS")?;
     let save = word(matches, "SAVE")?;
     Some(CommandWords::Run(RunWords {
+        kind,
         image,
         policy,
         disk,
