@@ -6,7 +6,9 @@ use Rattle.processor.specs.Bytes.{part, overwrite, in_ram, ram_base, ram_place, 
 use Rattle.sv_types.specs.declared.protection.Protection.{Protection}
 use Rattle.sv_types.specs.declared.block.BlockStatus.{BlockStatus}
 use Rattle.reference.specs.States.{State, Disk, protection_in, protection_by, is_protected, is_approved_in, has_number}
-use Rattle.reference.specs.Disk.{disk_beat, is_writable, to_memory, to_disk, block_after_beat, beat_place, Move, Idle, FromRam, IntoRam, DeniedAt, OutsideRam, beat_gpa, beat_size, is_busy, is_to_memory, transfer_ended}
+use Rattle.reference.specs.BlockDisk.{block_to_memory, block_to_disk, block_after_beat, beat_place, beat_gpa, beat_size, is_busy, is_to_memory, transfer_ended}
+use Rattle.reference.specs.Disk.{disk_beat, is_writable}
+use Rattle.reference.specs.Move.{Move, Idle, FromRam, IntoRam, DeniedAt, OutsideRam}
 use Rattle.reference.specs.Devices.{beat, after_beaten, after_move, with_bytes}
 use Rattle.reference.specs.Protections.{is_free}
 use Rattle.machine_model.specs.HostEvents.{beat_served, after_host_beaten, after_host_move}

@@ -17,7 +17,8 @@ use Rattle.sv_types.specs.declared.event.Verdict.{Verdict}
 use Rattle.sv_types.specs.declared.event.Verdict.TheVariants.{Running}
 use Rattle.reference.specs.States.{State, Disk, Journal, protection_in, is_protected, is_approved_in, has_number}
 use Rattle.reference.specs.Counting.{count, counted, count_beat, count_key, count_tick, count_dropped, noted, count_denied}
-use Rattle.reference.specs.Disk.{disk_beat, Beaten, Move, Idle, FromRam, IntoRam, DeniedAt, OutsideRam}
+use Rattle.reference.specs.Disk.{disk_beat, Beaten}
+use Rattle.reference.specs.Move.{Move, Idle, FromRam, IntoRam, DeniedAt, OutsideRam}
 use Rattle.reference.specs.Devices.{beat, key, tick, after_move, with_bytes, with_disk, hart_after_write}
 use Rattle.reference.specs.Protections.{is_free}
 use Rattle.machine_model.specs.Machine.{Machine, raised}

@@ -4,7 +4,9 @@ use Rattle.processor.specs.Bytes.{in_ram}
 use Rattle.sv_types.specs.declared.block.BlockStatus.{BlockStatus}
 use Rattle.reference.specs.States.{Disk}
 use Rattle.reference.specs.Start.{block_at_boot}
-use Rattle.reference.specs.Disk.{BlockRegister, Sector, Address, Count, Command, Status, Beaten, OutsideRam, beat_size, sector_size, is_busy, beats_done, beat_gpa, transfer_ended, to_memory, to_disk}
+use Rattle.reference.specs.BlockDisk.{BlockRegister, Sector, Address, Count, Command, Status, beat_size, sector_size, is_busy, beats_done, beat_gpa, transfer_ended, block_to_memory, block_to_disk}
+use Rattle.reference.specs.Disk.{Beaten}
+use Rattle.reference.specs.Move.{OutsideRam}
 use Rattle.devices.specs.declared.block.registers.Register.{Register}
 
 abbrev pub register_named : Register → BlockRegister

@@ -2,7 +2,8 @@
 use Rattle.std.specs.Prelude.{ℕ, Bool, List, length, if◌then◌else◌, Result, Ok, Err}
 use Rattle.processor.specs.Bytes.{in_ram, page_of, overwrite, part, ram_place}
 use Rattle.processor.specs.Regions.{Region}
-use Rattle.reference.specs.Disk.{Move, is_writable}
+use Rattle.reference.specs.Disk.{is_writable}
+use Rattle.reference.specs.Move.{Move}
 use Rattle.dma_guard.specs.declared.DmaRefused.{DmaRefused}
 use Rattle.dma_guard.specs.declared.port.Beaten.{Beaten}
 

@@ -26,7 +26,9 @@ use Rattle.processor.specs.declared.mode.Mode.TheVariants.{Kernel, User}
 use Rattle.reference.specs.Calls.{hart_at, started_hart}
 use Rattle.reference.specs.Counting.{count, counted, count_dropped, count_turn, count_beat, count_key, stopped_by}
 use Rattle.reference.specs.Devices.{beat, key, tick, lines_at, with_disk, with_bytes, after_move, hart_after_write}
-use Rattle.reference.specs.Disk.{Beaten, Move, Idle, FromRam, IntoRam, DeniedAt, OutsideRam, disk_beat, to_memory, beat_gpa, beat_size, is_busy, is_to_memory}
+use Rattle.reference.specs.BlockDisk.{block_to_memory, beat_gpa, beat_size, is_busy, is_to_memory}
+use Rattle.reference.specs.Disk.{Beaten, disk_beat}
+use Rattle.reference.specs.Move.{Move, Idle, FromRam, IntoRam, DeniedAt, OutsideRam}
 use Rattle.reference.specs.Requests.{Guarded, target_of, carry_out_store, carry_out_store_conditional, carry_out_amo}
 use Rattle.reference.specs.Run.{run, step, happen, happen_under}
 use Rattle.reference.specs.Soundness.{IsSound}

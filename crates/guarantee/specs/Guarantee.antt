@@ -13,7 +13,7 @@ use Rattle.sv_types.specs.declared.event.Verdict.{Verdict}
 use Rattle.processor.specs.declared.mode.Mode.{Mode}
 use Rattle.reference.specs.Calls.{started_hart}
 use Rattle.reference.specs.Counting.{count, count_turn, stopped_by}
-use Rattle.reference.specs.Disk.{beat_gpa}
+use Rattle.reference.specs.BlockDisk.{beat_gpa}
 use Rattle.reference.specs.Loads.{load_step}
 use Rattle.reference.specs.Requests.{Guarded, target_of}
 use Rattle.reference.specs.Run.{run, step}

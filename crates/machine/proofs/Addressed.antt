@@ -35,7 +35,8 @@ use Rattle.reference.specs.declared.answers.Beside.TheVariants.{SendsInterrupts,
 use Rattle.reference.specs.declared.answers.Reply.{Reply}
 use Rattle.reference.specs.declared.answers.Reply.TheVariants.{Gives, Replies, Stays, Stops}
 use Rattle.reference.specs.Devices.{DeviceLoad, DeviceStore, hart_after_write, with_bytes, after_move, beat, key, tick, device_load, device_store, lines_at, with_disk}
-use Rattle.reference.specs.Disk.{Beaten, Move, Idle, FromRam, IntoRam, DeniedAt, OutsideRam, disk_beat}
+use Rattle.reference.specs.Disk.{Beaten, disk_beat}
+use Rattle.reference.specs.Move.{Move, Idle, FromRam, IntoRam, DeniedAt, OutsideRam}
 use Rattle.reference.specs.Loads.{decide, load_step_of}
 use Rattle.reference.specs.Requests.{Source, Target, carried_out_writing, load_source, settings_of, source_at, source_of, target_of, csr_asked, carry_out_device_load, carry_out_load, carry_out_load_reserved, carry_out_device_store, carry_out_store, carry_out_store_conditional, carry_out_amo, carry_out_csr}
 use Rattle.reference.specs.Run.{happen, happen_under, step}

@@ -7,7 +7,9 @@ use Rattle.processor.specs.Regions.{Region}
 use Rattle.processor_laws.proofs.ByteLemmas.{length_overwrite}
 use Rattle.sv_types.specs.declared.block.BlockStatus.{BlockStatus}
 use Rattle.reference.specs.States.{Disk}
-use Rattle.reference.specs.Disk.{disk_beat, is_busy, to_disk, transfer_ended, block_after_beat, beat_gpa, beat_place, beat_size, is_to_memory, Move, Idle, FromRam, IntoRam, DeniedAt, OutsideRam}
+use Rattle.reference.specs.BlockDisk.{is_busy, block_to_disk, transfer_ended, block_after_beat, beat_gpa, beat_place, beat_size, is_to_memory}
+use Rattle.reference.specs.Disk.{disk_beat}
+use Rattle.reference.specs.Move.{Move, Idle, FromRam, IntoRam, DeniedAt, OutsideRam}
 use Rattle.dma_guard.specs.Transfers.{told, after_move}
 use Rattle.run_laws.proofs.Lookups.{part_short}
 use Rattle.machine.specs.Beats.{ToldInRam}

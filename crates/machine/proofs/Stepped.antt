@@ -9,7 +9,8 @@ use Rattle.sv_types.specs.declared.event.Verdict.{Verdict}
 use Rattle.sv_types.specs.declared.event.Verdict.TheVariants.{Running, Shutdown, Stopped}
 use Rattle.processor.specs.declared.outcome.Outcome.{Outcome}
 use Rattle.reference.specs.Counting.{count, counted, count_turn, count_beat, count_key, count_tick, count_dropped}
-use Rattle.reference.specs.Disk.{disk_beat, is_writable, Beaten, Move, Idle, FromRam, IntoRam, DeniedAt, OutsideRam}
+use Rattle.reference.specs.Disk.{disk_beat, is_writable, Beaten}
+use Rattle.reference.specs.Move.{Move, Idle, FromRam, IntoRam, DeniedAt, OutsideRam}
 use Rattle.reference.specs.Run.{step}
 use Rattle.reference.specs.States.{State, Journal}
 use Rattle.reference.specs.Turn.{turn}

@@ -8,7 +8,8 @@ use Rattle.sv_types.specs.declared.event.Event.TheVariants.{Turn, Beat, Key, Tic
 use Rattle.sv_types.specs.declared.event.Note.TheVariants.{Denied}
 use Rattle.reference.specs.States.{Disk}
 use Rattle.reference.specs.Counting.{counted, noted, count_denied, count_dropped, count_beat, count_key, count_tick}
-use Rattle.reference.specs.Disk.{disk_beat, is_writable, Beaten, Move, Idle, FromRam, IntoRam, DeniedAt, OutsideRam}
+use Rattle.reference.specs.Disk.{disk_beat, is_writable, Beaten}
+use Rattle.reference.specs.Move.{Move, Idle, FromRam, IntoRam, DeniedAt, OutsideRam}
 use Rattle.machine_model.specs.Machine.{Machine, forgets, raised}
 
 -- ---- a beat

@@ -9,7 +9,8 @@ use Rattle.processor.specs.declared.lines.Lines.{Lines}
 use Rattle.sv_types.specs.declared.event.Note.TheVariants.{Denied}
 use Rattle.reference.specs.States.{State, Hart, Devices, Disk, Journal, is_protected}
 use Rattle.reference.specs.Counting.{counted, noted, printed_low, count_denied, count_dropped}
-use Rattle.reference.specs.Disk.{disk_load, disk_store, disk_line, disk_beat, Beaten, Move, Idle, FromRam, IntoRam, DeniedAt, OutsideRam}
+use Rattle.reference.specs.Move.{Move, Idle, FromRam, IntoRam, DeniedAt, OutsideRam}
+use Rattle.reference.specs.Disk.{disk_load, disk_store, disk_line, disk_beat, Beaten}
 
 -- ---- where registers lie
 

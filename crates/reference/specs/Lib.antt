@@ -1,6 +1,15 @@
+pub mod VirtioDevice
 pub mod States
 pub mod Counting
 pub mod Protections
+pub mod Move
+pub mod BlockDisk
+pub mod VirtioRegisters
+pub mod VirtioStores
+pub mod VirtioQueue
+pub mod VirtioChain
+pub mod VirtioRequests
+pub mod VirtioBeats
 pub mod Disk
 pub mod Devices
 pub mod Trapping

@@ -1,5 +1,5 @@
 -- Which states of the reference machine are sound: each state that a run reaches is. This project's own.
-use Rattle.std.specs.Prelude.{◌≡◌, ℕ, ◌+◌, ◌*◌, ◌%◌, ◌^◌, ◌<◌, ◌≤◌, true, false, List, [], length, Option, Some, None, slice_get, IsTrue}
+use Rattle.std.specs.Prelude.{◌≡◌, ℕ, ◌+◌, ◌*◌, ◌%◌, ◌^◌, ◌<◌, ◌≤◌, true, false, List, [], ◌∷◌, length, Option, Some, None, slice_get, IsTrue}
 use Rattle.processor.specs.Bytes.{page_size, page_bytes, ram_place, ram_base}
 use Rattle.sv_types.specs.Policies.{Rules, rules_within}
 use Rattle.sv_types.specs.ApprovedPages.{ApprovedPage, approved_bytes}
@@ -7,8 +7,10 @@ use Rattle.processor.specs.Registers.{IsLegalSupervisor}
 use Rattle.sv_types.specs.declared.saved.SavedModule.{SavedModule}
 use Rattle.processor.specs.declared.mode.Mode.{Mode}
 use Rattle.processor.specs.declared.mode.Mode.TheVariants.{Kernel, User}
-use Rattle.reference.specs.States.{State, Hart, Disk, Loading, Binding, binding_at, module_pages, pages_in_rule, has_number, is_approved_in, find_module}
-use Rattle.reference.specs.Disk.{is_busy, beat_size}
+use Rattle.reference.specs.States.{State, Hart, Disk, BlockDevice, BlockDisk, VirtioDisk, Loading, Binding, binding_at, module_pages, pages_in_rule, has_number, is_approved_in, find_module}
+use Rattle.sv_types.specs.declared.virtio.VirtioMove.{VirtioMove}
+use Rattle.reference.specs.BlockDisk.{is_busy, beat_size}
+use Rattle.reference.specs.VirtioDevice.{VirtioDevice, Request}
 use Rattle.reference.specs.Origins.{OwnsPages, IsMeasured, Ascends, ownership}
 use Rattle.reference.specs.Start.{AreWords}
 
@@ -50,9 +52,40 @@ abbrev pub IsSoundLoad : Rules → List ApprovedPage → List SavedModule → Li
 IsSoundLoad rules approved loaded held None = held ≡ []
 IsSoundLoad rules approved loaded held (Some load) = HoldsModule rules approved loaded held load
 
--- a transfer under way begins with whole beats, so that none of them reaches into a second page
+-- ---- the disk: no move reaches into a second page
+
+-- a transfer under way begins with whole beats
+abbrev pub IsSoundBlock : BlockDevice → Type 0
+IsSoundBlock d = is_busy d.block ≡ true → d.block.gpa % beat_size ≡ 0
+
+-- there are bytes, all in one page
+abbrev pub StaysInPage : (gpa size : ℕ) → Type 0
+StaysInPage gpa size = (1 ≤ size) × (gpa % page_size + size ≤ page_size)
+
+abbrev pub IsSoundMove : VirtioMove → Type 0
+IsSoundMove (VirtioMove.ToMemory gpa place size) = StaysInPage gpa size
+IsSoundMove (VirtioMove.ToDisk gpa place size) = StaysInPage gpa size
+IsSoundMove (VirtioMove.PutResult gpa) = StaysInPage gpa 1
+IsSoundMove (VirtioMove.PutHead gpa head) = StaysInPage gpa 4
+IsSoundMove (VirtioMove.PutLength gpa) = StaysInPage gpa 4
+IsSoundMove (VirtioMove.PutIndex gpa index) = StaysInPage gpa 2
+
+abbrev pub AreSoundMoves : List VirtioMove → Type 0
+AreSoundMoves [] = Unit {0}
+AreSoundMoves (move ∷ moves) = IsSoundMove move × AreSoundMoves moves
+
+abbrev pub IsSoundRequest : Option Request → Type 0
+IsSoundRequest None = Unit {0}
+IsSoundRequest (Some q) = AreSoundMoves q.moves
+
+-- the used ring of a queue in use is aligned, and each move that is left of a request stays in a page
+pub record IsSoundVirtio (d : VirtioDevice) : Type 0 where
+  pub aligned : d.ready ≡ true → d.used % 4 ≡ 0
+  pub moves : IsSoundRequest d.request
+
 abbrev pub IsSoundDisk : Disk → Type 0
-IsSoundDisk d = is_busy d.block ≡ true → d.block.gpa % beat_size ≡ 0
+IsSoundDisk (BlockDisk d) = IsSoundBlock d
+IsSoundDisk (VirtioDisk d) = IsSoundVirtio d
 
 pub record IsSound (r : State) : Type 0 where
   pub within : IsTrue (rules_within r.rules)

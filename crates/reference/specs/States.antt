@@ -16,6 +16,7 @@ use Rattle.sv_types.specs.declared.event.Note.{Note}
 use Rattle.sv_types.specs.declared.event.Verdict.{Verdict}
 use Rattle.sv_types.specs.declared.saved.SavedModule.{SavedModule}
 use Rattle.sv_types.specs.declared.block.BlockState.{BlockState}
+use Rattle.reference.specs.VirtioDevice.{VirtioDevice}
 
 pub record Hart : Type 0 where
   pub started : Bool
@@ -38,10 +39,15 @@ pub record Loading : Type 0 where
   pub about : SavedModule
   pub left : ℕ
 
--- the block device: its registers with the transfer, and the disk's bytes
-pub record Disk : Type 0 where
+-- this project's block device: its registers with the transfer, and the disk's bytes
+pub record BlockDevice : Type 0 where
   pub block : BlockState
   pub bytes : List ℕ
+
+-- the disk, behind a device of one of two kinds
+pub data Disk : Type 0 where
+  BlockDisk : (device : BlockDevice) → Disk
+  VirtioDisk : (device : VirtioDevice) → Disk
 
 -- what stands beside harts and memory
 pub record Devices : Type 0 where

@@ -10,7 +10,8 @@ use Rattle.processor.specs.Requests.{loaded_value, csr_value, covers, touches, a
 use Rattle.processor.specs.Translation.{well_formed, is_pointer, is_leaf, walk, permits_access, first_stage, entry_in_ram, place}
 use Rattle.processor.specs.Traps.{trap_target, trap_cause, status_at_trap, supervisor_at_trap, status_at_return, mode_at_return, supervisor_at_return, deliverable}
 use Rattle.reference.specs.States.{protection_by, protection_in, is_protected, find_module, with_module, without_pages, binding_at, place_of_entry}
-use Rattle.reference.specs.Disk.{block_register, disk_load, disk_store, disk_line, disk_beat}
+use Rattle.reference.specs.BlockDisk.{block_register}
+use Rattle.reference.specs.Disk.{disk_load, disk_store, disk_line, disk_beat}
 use Rattle.reference.specs.Devices.{port_at, port_load, device_load, port_store, device_store, lines_at, with_bytes, after_move, beat, key, tick}
 use Rattle.reference.specs.Trapping.{hart_at_trap, trap_from, hart_at_return, returned_from_trap}
 use Rattle.reference.specs.Requests.{source_at, load_source, target_at, store_target, carry_out_device_load, carry_out_load, carry_out_load_reserved, carry_out_device_store, carry_out_store, carry_out_store_conditional, carry_out_amo, carry_out_csr}

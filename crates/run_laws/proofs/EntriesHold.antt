@@ -22,7 +22,8 @@ use Rattle.processor.specs.declared.mode.Mode.{Mode}
 use Rattle.processor.specs.declared.mode.Mode.TheVariants.{Kernel, User}
 use Rattle.reference.specs.Counting.{count, count_turn, count_beat}
 use Rattle.reference.specs.Devices.{lines_at, beat, key, tick, with_disk, with_bytes, after_move, hart_after_write}
-use Rattle.reference.specs.Disk.{Beaten, Move, Idle, FromRam, IntoRam, DeniedAt, OutsideRam, disk_beat}
+use Rattle.reference.specs.Disk.{Beaten, disk_beat}
+use Rattle.reference.specs.Move.{Move, Idle, FromRam, IntoRam, DeniedAt, OutsideRam}
 use Rattle.reference.specs.Requests.{settings_of}
 use Rattle.reference.specs.Run.{run, step, happen, happen_under}
 use Rattle.reference.specs.Soundness.{IsSound}

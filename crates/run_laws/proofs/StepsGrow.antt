@@ -19,7 +19,8 @@ use Rattle.processor.specs.declared.mode.Mode.TheVariants.{Kernel, User}
 use Rattle.processor.specs.Bytes.{page_of}
 use Rattle.reference.specs.States.{State, Hart, Journal, Loading, is_protected, Binding}
 use Rattle.reference.specs.Counting.{counted, count, count_dropped, count_turn, count_beat, count_key, count_tick}
-use Rattle.reference.specs.Disk.{Beaten, Move, Idle, FromRam, IntoRam, DeniedAt, OutsideRam, disk_beat}
+use Rattle.reference.specs.Disk.{Beaten, disk_beat}
+use Rattle.reference.specs.Move.{Move, Idle, FromRam, IntoRam, DeniedAt, OutsideRam}
 use Rattle.reference.specs.Devices.{lines_at, with_disk, with_bytes, after_move, beat, key, tick}
 use Rattle.reference.specs.Requests.{source_of, target_of, csr_asked}
 use Rattle.reference.specs.Run.{happen, happen_under, step}

@@ -24,7 +24,9 @@ use Rattle.sv_types.specs.declared.event.Verdict.TheVariants.{Running, Shutdown,
 use Rattle.sv_types.specs.declared.block.BlockStatus.{BlockStatus}
 use Rattle.reference.specs.States.{State, Hart, Binding, Disk, Loading, is_protected}
 use Rattle.reference.specs.Counting.{count, counted, noted, count_turn, count_beat, count_key, count_tick, count_retired, count_demote, count_denied, count_dropped}
-use Rattle.reference.specs.Disk.{Beaten, Move, Idle, FromRam, IntoRam, DeniedAt, OutsideRam, disk_beat, to_memory, to_disk, transfer_ended, block_ended, block_after_beat, beat_gpa, beat_place, beat_size, beats_done, one_further, is_busy, is_to_memory, sector_size}
+use Rattle.reference.specs.BlockDisk.{block_to_memory, block_to_disk, transfer_ended, block_ended, block_after_beat, beat_gpa, beat_place, beat_size, beats_done, one_further, is_busy, is_to_memory, sector_size}
+use Rattle.reference.specs.Disk.{Beaten, disk_beat}
+use Rattle.reference.specs.Move.{Move, Idle, FromRam, IntoRam, DeniedAt, OutsideRam}
 use Rattle.reference.specs.Devices.{lines_at, with_disk, with_bytes, after_move, beat, key, tick}
 use Rattle.reference.specs.Trapping.{exception}
 use Rattle.reference.specs.Origins.{ownership}

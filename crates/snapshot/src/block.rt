@@ -2,7 +2,7 @@
 
 ghost use Rattle.std.specs.Prelude.{◌≡◌, ◌<◌, ◌^◌, ◌++◌, OnOk};
 ghost use Rattle.snapshot.specs.Reading.{Gives};
-ghost use Rattle.reference.specs.Disk.{beats_done};
+ghost use Rattle.reference.specs.BlockDisk.{beats_done};
 ghost use Rattle.snapshot_form.specs.DeviceForms.{block, command_under_way, goes_with, has_beats, holds_transfer, standing, status_of, transfer};
 
 use crate::values::{in_range, read_number, write_number};

@@ -6,7 +6,7 @@ use Rattle.sv_types.specs.BlockNumbers.{command_of}
 use Rattle.sv_types.specs.declared.block.BlockCommand.{BlockCommand}
 use Rattle.sv_types.specs.declared.block.BlockStatus.{BlockStatus}
 use Rattle.sv_types.specs.declared.block.BlockState.{BlockState}
-use Rattle.reference.specs.Disk.{beat_size}
+use Rattle.reference.specs.BlockDisk.{beat_size}
 use Rattle.snapshot_form.specs.DeviceForms.{console, busy, goes_with, beats_of, has_beats, StatusParts, transfer, status_of, status_parts, standing, block_of, block_parts, sectors, block, holds_transfer, disk, devices}
 use Rattle.snapshot_form.specs.FormLaw.{IsForm}
 use Rattle.snapshot_form.specs.Forms.{is_word, number, within, and_then, always}

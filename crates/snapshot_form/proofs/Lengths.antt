@@ -10,7 +10,7 @@ use Rattle.sv_types.specs.Policies.{is_between, harts_within, ram_pages_within, 
 use Rattle.processor.specs.Registers.{legal_status, legal_interrupts, legal_tvec, legal_counteren, legal_epc, legal_satp}
 use Rattle.sv_types.specs.declared.event.Verdict.{Verdict}
 use Rattle.sv_types.specs.declared.block.BlockState.{BlockState}
-use Rattle.reference.specs.Disk.{sector_size}
+use Rattle.reference.specs.BlockDisk.{sector_size}
 use Rattle.saved_machine.specs.declared.harts.SavedHart.{SavedHart}
 use Rattle.sv_types.specs.declared.event.Verdict.TheVariants as Verdict
 use Rattle.sv_types.specs.SbiCodes.{code_word}

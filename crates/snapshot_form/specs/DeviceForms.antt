@@ -1,6 +1,6 @@
 -- The forms of the devices: the console's input, the block device and its disk. This project's own.
 use Rattle.std.specs.Prelude.{ℕ, Option, Some, None, is_some, ◌+◌, ◌*◌, ◌/◌, ◌%◌, ◌^◌, List, Bool, not, ◌&&◌, ◌||◌, nat_lt, nat_le, ◌==◌, if◌then◌else◌}
-use Rattle.reference.specs.Disk.{is_busy, beats_done, beat_size, sector_size}
+use Rattle.reference.specs.BlockDisk.{is_busy, beats_done, beat_size, sector_size}
 use Rattle.snapshot_form.specs.Forms.{Form, number, within, and_then, ◌⨾◌, made, always, measured}
 use Rattle.sv_types.specs.BlockNumbers.{command_number, command_of, status_number}
 use Rattle.sv_types.specs.declared.block.BlockCommand.{BlockCommand}

@@ -10,12 +10,14 @@ mod kernel;
 mod module;
 mod name;
 mod policy;
+mod port;
 mod protection;
 mod relocation_kind;
 mod saved;
 mod sbi;
 mod status;
 mod view;
+mod virtio;
 
 pub use block::{BlockCommand, BlockState, BlockStatus};
 pub use digest::Digest;
@@ -26,9 +28,14 @@ pub use kernel::ProgramHeader;
 pub use module::{Bases, Site, Span};
 pub use name::{MOST_NAME_BYTES, Name};
 pub use policy::{Export, ModulePolicy, Policy};
+pub use port::PortState;
 pub use protection::Protection;
 pub use relocation_kind::RelocationKind;
 pub use saved::SavedModule;
 pub use sbi::SbiCode;
 pub use status::Status;
 pub use view::View;
+pub use virtio::{
+    MOST_VIRTIO_PARTS, VirtioDescriptor, VirtioMove, VirtioPart, VirtioRegister, VirtioRequest,
+    VirtioState,
+};

@@ -2,7 +2,7 @@ use Rattle.std.proofs.Common.{rules, ◌≡◌, ◌+◌, ◌-◌, ◌∙◌, sym
 use borrow.Rule.Slice.PartMut.{put_mid}
 use Rattle.host_mem.proofs.WordFacts.{part_put}
 use Rattle.processor.specs.Bytes.{overwrite}
-use Rattle.reference.specs.Disk.{beat_place}
+use Rattle.reference.specs.BlockDisk.{beat_place}
 use Rattle.devices.proofs.Writes.{written_over}
 use Rattle.devices.proofs.block.Block.keep.Goals as goal
 

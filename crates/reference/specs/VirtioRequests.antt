@@ -3,10 +3,10 @@
 use Rattle.std.specs.Prelude.{ℕ, zero, suc, ◌+◌, ◌-◌, ◌*◌, ◌%◌, Bool, not, ◌&&◌, ◌||◌, ◌==◌, List, [], ◌∷◌, ◌++◌, nat_le, if◌then◌else◌, min}
 use Rattle.std.specs.List.{list_all}
 use Rattle.processor.specs.Bytes.{word, in_ram, ram_place, page_size}
-use Rattle.virtio_blk.specs.Queue.{used_gpa, used_index_gpa}
-use Rattle.virtio_blk.specs.Chain.{header_of}
-use Rattle.virtio_blk.specs.declared.state.VirtioMove.{VirtioMove}
-use Rattle.virtio_blk.specs.declared.state.VirtioPart.{VirtioPart}
+use Rattle.reference.specs.VirtioQueue.{used_gpa, used_index_gpa}
+use Rattle.reference.specs.VirtioChain.{header_of}
+use Rattle.sv_types.specs.declared.virtio.VirtioMove.{VirtioMove}
+use Rattle.sv_types.specs.declared.virtio.VirtioPart.{VirtioPart}
 
 -- ---- the header: a type, 4 bytes that nothing reads, a sector
 

@@ -3,25 +3,25 @@
 -- beat that accepts it, and every other word at the beat that reads it. A beat is told RAM and which pages may be written.
 use Rattle.std.specs.Prelude.{ℕ, ◌+◌, ◌%◌, ◌^◌, Bool, true, false, not, ◌&&◌, ◌==◌, bit_or, List, [], ◌∷◌, ◌++◌, length, filter, nat_lt, if◌then◌else◌, Option, Some, None}
 use Rattle.processor.specs.Bytes.{part, overwrite, low_bytes, in_ram, ram_place, page_of}
-use Rattle.reference.specs.Disk.{Move, Idle, FromRam, IntoRam, DeniedAt, OutsideRam}
-use Rattle.virtio_blk.specs.Device.{Device, Request, driver_ok, is_broken}
-use Rattle.virtio_blk.specs.Stores.{needs_reset}
-use Rattle.virtio_blk.specs.Queue.{rings_in_ram, available_index, next_head, waiting}
-use Rattle.virtio_blk.specs.Chain.{chain, most_parts, is_good, data_of, result_of}
-use Rattle.virtio_blk.specs.Requests.{type_of, sector_of, result_by, moves_by, last_moves}
-use Rattle.virtio_blk.specs.declared.state.VirtioMove.{VirtioMove}
-use Rattle.virtio_blk.specs.declared.state.VirtioPart.{VirtioPart}
+use Rattle.reference.specs.Move.{Move, Idle, FromRam, IntoRam, DeniedAt, OutsideRam}
+use Rattle.reference.specs.VirtioDevice.{VirtioDevice, Request, driver_ok, is_broken}
+use Rattle.reference.specs.VirtioStores.{needs_reset}
+use Rattle.reference.specs.VirtioQueue.{rings_in_ram, available_index, next_head, waiting}
+use Rattle.reference.specs.VirtioChain.{chain, most_parts, is_good, data_of, result_of}
+use Rattle.reference.specs.VirtioRequests.{type_of, sector_of, result_by, moves_by, last_moves}
+use Rattle.sv_types.specs.declared.virtio.VirtioMove.{VirtioMove}
+use Rattle.sv_types.specs.declared.virtio.VirtioPart.{VirtioPart}
 
 -- the device after a beat, and what it moved
-pub record Beat : Type 0 where
-  pub device : Device
+pub record VirtioBeat : Type 0 where
+  pub device : VirtioDevice
   pub move : Move
 
-abbrev pub nothing : Device → Beat
+abbrev pub nothing : VirtioDevice → VirtioBeat
 nothing d = record { device = d; move = Idle }
 
 -- the device is broken until its reset, which the driver is told by an interrupt; no request is under way any more
-abbrev pub broken : Device → Move → Beat
+abbrev pub broken : VirtioDevice → Move → VirtioBeat
 broken d move = record {
   device = record d { status = bit_or d.status needs_reset; interrupt = bit_or d.interrupt 2; request = None };
   move = move;
@@ -29,7 +29,7 @@ broken d move = record {
 
 -- ---- moves
 
-abbrev pub with_request : Device → Request → Device
+abbrev pub with_request : VirtioDevice → Request → VirtioDevice
 with_request d q = record d { request = Some q }
 
 abbrev pub is_last : VirtioMove → Bool
@@ -45,7 +45,7 @@ abbrev pub with_written : Request → ℕ → Request
 with_written q size = record q { written = (q.written + size) % 2 ^ 32 }
 
 -- bytes of the disk into memory
-unfoldable pub to_memory : Device → Request → (gpa place size : ℕ) → List ℕ → (ℕ → Bool) → Beat
+unfoldable pub to_memory : VirtioDevice → Request → (gpa place size : ℕ) → List ℕ → (ℕ → Bool) → VirtioBeat
 to_memory d q gpa place size ram may_write =
     if not (in_ram ram gpa size) then broken d OutsideRam
     else if may_write (page_of gpa)
@@ -53,7 +53,7 @@ to_memory d q gpa place size ram may_write =
     else record { device = with_request d (refused q); move = DeniedAt gpa }
 
 -- bytes of memory onto the disk
-unfoldable pub to_disk : Device → Request → (gpa place size : ℕ) → List ℕ → Beat
+unfoldable pub to_disk : VirtioDevice → Request → (gpa place size : ℕ) → List ℕ → VirtioBeat
 to_disk d q gpa place size ram =
     if not (in_ram ram gpa size) then broken d OutsideRam
     else record {
@@ -62,18 +62,18 @@ to_disk d q gpa place size ram =
     }
 
 -- one of the last moves writes bytes, or breaks the device
-unfoldable pub put_last : Device → Device → ℕ → List ℕ → List ℕ → (ℕ → Bool) → Beat
+unfoldable pub put_last : VirtioDevice → VirtioDevice → ℕ → List ℕ → List ℕ → (ℕ → Bool) → VirtioBeat
 put_last d next gpa bytes ram may_write =
     if not (in_ram ram gpa (length bytes)) then broken d OutsideRam
     else if may_write (page_of gpa) then record { device = next; move = IntoRam gpa bytes }
     else broken d (DeniedAt gpa)
 
 -- the request is done, which the driver is told by an interrupt
-abbrev pub finished : Device → Device
+abbrev pub finished : VirtioDevice → VirtioDevice
 finished d = record d { request = None; interrupt = bit_or d.interrupt 1 }
 
 -- a move, where the request has the moves behind it
-unfoldable pub make : Device → Request → VirtioMove → List ℕ → (ℕ → Bool) → Beat
+unfoldable pub make : VirtioDevice → Request → VirtioMove → List ℕ → (ℕ → Bool) → VirtioBeat
 make d q (VirtioMove.ToMemory gpa place size) ram may_write = to_memory d q gpa place size ram may_write
 make d q (VirtioMove.ToDisk gpa place size) ram may_write = to_disk d q gpa place size ram
 make d q (VirtioMove.PutResult gpa) ram may_write = put_last d (with_request d q) gpa (low_bytes 1 q.result) ram may_write
@@ -82,39 +82,39 @@ make d q (VirtioMove.PutLength gpa) ram may_write = put_last d (with_request d q
 make d q (VirtioMove.PutIndex gpa index) ram may_write = put_last d (finished d) gpa (low_bytes 2 index) ram may_write
 
 -- the first of the moves that are left
-abbrev pub make_first : Device → Request → List VirtioMove → List ℕ → (ℕ → Bool) → Beat
+abbrev pub make_first : VirtioDevice → Request → List VirtioMove → List ℕ → (ℕ → Bool) → VirtioBeat
 make_first d q [] ram may_write = nothing d
 make_first d q (move ∷ moves) ram may_write = make d (record q { moves = moves }) move ram may_write
 
 -- ---- the next request
 
 -- the request that a chain asks for, as the device accepts it
-abbrev pub request_by : (result sector : ℕ) → Device → (head accepted : ℕ) → List VirtioPart → Request
+abbrev pub request_by : (result sector : ℕ) → VirtioDevice → (head accepted : ℕ) → List VirtioPart → Request
 request_by result sector d head accepted parts = record {
   moves = moves_by result sector (data_of parts) ++ last_moves (result_of parts).gpa d.used d.size head accepted;
   result = result;
   written = 0;
 }
 
-abbrev pub next_count : Device → ℕ
+abbrev pub next_count : VirtioDevice → ℕ
 next_count d = (d.accepted + 1) % 65536
 
-abbrev pub result_in : Device → List ℕ → List VirtioPart → ℕ
+abbrev pub result_in : VirtioDevice → List ℕ → List VirtioPart → ℕ
 result_in d ram parts = result_by ram (length d.bytes) (type_of ram parts) (sector_of ram parts) (data_of parts)
 
-unfoldable pub accepted : Device → List ℕ → (head : ℕ) → List VirtioPart → Device
+unfoldable pub accepted : VirtioDevice → List ℕ → (head : ℕ) → List VirtioPart → VirtioDevice
 accepted d ram head parts = record d {
   accepted = next_count d;
   request = Some (request_by (result_in d ram parts) (sector_of ram parts) d head (next_count d) parts);
 }
 
-unfoldable pub accept : Device → List ℕ → (head : ℕ) → Option (List VirtioPart) → Beat
+unfoldable pub accept : VirtioDevice → List ℕ → (head : ℕ) → Option (List VirtioPart) → VirtioBeat
 accept d ram head None = broken d OutsideRam
 accept d ram head (Some parts) =
     if is_good ram parts then record { device = accepted d ram head parts; move = Idle } else broken d OutsideRam
 
 -- a head that isn't in the table has no chain
-unfoldable pub look : Device → List ℕ → Beat
+unfoldable pub look : VirtioDevice → List ℕ → VirtioBeat
 look d ram =
     if not (rings_in_ram d ram) then broken d OutsideRam
     else if available_index d ram == d.accepted then nothing d
@@ -123,13 +123,13 @@ look d ram =
 
 -- ---- beats
 
-abbrev pub go_on : Device → Option Request → List ℕ → (ℕ → Bool) → Beat
+abbrev pub go_on : VirtioDevice → Option Request → List ℕ → (ℕ → Bool) → VirtioBeat
 go_on d None ram may_write = look d ram
 go_on d (Some q) ram may_write = make_first d q q.moves ram may_write
 
 -- the driver is ready, the queue in use, and the device not broken
-abbrev pub is_live : Device → Bool
+abbrev pub is_live : VirtioDevice → Bool
 is_live d = driver_ok d && d.ready && not (is_broken d)
 
-unfoldable pub virtio_beat : Device → List ℕ → (ℕ → Bool) → Beat
+unfoldable pub virtio_beat : VirtioDevice → List ℕ → (ℕ → Bool) → VirtioBeat
 virtio_beat d ram may_write = if is_live d then go_on d d.request ram may_write else nothing d

@@ -1,14 +1,14 @@
 -- What stores into the registers do. VIRTIO 1.2, "MMIO Device Register Layout", "Device Status Field", "Feature Bits".
 -- A store to a register that is only read has no effect.
 use Rattle.std.specs.Prelude.{ℕ, ◌+◌, ◌*◌, ◌/◌, ◌%◌, ◌^◌, Bool, false, not, ◌&&◌, ◌||◌, bit_or, List, ◌==◌, if◌then◌else◌, Option, None, option_map}
-use Rattle.virtio_blk.specs.Device.{Device, cleared, is_broken, is_selected}
-use Rattle.virtio_blk.specs.Registers.{register_at}
-use Rattle.virtio_blk.specs.declared.registers.VirtioRegister.{VirtioRegister}
+use Rattle.reference.specs.VirtioDevice.{VirtioDevice, cleared, is_broken, is_selected}
+use Rattle.reference.specs.VirtioRegisters.{register_at}
+use Rattle.sv_types.specs.declared.virtio.VirtioRegister.{VirtioRegister}
 
 -- ---- reset
 
 -- every register is 0, the queue is not in use, no request is under way; the disk stays
-unfoldable pub reset : List ℕ → Device
+unfoldable pub reset : List ℕ → VirtioDevice
 reset bytes = record {
   device_select = 0;
   driver_select = 0;
@@ -30,14 +30,14 @@ reset bytes = record {
 -- ---- features and status
 
 -- features 0 to 31 by selector 0, and 32 to 63 by selector 1
-unfoldable pub with_features : Device → ℕ → Device
+unfoldable pub with_features : VirtioDevice → ℕ → VirtioDevice
 with_features d value =
     if d.driver_select == 0 then record d { driver_low = value }
     else if d.driver_select == 1 then record d { driver_high = value }
     else d
 
 -- the driver took the one feature that is offered, bit 32
-abbrev pub takes_features : Device → Bool
+abbrev pub takes_features : VirtioDevice → Bool
 takes_features d = d.driver_low == 0 && d.driver_high == 1
 
 -- FEATURES_OK and DEVICE_NEEDS_RESET of the status
@@ -48,21 +48,21 @@ abbrev pub needs_reset : ℕ
 needs_reset = 64
 
 -- FEATURES_OK stays where the features fit
-abbrev pub judged_status : Device → ℕ → ℕ
+abbrev pub judged_status : VirtioDevice → ℕ → ℕ
 judged_status d value = if takes_features d then value else cleared value features_ok
 
 -- a store leaves DEVICE_NEEDS_RESET as it is
-unfoldable pub kept_status : Device → ℕ → ℕ
+unfoldable pub kept_status : VirtioDevice → ℕ → ℕ
 kept_status d value = if is_broken d then bit_or (judged_status d value) needs_reset else cleared (judged_status d value) needs_reset
 
 -- a store of 0 is a reset
-unfoldable pub with_status : Device → ℕ → Device
+unfoldable pub with_status : VirtioDevice → ℕ → VirtioDevice
 with_status d value = if value == 0 then reset d.bytes else record d { status = kept_status d value }
 
 -- ---- the queue
 
 -- the queue's size and places may be set while it isn't in use
-abbrev pub can_set : Device → Bool
+abbrev pub can_set : VirtioDevice → Bool
 can_set d = is_selected d && not d.ready
 
 -- a power of two, up to 64
@@ -70,29 +70,29 @@ abbrev pub is_size : ℕ → Bool
 is_size size = size == 1 || size == 2 || size == 4 || size == 8 || size == 16 || size == 32 || size == 64
 
 -- "Split Virtqueues": the alignments of the three parts
-abbrev pub is_aligned : Device → Bool
+abbrev pub is_aligned : VirtioDevice → Bool
 is_aligned d = d.descriptors % 16 == 0 && d.available % 2 == 0 && d.used % 4 == 0
 
-abbrev pub can_be_used : Device → Bool
+abbrev pub can_be_used : VirtioDevice → Bool
 can_be_used d = is_size d.size && is_aligned d
 
 -- 1 asks that the queue be used, and what is refused changes nothing; any other value ends its use
-abbrev pub ready_after : Device → ℕ → Bool
+abbrev pub ready_after : VirtioDevice → ℕ → Bool
 ready_after d value = value == 1 && (d.ready || can_be_used d)
 
-unfoldable pub with_ready : Device → ℕ → Device
+unfoldable pub with_ready : VirtioDevice → ℕ → VirtioDevice
 with_ready d value = if is_selected d then record d { ready = ready_after d value } else d
 
-unfoldable pub with_size : Device → ℕ → Device
+unfoldable pub with_size : VirtioDevice → ℕ → VirtioDevice
 with_size d value = if can_set d then record d { size = value } else d
 
-unfoldable pub with_descriptors : Device → ℕ → Device
+unfoldable pub with_descriptors : VirtioDevice → ℕ → VirtioDevice
 with_descriptors d address = if can_set d then record d { descriptors = address } else d
 
-unfoldable pub with_available : Device → ℕ → Device
+unfoldable pub with_available : VirtioDevice → ℕ → VirtioDevice
 with_available d address = if can_set d then record d { available = address } else d
 
-unfoldable pub with_used : Device → ℕ → Device
+unfoldable pub with_used : VirtioDevice → ℕ → VirtioDevice
 with_used d address = if can_set d then record d { used = address } else d
 
 -- an address with its lower or its upper 32 bits written
@@ -104,7 +104,7 @@ with_high address value = 2 ^ 32 * value + address % 2 ^ 32
 
 -- ---- stores
 
-unfoldable pub put : Device → VirtioRegister → ℕ → Device
+unfoldable pub put : VirtioDevice → VirtioRegister → ℕ → VirtioDevice
 put d VirtioRegister.MagicValue value = d
 put d VirtioRegister.Version value = d
 put d VirtioRegister.DeviceId value = d
@@ -132,5 +132,5 @@ put d VirtioRegister.CapacityLow value = d
 put d VirtioRegister.CapacityHigh value = d
 
 -- the device after a store of the low bytes of a value; none where no register has that offset and width
-unfoldable pub virtio_store : Device → (offset width value : ℕ) → Option Device
+unfoldable pub virtio_store : VirtioDevice → (offset width value : ℕ) → Option VirtioDevice
 virtio_store d offset width value = option_map (λ r. put d r (value % 2 ^ 32)) (register_at offset width)

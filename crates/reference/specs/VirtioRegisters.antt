@@ -2,8 +2,8 @@
 -- block device; the vendor's number is this project's own. A register that only the driver writes reads 0.
 use Rattle.std.specs.Prelude.{ℕ, ◌/◌, ◌%◌, ◌^◌, Bool, not, ◌&&◌, length, ◌==◌, if◌then◌else◌, Option, Some, None, option_map}
 use Rattle.processor.specs.Bits.{flag}
-use Rattle.virtio_blk.specs.Device.{Device, is_selected}
-use Rattle.virtio_blk.specs.declared.registers.VirtioRegister.{VirtioRegister}
+use Rattle.reference.specs.VirtioDevice.{VirtioDevice, is_selected}
+use Rattle.sv_types.specs.declared.virtio.VirtioRegister.{VirtioRegister}
 
 -- ---- where they lie
 
@@ -42,11 +42,11 @@ register_at offset width = if width == 4 then register_named offset else None
 
 -- ---- what they read
 
-abbrev pub sectors : Device → ℕ
+abbrev pub sectors : VirtioDevice → ℕ
 sectors d = length d.bytes / 512
 
 -- the one feature that is offered is bit 32: a device of version 1
-unfoldable pub register_value : Device → VirtioRegister → ℕ
+unfoldable pub register_value : VirtioDevice → VirtioRegister → ℕ
 register_value d VirtioRegister.MagicValue = 0x74726976
 register_value d VirtioRegister.Version = 2
 register_value d VirtioRegister.DeviceId = 2
@@ -74,9 +74,9 @@ register_value d VirtioRegister.CapacityLow = sectors d % 2 ^ 32
 register_value d VirtioRegister.CapacityHigh = sectors d / 2 ^ 32
 
 -- what a load gives; none where no register has that offset and width
-unfoldable pub virtio_load : Device → ℕ → ℕ → Option ℕ
+unfoldable pub virtio_load : VirtioDevice → ℕ → ℕ → Option ℕ
 virtio_load d offset width = option_map (register_value d) (register_at offset width)
 
 -- the interrupt line
-unfoldable pub virtio_line : Device → Bool
+unfoldable pub virtio_line : VirtioDevice → Bool
 virtio_line d = not (d.interrupt == 0)

@@ -3,11 +3,11 @@
 use Rattle.std.specs.Prelude.{ℕ, zero, suc, ◌+◌, ◌-◌, ◌*◌, Bool, false, not, ◌&&◌, ◌==◌, List, [], ◌∷◌, length, take, drop, get_or, nat_le, nat_lt, if◌then◌else◌, Option, Some, None, option_map}
 use Rattle.processor.specs.Bits.{bit}
 use Rattle.processor.specs.Bytes.{word, in_ram}
-use Rattle.virtio_blk.specs.declared.chain.Descriptor.{Descriptor}
-use Rattle.virtio_blk.specs.declared.state.VirtioPart.{VirtioPart}
+use Rattle.sv_types.specs.declared.virtio.VirtioDescriptor.{VirtioDescriptor}
+use Rattle.sv_types.specs.declared.virtio.VirtioPart.{VirtioPart}
 
 -- the descriptor at a place in RAM
-unfoldable pub descriptor_at : List ℕ → ℕ → Descriptor
+unfoldable pub descriptor_at : List ℕ → ℕ → VirtioDescriptor
 descriptor_at ram at = record {
   part = record { gpa = word ram at 8; len = word ram (at + 8) 4; write = bit (word ram (at + 12) 2) 1 };
   goes_on = bit (word ram (at + 12) 2) 0;
@@ -18,7 +18,7 @@ descriptor_at ram at = record {
 -- ---- chains
 
 -- what a descriptor says, and behind it what those say that it leads to; none where it has a table of its own
-unfoldable pub with_rest : Descriptor → Option (List VirtioPart) → Option (List VirtioPart)
+unfoldable pub with_rest : VirtioDescriptor → Option (List VirtioPart) → Option (List VirtioPart)
 with_rest d rest =
     if d.is_indirect then None
     else if d.goes_on then option_map (λ parts. d.part ∷ parts) rest

@@ -2,7 +2,7 @@
 -- Virtual I/O Device (VIRTIO) Version 1.2, "MMIO Device Register Layout", "Split Virtqueues" and "Block Device".
 use Rattle.std.specs.Prelude.{ℕ, ◌-◌, ◌^◌, Bool, ◌==◌, bit_and, List, Option}
 use Rattle.processor.specs.Bits.{bit}
-use Rattle.virtio_blk.specs.declared.state.VirtioMove.{VirtioMove}
+use Rattle.sv_types.specs.declared.virtio.VirtioMove.{VirtioMove}
 
 -- a request that was accepted and whose moves aren't all made
 pub record Request : Type 0 where
@@ -13,7 +13,7 @@ pub record Request : Type 0 where
   -- the bytes that its moves wrote into the driver's data, modulo 2^32
   pub written : ℕ
 
-pub record Device : Type 0 where
+pub record VirtioDevice : Type 0 where
   -- which 32 features are read, and which are written
   pub device_select : ℕ
   pub driver_select : ℕ
@@ -43,13 +43,13 @@ abbrev pub cleared : ℕ → ℕ → ℕ
 cleared register mask = bit_and register (2 ^ 32 - 1 - mask)
 
 -- the driver is ready to drive the device
-abbrev pub driver_ok : Device → Bool
+abbrev pub driver_ok : VirtioDevice → Bool
 driver_ok d = bit d.status 2
 
 -- the device needs a reset
-abbrev pub is_broken : Device → Bool
+abbrev pub is_broken : VirtioDevice → Bool
 is_broken d = bit d.status 6
 
 -- the queue's registers speak of the one queue
-abbrev pub is_selected : Device → Bool
+abbrev pub is_selected : VirtioDevice → Bool
 is_selected d = d.queue == 0

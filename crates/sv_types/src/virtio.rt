@@ -1,0 +1,118 @@
+// The virtio block device's registers, the request under way, and its moves, as plain data.
+
+/// The most descriptors of a chain: the header, 32 of data, and the result.
+pub const MOST_VIRTIO_PARTS: usize = 34;
+
+/// What one descriptor of a chain says: so many bytes at a guest-physical address, and whether the device writes them.
+#[derive(Clone, Copy, Debug, Default, PartialEq, Eq, Drop)]
+pub struct VirtioPart {
+    pub gpa: u64,
+    pub len: u32,
+    pub write: bool,
+}
+
+/// A descriptor of the queue's table.
+#[derive(Clone, Copy, Debug, PartialEq, Eq, Drop)]
+pub struct VirtioDescriptor {
+    /// What it says.
+    pub part: VirtioPart,
+    /// Whether another one follows, and its place in the table.
+    pub goes_on: bool,
+    pub next: u64,
+    /// Whether it has a table of its own.
+    pub is_indirect: bool,
+}
+
+/// A request that was accepted and whose moves aren't all made.
+#[derive(Clone, Copy, Debug, PartialEq, Eq, Drop)]
+pub struct VirtioRequest {
+    /// The chain's first descriptor.
+    pub head: u16,
+    /// The first sector, of 512 bytes.
+    pub sector: u64,
+    /// The queue's size and the used ring's address, as they were at the beat that accepted the request.
+    pub size: u32,
+    pub used: u64,
+    /// The number of descriptors in the chain.
+    pub count: u8,
+    /// What they say: the header, the data, the result. Places from the count on are 0.
+    pub parts: [VirtioPart; MOST_VIRTIO_PARTS],
+    /// The place reached: a descriptor, and the bytes of it that are moved.
+    pub part: u8,
+    pub offset: u32,
+    /// How many of the last four moves are made.
+    pub tail: u8,
+    /// 0 done, 1 failed, 2 of a type that isn't known.
+    pub result: u8,
+    /// The bytes that data moves wrote into memory, modulo 2^32.
+    pub written: u32,
+}
+
+/// The registers as the driver wrote them, the number of accepted requests, and the request under way.
+#[derive(Clone, Copy, Debug, PartialEq, Eq, Drop)]
+pub struct VirtioState {
+    pub device_select: u32,
+    pub driver_select: u32,
+    /// The features that the driver took, bits 0 to 31 and 32 to 63.
+    pub driver_low: u32,
+    pub driver_high: u32,
+    pub queue: u32,
+    pub size: u32,
+    pub ready: bool,
+    pub interrupt: u32,
+    pub status: u32,
+    /// The guest-physical addresses of the descriptors, the available ring and the used ring.
+    pub descriptors: u64,
+    pub available: u64,
+    pub used: u64,
+    /// Modulo 65,536.
+    pub accepted: u64,
+    pub request: Option<VirtioRequest>,
+}
+
+/// One move of a request.
+#[derive(Clone, Copy, Debug, PartialEq, Eq, Drop)]
+pub enum VirtioMove {
+    /// So many bytes of the disk, from a place on, into memory.
+    ToMemory { gpa: u64, place: u64, size: u64 },
+    /// So many bytes of memory onto the disk, from a place on.
+    ToDisk { gpa: u64, place: u64, size: u64 },
+    /// The result into its byte.
+    PutResult { gpa: u64 },
+    /// The chain's first descriptor into the used ring.
+    PutHead { gpa: u64, head: u16 },
+    /// The number of written bytes into the used ring.
+    PutLength { gpa: u64 },
+    /// The used ring's index.
+    PutIndex { gpa: u64, index: u16 },
+}
+
+/// A register of a virtio device over MMIO, and the two of the block device's configuration.
+#[derive(Clone, Copy, Debug, PartialEq, Eq, Drop)]
+pub enum VirtioRegister {
+    MagicValue,
+    Version,
+    DeviceId,
+    VendorId,
+    DeviceFeatures,
+    DeviceFeaturesSelect,
+    DriverFeatures,
+    DriverFeaturesSelect,
+    QueueSelect,
+    QueueSizeMax,
+    QueueSize,
+    QueueReady,
+    QueueNotify,
+    InterruptStatus,
+    InterruptAcknowledge,
+    Status,
+    DescriptorsLow,
+    DescriptorsHigh,
+    AvailableLow,
+    AvailableHigh,
+    UsedLow,
+    UsedHigh,
+    ConfigGeneration,
+    CapacityLow,
+    CapacityHigh,
+}
