@@ -2,10 +2,9 @@
 use Rattle.std.specs.Prelude.{◌≡◌, ℕ, ◌+◌, ◌*◌, ◌%◌, ◌<◌, ◌≤◌, Bool, not, if◌then◌else◌, List, length, true}
 use Rattle.processor.specs.Bytes.{in_ram}
 use Rattle.sv_types.specs.declared.block.BlockStatus.{BlockStatus}
-use Rattle.reference.specs.States.{Disk}
+use Rattle.reference.specs.States.{BlockDevice}
 use Rattle.reference.specs.Start.{block_at_boot}
-use Rattle.reference.specs.BlockDisk.{BlockRegister, Sector, Address, Count, Command, Status, beat_size, sector_size, is_busy, beats_done, beat_gpa, transfer_ended, block_to_memory, block_to_disk}
-use Rattle.reference.specs.Disk.{Beaten}
+use Rattle.reference.specs.BlockDisk.{BlockRegister, Sector, Address, Count, Command, Status, beat_size, sector_size, is_busy, beats_done, beat_gpa, BlockBeat, transfer_ended, block_to_memory, block_to_disk}
 use Rattle.reference.specs.Move.{OutsideRam}
 use Rattle.devices.specs.declared.block.registers.Register.{Register}
 
@@ -24,20 +23,20 @@ width_of Register.Command = 4
 width_of Register.Status = 4
 
 -- a transfer under way begins at a multiple of a beat's bytes, has beats left, and lies on the disk
-pub record IsSound (d : Disk) : Type 0 where
+pub record IsSound (d : BlockDevice) : Type 0 where
   pub aligned : is_busy d.block ≡ true → d.block.gpa % beat_size ≡ 0
   pub left : is_busy d.block ≡ true → beat_size * beats_done d.block.status < sector_size * d.block.count
   pub inside : is_busy d.block ≡ true → sector_size * (d.block.sector + d.block.count) ≤ length d.bytes
 
 -- an idle device with a disk
-abbrev pub idle_disk : List ℕ → Disk
+abbrev pub idle_disk : List ℕ → BlockDevice
 idle_disk bytes = record { block = block_at_boot; bytes = bytes }
 
 -- a beat of each command, where a transfer is under way
-abbrev pub beat_to_memory : Disk → List ℕ → (ℕ → Bool) → Beaten
+abbrev pub beat_to_memory : BlockDevice → List ℕ → (ℕ → Bool) → BlockBeat
 beat_to_memory d ram may_write =
-    if not (in_ram ram (beat_gpa d.block) beat_size) then transfer_ended d BlockStatus.OutOfRange OutsideRam else to_memory d may_write
+    if not (in_ram ram (beat_gpa d.block) beat_size) then transfer_ended d BlockStatus.OutOfRange OutsideRam else block_to_memory d may_write
 
-abbrev pub beat_to_disk : Disk → List ℕ → Beaten
+abbrev pub beat_to_disk : BlockDevice → List ℕ → BlockBeat
 beat_to_disk d ram =
-    if not (in_ram ram (beat_gpa d.block) beat_size) then transfer_ended d BlockStatus.OutOfRange OutsideRam else to_disk d ram
+    if not (in_ram ram (beat_gpa d.block) beat_size) then transfer_ended d BlockStatus.OutOfRange OutsideRam else block_to_disk d ram

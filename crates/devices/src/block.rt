@@ -4,6 +4,7 @@ ghost use Rattle.std.specs.Prelude.{◌≡◌, ◌+◌, ◌%◌, ◌^◌, ◌<�
 ghost use Rattle.processor.specs.Bytes.{overwrite};
 ghost use Rattle.reference.specs.BlockDisk.{is_busy, can_begin, block_ended, block_told, block_value, block_stored, block_after_beat, beat_gpa, beat_place, beat_size, beats_done, is_under_way};
 ghost use Rattle.reference.specs.Disk.{is_writable};
+ghost use Rattle.reference.specs.States.{BlockDisk};
 ghost use Rattle.sv_types.specs.declared.block.BlockCommand.TheVariants.{DiskToMemory, MemoryToDisk};
 ghost use Rattle.sv_types.specs.declared.block.BlockStatus.TheVariants.{Busy};
 ghost use Rattle.dma_guard.specs.Transfers.{told, after_move};
@@ -33,9 +34,9 @@ pub struct Block {
 }
 
 impl Model for Block {
-    ghost use Rattle.reference.specs.States.{Disk};
+    ghost use Rattle.reference.specs.States.{BlockDevice};
 
-    ghost Value = { Disk };
+    ghost Value = { BlockDevice };
 
     ghost use Rattle.std.specs.Prelude.{◌≡◌};
     ghost use Rattle.devices.specs.BlockRegisters.{IsSound};
@@ -128,7 +129,7 @@ impl Block {
     fn write_memory(&mut self, guard: &DmaGuard, mem: &mut HostMem, done: u64, gpa: u64) -> Beaten
         requires busy { self.old.block.status ≡ Busy DiskToMemory done }
         requires gpa { gpa ≡ beat_gpa self.old.block }
-        ensures device { self.new ≡ (beat_to_memory self.old mem.old.ram (is_writable guard.now)).disk }
+        ensures device { self.new ≡ (beat_to_memory self.old mem.old.ram (is_writable guard.now)).device }
         ensures told { result ≡ told (beat_to_memory self.old mem.old.ram (is_writable guard.now)).move }
         ensures memory { mem.new ≡ after_move mem.old (beat_to_memory self.old mem.old.ram (is_writable guard.now)).move }
     {
@@ -157,7 +158,7 @@ impl Block {
     fn read_memory(&mut self, guard: &DmaGuard, mem: &HostMem, done: u64, gpa: u64) -> Beaten
         requires busy { self.old.block.status ≡ Busy MemoryToDisk done }
         requires gpa { gpa ≡ beat_gpa self.old.block }
-        ensures device { self.new ≡ (beat_to_disk self.old mem.now.ram).disk }
+        ensures device { self.new ≡ (beat_to_disk self.old mem.now.ram).device }
         ensures told { result ≡ told (beat_to_disk self.old mem.now.ram).move }
     {
         let mut bytes = [0; BEAT_LENGTH];
@@ -209,9 +210,9 @@ impl Block {
 }
 
 impl DiskPort for Block {
-    ghost state = { λ b. b };
+    ghost state = { λ b. BlockDisk b };
 
-    #[tactic(auto, unfolding(reference::specs::Disk::disk_load))]
+    #[tactic(auto, unfolding(reference::specs::Disk::disk_load, reference::specs::BlockDisk::block_load))]
     fn load(&self, offset: u64, width: u8) -> Option<u64> {
         match register_at(offset, width)? {
             Register::Sector => Some(self.block.sector),
@@ -222,7 +223,7 @@ impl DiskPort for Block {
         }
     }
 
-    #[tactic(auto, unfolding(reference::specs::Disk::disk_store))]
+    #[tactic(auto, unfolding(reference::specs::Disk::disk_store, reference::specs::BlockDisk::block_store))]
     fn store(&mut self, offset: u64, width: u8, value: u64) -> bool {
         let Some(register) = register_at(offset, width) else {
             return false;
@@ -234,7 +235,7 @@ impl DiskPort for Block {
         true
     }
 
-    #[tactic(auto, unfolding(reference::specs::Disk::disk_beat))]
+    #[tactic(auto, unfolding(reference::specs::Disk::disk_beat, reference::specs::BlockDisk::block_beat))]
     fn beat(&mut self, guard: &DmaGuard, mem: &mut HostMem) -> Beaten {
         let BlockStatus::Busy { command, done } = self.block.status else {
             return Beaten::Idle;
@@ -250,7 +251,7 @@ impl DiskPort for Block {
         }
     }
 
-    #[tactic(auto, unfolding(reference::specs::Disk::disk_line))]
+    #[tactic(auto, unfolding(reference::specs::Disk::disk_line, reference::specs::BlockDisk::block_line))]
     fn line(&self) -> bool {
         matches!(
             self.block.status,
@@ -258,6 +259,7 @@ impl DiskPort for Block {
         )
     }
 
+    #[tactic(auto, unfolding(reference::specs::Disk::disk_bytes))]
     fn disk(&self) -> &[u8] {
         &self.bytes
     }

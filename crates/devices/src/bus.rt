@@ -3,7 +3,7 @@ ghost use Rattle.std.specs.Prelude.{◌≡◌, ◌<◌, length, slice_get, is_so
 ghost use Rattle.sv_types.specs.Clock.{after_tick, timer_of, with_timer};
 ghost use Rattle.sv_types.specs.Console.{has_room, after_key, without_first};
 ghost use Rattle.reference.specs.Devices.{DeviceLoad, device_load, device_store, lines_at, external_line};
-ghost use Rattle.reference.specs.Disk.{is_writable, disk_beat};
+ghost use Rattle.reference.specs.Disk.{is_writable, disk_bytes, disk_beat};
 ghost use Rattle.dma_guard.specs.Transfers.{told, after_move};
 ghost use Rattle.devices.specs.Bus.{devices_at_boot, devices_loaded, devices_stored, journal_stored};
 
@@ -171,7 +171,7 @@ impl<D: DiskPort> Devices<D> {
 
     /// The bytes of the disk.
     pub fn disk(&self) -> &[u8]
-        ensures { result.now ≡ self.now.disk.bytes }
+        ensures { result.now ≡ disk_bytes self.now.disk }
     {
         self.disk.disk()
     }

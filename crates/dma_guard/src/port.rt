@@ -1,7 +1,7 @@
 // What a block device is to the machine.
 ghost use Rattle.std.specs.Prelude.{◌≡◌, is_some, unwrap_or};
 ghost use Rattle.reference.specs.States.{Disk};
-ghost use Rattle.reference.specs.Disk.{is_writable, disk_load, disk_store, disk_beat, disk_line};
+ghost use Rattle.reference.specs.Disk.{is_writable, disk_bytes, disk_load, disk_store, disk_beat, disk_line};
 ghost use Rattle.dma_guard.specs.Transfers.{told, after_move};
 
 use crate::DmaGuard;
@@ -48,5 +48,5 @@ pub trait DiskPort {
 
     /// The bytes of the disk.
     fn disk(&self) -> &[u8]
-        ensures { result.now ≡ (state self.now).bytes };
+        ensures { result.now ≡ disk_bytes (state self.now) };
 }

@@ -1,1 +1,2 @@
 pub mod SavedStates
+pub mod VirtioStates

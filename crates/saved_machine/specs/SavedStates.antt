@@ -5,7 +5,9 @@ use Rattle.processor.specs.Bits.{flag}
 use Rattle.processor.specs.Bytes.{ram_base}
 use Rattle.sv_types.specs.Clock.{Clock, timer_of}
 use Rattle.sv_types.specs.declared.protection.Protection.{Protection}
-use Rattle.reference.specs.States.{State, Hart, Loading, protection}
+use Rattle.sv_types.specs.declared.port.PortState.{PortState}
+use Rattle.reference.specs.States.{State, Hart, Disk, BlockDisk, VirtioDisk, Loading, protection}
+use Rattle.saved_machine.specs.VirtioStates.{virtio_of}
 use Rattle.saved_machine.specs.declared.harts.SavedHart.{SavedHart}
 use Rattle.saved_machine.specs.declared.whole.Saved.{Saved}
 use Rattle.saved_machine.specs.declared.whole.SavedLoad.{SavedLoad}
@@ -48,6 +50,13 @@ saved_harts clock h (hart ∷ harts) = saved_hart clock h hart ∷ saved_harts c
 abbrev pub saved_load : Loading → SavedLoad
 saved_load load = record { hart = load.hart; «module» = load.about; left = load.left }
 
+-- ---- the disk
+
+-- the disk behind its device
+abbrev pub disk_of : PortState → (bytes : List ℕ) → Disk
+disk_of (PortState.Block block) bytes = BlockDisk (record { block = block; bytes = bytes })
+disk_of (PortState.Virtio state) bytes = VirtioDisk (virtio_of state bytes)
+
 -- ---- the whole
 
 -- of each page of RAM
@@ -62,8 +71,7 @@ pub record IsSaved (r : State) (s : Saved) : Type 0 where
   pub retired : s.retired ≡ r.retired
   pub loading : s.loading ≡ option_map saved_load r.loading
   pub console : s.console.items ≡ r.devices.console
-  pub block : s.block ≡ r.devices.disk.block
-  pub disk : s.disk.items ≡ r.devices.disk.bytes
+  pub disk : disk_of s.port s.disk.items ≡ r.devices.disk
   pub time : s.time ≡ r.devices.clock.time
   pub counts : s.counts ≡ r.journal.counts
   pub notes : s.notes.items ≡ r.journal.notes

@@ -1,7 +1,7 @@
 // A whole machine as plain data.
 
 use crate::harts::SavedHart;
-use sv_types::{BlockState, Counts, Note, Protection, SavedModule, Verdict};
+use sv_types::{Counts, Note, PortState, Protection, SavedModule, Verdict};
 
 /// A load under way: the hart that asked for it, its arguments, and the pages that are left to count.
 #[derive(Clone, Copy, Debug, PartialEq, Eq, Drop)]
@@ -27,7 +27,8 @@ pub struct Saved {
     pub loading: Option<SavedLoad>,
     /// Bytes of input that wait, the next one first.
     pub console: Vec<u8>,
-    pub block: BlockState,
+    /// The device that the disk is behind.
+    pub port: PortState,
     /// The bytes of the disk.
     pub disk: Vec<u8>,
     /// In ticks.

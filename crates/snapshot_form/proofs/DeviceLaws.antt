@@ -7,7 +7,8 @@ use Rattle.sv_types.specs.declared.block.BlockCommand.{BlockCommand}
 use Rattle.sv_types.specs.declared.block.BlockStatus.{BlockStatus}
 use Rattle.sv_types.specs.declared.block.BlockState.{BlockState}
 use Rattle.reference.specs.BlockDisk.{beat_size}
-use Rattle.snapshot_form.specs.DeviceForms.{console, busy, goes_with, beats_of, has_beats, StatusParts, transfer, status_of, status_parts, standing, block_of, block_parts, sectors, block, holds_transfer, disk, devices}
+use Rattle.sv_types.specs.declared.port.PortState.{PortState}
+use Rattle.snapshot_form.specs.DeviceForms.{console, busy, goes_with, beats_of, has_beats, StatusParts, transfer, status_of, status_parts, standing, block_of, block_parts, sectors, block, holds_transfer, disk, devices, is_block, block_in, port}
 use Rattle.snapshot_form.specs.FormLaw.{IsForm}
 use Rattle.snapshot_form.specs.Forms.{is_word, number, within, and_then, always}
 use Rattle.snapshot_form.specs.JournalForms.{count}
@@ -92,6 +93,18 @@ pub disk_is : (b : BlockState) → IsForm (disk b)
 unfolding disk
 disk_is b = measured_is (holds_transfer b)
 
+block_back : (p : PortState) → is_block p ≡ true → PortState.Block (block_in p) ≡ p
+block_back (PortState.Block b) is = refl
+block_back (PortState.Virtio v) is = absurd (cc)
+
+pub port_is : IsForm port
+unfolding port
+port_is =
+    made_is PortState.Block block_in is_block block block_is
+    (record { back = λ p is h. block_back p is; again = λ x h. refl; stays = λ x h. refl })
+
 pub devices_are : IsForm devices
 unfolding devices
-devices_are = pair_is console (and_then block disk) console_is (and_then_is block disk block_is (λ b h. disk_is b))
+devices_are =
+    pair_is console (and_then port (λ p. disk (block_in p))) console_is
+    (and_then_is port (λ p. disk (block_in p)) port_is (λ p h. disk_is (block_in p)))

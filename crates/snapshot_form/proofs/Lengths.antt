@@ -14,7 +14,7 @@ use Rattle.reference.specs.BlockDisk.{sector_size}
 use Rattle.saved_machine.specs.declared.harts.SavedHart.{SavedHart}
 use Rattle.sv_types.specs.declared.event.Verdict.TheVariants as Verdict
 use Rattle.sv_types.specs.SbiCodes.{code_word}
-use Rattle.snapshot_form.specs.DeviceForms.{console, goes_with, has_beats, transfer, standing, block, most_disk_bytes, holds_transfer, disk, devices}
+use Rattle.snapshot_form.specs.DeviceForms.{console, goes_with, has_beats, transfer, standing, block, most_disk_bytes, holds_transfer, disk, devices, is_block, block_in, port}
 use Rattle.snapshot_form.specs.Forms.{Form, spell_number, is_word, number, byte, plain, nothing, within, and_then, ◌⨾◌, made, always, spell_all, has_all, listed, counted, measured}
 use Rattle.snapshot_form.specs.HartForms.{flag, mode, place, is_nonzero, reservation, aligned, legal, side, trap_status, status, registers, begins_with_0, hart, harts}
 use Rattle.snapshot_form.specs.JournalForms.{count, event_counts, hart_counts, rule_counts, counts, codes_known, is_among, found_among, code, hart_number, is_kind, demote, denied, answer, load_note, unload, retire_of, retire_parts, retire, note_behind, note, notes, is_verdict, stopped_entry, stopped_write, verdict_behind, verdict, journal}
@@ -204,12 +204,16 @@ block_short =
     made_short _ _ always _ 48 (pair_short _ _ 8 40 number_short (both_short number _ 8 32 number_short (λ gpa h.
     both_short _ (standing gpa) 8 24 (numbers_short (λ n. nat_lt n (2 ^ 32))) (λ count h. standing_short gpa count))))
 
+port_short : IsAtMost port 48
+unfolding port
+port_short = made_short _ _ is_block _ 48 block_short
+
 devices_short : IsAtMost devices (320 + most_disk_bytes)
 unfolding devices console disk
 devices_short =
     pair_short console _ 264 (56 + most_disk_bytes) (measured_short (λ n. nat_le n 256) 256 (λ n h. leb-true n 256 h))
-    (both_short block disk 48 (8 + most_disk_bytes) block_short
-    (λ b h. measured_short (holds_transfer b) most_disk_bytes (on_disk b)))
+    (both_short port (λ p. disk (block_in p)) 48 (8 + most_disk_bytes) port_short
+    (λ p h. measured_short (holds_transfer (block_in p)) most_disk_bytes (on_disk (block_in p))))
 
 -- ---- the journal
 

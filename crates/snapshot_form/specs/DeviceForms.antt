@@ -1,11 +1,13 @@
 -- The forms of the devices: the console's input, the block device and its disk. This project's own.
-use Rattle.std.specs.Prelude.{ℕ, Option, Some, None, is_some, ◌+◌, ◌*◌, ◌/◌, ◌%◌, ◌^◌, List, Bool, not, ◌&&◌, ◌||◌, nat_lt, nat_le, ◌==◌, if◌then◌else◌}
+use Rattle.std.specs.Prelude.{ℕ, Option, Some, None, is_some, ◌+◌, ◌*◌, ◌/◌, ◌%◌, ◌^◌, List, Bool, true, false, not, ◌&&◌, ◌||◌, nat_lt, nat_le, ◌==◌, if◌then◌else◌}
 use Rattle.reference.specs.BlockDisk.{is_busy, beats_done, beat_size, sector_size}
 use Rattle.snapshot_form.specs.Forms.{Form, number, within, and_then, ◌⨾◌, made, always, measured}
 use Rattle.sv_types.specs.BlockNumbers.{command_number, command_of, status_number}
 use Rattle.sv_types.specs.declared.block.BlockCommand.{BlockCommand}
 use Rattle.sv_types.specs.declared.block.BlockState.{BlockState}
 use Rattle.sv_types.specs.declared.block.BlockStatus.{BlockStatus}
+use Rattle.sv_types.specs.declared.port.PortState.{PortState}
+use Rattle.reference.specs.Start.{block_at_boot}
 
 -- no more than 256 bytes
 unfoldable pub console : Form (List ℕ)
@@ -88,6 +90,18 @@ block =
     made block_of block_parts always
     (number ⨾ and_then number (λ gpa. and_then sectors (standing gpa)))
 
+-- a snapshot has this project's own block device alone
+abbrev pub is_block : PortState → Bool
+is_block (PortState.Block b) = true
+is_block (PortState.Virtio v) = false
+
+abbrev pub block_in : PortState → BlockState
+block_in (PortState.Block b) = b
+block_in (PortState.Virtio v) = block_at_boot
+
+unfoldable pub port : Form PortState
+port = made PortState.Block block_in is_block block
+
 -- ---- the disk
 
 abbrev pub most_disk_bytes : ℕ
@@ -103,7 +117,7 @@ unfoldable pub disk : BlockState → Form (List ℕ)
 disk b = measured (holds_transfer b)
 
 abbrev pub Devices : Type 0
-Devices = List ℕ × (BlockState × List ℕ)
+Devices = List ℕ × (PortState × List ℕ)
 
 unfoldable pub devices : Form Devices
-devices = console ⨾ and_then block disk
+devices = console ⨾ and_then port (λ p. disk (block_in p))

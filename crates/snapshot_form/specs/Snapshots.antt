@@ -17,7 +17,7 @@ use Rattle.sv_types.specs.Policies.{harts_within, ram_pages_within}
 use Rattle.sv_types.specs.declared.event.Counts.{Counts}
 use Rattle.sv_types.specs.declared.event.Note.{Note}
 use Rattle.sv_types.specs.declared.event.Verdict.{Verdict}
-use Rattle.sv_types.specs.declared.block.BlockState.{BlockState}
+use Rattle.sv_types.specs.declared.port.PortState.{PortState}
 use Rattle.sv_types.specs.declared.saved.SavedModule.{SavedModule}
 use Rattle.sv_types.specs.declared.protection.Protection.{Protection}
 
@@ -79,7 +79,7 @@ pub record Contents : Type 0 where
   pub retired : Bool
   pub loading : Option SavedLoad
   pub console : List ℕ
-  pub block : BlockState
+  pub port : PortState
   pub disk : List ℕ
   pub counts : Counts
   pub notes : List Note
@@ -97,7 +97,7 @@ contents s = record {
   retired = s.«machine».retired;
   loading = s.«machine».loading;
   console = s.«machine».console.items;
-  block = s.«machine».block;
+  port = s.«machine».port;
   disk = s.«machine».disk.items;
   counts = s.«machine».counts;
   notes = s.«machine».notes.items;
@@ -124,7 +124,7 @@ whole_of x = record {
   retired = x.1.1.1.0.1.0;
   loading = x.1.1.1.0.1.1;
   console = x.1.1.1.1.0.0;
-  block = x.1.1.1.1.0.1.0;
+  port = x.1.1.1.1.0.1.0;
   disk = x.1.1.1.1.0.1.1;
   counts = x.1.1.1.1.1.0.0;
   notes = x.1.1.1.1.1.0.1.0;
@@ -144,7 +144,7 @@ whole_body s = (
     (
       (s.modules, (s.retired, s.loading)),
       (
-        (s.console, (s.block, s.disk)),
+        (s.console, (s.port, s.disk)),
         ((s.counts, (s.notes, s.verdict)), s.ram),
       ),
     ),

@@ -3,11 +3,12 @@ use Rattle.std.proofs.Common.{◌≡◌, ℕ, ◌+◌, ◌-◌, ◌*◌, ◌<◌
 use Rattle.std.specs.List.{list_all}
 use Rattle.std.proofs.lemmas.List.{take-append-le, drop-append-le, get_or_append_left}
 use Rattle.std.proofs.lemmas.List.Folds.{list_all_at}
-use Rattle.virtio_blk.specs.Chain.{no_part, between, most_parts, data_of, result_of}
-use Rattle.virtio_blk.specs.Requests.{bytes_in, data_moves, moves_by, last_moves}
-use Rattle.virtio_blk.specs.Held.{behind, moves_left, padded_parts, new_of}
-use Rattle.virtio_blk.specs.declared.state.VirtioMove.{VirtioMove}
-use Rattle.virtio_blk.specs.declared.state.VirtioPart.{VirtioPart}
+use Rattle.reference.specs.VirtioChain.{no_part, between, most_parts, data_of, result_of}
+use Rattle.reference.specs.VirtioRequests.{bytes_in, data_moves, moves_by, last_moves}
+use Rattle.saved_machine.specs.VirtioStates.{behind, moves_left}
+use Rattle.virtio_blk.specs.Held.{padded_parts, new_of}
+use Rattle.sv_types.specs.declared.virtio.VirtioMove.{VirtioMove}
+use Rattle.sv_types.specs.declared.virtio.VirtioPart.{VirtioPart}
 use Rattle.virtio_blk.proofs.DataMoves.{between_none, behind_none, data_moves_none}
 
 -- ---- the parts with empty ones behind them

@@ -1,8 +1,8 @@
 -- A chain of which a first part is read already.
 use Rattle.std.proofs.Common.{◌≡◌, ℕ, suc, ◌+◌, ◌-◌, ◌*◌, ◌<◌, ◌≤◌, true, false, nat_lt, List, [], ◌∷◌, ◌++◌, Option, Some, None, option_map, refl, ◌∙◌, sym, ap, append_assoc, arith}
-use Rattle.virtio_blk.specs.Chain.{descriptor_at, with_rest, chain, most_parts}
-use Rattle.virtio_blk.specs.declared.chain.Descriptor.{Descriptor}
-use Rattle.virtio_blk.specs.declared.state.VirtioPart.{VirtioPart}
+use Rattle.reference.specs.VirtioChain.{descriptor_at, with_rest, chain, most_parts}
+use Rattle.sv_types.specs.declared.virtio.VirtioDescriptor.{VirtioDescriptor}
+use Rattle.sv_types.specs.declared.virtio.VirtioPart.{VirtioPart}
 
 -- what was read, before the rest
 abbrev pub before : List VirtioPart → Option (List VirtioPart) → Option (List VirtioPart)
@@ -17,7 +17,7 @@ before_one_more parts part None = refl
 before_one_more parts part (Some more) = ap Some (append_assoc parts (part ∷ []) more)
 
 -- the step of a chain
-chain_step : (n : ℕ) (ram : List ℕ) (table size index : ℕ) (d : Descriptor) → d ≡ descriptor_at ram (table + 16 * index) → index < size → chain (suc n) ram table size index ≡ with_rest d (chain n ram table size d.next)
+chain_step : (n : ℕ) (ram : List ℕ) (table size index : ℕ) (d : VirtioDescriptor) → d ≡ descriptor_at ram (table + 16 * index) → index < size → chain (suc n) ram table size index ≡ with_rest d (chain n ram table size d.next)
 unfolding chain
 chain_step n ram table size index d is below =
     let test : nat_lt index size ≡ true = grind (arith, below) in
@@ -33,21 +33,21 @@ chain_outside place parts ram table size index whole below out chained =
     let none : chain (most_parts - place) ram table size index ≡ None = rw (after_place place below, test) refl in
     sym (ap (before parts) none) ∙ chained
 
-pub chain_indirect : (place : ℕ) (parts : List VirtioPart) (ram : List ℕ) (table size index : ℕ) (d : Descriptor) (whole : Option (List VirtioPart)) → place < most_parts → index < size → d ≡ descriptor_at ram (table + 16 * index) → d.is_indirect ≡ true → before parts (chain (most_parts - place) ram table size index) ≡ whole → None ≡ whole
+pub chain_indirect : (place : ℕ) (parts : List VirtioPart) (ram : List ℕ) (table size index : ℕ) (d : VirtioDescriptor) (whole : Option (List VirtioPart)) → place < most_parts → index < size → d ≡ descriptor_at ram (table + 16 * index) → d.is_indirect ≡ true → before parts (chain (most_parts - place) ram table size index) ≡ whole → None ≡ whole
 unfolding with_rest
 chain_indirect place parts ram table size index d whole below inside is indirect chained =
     let step = chain_step (most_parts - (place + 1)) ram table size index d is inside in
     let none : chain (most_parts - place) ram table size index ≡ None = rw (after_place place below, step, indirect) refl in
     sym (ap (before parts) none) ∙ chained
 
-pub chain_ends : (place : ℕ) (parts : List VirtioPart) (ram : List ℕ) (table size index : ℕ) (d : Descriptor) (whole : Option (List VirtioPart)) → place < most_parts → index < size → d ≡ descriptor_at ram (table + 16 * index) → d.is_indirect ≡ false → d.goes_on ≡ false → before parts (chain (most_parts - place) ram table size index) ≡ whole → Some (parts ++ d.part ∷ []) ≡ whole
+pub chain_ends : (place : ℕ) (parts : List VirtioPart) (ram : List ℕ) (table size index : ℕ) (d : VirtioDescriptor) (whole : Option (List VirtioPart)) → place < most_parts → index < size → d ≡ descriptor_at ram (table + 16 * index) → d.is_indirect ≡ false → d.goes_on ≡ false → before parts (chain (most_parts - place) ram table size index) ≡ whole → Some (parts ++ d.part ∷ []) ≡ whole
 unfolding with_rest
 chain_ends place parts ram table size index d whole below inside is direct ends chained =
     let step = chain_step (most_parts - (place + 1)) ram table size index d is inside in
     let one : chain (most_parts - place) ram table size index ≡ Some (d.part ∷ []) = rw (after_place place below, step, direct, ends) refl in
     sym (ap (before parts) one) ∙ chained
 
-pub chain_goes_on : (place : ℕ) (parts : List VirtioPart) (ram : List ℕ) (table size index : ℕ) (d : Descriptor) (whole : Option (List VirtioPart)) → place < most_parts → index < size → d ≡ descriptor_at ram (table + 16 * index) → d.is_indirect ≡ false → d.goes_on ≡ true → before parts (chain (most_parts - place) ram table size index) ≡ whole → before (parts ++ d.part ∷ []) (chain (most_parts - (place + 1)) ram table size d.next) ≡ whole
+pub chain_goes_on : (place : ℕ) (parts : List VirtioPart) (ram : List ℕ) (table size index : ℕ) (d : VirtioDescriptor) (whole : Option (List VirtioPart)) → place < most_parts → index < size → d ≡ descriptor_at ram (table + 16 * index) → d.is_indirect ≡ false → d.goes_on ≡ true → before parts (chain (most_parts - place) ram table size index) ≡ whole → before (parts ++ d.part ∷ []) (chain (most_parts - (place + 1)) ram table size d.next) ≡ whole
 unfolding with_rest
 chain_goes_on place parts ram table size index d whole below inside is direct goes chained =
     let step = chain_step (most_parts - (place + 1)) ram table size index d is inside in

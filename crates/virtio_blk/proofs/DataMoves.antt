@@ -1,12 +1,12 @@
 -- How the moves of a request's data go on.
 use Rattle.std.proofs.Common.{◌≡◌, ℕ, zero, suc, ◌+◌, ◌-◌, ◌%◌, ◌<◌, ◌≤◌, Bool, true, false, List, [], ◌∷◌, ◌++◌, length, take, drop, get_or, filter, refl, ◌∙◌, sym, ap, append_assoc, length-drop, arith}
 use Rattle.std.proofs.lemmas.List.{drop_more, take_more, get_or-drop}
-use Rattle.virtio_blk.specs.Chain.{no_part, between}
-use Rattle.virtio_blk.specs.Requests.{bytes_in, piece_size, piece, pieces, data_moves}
-use Rattle.virtio_blk.specs.Beats.{is_last}
-use Rattle.virtio_blk.specs.Held.{behind}
-use Rattle.virtio_blk.specs.declared.state.VirtioMove.{VirtioMove}
-use Rattle.virtio_blk.specs.declared.state.VirtioPart.{VirtioPart}
+use Rattle.reference.specs.VirtioChain.{no_part, between}
+use Rattle.reference.specs.VirtioRequests.{bytes_in, piece_size, piece, pieces, data_moves}
+use Rattle.reference.specs.VirtioBeats.{is_last}
+use Rattle.saved_machine.specs.VirtioStates.{behind}
+use Rattle.sv_types.specs.declared.virtio.VirtioMove.{VirtioMove}
+use Rattle.sv_types.specs.declared.virtio.VirtioPart.{VirtioPart}
 
 -- ---- parts between two places
 

@@ -4,12 +4,13 @@ use Rattle.std.specs.List.{list_all}
 use Rattle.std.proofs.lemmas.Bool.Decides.{nat_tests}
 use Rattle.std.proofs.lemmas.List.{get_or-drop, get_or-take, length-replicate, length-take-le}
 use Rattle.processor.specs.Bytes.{in_ram}
-use Rattle.virtio_blk.specs.Chain.{no_part, between, data_of}
-use Rattle.virtio_blk.specs.Requests.{bytes_in, lies_in, fits_type, are_sectors, can_move, result_by}
-use Rattle.virtio_blk.specs.Held.{behind, padded_parts, new_of, IsPlaced, IsOnDisk}
-use Rattle.virtio_blk.specs.declared.state.VirtioPart.{VirtioPart}
+use Rattle.reference.specs.VirtioChain.{no_part, between, data_of}
+use Rattle.reference.specs.VirtioRequests.{bytes_in, lies_in, fits_type, are_sectors, can_move, result_by}
+use Rattle.saved_machine.specs.VirtioStates.{behind}
+use Rattle.virtio_blk.specs.Held.{padded_parts, new_of, IsPlaced, IsOnDisk}
+use Rattle.sv_types.specs.declared.virtio.VirtioPart.{VirtioPart}
 use Rattle.virtio_blk.proofs.DataMoves.{between_none, behind_none}
-use Rattle.virtio_blk.specs.Stores.{is_size}
+use Rattle.reference.specs.VirtioStores.{is_size}
 use Rattle.virtio_blk.proofs.Accepting.{part_padded, between_padded, first_between, zero_can, all_at}
 
 all_three : (a b c : Bool) → a && b && c ≡ true → (a ≡ true) × ((b ≡ true) × (c ≡ true))

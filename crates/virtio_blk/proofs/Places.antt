@@ -1,14 +1,15 @@
 -- How the place in a chain goes on, as moves are taken.
 use Rattle.std.proofs.Common.{◌≡◌, ℕ, ◌+◌, ◌-◌, ◌%◌, ◌<◌, ◌≤◌, Bool, true, false, List, [], ◌∷◌, ◌++◌, length, drop, filter, Option, Some, None, IfSome, refl, ◌∙◌, sym, ap, subst, arith}
 use Rattle.std.proofs.lemmas.List.{drop-drop}
-use Rattle.virtio_blk.specs.Chain.{between}
-use Rattle.virtio_blk.specs.Requests.{bytes_in, piece_size, piece, data_moves, last_moves}
-use Rattle.virtio_blk.specs.Beats.{is_last}
-use Rattle.virtio_blk.specs.Held.{behind, part_at, last_place, data_left, disk_place, last_left, moves_left, first_move, IsPlaced, IsOnDisk, IsSame, CanBeMade}
+use Rattle.reference.specs.VirtioChain.{between}
+use Rattle.reference.specs.VirtioRequests.{bytes_in, piece_size, piece, data_moves, last_moves}
+use Rattle.reference.specs.VirtioBeats.{is_last}
+use Rattle.saved_machine.specs.VirtioStates.{behind, part_at, last_place, data_left, disk_place, last_left, moves_left}
+use Rattle.virtio_blk.specs.Held.{first_move, IsPlaced, IsOnDisk, IsSame, CanBeMade}
 use Rattle.virtio_blk.proofs.DataMoves.{between_first, between_none, bytes_in_more, data_moves_first, data_moves_passed, data_moves_none, data_moves_not_last, behind_none, behind_more}
-use Rattle.virtio_blk.specs.declared.state.VirtioMove.{VirtioMove}
-use Rattle.virtio_blk.specs.declared.state.VirtioPart.{VirtioPart}
-use Rattle.virtio_blk.specs.declared.state.VirtioRequest.{VirtioRequest}
+use Rattle.sv_types.specs.declared.virtio.VirtioMove.{VirtioMove}
+use Rattle.sv_types.specs.declared.virtio.VirtioPart.{VirtioPart}
+use Rattle.sv_types.specs.declared.virtio.VirtioRequest.{VirtioRequest}
 
 -- what is left begins with the part that is reached
 abbrev pub rest_of : VirtioRequest → List VirtioPart

@@ -1,8 +1,8 @@
 -- The bytes of parts as a sum.
 use Rattle.std.proofs.Common.{◌≡◌, ℕ, ◌+◌, List, [], ◌∷◌, map, sum, refl, ◌∙◌, ap}
 use Rattle.std.proofs.lemmas.List.Sums.{sum_by-cons}
-use Rattle.virtio_blk.specs.Requests.{bytes_in}
-use Rattle.virtio_blk.specs.declared.state.VirtioPart.{VirtioPart}
+use Rattle.reference.specs.VirtioRequests.{bytes_in}
+use Rattle.sv_types.specs.declared.virtio.VirtioPart.{VirtioPart}
 
 pub sum_of_bytes : (parts : List VirtioPart) → sum (map (λ (part : VirtioPart). part.len) parts) ≡ bytes_in parts
 sum_of_bytes [] = refl

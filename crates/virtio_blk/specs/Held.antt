@@ -1,69 +1,23 @@
--- The device as the code holds it, with a place in a chain for the moves that are left, and the device that it stands for.
+-- The device as the code holds it, and what holds of it at each moment.
 use Rattle.std.specs.Prelude.{◌≡◌, ℕ, ◌+◌, ◌-◌, ◌*◌, ◌%◌, ◌^◌, ◌<◌, ◌≤◌, true, false, ◌==◌, if◌then◌else◌, List, [], ◌∷◌, ◌++◌, length, drop, replicate, get_or, Option, Some, None, IfSome, option_map}
 use Rattle.processor.specs.Bytes.{page_size, ram_base, ram_place}
-use Rattle.virtio_blk.specs.Device.{Device, Request}
-use Rattle.virtio_blk.specs.Stores.{is_size}
-use Rattle.virtio_blk.specs.Chain.{no_part, between, most_parts, header_of}
-use Rattle.virtio_blk.specs.Requests.{bytes_in, data_moves, last_moves}
-use Rattle.virtio_blk.specs.declared.state.VirtioMove.{VirtioMove}
-use Rattle.virtio_blk.specs.declared.state.VirtioPart.{VirtioPart}
-use Rattle.virtio_blk.specs.declared.state.VirtioRequest.{VirtioRequest}
-use Rattle.virtio_blk.specs.declared.state.VirtioState.{VirtioState}
+use Rattle.reference.specs.VirtioDevice.{VirtioDevice}
+use Rattle.reference.specs.VirtioStores.{is_size}
+use Rattle.reference.specs.VirtioChain.{no_part, most_parts, header_of}
+use Rattle.reference.specs.VirtioRequests.{bytes_in}
+use Rattle.saved_machine.specs.VirtioStates.{last_place, part_at, data_left, disk_place, moves_left, virtio_of}
+use Rattle.sv_types.specs.declared.virtio.VirtioMove.{VirtioMove}
+use Rattle.sv_types.specs.declared.virtio.VirtioPart.{VirtioPart}
+use Rattle.sv_types.specs.declared.virtio.VirtioRequest.{VirtioRequest}
+use Rattle.sv_types.specs.declared.virtio.VirtioState.{VirtioState}
 
 pub record Held : Type 0 where
   pub state : VirtioState
   pub bytes : List ℕ
 
--- ---- the moves that are left of a request
-
--- data without the bytes of its first part that are moved
-abbrev pub behind : ℕ → List VirtioPart → List VirtioPart
-behind offset [] = []
-behind offset (part ∷ parts) = record part { gpa = part.gpa + offset; len = part.len - offset } ∷ parts
-
--- the place of the result in the chain, behind the data
-abbrev pub last_place : VirtioRequest → ℕ
-last_place q = q.count - 1
-
-abbrev pub part_at : VirtioRequest → ℕ → VirtioPart
-part_at q k = get_or q.parts k no_part
-
--- the data that is left
-abbrev pub data_left : VirtioRequest → List VirtioPart
-data_left q = behind q.offset (between q.parts q.part (last_place q))
-
--- where the next byte of data lies on the disk
-abbrev pub disk_place : VirtioRequest → ℕ
-disk_place q = 512 * q.sector + (bytes_in (between q.parts 1 q.part) + q.offset)
-
-abbrev pub last_left : ℕ → VirtioRequest → List VirtioMove
-last_left accepted q = drop q.tail (last_moves (part_at q (last_place q)).gpa q.used q.size q.head accepted)
-
-unfoldable pub moves_left : ℕ → VirtioRequest → List VirtioMove
-moves_left accepted q = data_moves (disk_place q) (data_left q) ++ last_left accepted q
-
-abbrev pub request_of : ℕ → VirtioRequest → Request
-request_of accepted q = record { moves = moves_left accepted q; result = q.result; written = q.written }
-
 -- the device that is held
-abbrev pub device_of : Held → Device
-device_of h = record {
-  device_select = h.state.device_select;
-  driver_select = h.state.driver_select;
-  driver_low = h.state.driver_low;
-  driver_high = h.state.driver_high;
-  queue = h.state.queue;
-  size = h.state.size;
-  ready = h.state.ready;
-  descriptors = h.state.descriptors;
-  available = h.state.available;
-  used = h.state.used;
-  interrupt = h.state.interrupt;
-  status = h.state.status;
-  accepted = h.state.accepted;
-  request = option_map (request_of h.state.accepted) h.state.request;
-  bytes = h.bytes;
-}
+abbrev pub device_of : Held → VirtioDevice
+device_of h = virtio_of h.state h.bytes
 
 unfoldable pub state_at_reset : VirtioState
 state_at_reset = record {
@@ -147,7 +101,7 @@ abbrev pub padded_parts : List VirtioPart → List VirtioPart
 padded_parts parts = parts ++ replicate (most_parts - length parts) no_part
 
 -- the three parts of the queue lie in RAM
-pub record HaveRings (d : Device) (ram : List ℕ) : Type 0 where
+pub record HaveRings (d : VirtioDevice) (ram : List ℕ) : Type 0 where
   pub descriptors : ram_base ≤ d.descriptors
   pub descriptors_end : ram_place d.descriptors + 16 * d.size ≤ length ram
   pub available : ram_base ≤ d.available

@@ -2,39 +2,40 @@
 
 ghost use Rattle.std.specs.Prelude.{◌≡◌, ℕ, ◌++◌, ◌+◌, ◌-◌, ◌*◌, ◌%◌, ◌<◌, ◌≤◌, ◌^◌, IsTrue, true, length, replicate};
 ghost use Rattle.processor.specs.Bytes.{ram_place};
-ghost use Rattle.virtio_blk.specs.Stores.{is_size};
+ghost use Rattle.reference.specs.VirtioStores.{is_size};
 ghost use Rattle.processor.specs.Regions.{Region};
 ghost use Rattle.dma_guard.specs.Transfers.{told, after_move};
-ghost use Rattle.virtio_blk.specs.Queue.{rings_in_ram, available_index, next_head};
-ghost use Rattle.virtio_blk.specs.Chain.{no_part, data_of, result_of, chain, most_parts};
-ghost use Rattle.virtio_blk.specs.Requests.{type_of, sector_of, result_by, moves_by, last_moves};
-ghost use Rattle.virtio_blk.specs.Beats.{accepted, accept, look};
-ghost use Rattle.virtio_blk.specs.Held.{HaveRings, HasHeader, IsPlaced, IsOnDisk, device_of, request_of, padded_parts, new_of};
+ghost use Rattle.reference.specs.VirtioQueue.{rings_in_ram, available_index, next_head};
+ghost use Rattle.reference.specs.VirtioChain.{no_part, data_of, result_of, chain, most_parts};
+ghost use Rattle.reference.specs.VirtioRequests.{type_of, sector_of, result_by, moves_by, last_moves};
+ghost use Rattle.reference.specs.VirtioBeats.{accepted, accept, look};
+ghost use Rattle.saved_machine.specs.VirtioStates.{request_of};
+ghost use Rattle.virtio_blk.specs.Held.{HaveRings, HasHeader, IsPlaced, IsOnDisk, device_of, padded_parts, new_of};
 
 use crate::Virtio;
 use crate::chain::read_chain;
 use crate::requests::{DONE, is_good, lies_in_ram, result_by};
-use crate::state::{MOST_PARTS, VirtioPart, VirtioRequest};
 use dma_guard::Beaten;
 use host_mem::{HostMem, word_at};
 use processor::ram_place;
+use sv_types::{MOST_VIRTIO_PARTS, VirtioPart, VirtioRequest};
 
 /// Indices of the queue count modulo this.
 const INDICES: u64 = 65536;
 
 // So many parts as a chain may have, all of them empty.
-fn empty_parts() -> [VirtioPart; MOST_PARTS]
+fn empty_parts() -> [VirtioPart; MOST_VIRTIO_PARTS]
     ensures { result ≡ replicate 34 no_part }
 {
     [VirtioPart {
         gpa: 0,
         len: 0,
         write: false,
-    }; MOST_PARTS]
+    }; MOST_VIRTIO_PARTS]
 }
 
 // The parts of a chain, with empty ones behind them.
-fn padded(parts: &[VirtioPart]) -> [VirtioPart; MOST_PARTS]
+fn padded(parts: &[VirtioPart]) -> [VirtioPart; MOST_VIRTIO_PARTS]
     requires { length parts.now ≤ 34 }
     ensures { result ≡ padded_parts parts.now }
 {
@@ -107,7 +108,7 @@ fn next_request(
 
 impl Virtio {
     // Whether the three parts of the queue lie in RAM.
-    #[tactic(auto, unfolding(crate::specs::Queue::rings_in_ram))]
+    #[tactic(auto, unfolding(reference::specs::VirtioQueue::rings_in_ram))]
     fn rings_in_ram(&self, ram: &[u8]) -> bool
         ensures value { result ≡ rings_in_ram (device_of self.now) ram.now }
         ensures rings { IsTrue result → HaveRings (device_of self.now) ram.now }
@@ -151,7 +152,7 @@ impl Virtio {
     }
 
     // The device accepts the request that a chain asks for.
-    #[tactic(auto, unfolding(crate::specs::Beats::accepted))]
+    #[tactic(auto, unfolding(reference::specs::VirtioBeats::accepted))]
     fn begin(&mut self, ram: &[u8], head: u64, parts: &[VirtioPart])
         requires header { HasHeader ram.now parts.now }
         requires most { length parts.now ≤ 34 }
@@ -168,7 +169,7 @@ impl Virtio {
     }
 
     // The chain that begins at a head is accepted, where it is a request's; else the device breaks.
-    #[tactic(auto, unfolding(crate::specs::Beats::accept))]
+    #[tactic(auto, unfolding(reference::specs::VirtioBeats::accept))]
     fn accept(&mut self, ram: &[u8], head: u64) -> Beaten
         requires head { head < 65536 }
         requires ready { self.old.state.ready ≡ true }
@@ -193,7 +194,7 @@ impl Virtio {
     }
 
     /// A look for the next request, while none is under way.
-    #[tactic(auto, unfolding(crate::specs::Beats::look))]
+    #[tactic(auto, unfolding(reference::specs::VirtioBeats::look))]
     pub(crate) fn look(&mut self, mem: &HostMem) -> Beaten
         requires ready { self.old.state.ready ≡ true }
         ensures device { device_of self.new ≡ (look (device_of self.old) mem.now.ram).device }

@@ -3,19 +3,20 @@
 ghost use Rattle.std.specs.Prelude.{◌≡◌, ℕ, ◌+◌, ◌%◌, ◌^◌, ◌<◌, ◌≤◌, false, true, IsTrue, length, Some};
 ghost use Rattle.processor.specs.Bytes.{page_size, overwrite, low_bytes};
 ghost use Rattle.reference.specs.Disk.{is_writable};
-ghost use Rattle.reference.specs.Disk.Move.{OutsideRam};
+ghost use Rattle.reference.specs.Move.{OutsideRam};
 ghost use Rattle.dma_guard.specs.Transfers.{told, after_move};
-ghost use Rattle.virtio_blk.specs.Beats.{broken, refused, with_written, with_request, finished, is_last, make, make_first, to_memory, to_disk, put_last, is_live, virtio_beat};
-ghost use Rattle.virtio_blk.specs.Held.{IsPlaced, IsOnDisk, CanBeMade, device_of, request_of, moves_left};
+ghost use Rattle.reference.specs.VirtioBeats.{broken, refused, with_written, with_request, finished, is_last, make, make_first, to_memory, to_disk, put_last, is_live, virtio_beat};
+ghost use Rattle.saved_machine.specs.VirtioStates.{request_of, moves_left};
+ghost use Rattle.virtio_blk.specs.Held.{IsPlaced, IsOnDisk, CanBeMade, device_of};
 
 use crate::Virtio;
 use crate::bus::NEEDS_RESET;
 use crate::moves::take_move;
 use crate::requests::{FAILED, lies_in_ram};
-use crate::state::{VirtioMove, VirtioRequest};
 use dma_guard::{Beaten, DmaGuard, DmaRefused};
 use host_mem::{HostMem, put_word};
 use processor::{has_bit, ram_place};
+use sv_types::{VirtioMove, VirtioRequest};
 
 /// The place of the status bit that says that the driver is ready.
 const DRIVER_OK_PLACE: u8 = 2;
@@ -26,7 +27,7 @@ const REQUEST_DONE: u32 = 1;
 const STATE_CHANGED: u32 = 2;
 
 // The request after a move that wrote so many bytes into memory.
-#[tactic(auto, unfolding(crate::specs::Held::moves_left))]
+#[tactic(auto, unfolding(saved_machine::specs::VirtioStates::moves_left))]
 fn with_written(request: &VirtioRequest, size: u64) -> VirtioRequest
     requires small { size ≤ 64 }
     ensures request { (accepted : ℕ) → request_of accepted result ≡ with_written (request_of accepted request.now) size }
@@ -117,7 +118,7 @@ impl Virtio {
     }
 
     // Bytes of the disk go into memory.
-    #[tactic(auto, unfolding(crate::specs::Beats::to_memory, dma_guard::specs::Transfers::write_answer, dma_guard::specs::Transfers::after_write))]
+    #[tactic(auto, unfolding(reference::specs::VirtioBeats::to_memory, dma_guard::specs::Transfers::write_answer, dma_guard::specs::Transfers::after_write))]
     fn to_memory(
         &mut self,
         request: &VirtioRequest,
@@ -158,7 +159,7 @@ impl Virtio {
     }
 
     // One of the last moves writes its bytes, and the request goes on; or it breaks the device.
-    #[tactic(auto, unfolding(crate::specs::Beats::put_last, dma_guard::specs::Transfers::write_answer, dma_guard::specs::Transfers::after_write))]
+    #[tactic(auto, unfolding(reference::specs::VirtioBeats::put_last, dma_guard::specs::Transfers::write_answer, dma_guard::specs::Transfers::after_write))]
     fn put_last(
         &mut self,
         request: &VirtioRequest,
@@ -195,7 +196,7 @@ impl Virtio {
     }
 
     // The used ring's index is the last move: the request is done, or the device is broken.
-    #[tactic(auto, unfolding(crate::specs::Beats::put_last, dma_guard::specs::Transfers::write_answer, dma_guard::specs::Transfers::after_write))]
+    #[tactic(auto, unfolding(reference::specs::VirtioBeats::put_last, dma_guard::specs::Transfers::write_answer, dma_guard::specs::Transfers::after_write))]
     fn put_index(
         &mut self,
         gpa: u64,
@@ -234,7 +235,7 @@ impl Virtio {
     }
 
     // Bytes of memory go onto the disk. Every page of RAM may be read.
-    #[tactic(auto, unfolding(crate::specs::Beats::to_disk))]
+    #[tactic(auto, unfolding(reference::specs::VirtioBeats::to_disk))]
     fn to_disk(
         &mut self,
         request: &VirtioRequest,
@@ -262,7 +263,7 @@ impl Virtio {
     }
 
     // One move of a request, which has the others left.
-    #[tactic(auto, unfolding(crate::specs::Beats::make))]
+    #[tactic(auto, unfolding(reference::specs::VirtioBeats::make))]
     fn make(
         &mut self,
         request: &VirtioRequest,
@@ -317,8 +318,8 @@ impl Virtio {
     }
 
     /// One beat: a move of the request under way, or a look for the next one. It writes RAM through the guard alone.
-    #[tactic(auto, unfolding(crate::specs::Beats::virtio_beat))]
-    pub fn beat(&mut self, guard: &DmaGuard, mem: &mut HostMem) -> Beaten
+    #[tactic(auto, unfolding(reference::specs::VirtioBeats::virtio_beat))]
+    pub(crate) fn make_beat(&mut self, guard: &DmaGuard, mem: &mut HostMem) -> Beaten
         ensures device { device_of self.new ≡ (virtio_beat (device_of self.old) mem.old.ram (is_writable guard.now)).device }
         ensures told { result ≡ told (virtio_beat (device_of self.old) mem.old.ram (is_writable guard.now)).move }
         ensures memory { mem.new ≡ after_move mem.old (virtio_beat (device_of self.old) mem.old.ram (is_writable guard.now)).move }

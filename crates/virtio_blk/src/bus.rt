@@ -1,15 +1,14 @@
 // What registers read, and what stores into them do.
 
-ghost use Rattle.std.specs.Prelude.{◌≡◌, ◌+◌, ◌-◌, ◌*◌, ◌/◌, ◌%◌, ◌^◌, ◌<◌, ◌≤◌, length, is_some, unwrap_or};
-ghost use Rattle.virtio_blk.specs.Device.{is_broken, is_selected};
-ghost use Rattle.virtio_blk.specs.Registers.{register_value, virtio_load, virtio_line};
-ghost use Rattle.virtio_blk.specs.Stores.{reset, with_features, kept_status, with_status, can_set, can_be_used, with_ready, with_size, with_descriptors, with_available, with_used, with_low, with_high, put, virtio_store};
+ghost use Rattle.std.specs.Prelude.{◌≡◌, ◌+◌, ◌-◌, ◌*◌, ◌/◌, ◌%◌, ◌^◌, ◌<◌, ◌≤◌, length};
+ghost use Rattle.reference.specs.VirtioDevice.{is_broken, is_selected};
+ghost use Rattle.reference.specs.VirtioRegisters.{register_value};
+ghost use Rattle.reference.specs.VirtioStores.{reset, with_features, kept_status, with_status, can_set, can_be_used, with_ready, with_size, with_descriptors, with_available, with_used, with_low, with_high, put};
 ghost use Rattle.virtio_blk.specs.Held.{device_of, state_at_reset};
 
-use crate::registers::{VirtioRegister, register_at};
-use crate::state::VirtioState;
 use crate::{SECTOR_BYTES, Virtio};
 use processor::has_bit;
+use sv_types::{VirtioRegister, VirtioState};
 
 /// The most places of the queue.
 const MOST_PLACES: u64 = 64;
@@ -46,7 +45,7 @@ fn at_reset() -> VirtioState
 
 impl Virtio {
     /// A device after a reset, with a disk in whole sectors of 512 bytes.
-    #[tactic(auto, unfolding(crate::specs::Held::state_at_reset, crate::specs::Stores::reset))]
+    #[tactic(auto, unfolding(crate::specs::Held::state_at_reset, reference::specs::VirtioStores::reset))]
     pub fn new(disk: Vec<u8>) -> Virtio
         requires sectors { length disk.items % 512 ≡ 0 }
         ensures { device_of result ≡ reset disk.items }
@@ -82,9 +81,9 @@ impl Virtio {
         self.bytes.len() as u64 / SECTOR_BYTES
     }
 
-    // What a register reads.
-    #[tactic(auto, unfolding(crate::specs::Registers::register_value))]
-    fn read(&self, register: VirtioRegister) -> u64
+    /// What a register reads.
+    #[tactic(auto, unfolding(reference::specs::VirtioRegisters::register_value))]
+    pub(crate) fn read(&self, register: VirtioRegister) -> u64
         ensures { result ≡ register_value (device_of self.now) register }
     {
         match register {
@@ -122,7 +121,7 @@ impl Virtio {
         self.is_selected() && !self.state.ready
     }
 
-    #[tactic(auto, unfolding(crate::specs::Stores::with_features))]
+    #[tactic(auto, unfolding(reference::specs::VirtioStores::with_features))]
     fn put_features(&mut self, value: u32)
         ensures { device_of self.new ≡ with_features (device_of self.old) value }
     {
@@ -134,7 +133,7 @@ impl Virtio {
     }
 
     // What the status keeps of a value other than 0.
-    #[tactic(auto, unfolding(crate::specs::Stores::kept_status))]
+    #[tactic(auto, unfolding(reference::specs::VirtioStores::kept_status))]
     fn kept_status(&self, value: u32) -> u32
         ensures { result ≡ kept_status (device_of self.now) value }
     {
@@ -147,7 +146,7 @@ impl Virtio {
         }
     }
 
-    #[tactic(auto, unfolding(crate::specs::Stores::with_status, crate::specs::Stores::reset, crate::specs::Held::state_at_reset))]
+    #[tactic(auto, unfolding(reference::specs::VirtioStores::with_status, reference::specs::VirtioStores::reset, crate::specs::Held::state_at_reset))]
     fn put_status(&mut self, value: u32)
         ensures { device_of self.new ≡ with_status (device_of self.old) value }
     {
@@ -168,7 +167,7 @@ impl Virtio {
             && self.state.used % 4 == 0
     }
 
-    #[tactic(auto, unfolding(crate::specs::Stores::with_ready))]
+    #[tactic(auto, unfolding(reference::specs::VirtioStores::with_ready))]
     fn put_ready(&mut self, value: u32)
         ensures { device_of self.new ≡ with_ready (device_of self.old) value }
     {
@@ -177,7 +176,7 @@ impl Virtio {
         }
     }
 
-    #[tactic(auto, unfolding(crate::specs::Stores::with_size))]
+    #[tactic(auto, unfolding(reference::specs::VirtioStores::with_size))]
     fn put_size(&mut self, value: u32)
         ensures { device_of self.new ≡ with_size (device_of self.old) value }
     {
@@ -186,7 +185,7 @@ impl Virtio {
         }
     }
 
-    #[tactic(auto, unfolding(crate::specs::Stores::with_descriptors))]
+    #[tactic(auto, unfolding(reference::specs::VirtioStores::with_descriptors))]
     fn put_descriptors(&mut self, address: u64)
         ensures { device_of self.new ≡ with_descriptors (device_of self.old) address }
     {
@@ -195,7 +194,7 @@ impl Virtio {
         }
     }
 
-    #[tactic(auto, unfolding(crate::specs::Stores::with_available))]
+    #[tactic(auto, unfolding(reference::specs::VirtioStores::with_available))]
     fn put_available(&mut self, address: u64)
         ensures { device_of self.new ≡ with_available (device_of self.old) address }
     {
@@ -204,7 +203,7 @@ impl Virtio {
         }
     }
 
-    #[tactic(auto, unfolding(crate::specs::Stores::with_used))]
+    #[tactic(auto, unfolding(reference::specs::VirtioStores::with_used))]
     fn put_used(&mut self, address: u64)
         ensures { device_of self.new ≡ with_used (device_of self.old) address }
     {
@@ -213,9 +212,9 @@ impl Virtio {
         }
     }
 
-    // A store into a register.
-    #[tactic(auto, unfolding(crate::specs::Stores::put))]
-    fn put(&mut self, register: VirtioRegister, value: u32)
+    /// A store into a register.
+    #[tactic(auto, unfolding(reference::specs::VirtioStores::put))]
+    pub(crate) fn put(&mut self, register: VirtioRegister, value: u32)
         ensures { device_of self.new ≡ put (device_of self.old) register value }
     {
         match register {
@@ -257,43 +256,6 @@ impl Virtio {
             | VirtioRegister::CapacityLow
             | VirtioRegister::CapacityHigh => {}
         }
-    }
-
-    /// A load of `width` bytes at an offset. None where no register has that offset and width.
-    #[tactic(auto, unfolding(crate::specs::Registers::virtio_load))]
-    pub fn load(&self, offset: u64, width: u8) -> Option<u64>
-        ensures { result ≡ virtio_load (device_of self.now) offset width }
-    {
-        let register = register_at(offset, width)?;
-        Some(self.read(register))
-    }
-
-    /// A store of `width` bytes at an offset. False where no register has that offset and width; then nothing changes.
-    #[tactic(auto, unfolding(crate::specs::Stores::virtio_store))]
-    pub fn store(&mut self, offset: u64, width: u8, value: u64) -> bool
-        ensures found { result ≡ is_some (virtio_store (device_of self.old) offset width value) }
-        ensures device { device_of self.new ≡ unwrap_or (virtio_store (device_of self.old) offset width value) (device_of self.old) }
-    {
-        let Some(register) = register_at(offset, width) else {
-            return false;
-        };
-        self.put(register, (value % (1 << 32)) as u32);
-        true
-    }
-
-    /// The interrupt line.
-    #[tactic(auto, unfolding(crate::specs::Registers::virtio_line))]
-    pub fn line(&self) -> bool
-        ensures { result ≡ virtio_line (device_of self.now) }
-    {
-        self.state.interrupt != 0
-    }
-
-    /// The bytes of the disk.
-    pub fn disk(&self) -> &[u8]
-        ensures { result.now ≡ (device_of self.now).bytes }
-    {
-        &self.bytes
     }
 }
 

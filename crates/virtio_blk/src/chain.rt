@@ -1,36 +1,24 @@
 // Chains of descriptors, read from guest memory.
 
 ghost use Rattle.std.specs.Prelude.{◌≡◌, ◌+◌, ◌*◌, ◌≤◌, length, option_map};
-ghost use Rattle.virtio_blk.specs.Chain.{descriptor_at, chain, most_parts};
+ghost use Rattle.reference.specs.VirtioChain.{descriptor_at, chain, most_parts};
 
-use crate::state::{MOST_PARTS, VirtioPart};
 use arrayvec::ArrayVec;
 use host_mem::word_at;
 use processor::has_bit;
+use sv_types::{MOST_VIRTIO_PARTS, VirtioDescriptor, VirtioPart};
 
 /// The bytes of a descriptor.
 const DESCRIPTOR_BYTES: usize = 16;
 
-/// A descriptor of the queue's table.
-#[derive(Clone, Copy, Debug, PartialEq, Eq, Drop)]
-pub struct Descriptor {
-    /// What it says.
-    pub part: VirtioPart,
-    /// Whether another one follows, and its place in the table.
-    pub goes_on: bool,
-    pub next: u64,
-    /// Whether it has a table of its own.
-    pub is_indirect: bool,
-}
-
 // The descriptor at a place in RAM.
-#[tactic(auto, unfolding(crate::specs::Chain::descriptor_at))]
-fn descriptor_at(ram: &[u8], at: usize) -> Descriptor
+#[tactic(auto, unfolding(reference::specs::VirtioChain::descriptor_at))]
+fn descriptor_at(ram: &[u8], at: usize) -> VirtioDescriptor
     requires { at + 16 ≤ length ram.now }
     ensures { result ≡ descriptor_at ram.now at }
 {
     let flags = word_at(ram, at + 12, 2);
-    Descriptor {
+    VirtioDescriptor {
         part: VirtioPart {
             gpa: word_at(ram, at, 8),
             len: word_at(ram, at + 8, 4) as u32,
@@ -44,19 +32,19 @@ fn descriptor_at(ram: &[u8], at: usize) -> Descriptor
 
 /// What the descriptors of a chain say, of which one begins it. None where one isn't in the table of `size` places or has
 /// a table of its own, or there are more than 34.
-#[tactic(auto, unfolding(crate::specs::Chain::chain, crate::specs::Chain::with_rest))]
+#[tactic(auto, unfolding(reference::specs::VirtioChain::chain, reference::specs::VirtioChain::with_rest))]
 pub fn read_chain(
     ram: &[u8],
     table: usize,
     size: u64,
     head: u64,
-) -> Option<ArrayVec<VirtioPart, MOST_PARTS>>
+) -> Option<ArrayVec<VirtioPart, MOST_VIRTIO_PARTS>>
     requires { table + 16 * size ≤ length ram.now }
     ensures { option_map (λ parts. parts.items) result ≡ chain most_parts ram.now table size head }
 {
     let mut parts = ArrayVec::new();
     let mut index = head;
-    for place in 0..MOST_PARTS {
+    for place in 0..MOST_VIRTIO_PARTS {
         if index >= size {
             return None;
         }

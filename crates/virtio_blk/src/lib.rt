@@ -6,13 +6,12 @@ mod beats;
 mod bus;
 mod chain;
 mod moves;
+mod port;
 mod registers;
 mod requests;
-mod state;
 
-pub use registers::VirtioRegister;
-pub use state::{MOST_PARTS, VirtioMove, VirtioPart, VirtioRequest, VirtioState};
 use std::marker::Model;
+use sv_types::VirtioState;
 
 /// The bytes of a sector.
 const SECTOR_BYTES: u64 = 512;

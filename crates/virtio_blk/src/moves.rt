@@ -1,15 +1,16 @@
 // The moves that are left of a request, taken one by one.
 
 ghost use Rattle.std.specs.Prelude.{◌≡◌, ℕ, ◌+◌, ◌-◌, ◌^◌, ◌<◌, ◌≤◌, ◌∷◌, ◌%◌, false, true, length, drop, IfSome, IsSome};
-ghost use Rattle.virtio_blk.specs.Queue.{used_gpa};
-ghost use Rattle.virtio_blk.specs.Requests.{piece_size, piece};
-ghost use Rattle.virtio_blk.specs.Beats.{is_last};
-ghost use Rattle.virtio_blk.specs.Held.{IsPlaced, IsOnDisk, IsSame, CanBeMade, part_at, last_place, disk_place, last_left, moves_left, first_move};
+ghost use Rattle.reference.specs.VirtioQueue.{used_gpa};
+ghost use Rattle.reference.specs.VirtioRequests.{piece_size, piece};
+ghost use Rattle.reference.specs.VirtioBeats.{is_last};
+ghost use Rattle.saved_machine.specs.VirtioStates.{part_at, last_place, disk_place, last_left, moves_left};
+ghost use Rattle.virtio_blk.specs.Held.{IsPlaced, IsOnDisk, IsSame, CanBeMade, first_move};
 
 use crate::SECTOR_BYTES;
 use crate::requests::bytes_in;
-use crate::state::{VirtioMove, VirtioRequest};
 use processor::PAGE_SIZE;
+use sv_types::{VirtioMove, VirtioRequest};
 
 /// The most bytes of a data move.
 const BEAT_BYTES: u64 = 64;

@@ -1,40 +1,12 @@
 // The registers, by their offsets.
 
 ghost use Rattle.std.specs.Prelude.{◌≡◌};
-ghost use Rattle.virtio_blk.specs.Registers.{register_named, register_at};
+ghost use Rattle.reference.specs.VirtioRegisters.{register_named, register_at};
 
-/// A register of a virtio device over MMIO, and the two of the block device's configuration.
-#[derive(Clone, Copy, Debug, PartialEq, Eq, Drop)]
-pub enum VirtioRegister {
-    MagicValue,
-    Version,
-    DeviceId,
-    VendorId,
-    DeviceFeatures,
-    DeviceFeaturesSelect,
-    DriverFeatures,
-    DriverFeaturesSelect,
-    QueueSelect,
-    QueueSizeMax,
-    QueueSize,
-    QueueReady,
-    QueueNotify,
-    InterruptStatus,
-    InterruptAcknowledge,
-    Status,
-    DescriptorsLow,
-    DescriptorsHigh,
-    AvailableLow,
-    AvailableHigh,
-    UsedLow,
-    UsedHigh,
-    ConfigGeneration,
-    CapacityLow,
-    CapacityHigh,
-}
+use sv_types::VirtioRegister;
 
 /// The register that has this offset and width in bytes, if there is one.
-#[tactic(auto, unfolding(crate::specs::Registers::register_at))]
+#[tactic(auto, unfolding(reference::specs::VirtioRegisters::register_at))]
 pub fn register_at(offset: u64, width: u8) -> Option<VirtioRegister>
     ensures { result ≡ register_at offset width }
 {
@@ -46,7 +18,7 @@ pub fn register_at(offset: u64, width: u8) -> Option<VirtioRegister>
 }
 
 // The register at an offset.
-#[tactic(auto, unfolding(crate::specs::Registers::register_named))]
+#[tactic(auto, unfolding(reference::specs::VirtioRegisters::register_named))]
 fn register_named(offset: u64) -> Option<VirtioRegister>
     ensures { result ≡ register_named offset }
 {

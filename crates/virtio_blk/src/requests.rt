@@ -3,13 +3,13 @@
 ghost use Rattle.std.specs.Prelude.{◌≡◌, ◌+◌, ◌*◌, ◌≤◌, IsTrue, length};
 ghost use Rattle.std.specs.List.{list_all};
 ghost use Rattle.processor.specs.Bytes.{in_ram, ram_base, ram_place};
-ghost use Rattle.virtio_blk.specs.Chain.{header_of, result_of, is_header, is_result, is_good};
+ghost use Rattle.reference.specs.VirtioChain.{header_of, result_of, is_header, is_result, is_good};
 ghost use Rattle.virtio_blk.specs.Held.{HasHeader};
-ghost use Rattle.virtio_blk.specs.Requests.{bytes_in, lies_in, fits_type, are_sectors, can_move, result_by};
+ghost use Rattle.reference.specs.VirtioRequests.{bytes_in, lies_in, fits_type, are_sectors, can_move, result_by};
 
 use crate::SECTOR_BYTES;
-use crate::state::VirtioPart;
 use processor::is_in_ram;
+use sv_types::VirtioPart;
 
 /// The bytes of a request's header, and of its result.
 const HEADER_BYTES: u32 = 16;
@@ -86,7 +86,7 @@ fn all_fit_type(kind: u64, parts: &[VirtioPart]) -> bool
 }
 
 // Whether the data's moves can be made.
-#[tactic(auto, unfolding(crate::specs::Requests::can_move))]
+#[tactic(auto, unfolding(reference::specs::VirtioRequests::can_move))]
 fn can_move(ram: &[u8], disk_size: usize, kind: u64, sector: u64, parts: &[VirtioPart]) -> bool
     requires { length parts.now ≤ 34 }
     ensures { result ≡ can_move ram.now disk_size kind sector parts.now }
@@ -97,7 +97,7 @@ fn can_move(ram: &[u8], disk_size: usize, kind: u64, sector: u64, parts: &[Virti
 }
 
 /// The result that a request has as it is accepted.
-#[tactic(auto, unfolding(crate::specs::Requests::result_by))]
+#[tactic(auto, unfolding(reference::specs::VirtioRequests::result_by))]
 pub fn result_by(ram: &[u8], disk_size: usize, kind: u64, sector: u64, parts: &[VirtioPart]) -> u8
     requires { length parts.now ≤ 34 }
     ensures { result ≡ result_by ram.now disk_size kind sector parts.now }
@@ -121,7 +121,7 @@ fn is_header(ram: &[u8], part: &VirtioPart) -> bool
 }
 
 /// Whether a chain is one of a request: a header, data, and a byte for the result.
-#[tactic(auto, unfolding(crate::specs::Chain::is_good))]
+#[tactic(auto, unfolding(reference::specs::VirtioChain::is_good))]
 pub fn is_good(ram: &[u8], parts: &[VirtioPart]) -> bool
     ensures value { result ≡ is_good ram.now parts.now }
     ensures header { IsTrue result → HasHeader ram.now parts.now }

@@ -2,7 +2,7 @@
 ghost use Rattle.std.specs.Prelude.{◌≡◌, ◌%◌, IfOk, length};
 
 use super::Virtio;
-use dma_guard::{Beaten, DmaGuard, DmaRefused};
+use dma_guard::{Beaten, DiskPort, DmaGuard, DmaRefused};
 use host_mem::HostMem;
 use std::alloc::{AllocError, Global};
 use std::test::Fail;

@@ -19,7 +19,7 @@ pub enum Register {
 }
 
 /// The register that has this offset and width in bytes, if there is one.
-#[tactic(auto, unfolding(reference::specs::Disk::block_register))]
+#[tactic(auto, unfolding(reference::specs::BlockDisk::block_register))]
 pub fn register_at(offset: u64, width: u8) -> Option<Register>
     ensures register { option_map register_named result ≡ block_register offset width }
     ensures width { IfSome result (λ r. width ≡ width_of r) }

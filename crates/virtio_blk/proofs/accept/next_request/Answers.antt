@@ -1,9 +1,10 @@
 use Rattle.std.proofs.Common.{◌∙◌, List, sym, ap, subst}
-use Rattle.virtio_blk.specs.Device.{Request}
-use Rattle.virtio_blk.specs.Requests.{type_of, sector_of, result_by}
-use Rattle.virtio_blk.specs.Chain.{data_of}
-use Rattle.virtio_blk.specs.Held.{IsPlaced, IsOnDisk, request_of}
-use Rattle.virtio_blk.specs.declared.state.VirtioMove.{VirtioMove}
+use Rattle.reference.specs.VirtioDevice.{Request}
+use Rattle.reference.specs.VirtioRequests.{type_of, sector_of, result_by}
+use Rattle.reference.specs.VirtioChain.{data_of}
+use Rattle.saved_machine.specs.VirtioStates.{request_of}
+use Rattle.virtio_blk.specs.Held.{IsPlaced, IsOnDisk}
+use Rattle.sv_types.specs.declared.virtio.VirtioMove.{VirtioMove}
 use Rattle.virtio_blk.proofs.Accepting.{new_moves}
 use Rattle.virtio_blk.proofs.NewRequests.{new_placed, new_on_disk, size_some, size_most}
 use Rattle.virtio_blk.proofs.accept.next_request.Goals as goal

@@ -1,7 +1,7 @@
 use Rattle.std.proofs.Common.{◌≡◌, ◌-◌, ◌∙◌, ◌++◌, List, length, drop, replicate, ap}
 use Rattle.std.proofs.lemmas.List.{drop-replicate}
-use Rattle.virtio_blk.specs.Chain.{no_part}
-use Rattle.virtio_blk.specs.declared.state.VirtioPart.{VirtioPart}
+use Rattle.reference.specs.VirtioChain.{no_part}
+use Rattle.sv_types.specs.declared.virtio.VirtioPart.{VirtioPart}
 use Rattle.virtio_blk.proofs.accept.padded.Goals as goal
 
 pub returns : goal.returns

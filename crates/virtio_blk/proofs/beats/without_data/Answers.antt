@@ -1,6 +1,6 @@
 use Rattle.std.proofs.Common.{ℕ, List, ap, arith}
-use Rattle.virtio_blk.specs.Device.{Request}
-use Rattle.virtio_blk.specs.declared.state.VirtioMove.{VirtioMove}
+use Rattle.reference.specs.VirtioDevice.{Request}
+use Rattle.sv_types.specs.declared.virtio.VirtioMove.{VirtioMove}
 use Rattle.virtio_blk.proofs.Places.{last_all, without_data_moves, without_data_placed}
 use Rattle.virtio_blk.proofs.beats.without_data.Goals as goal
 

@@ -1,6 +1,6 @@
 use Rattle.std.proofs.Common.{rules, ◌≡◌, ◌+◌, ◌-◌, Some, ◌∙◌, ap, List, []}
-use Rattle.virtio_blk.specs.Chain.{chain, most_parts}
-use Rattle.virtio_blk.specs.declared.state.VirtioPart.{VirtioPart}
+use Rattle.reference.specs.VirtioChain.{chain, most_parts}
+use Rattle.sv_types.specs.declared.virtio.VirtioPart.{VirtioPart}
 use Rattle.virtio_blk.proofs.Chains.{before, before_none, chain_ends, chain_goes_on}
 use Rattle.virtio_blk.proofs.chain.read_chain.Goals as goal
 

@@ -1,6 +1,6 @@
 use Rattle.std.proofs.Common.{◌≡◌, ◌-◌}
 use Rattle.arrayvec.specs.ArrayVec.{array_vec_len}
-use Rattle.virtio_blk.specs.Chain.{chain, most_parts}
+use Rattle.reference.specs.VirtioChain.{chain, most_parts}
 use Rattle.virtio_blk.proofs.Chains.{before}
 use Rattle.virtio_blk.proofs.chain.read_chain.Given as goal
 

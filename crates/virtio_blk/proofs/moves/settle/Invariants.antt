@@ -1,5 +1,6 @@
 use Rattle.std.proofs.Common.{◌≡◌}
-use Rattle.virtio_blk.specs.Held.{IsPlaced, IsSame, last_place}
+use Rattle.saved_machine.specs.VirtioStates.{last_place}
+use Rattle.virtio_blk.specs.Held.{IsPlaced, IsSame}
 use Rattle.virtio_blk.proofs.moves.settle.Given as goal
 
 abbrev pub invariant-loop-index : goal.invariant-loop-index

@@ -1,7 +1,8 @@
 use Rattle.std.proofs.Common.{◌≡◌, ℕ, ◌+◌, ◌-◌, ◌∷◌, ◌∙◌, sym, ap, subst, arith}
-use Rattle.virtio_blk.specs.Requests.{piece_size, piece}
-use Rattle.virtio_blk.specs.Held.{CanBeMade, part_at, disk_place, moves_left}
-use Rattle.virtio_blk.specs.declared.state.VirtioMove.{VirtioMove}
+use Rattle.reference.specs.VirtioRequests.{piece_size, piece}
+use Rattle.saved_machine.specs.VirtioStates.{part_at, disk_place, moves_left}
+use Rattle.virtio_blk.specs.Held.{CanBeMade}
+use Rattle.sv_types.specs.declared.virtio.VirtioMove.{VirtioMove}
 use Rattle.virtio_blk.proofs.DataMoves.{piece_size_most}
 use Rattle.virtio_blk.proofs.Places.{moved, moved_moves, moved_disk, piece_on_disk, piece_made}
 use Rattle.virtio_blk.proofs.moves.take_data.Goals as goal

@@ -1,6 +1,7 @@
 use Rattle.std.proofs.Common.{◌≡◌, ◌^◌, ◌∙◌, drop, sym, ap, subst, arith}
-use Rattle.virtio_blk.specs.Held.{last_place, first_move}
-use Rattle.virtio_blk.specs.declared.state.VirtioRequest.{VirtioRequest}
+use Rattle.saved_machine.specs.VirtioStates.{last_place}
+use Rattle.virtio_blk.specs.Held.{first_move}
+use Rattle.sv_types.specs.declared.virtio.VirtioRequest.{VirtioRequest}
 use Rattle.virtio_blk.proofs.Places.{last_moves_left, no_data}
 use Rattle.virtio_blk.proofs.moves.take_move.Goals as goal
 

@@ -1,5 +1,5 @@
 use Rattle.std.proofs.Common.{rules, ◌≡◌, ◌∙◌, map, sum}
-use Rattle.virtio_blk.specs.declared.state.VirtioPart.{VirtioPart}
+use Rattle.sv_types.specs.declared.virtio.VirtioPart.{VirtioPart}
 use Rattle.virtio_blk.proofs.Sums.{sum_of_bytes}
 use Rattle.virtio_blk.proofs.requests.bytes_in.Goals as goal
 
