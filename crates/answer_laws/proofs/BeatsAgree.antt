@@ -1,22 +1,26 @@
 -- A beat of the machine's is the reference machine's: it asks DMA bits where the reference asks protections.
-use Rattle.std.proofs.Common.{◌≡◌, ℕ, zero, suc, ◌+◌, ◌*◌, ◌<◌, List, [], ◌∷◌, length, map, refl, sym, ◌∙◌, ap, Bool, true, false, not, ◌&&◌, ◌||◌, arith, slice_get}
-use Rattle.std.specs.Prelude.{Option, Some, unwrap_or, option_map, if◌then◌else◌, nat_le, ◌==◌}
+use Rattle.std.proofs.Common.{◌≡◌, ℕ, zero, suc, ◌+◌, ◌*◌, ◌<◌, ◌≤◌, List, [], ◌∷◌, length, map, refl, sym, ◌∙◌, ap, subst, Bool, true, false, not, ◌&&◌, ◌||◌, arith, slice_get}
+use Rattle.std.specs.Prelude.{Option, Some, None, unwrap_or, option_map, if◌then◌else◌, nat_le, ◌==◌}
 use Rattle.std.proofs.lemmas.Bool.Decides.{nat_tests}
-use Rattle.processor.specs.Bytes.{part, overwrite, in_ram, ram_base, ram_place, page_of, page_size}
+use Rattle.processor.specs.Bytes.{part, overwrite, low_bytes, in_ram, ram_base, ram_place, page_of, page_size}
 use Rattle.sv_types.specs.declared.protection.Protection.{Protection}
 use Rattle.sv_types.specs.declared.block.BlockStatus.{BlockStatus}
-use Rattle.reference.specs.States.{State, Disk, protection_in, protection_by, is_protected, is_approved_in, has_number}
-use Rattle.reference.specs.BlockDisk.{block_to_memory, block_to_disk, block_after_beat, beat_place, beat_gpa, beat_size, is_busy, is_to_memory, transfer_ended}
-use Rattle.reference.specs.Disk.{disk_beat, is_writable}
+use Rattle.sv_types.specs.declared.virtio.VirtioMove.{VirtioMove}
+use Rattle.processor_laws.proofs.ByteLemmas.{length_low_bytes}
+use Rattle.reference.specs.States.{State, Disk, BlockDevice, BlockDisk, VirtioDisk, protection_in, protection_by, is_protected, is_approved_in, has_number}
+use Rattle.reference.specs.BlockDisk.{block_beat, block_to_memory, block_to_disk, block_after_beat, beat_place, beat_gpa, beat_size, is_busy, is_to_memory, transfer_ended}
+use Rattle.reference.specs.VirtioDevice.{VirtioDevice, Request}
+use Rattle.reference.specs.VirtioBeats.{VirtioBeat, nothing, broken, with_request, with_written, refused, to_memory, put_last, finished, make, make_first, go_on, is_live, virtio_beat}
+use Rattle.reference.specs.Disk.{block_beaten, virtio_beaten, disk_beat, is_writable}
 use Rattle.reference.specs.Move.{Move, Idle, FromRam, IntoRam, DeniedAt, OutsideRam}
 use Rattle.reference.specs.Devices.{beat, after_beaten, after_move, with_bytes}
 use Rattle.reference.specs.Protections.{is_free}
 use Rattle.machine_model.specs.HostEvents.{beat_served, after_host_beaten, after_host_move}
 use Rattle.machine_model.specs.StandsFor.{Unseen, machine_of, protections_of}
-use Rattle.reference.specs.Soundness.{IsSound}
+use Rattle.reference.specs.Soundness.{IsSound, IsSoundDisk, IsSoundVirtio, IsSoundRequest, IsSoundMove, AreSoundMoves}
 use Rattle.attempt_laws.proofs.Hosts.{hosts_forget}
 use Rattle.run_laws.proofs.Sounds.{bytes_keep_load}
-use Rattle.run_laws.proofs.StepsSound.{FreeMove, beat_page, beat_sound}
+use Rattle.run_laws.proofs.BeatsSound.{FreeMove, beat_page, beat_sound}
 use Rattle.attempt_laws.proofs.Stays.{KeepsLoad}
 use Rattle.answer_laws.proofs.ViewsMeet.{get_numbers}
 
@@ -41,32 +45,82 @@ bit_of r page below =
     ∙ ap (λ (k : ℕ). Some (protection_in r.approved r.held k)) first))
     ∙ free_by (is_approved_in r.approved page) (has_number r.held page)
 
--- ---- the beat asks at one page in RAM
+-- ---- a beat asks only of pages in RAM
 
-beat_by : (d : Disk) (ram : List ℕ) (f g : ℕ → Bool) (busy inside reads : Bool) → (inside ≡ true → f (page_of (beat_gpa d.block)) ≡ g (page_of (beat_gpa d.block)))
-    → (if not busy then record { disk = d; move = Idle } else if not inside then transfer_ended d BlockStatus.OutOfRange OutsideRam else if reads then to_memory d f else to_disk d ram)
-    ≡ (if not busy then record { disk = d; move = Idle } else if not inside then transfer_ended d BlockStatus.OutOfRange OutsideRam else if reads then to_memory d g else to_disk d ram)
+abbrev AgreeInRam : List ℕ → (f g : ℕ → Bool) → Type 0
+AgreeInRam ram f g = (gpa size : ℕ) → 1 ≤ size → in_ram ram gpa size ≡ true → f (page_of gpa) ≡ g (page_of gpa)
+
+beat_by : (d : BlockDevice) (ram : List ℕ) (f g : ℕ → Bool) (busy inside reads : Bool) → (inside ≡ true → f (page_of (beat_gpa d.block)) ≡ g (page_of (beat_gpa d.block)))
+    → (if not busy then record { device = d; move = Idle } else if not inside then transfer_ended d BlockStatus.OutOfRange OutsideRam else if reads then block_to_memory d f else block_to_disk d ram)
+    ≡ (if not busy then record { device = d; move = Idle } else if not inside then transfer_ended d BlockStatus.OutOfRange OutsideRam else if reads then block_to_memory d g else block_to_disk d ram)
 beat_by d ram f g false inside reads same = refl
 beat_by d ram f g true false reads same = refl
 beat_by d ram f g true true true same =
-    ap (λ (b : Bool). if b then record { disk = record d { block = block_after_beat d.block }; move = IntoRam (beat_gpa d.block) (part d.bytes (beat_place d.block) beat_size) } else transfer_ended d BlockStatus.Denied (DeniedAt (beat_gpa d.block))) (same refl)
+    ap (λ (b : Bool). if b then record { device = record d { block = block_after_beat d.block }; move = IntoRam (beat_gpa d.block) (part d.bytes (beat_place d.block) beat_size) } else transfer_ended d BlockStatus.Denied (DeniedAt (beat_gpa d.block))) (same refl)
 beat_by d ram f g true true false same = refl
 
-beat_meets : (d : Disk) (ram : List ℕ) (f g : ℕ → Bool) → (in_ram ram (beat_gpa d.block) beat_size ≡ true → f (page_of (beat_gpa d.block)) ≡ g (page_of (beat_gpa d.block)))
-    → disk_beat d ram f ≡ disk_beat d ram g
-unfolding disk_beat
-beat_meets d ram f g same = beat_by d ram f g (is_busy d.block) (in_ram ram (beat_gpa d.block) beat_size) (is_to_memory d.block.status) same
+block_meets : (d : BlockDevice) (ram : List ℕ) (f g : ℕ → Bool) → AgreeInRam ram f g → block_beat d ram f ≡ block_beat d ram g
+unfolding block_beat
+block_meets d ram f g agree =
+    beat_by d ram f g (is_busy d.block) (in_ram ram (beat_gpa d.block) beat_size) (is_to_memory d.block.status) (agree (beat_gpa d.block) beat_size (omega arith))
 
-pub page_of_beat : (ram : List ℕ) (gpa n : ℕ) → length ram ≡ page_size * n → in_ram ram gpa beat_size ≡ true → page_of gpa < n
-page_of_beat ram gpa n size inside =
-    let tests : (nat_le ram_base gpa && nat_le (ram_place gpa + 64) (4096 * n)) ≡ true = ap (λ (k : ℕ). nat_le ram_base gpa && nat_le (ram_place gpa + 64) k) (sym size) ∙ inside in
+memory_meets : (d : VirtioDevice) (q : Request) (gpa place size : ℕ) (f g : ℕ → Bool) (inside : Bool) → (inside ≡ true → f (page_of gpa) ≡ g (page_of gpa))
+    → (if not inside then broken d OutsideRam else if f (page_of gpa) then record { device = with_request d (with_written q size); move = IntoRam gpa (part d.bytes place size) } else record { device = with_request d (refused q); move = DeniedAt gpa })
+    ≡ (if not inside then broken d OutsideRam else if g (page_of gpa) then record { device = with_request d (with_written q size); move = IntoRam gpa (part d.bytes place size) } else record { device = with_request d (refused q); move = DeniedAt gpa })
+memory_meets d q gpa place size f g true same =
+    ap (λ (b : Bool). if b then record { device = with_request d (with_written q size); move = IntoRam gpa (part d.bytes place size) } else record { device = with_request d (refused q); move = DeniedAt gpa }) (same refl)
+memory_meets d q gpa place size f g false same = refl
+
+put_meets : (d next : VirtioDevice) (gpa : ℕ) (bytes : List ℕ) (f g : ℕ → Bool) (inside : Bool) → (inside ≡ true → f (page_of gpa) ≡ g (page_of gpa))
+    → (if not inside then broken d OutsideRam else if f (page_of gpa) then record { device = next; move = IntoRam gpa bytes } else broken d (DeniedAt gpa))
+    ≡ (if not inside then broken d OutsideRam else if g (page_of gpa) then record { device = next; move = IntoRam gpa bytes } else broken d (DeniedAt gpa))
+put_meets d next gpa bytes f g true same = ap (λ (b : Bool). if b then record { device = next; move = IntoRam gpa bytes } else broken d (DeniedAt gpa)) (same refl)
+put_meets d next gpa bytes f g false same = refl
+
+last_meets : (d next : VirtioDevice) (gpa width value : ℕ) (ram : List ℕ) (f g : ℕ → Bool) → 1 ≤ width → AgreeInRam ram f g
+    → put_last d next gpa (low_bytes width value) ram f ≡ put_last d next gpa (low_bytes width value) ram g
+unfolding put_last
+last_meets d next gpa width value ram f g some agree =
+    put_meets d next gpa (low_bytes width value) f g (in_ram ram gpa (length (low_bytes width value)))
+    (agree gpa (length (low_bytes width value)) (subst (λ (n : ℕ). 1 ≤ n) (sym (length_low_bytes width value)) some))
+
+make_meets : (d : VirtioDevice) (q : Request) (x : VirtioMove) (ram : List ℕ) (f g : ℕ → Bool) → IsSoundMove x → AgreeInRam ram f g → make d q x ram f ≡ make d q x ram g
+unfolding make to_memory
+make_meets d q (VirtioMove.ToMemory gpa place size) ram f g stays agree = memory_meets d q gpa place size f g (in_ram ram gpa size) (agree gpa size stays.0)
+make_meets d q (VirtioMove.ToDisk gpa place size) ram f g stays agree = refl
+make_meets d q (VirtioMove.PutResult gpa) ram f g stays agree = last_meets d (with_request d q) gpa 1 q.result ram f g stays.0 agree
+make_meets d q (VirtioMove.PutHead gpa head) ram f g stays agree = last_meets d (with_request d q) gpa 4 head ram f g (omega arith) agree
+make_meets d q (VirtioMove.PutLength gpa) ram f g stays agree = last_meets d (with_request d q) gpa 4 (q.written + 1) ram f g (omega arith) agree
+make_meets d q (VirtioMove.PutIndex gpa index) ram f g stays agree = last_meets d (finished d) gpa 2 index ram f g (omega arith) agree
+
+first_meets : (d : VirtioDevice) (q : Request) (moves : List VirtioMove) (ram : List ℕ) (f g : ℕ → Bool) → AreSoundMoves moves → AgreeInRam ram f g
+    → make_first d q moves ram f ≡ make_first d q moves ram g
+first_meets d q [] ram f g sound agree = refl
+first_meets d q (move ∷ moves) ram f g sound agree = make_meets d (record q { moves = moves }) move ram f g sound.0 agree
+
+goes_alike : (d : VirtioDevice) (q : Option Request) (ram : List ℕ) (f g : ℕ → Bool) → IsSoundRequest q → AgreeInRam ram f g → go_on d q ram f ≡ go_on d q ram g
+goes_alike d None ram f g sound agree = refl
+goes_alike d (Some q) ram f g sound agree = first_meets d q q.moves ram f g sound agree
+
+virtio_meets : (d : VirtioDevice) (ram : List ℕ) (f g : ℕ → Bool) → IsSoundVirtio d → AgreeInRam ram f g → virtio_beat d ram f ≡ virtio_beat d ram g
+unfolding virtio_beat
+virtio_meets d ram f g k agree = ap (λ (b : VirtioBeat). if is_live d then b else nothing d) (goes_alike d d.request ram f g k.moves agree)
+
+beat_meets : (d : Disk) (ram : List ℕ) (f g : ℕ → Bool) → IsSoundDisk d → AgreeInRam ram f g → disk_beat d ram f ≡ disk_beat d ram g
+unfolding disk_beat
+beat_meets (BlockDisk d) ram f g k agree = ap block_beaten (block_meets d ram f g agree)
+beat_meets (VirtioDisk d) ram f g k agree = ap virtio_beaten (virtio_meets d ram f g k agree)
+
+pub page_of_beat : (ram : List ℕ) (gpa size n : ℕ) → length ram ≡ page_size * n → 1 ≤ size → in_ram ram gpa size ≡ true → page_of gpa < n
+page_of_beat ram gpa size n is some inside =
+    let tests : (nat_le ram_base gpa && nat_le (ram_place gpa + size) (4096 * n)) ≡ true = ap (λ (k : ℕ). nat_le ram_base gpa && nat_le (ram_place gpa + size) k) (sym is) ∙ inside in
     grind (arith, nat_tests)
 
 same_beat : (r : State) → IsSound r
     → disk_beat r.devices.disk r.ram (is_writable (map is_free (protections_of r))) ≡ disk_beat r.devices.disk r.ram (λ page. not (is_protected r page))
 same_beat r sound =
-    beat_meets r.devices.disk r.ram (is_writable (map is_free (protections_of r))) (λ page. not (is_protected r page))
-    (λ inside. bit_of r (page_of (beat_gpa r.devices.disk.block)) (page_of_beat r.ram (beat_gpa r.devices.disk.block) r.rules.ram_pages sound.size inside))
+    beat_meets r.devices.disk r.ram (is_writable (map is_free (protections_of r))) (λ page. not (is_protected r page)) sound.disk
+    (λ gpa size some inside. bit_of r (page_of gpa) (page_of_beat r.ram gpa size r.rules.ram_pages sound.size some inside))
 
 -- ---- what moves
 

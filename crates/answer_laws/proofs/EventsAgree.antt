@@ -30,7 +30,8 @@ use Rattle.reference.specs.Soundness.{IsSound}
 use Rattle.answer_laws.proofs.BeatsAgree.{beat_agrees, free_by, map_get, page_of_beat}
 use Rattle.attempt_laws.proofs.Hosts.{hosts_forget}
 use Rattle.run_laws.proofs.Sounds.{bytes_keep_load}
-use Rattle.run_laws.proofs.StepsSound.{IsFreeBeat, FreeMove, beat_page, beat_sound, counted_sound, step_goes}
+use Rattle.run_laws.proofs.BeatsSound.{IsFreeBeat, FreeMove, beat_page, beat_sound}
+use Rattle.run_laws.proofs.StepsSound.{counted_sound, step_goes}
 use Rattle.answer_laws.proofs.ViewsMeet.{get_numbers}
 
 -- ---- what is open stays so
@@ -86,18 +87,18 @@ permits r page below free =
     ∙ ap (λ (k : ℕ). Some (protection_in r.approved r.held k)) first)
     ∙ ap Some (free_by (is_approved_in r.approved page) (has_number r.held page) ∙ free)
 
-in_one_page : (p n : ℕ) → p % 64 ≡ 0 → n ≤ 64 → p % 4096 + n ≤ 4096
-in_one_page p n aligned short = grind arith
+in_one_page : (p n size : ℕ) → n ≤ size → p % 4096 + size ≤ 4096 → p % 4096 + n ≤ 4096
+in_one_page p n size short fits = omega (arith, short, fits)
 
-fewer_inside : (ram : List ℕ) (gpa n : ℕ) → n ≤ 64 → in_ram ram gpa 64 ≡ true → in_ram ram gpa n ≡ true
-fewer_inside ram gpa n short inside = grind (arith, nat_tests)
+fewer_inside : (ram : List ℕ) (gpa n size : ℕ) → n ≤ size → in_ram ram gpa size ≡ true → in_ram ram gpa n ≡ true
+fewer_inside ram gpa n size short inside = grind (arith, nat_tests)
 
 beat_permitted : (o : Unseen) (r : State) (gpa : ℕ) (bytes : List ℕ) → IsSound r → IsFreeBeat r gpa bytes → IsPermitted (machine_of o r) (Some (record { gpa = gpa; bytes = bytes }))
 unfolding machine_of
 beat_permitted o r gpa bytes s k = record {
-  inside = fewer_inside r.ram gpa (length bytes) k.short k.inside;
-  one_page = in_one_page (ram_place gpa) (length bytes) k.aligned k.short;
-  permitted = permits r (page_of gpa) (page_of_beat r.ram gpa r.rules.ram_pages s.size k.inside) k.free;
+  inside = fewer_inside r.ram gpa (length bytes) k.size k.short k.inside;
+  one_page = in_one_page (ram_place gpa) (length bytes) k.size k.short k.one_page;
+  permitted = permits r (page_of gpa) (page_of_beat r.ram gpa k.size r.rules.ram_pages s.size k.some k.inside) k.free;
 }
 
 moved_frame : (o : Unseen) (r : State) (f : Counts → Counts) (disk : Disk) (x : Move) → IsSound r → FreeMove r x → OnlyDisk (machine_of o r) (machine_of o (after_move (with_disk (count r f) disk) x))
@@ -126,7 +127,7 @@ count_unprotected r f page e = e
 count_free : (r : State) (f : Counts → Counts) (x : Move) → FreeMove (count r f) x → FreeMove r x
 count_free r f Idle free = tt
 count_free r f (FromRam gpa) free = tt
-count_free r f (IntoRam gpa bytes) free = record { aligned = free.aligned; short = free.short; inside = free.inside; free = count_unprotected r f (page_of gpa) free.free }
+count_free r f (IntoRam gpa bytes) free = record { size = free.size; some = free.some; short = free.short; one_page = free.one_page; inside = free.inside; free = count_unprotected r f (page_of gpa) free.free }
 count_free r f (DeniedAt gpa) free = tt
 count_free r f OutsideRam free = tt
 

@@ -1,9 +1,9 @@
 -- The laws of the guarantee.
-use Rattle.std.proofs.Common.{◌≡◌, ℕ, ◌⊎◌, inl, inr, List, map, length, refl, sym, ◌∙◌, ap, subst, Bool, true, false, ◌&&◌, not, slice_get}
+use Rattle.std.proofs.Common.{◌≡◌, ℕ, ◌+◌, ◌⊎◌, inl, inr, List, [], ◌∷◌, map, length, refl, sym, ◌∙◌, ap, subst, Bool, true, false, ◌&&◌, not, slice_get}
 use Rattle.std.specs.Prelude.{Option, Some, None, option_map, if◌then◌else◌, is_some, ◌==◌}
 use Rattle.std.proofs.lemmas.Bool.{eqb-true, eq-eqb}
 use Rattle.sv_types.specs.ApprovedPages.{approved_bytes}
-use Rattle.processor.specs.Bytes.{page_bytes, page_of, ram_place, in_ram}
+use Rattle.processor.specs.Bytes.{low_bytes, page_bytes, page_of, ram_place, in_ram}
 use Rattle.processor.specs.Causes.{cause_number}
 use Rattle.sv_types.specs.Console.{has_room}
 use Rattle.processor.specs.Effects.{effect_of}
@@ -26,20 +26,24 @@ use Rattle.processor.specs.declared.mode.Mode.TheVariants.{Kernel, User}
 use Rattle.reference.specs.Calls.{hart_at, started_hart}
 use Rattle.reference.specs.Counting.{count, counted, count_dropped, count_turn, count_beat, count_key, stopped_by}
 use Rattle.reference.specs.Devices.{beat, key, tick, lines_at, with_disk, with_bytes, after_move, hart_after_write}
-use Rattle.reference.specs.BlockDisk.{block_to_memory, beat_gpa, beat_size, is_busy, is_to_memory}
+use Rattle.sv_types.specs.declared.virtio.VirtioMove.{VirtioMove}
+use Rattle.reference.specs.BlockDisk.{BlockBeat, block_beat, block_to_memory, beat_gpa, beat_size, is_busy, is_to_memory}
+use Rattle.reference.specs.VirtioDevice.{VirtioDevice, Request}
+use Rattle.reference.specs.VirtioBeats.{VirtioBeat, nothing, broken, with_request, to_memory, to_disk, put_last, finished, make, make_first, go_on, is_live, virtio_beat}
 use Rattle.reference.specs.Disk.{Beaten, disk_beat}
 use Rattle.reference.specs.Move.{Move, Idle, FromRam, IntoRam, DeniedAt, OutsideRam}
 use Rattle.reference.specs.Requests.{Guarded, target_of, carry_out_store, carry_out_store_conditional, carry_out_amo}
 use Rattle.reference.specs.Run.{run, step, happen, happen_under}
 use Rattle.reference.specs.Soundness.{IsSound}
 use Rattle.reference.specs.Start.{IsStart}
-use Rattle.reference.specs.States.{State, Hart, Disk, Binding, Loading, has_number, in_kernel, is_approved_in, is_protected}
+use Rattle.reference.specs.States.{State, Hart, Disk, BlockDevice, BlockDisk, VirtioDisk, Binding, Loading, has_number, in_kernel, is_approved_in, is_protected}
 use Rattle.reference.specs.Trapping.{trap_from, hart_at_trap, hart_at_return}
 use Rattle.reference.specs.Turn.{going, after_going, Fetched, NoWord, Stray, Word, fetched_in, fetched_at, fetch, fetch_of, place_of_pc, leads_into, noted_gpa, fetch_in_entry, bound_entry, demote, act_on_fetch, act_on_pending, act, turn_of_started, turn_of, turn, carry_out_word, carry_out_instruction, carry_out_effect}
 use Rattle.run_laws.proofs.Lookups.{both, is_there}
 use Rattle.run_laws.proofs.StateLawsHold.{reached_sound, bytes_law, modules_law}
-use Rattle.run_laws.proofs.StepsSound.{FreeMove, beat_page, beat_sound, counted_sound}
-use Rattle.guarantee.specs.Guarantee.{IsMeasuredWord, KernelTurn, Loads, Traps, Demotes, Executes, KernelWordsLaw, Enters, ByTrap, ByStart, EntriesLaw, Leaves, ByReturn, ByDemotion, ByStop, ExitsLaw, ProtectedBytesLaw, WritesGuarded, Stops, AtEntry, AtWrite, StopsRight, StopsLaw}
+use Rattle.run_laws.proofs.BeatsSound.{FreeMove, beat_page, beat_sound}
+use Rattle.run_laws.proofs.StepsSound.{counted_sound}
+use Rattle.guarantee.specs.Guarantee.{move_gpa, first_gpa, request_gpa, disk_gpa, IsMeasuredWord, KernelTurn, Loads, Traps, Demotes, Executes, KernelWordsLaw, Enters, ByTrap, ByStart, EntriesLaw, Leaves, ByReturn, ByDemotion, ByStop, ExitsLaw, ProtectedBytesLaw, WritesGuarded, Stops, AtEntry, AtWrite, StopsRight, StopsLaw}
 use Rattle.guarantee.proofs.Does.{IsMoving, Own, Same, Entered, Returned, Demoted, Halted, Other, Rests, Begins, IsNoStop, Ends, GoesOn, StopsAtEntry, StopsAtWrite, get_mapped, same_one, page_kept, demote_left}
 use Rattle.guarantee.proofs.Turns.{FetchedWrites, FetchedReturns, turn_does}
 
@@ -116,19 +120,68 @@ abbrev IsNoWrite : Move → Type 0
 IsNoWrite (IntoRam gpa bytes) = ⊥
 IsNoWrite _ = Unit {0}
 
-choose_no_write : (b : Bool) (x y : Beaten) → IsNoWrite x.move → IsNoWrite y.move → IsNoWrite (if b then x else y).move
+choose_no_write : (b : Bool) (x y : BlockBeat) → IsNoWrite x.move → IsNoWrite y.move → IsNoWrite (if b then x else y).move
 choose_no_write true x y s t = s
 choose_no_write false x y s t = t
 
-denied_to_memory : (d : Disk) (may_write : ℕ → Bool) → may_write (page_of (beat_gpa d.block)) ≡ false → IsNoWrite (to_memory d may_write).move
+denied_to_memory : (d : BlockDevice) (may_write : ℕ → Bool) → may_write (page_of (beat_gpa d.block)) ≡ false → IsNoWrite (block_to_memory d may_write).move
 denied_to_memory d may_write e = rw e tt
 
-denied_beat : (d : Disk) (ram : List ℕ) (may_write : ℕ → Bool) → may_write (page_of (beat_gpa d.block)) ≡ false → IsNoWrite (disk_beat d ram may_write).move
-unfolding disk_beat
-denied_beat d ram may_write e =
+denied_block : (d : BlockDevice) (ram : List ℕ) (may_write : ℕ → Bool) → may_write (page_of (beat_gpa d.block)) ≡ false → IsNoWrite (block_beat d ram may_write).move
+unfolding block_beat
+denied_block d ram may_write e =
     choose_no_write (not (is_busy d.block)) _ _ tt
     (choose_no_write (not (in_ram ram (beat_gpa d.block) beat_size)) _ _ tt
     (choose_no_write (is_to_memory d.block.status) _ _ (denied_to_memory d may_write e) tt))
+
+choose_no_put : (b : Bool) (x y : VirtioBeat) → IsNoWrite x.move → IsNoWrite y.move → IsNoWrite (if b then x else y).move
+choose_no_put true x y s t = s
+choose_no_put false x y s t = t
+
+never_put : (b : Bool) (x y : VirtioBeat) → b ≡ false → IsNoWrite y.move → IsNoWrite (if b then x else y).move
+never_put true x y e t = cc
+never_put false x y e t = t
+
+denied_data : (d : VirtioDevice) (q : Request) (gpa place size : ℕ) (ram : List ℕ) (may_write : ℕ → Bool) → may_write (page_of gpa) ≡ false
+    → IsNoWrite (to_memory d q gpa place size ram may_write).move
+unfolding to_memory
+denied_data d q gpa place size ram may_write e =
+    choose_no_put (not (in_ram ram gpa size)) (broken d OutsideRam) _ tt (never_put (may_write (page_of gpa)) _ _ e tt)
+
+denied_last : (d next : VirtioDevice) (gpa : ℕ) (bytes ram : List ℕ) (may_write : ℕ → Bool) → may_write (page_of gpa) ≡ false
+    → IsNoWrite (put_last d next gpa bytes ram may_write).move
+unfolding put_last
+denied_last d next gpa bytes ram may_write e =
+    choose_no_put (not (in_ram ram gpa (length bytes))) (broken d OutsideRam) _ tt (never_put (may_write (page_of gpa)) _ _ e tt)
+
+denied_move : (d : VirtioDevice) (q : Request) (x : VirtioMove) (ram : List ℕ) (may_write : ℕ → Bool) → may_write (page_of (move_gpa x)) ≡ false
+    → IsNoWrite (make d q x ram may_write).move
+unfolding make to_disk
+denied_move d q (VirtioMove.ToMemory gpa place size) ram may_write e = denied_data d q gpa place size ram may_write e
+denied_move d q (VirtioMove.ToDisk gpa place size) ram may_write e = choose_no_put (not (in_ram ram gpa size)) (broken d OutsideRam) _ tt tt
+denied_move d q (VirtioMove.PutResult gpa) ram may_write e = denied_last d (with_request d q) gpa (low_bytes 1 q.result) ram may_write e
+denied_move d q (VirtioMove.PutHead gpa head) ram may_write e = denied_last d (with_request d q) gpa (low_bytes 4 head) ram may_write e
+denied_move d q (VirtioMove.PutLength gpa) ram may_write e = denied_last d (with_request d q) gpa (low_bytes 4 (q.written + 1)) ram may_write e
+denied_move d q (VirtioMove.PutIndex gpa index) ram may_write e = denied_last d (finished d) gpa (low_bytes 2 index) ram may_write e
+
+denied_first : (d : VirtioDevice) (q : Request) (moves : List VirtioMove) (ram : List ℕ) (may_write : ℕ → Bool) (gpa : ℕ) → first_gpa moves ≡ Some gpa
+    → may_write (page_of gpa) ≡ false → IsNoWrite (make_first d q moves ram may_write).move
+denied_first d q [] ram may_write gpa there e = tt
+denied_first d q (move ∷ moves) ram may_write gpa there e =
+    let same : gpa ≡ move_gpa move = cc in
+    denied_move d (record q { moves = moves }) move ram may_write (ap (λ (p : ℕ). may_write (page_of p)) (sym same) ∙ e)
+
+denied_going : (d : VirtioDevice) (q : Option Request) (ram : List ℕ) (may_write : ℕ → Bool) (gpa : ℕ) → request_gpa q ≡ Some gpa
+    → may_write (page_of gpa) ≡ false → IsNoWrite (go_on d q ram may_write).move
+denied_going d None ram may_write gpa there e = cc
+denied_going d (Some q) ram may_write gpa there e = denied_first d q q.moves ram may_write gpa there e
+
+denied_beat : (d : Disk) (ram : List ℕ) (may_write : ℕ → Bool) (gpa : ℕ) → disk_gpa d ≡ Some gpa → may_write (page_of gpa) ≡ false → IsNoWrite (disk_beat d ram may_write).move
+unfolding disk_beat virtio_beat
+denied_beat (BlockDisk d) ram may_write gpa there e =
+    let same : gpa ≡ beat_gpa d.block = cc in denied_block d ram may_write (ap (λ (p : ℕ). may_write (page_of p)) (sym same) ∙ e)
+denied_beat (VirtioDisk d) ram may_write gpa there e =
+    choose_no_put (is_live d) (go_on d d.request ram may_write) (nothing d) (denied_going d d.request ram may_write gpa there e) tt
 
 abbrev NothingMoves : State → State → Type 0
 NothingMoves q next = (next.ram ≡ q.ram) × (next.harts ≡ q.harts)
@@ -141,17 +194,17 @@ nothing_moves q disk (IntoRam gpa bytes) no_write = absurd no_write
 nothing_moves q disk (DeniedAt gpa) no_write = (refl, refl)
 nothing_moves q disk OutsideRam no_write = (refl, refl)
 
-beat_denied : (q : State) → is_protected q (page_of (beat_gpa q.devices.disk.block)) ≡ true → NothingMoves q (beat q)
+beat_denied : (q : State) (gpa : ℕ) → disk_gpa q.devices.disk ≡ Some gpa → is_protected q (page_of gpa) ≡ true → NothingMoves q (beat q)
 unfolding beat
-beat_denied q e =
+beat_denied q gpa there e =
     let b : Beaten = disk_beat q.devices.disk q.ram (λ page. not (is_protected q page)) in
-    nothing_moves q b.disk b.move (denied_beat q.devices.disk q.ram (λ page. not (is_protected q page)) (ap not e))
+    nothing_moves q b.disk b.move (denied_beat q.devices.disk q.ram (λ page. not (is_protected q page)) gpa there (ap not e))
 
-under_denied : (v : Verdict) (r : State) → is_protected r (page_of (beat_gpa r.devices.disk.block)) ≡ true → NothingMoves r (happen_under v r Beat)
+under_denied : (v : Verdict) (r : State) (gpa : ℕ) → disk_gpa r.devices.disk ≡ Some gpa → is_protected r (page_of gpa) ≡ true → NothingMoves r (happen_under v r Beat)
 unfolding happen_under happen
-under_denied Running r e = beat_denied (count r count_beat) (beat_guard r (page_of (beat_gpa r.devices.disk.block)) e)
-under_denied Shutdown r e = (refl, refl)
-under_denied (Stopped rule h at) r e = (refl, refl)
+under_denied Running r gpa there e = beat_denied (count r count_beat) gpa there (beat_guard r (page_of gpa) e)
+under_denied Shutdown r gpa there e = (refl, refl)
+under_denied (Stopped rule h at) r gpa there e = (refl, refl)
 
 pub protected_bytes_law : ProtectedBytesLaw
 unfolding step
@@ -159,7 +212,7 @@ protected_bytes_law s events e is_start =
     let r : State = run s events in
     record {
       bytes = λ page guarded. under_bytes r.journal.verdict r e page (reached_sound s events is_start) refl guarded;
-      moves = λ guarded. under_denied r.journal.verdict r guarded;
+      moves = λ gpa there guarded. under_denied r.journal.verdict r gpa there guarded;
     }
 
 -- ---- what becomes of a hart

@@ -1,6 +1,6 @@
 -- What a guest can't do, whatever it and its devices try: in each law `r` is a state that a run reaches from a start `s`.
 -- This project's own.
-use Rattle.std.specs.Prelude.{◌≡◌, ℕ, Bool, true, false, List, Option, Some, slice_get}
+use Rattle.std.specs.Prelude.{◌≡◌, ℕ, Bool, true, false, List, [], ◌∷◌, Option, Some, None, slice_get}
 use Rattle.sv_types.specs.ApprovedPages.{approved_bytes}
 use Rattle.processor.specs.Bytes.{word, page_bytes, page_of, place_in_page}
 use Rattle.processor.specs.Translation.{At}
@@ -13,12 +13,14 @@ use Rattle.sv_types.specs.declared.event.Verdict.{Verdict}
 use Rattle.processor.specs.declared.mode.Mode.{Mode}
 use Rattle.reference.specs.Calls.{started_hart}
 use Rattle.reference.specs.Counting.{count, count_turn, stopped_by}
+use Rattle.sv_types.specs.declared.virtio.VirtioMove.{VirtioMove}
 use Rattle.reference.specs.BlockDisk.{beat_gpa}
+use Rattle.reference.specs.VirtioDevice.{Request}
 use Rattle.reference.specs.Loads.{load_step}
 use Rattle.reference.specs.Requests.{Guarded, target_of}
 use Rattle.reference.specs.Run.{run, step}
 use Rattle.reference.specs.Start.{IsStart}
-use Rattle.reference.specs.States.{State, Hart, Loading, has_number, in_kernel, is_protected}
+use Rattle.reference.specs.States.{State, Hart, Disk, BlockDisk, VirtioDisk, Loading, has_number, in_kernel, is_protected}
 use Rattle.reference.specs.Trapping.{hart_at_trap, hart_at_return, trap_from}
 use Rattle.reference.specs.Turn.{Word, after_going, carry_out_word, demote, effect_of_word, fetch_of, going, place_of_pc}
 use Rattle.run_laws.specs.StateLaws.{HasOrigin}
@@ -75,11 +77,33 @@ ExitsLaw = (s : State) (events : List Event) (e : Event) (h : ℕ) (before after
     slice_get (run s events).harts h ≡ Some before → slice_get (step (run s events) e).harts h ≡ Some after →
     in_kernel before ≡ true → in_kernel after ≡ false → Leaves (run s events) (step (run s events) e) h before after × (e ≡ Event.Turn h)
 
+-- where in memory a move goes
+abbrev pub move_gpa : VirtioMove → ℕ
+move_gpa (VirtioMove.ToMemory gpa place size) = gpa
+move_gpa (VirtioMove.ToDisk gpa place size) = gpa
+move_gpa (VirtioMove.PutResult gpa) = gpa
+move_gpa (VirtioMove.PutHead gpa head) = gpa
+move_gpa (VirtioMove.PutLength gpa) = gpa
+move_gpa (VirtioMove.PutIndex gpa index) = gpa
+
+abbrev pub first_gpa : List VirtioMove → Option ℕ
+first_gpa [] = None
+first_gpa (move ∷ moves) = Some (move_gpa move)
+
+abbrev pub request_gpa : Option Request → Option ℕ
+request_gpa None = None
+request_gpa (Some q) = first_gpa q.moves
+
+-- where in memory the disk's device moves next
+abbrev pub disk_gpa : Disk → Option ℕ
+disk_gpa (BlockDisk d) = Some (beat_gpa d.block)
+disk_gpa (VirtioDisk d) = request_gpa d.request
+
 -- pages that are held or approved
 pub record KeepsPages (r : State) (e : Event) : Type 0 where
   pub bytes : (page : ℕ) → is_protected r page ≡ true → page_bytes (step r e).ram page ≡ page_bytes r.ram page
   -- a device's move to one changes no byte and no hart
-  pub moves : is_protected r (page_of (beat_gpa r.devices.disk.block)) ≡ true →
+  pub moves : (gpa : ℕ) → disk_gpa r.devices.disk ≡ Some gpa → is_protected r (page_of gpa) ≡ true →
       ((step r Event.Beat).ram ≡ r.ram) × ((step r Event.Beat).harts ≡ r.harts)
 
 abbrev pub ProtectedBytesLaw : Type 0

@@ -7,8 +7,9 @@ use Rattle.elf64_load.specs.Images.{segments_of}
 use Rattle.elf64_load.specs.declared.image.KernelImage.{KernelImage}
 use Rattle.machine_model.specs.Machine.{Machine}
 use Rattle.machine_model.specs.Reaches.{IsNew}
-use Rattle.reference.specs.Start.{AreWords, boot_start}
-use Rattle.reference.specs.States.{has_number}
+use Rattle.reference.specs.Start.{AreWords, image_start}
+use Rattle.reference.specs.Soundness.{IsSoundDisk}
+use Rattle.reference.specs.States.{Disk, has_number}
 use Rattle.sv_types.specs.ApprovedPages.{numbers_from}
 use Rattle.processor.specs.Bytes.{padded}
 use Rattle.sv_types.specs.Kernel.{LoadedSegment, filled_part, header_entry, is_text_of, segments_ram, text_page, text_page_in, text_of}
@@ -16,7 +17,7 @@ use Rattle.sv_types.specs.Policies.{Rules, bound_within, rules_within}
 use Rattle.processor.specs.Regions.{Region, most_ram_pages}
 use Rattle.sv_types.specs.Views.{with_ram}
 use Rattle.sv_types.specs.declared.protection.Protection.{Protection}
-use Rattle.standing_laws.proofs.StartsStand.{image_start_law}
+use Rattle.standing_laws.proofs.StartsStand.{any_start}
 use Rattle.standing_laws.specs.Starts.{machine_at_boot, image_machine, image_protections, IsGuarded}
 use Rattle.machine.specs.Boot.{IsImageOf, RefusesFlat, RefusesImage}
 use Rattle.machine.specs.declared.boot.BootRefusal.{BootRefusal}
@@ -103,7 +104,7 @@ are_words entries fits = λ entry there. word_at entries entry fits there
 
 -- ---- the machine
 
-pub image_made : (m : Machine) (rules : Rules) (entry : ℕ) (segments : List LoadedSegment) (region : Region) (guard : List Protection) (disk : List ℕ)
+pub image_made : (m : Machine) (rules : Rules) (entry : ℕ) (segments : List LoadedSegment) (region : Region) (guard : List Protection) (disk : Disk)
     → m ≡ machine_at_boot rules region entry guard disk → region.ram ≡ segments_ram segments rules.ram_pages
     → guard ≡ image_protections rules.ram_pages segments → m ≡ image_machine m.region.tables rules entry segments disk
 unfolding machine_at_boot image_machine
@@ -114,11 +115,11 @@ image_made m rules entry segments region guard disk made ram approved =
     ∙ ap (λ (tables : List ℕ). image_machine tables rules entry segments disk) (sym (ap (λ (m : Machine). m.region.tables) made))
 
 -- it stands for the start of the image's file
-pub image_new : (m : Machine) (rules : Rules) (image : KernelImage) (file disk : List ℕ) → IsTrue (rules_within rules) → AreWords rules.entries
-    → has_number rules.entries image.entry ≡ true → IsGuarded m → m ≡ image_machine m.region.tables rules image.entry (segments_of image) disk
-    → IsImageOf file rules.ram_pages image → IsNew m (boot_start rules file disk)
-image_new m rules image file disk within words permitted guarded made is =
-    image_start_law m rules file disk within words is.accepted (ap (has_number rules.entries) (sym is.entry) ∙ permitted) guarded
+pub image_new : (m : Machine) (rules : Rules) (image : KernelImage) (file : List ℕ) (disk : Disk) → IsTrue (rules_within rules) → AreWords rules.entries
+    → has_number rules.entries image.entry ≡ true → IsGuarded m → IsSoundDisk disk → m ≡ image_machine m.region.tables rules image.entry (segments_of image) disk
+    → IsImageOf file rules.ram_pages image → IsNew m (image_start rules file disk)
+image_new m rules image file disk within words permitted guarded quiet made is =
+    any_start m rules file disk within words is.accepted (ap (has_number rules.entries) (sym is.entry) ∙ permitted) guarded quiet
     (made
     ∙ ap (λ (entry : ℕ). image_machine m.region.tables rules entry (segments_of image) disk) is.entry
     ∙ ap (λ (segments : List LoadedSegment). image_machine m.region.tables rules (header_entry file) segments disk) is.segments)

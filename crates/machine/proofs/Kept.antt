@@ -131,7 +131,6 @@ state_kept o r s right kept = record {
   retired = kept.retired;
   loading = kept.loading ∙ loading_kept r.rules r.ram r.loading;
   console = kept.console;
-  block = kept.block;
   disk = kept.disk;
   time = kept.time;
   counts = kept.counts;

@@ -5,8 +5,8 @@ use Rattle.elf64_load.specs.declared.image.KernelImage.{KernelImage}
 use Rattle.image_loader.proofs.Accepted.{image_placed}
 use Rattle.image_loader.specs.Placed.{ArePlaced}
 use Rattle.reference.specs.Calls.{hart_at, stopped_hart}
-use Rattle.reference.specs.Start.{boot_start, flat_rules, flat_start, start}
-use Rattle.reference.specs.States.{State, Journal}
+use Rattle.reference.specs.Start.{block_disk, flat_rules, flat_start, image_start, start}
+use Rattle.reference.specs.States.{State, Disk, Journal}
 use Rattle.std.specs.Prelude.{None}
 use Rattle.sv_types.specs.Kernel.{header_entry, kernel_refusal, kernel_segments}
 use Rattle.sv_types.specs.Policies.{Rules}
@@ -22,17 +22,16 @@ unfolding stopped_hart hart_at
 none_reserved zero = tt
 none_reserved (suc n) = (tt, none_reserved n)
 
-start_addressed : (rules : Rules) (ram text : List ℕ) (entry : ℕ) (disk : List ℕ) → HaveAddresses (start rules ram text entry disk).harts
+start_addressed : (rules : Rules) (ram text : List ℕ) (entry : ℕ) (disk : Disk) → HaveAddresses (start rules ram text entry disk).harts
 unfolding start hart_at
 start_addressed rules ram text entry disk = (tt, none_reserved (rules.harts - 1))
 
 flat_addressed : (pages wanted : List ℕ) → HaveAddresses (flat_start pages wanted).harts
 unfolding flat_start
-flat_addressed pages wanted = start_addressed (flat_rules wanted) _ _ _ []
+flat_addressed pages wanted = start_addressed (flat_rules wanted) _ _ _ (block_disk [])
 
-boot_addressed : (rules : Rules) (file disk : List ℕ) → HaveAddresses (boot_start rules file disk).harts
-unfolding boot_start
-boot_addressed rules file disk = start_addressed rules _ _ _ disk
+image_addressed : (rules : Rules) (file : List ℕ) (disk : Disk) → HaveAddresses (image_start rules file disk).harts
+image_addressed rules file disk = start_addressed rules _ _ _ disk
 
 new_fit : (m : Inside) (start : State) → HaveAddresses start.harts → IsNew m.parts start → m.parts.journal ≡ journal_at_boot → IsFit m
 new_fit m start have new none =
@@ -53,6 +52,6 @@ is_read file ram_pages image accepted entry segments = record { file = file; is 
 pub read_placed : (ram_pages : ℕ) (image : KernelImage) → IsRead ram_pages image → ArePlaced ram_pages (segments_of image)
 read_placed ram_pages image read = image_placed read.file ram_pages (segments_of image) read.is.accepted read.is.segments
 
-pub image_fit : (m : Inside) (rules : Rules) (ram_pages : ℕ) (image : KernelImage) (disk : List ℕ) → IsRead ram_pages image
-    → ((file : List ℕ) → IsImageOf file ram_pages image → IsNew m.parts (boot_start rules file disk)) → m.parts.journal ≡ journal_at_boot → IsFit m
-image_fit m rules ram_pages image disk read new none = new_fit m (boot_start rules read.file disk) (boot_addressed rules read.file disk) (new read.file read.is) none
+pub image_fit : (m : Inside) (rules : Rules) (ram_pages : ℕ) (image : KernelImage) (disk : Disk) → IsRead ram_pages image
+    → ((file : List ℕ) → IsImageOf file ram_pages image → IsNew m.parts (image_start rules file disk)) → m.parts.journal ≡ journal_at_boot → IsFit m
+image_fit m rules ram_pages image disk read new none = new_fit m (image_start rules read.file disk) (image_addressed rules read.file disk) (new read.file read.is) none

@@ -14,7 +14,7 @@ use Rattle.module_answers.specs.declared.modules.Modules.{Modules}
 use Rattle.module_answers.specs.declared.modules.UnderWay.{UnderWay}
 use Rattle.module_gate.specs.Gates.{Records, no_modules}
 use Rattle.reference.specs.Protections.{is_free, protection_at}
-use Rattle.reference.specs.Start.{flat_rules}
+use Rattle.reference.specs.Start.{block_disk, flat_rules}
 use Rattle.standing_laws.specs.Starts.{host_at_boot, hosts_at_boot, machine_at_boot, flat_machine, flat_protections, flat_ram}
 use Rattle.sv_types.specs.ApprovedPages.{numbers_from}
 use Rattle.processor.specs.Bytes.{overwrite, padded, ram_base}
@@ -128,12 +128,12 @@ none_taken guard n span is =
     ∙ none_found (λ page. not (is_free (protection_at (replicate n Free) page))) (numbers_from span.first span.count) (λ page. ap (λ (p : Protection). not (is_free p)) (all_free_at n page))
 
 -- a machine at boot, of plain pages
-pub flat_made : (m : Machine) (rules : Rules) (region : Region) (guard : List Protection) (pages digest : List ℕ) → m ≡ machine_at_boot rules region ram_base guard []
+pub flat_made : (m : Machine) (rules : Rules) (region : Region) (guard : List Protection) (pages digest : List ℕ) → m ≡ machine_at_boot rules region ram_base guard (block_disk [])
     → rules ≡ flat_rules digest → region.ram ≡ flat_ram pages → guard ≡ flat_protections pages → m ≡ flat_machine m.region.tables pages digest
 unfolding machine_at_boot flat_machine
 flat_made m rules region guard pages digest made same ram approved =
     made
-    ∙ ap (λ (rules : Rules). machine_at_boot rules region ram_base guard []) same
-    ∙ ap (λ (ram : List ℕ). machine_at_boot (flat_rules digest) (with_ram region.tables ram) ram_base guard []) ram
-    ∙ ap (λ (guard : List Protection). machine_at_boot (flat_rules digest) (with_ram region.tables (flat_ram pages)) ram_base guard []) approved
+    ∙ ap (λ (rules : Rules). machine_at_boot rules region ram_base guard (block_disk [])) same
+    ∙ ap (λ (ram : List ℕ). machine_at_boot (flat_rules digest) (with_ram region.tables ram) ram_base guard (block_disk [])) ram
+    ∙ ap (λ (guard : List Protection). machine_at_boot (flat_rules digest) (with_ram region.tables (flat_ram pages)) ram_base guard (block_disk [])) approved
     ∙ ap (λ (tables : List ℕ). flat_machine tables pages digest) (sym (ap (λ (m : Machine). m.region.tables) made))

@@ -1,11 +1,10 @@
--- What a beat of the block device moves, and where. This project's own.
+-- What a beat of the disk's device moves, and where. This project's own.
 use Rattle.std.specs.Prelude.{◌+◌, ◌≤◌, ℕ, List, length}
 use Rattle.processor.specs.Bytes.{ram_base, ram_place}
 use Rattle.dma_guard.specs.declared.port.Beaten.{Beaten}
 
--- so many bytes lie in RAM, and are few
+-- so many bytes lie in RAM
 pub record LiesInRam (ram : List ℕ) (gpa n : ℕ) : Type 0 where
-  pub few : n ≤ 64
   pub first : ram_base ≤ gpa
   pub last : ram_place gpa + n ≤ length ram
 

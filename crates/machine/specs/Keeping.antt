@@ -3,7 +3,7 @@ use Rattle.std.specs.Prelude.{◌≡◌, ℕ, ◌+◌, ◌-◌, ◌^◌, ◌<◌
 use Rattle.sv_types.specs.Clock.{Clock, timer_of}
 use Rattle.processor.specs.HypervisorRegisters.{at_guest_places}
 use Rattle.machine_model.specs.Machine.{Machine, HostHart, HostLoad}
-use Rattle.saved_machine.specs.SavedStates.{gpa_at}
+use Rattle.saved_machine.specs.SavedStates.{gpa_at, disk_of}
 use Rattle.machine.specs.Attempts.{hart_in}
 use Rattle.saved_machine.specs.declared.harts.SavedHart.{SavedHart}
 use Rattle.saved_machine.specs.declared.whole.Saved.{Saved}
@@ -70,8 +70,7 @@ pub record IsKept (m : Machine) (s : Saved) : Type 0 where
   pub retired : s.retired ≡ m.retired
   pub loading : s.loading ≡ option_map kept_load m.loading
   pub console : s.console.items ≡ m.devices.console
-  pub block : s.block ≡ m.devices.disk.block
-  pub disk : s.disk.items ≡ m.devices.disk.bytes
+  pub disk : disk_of s.port s.disk.items ≡ m.devices.disk
   pub time : s.time ≡ m.devices.clock.time
   pub counts : s.counts ≡ m.journal.counts
   pub notes : s.notes.items ≡ m.journal.notes

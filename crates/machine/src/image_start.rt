@@ -10,15 +10,18 @@ ghost use Rattle.gstage_tables.specs.Layout.{table_size};
 ghost use Rattle.page_guard.specs.Guarded.{IsTheirs};
 ghost use Rattle.elf64_load.specs.Images.{segments_of};
 ghost use Rattle.image_loader.specs.Placed.{ArePlaced};
-ghost use Rattle.reference.specs.Start.{boot_start, AreWords};
+ghost use Rattle.reference.specs.Start.{image_start, AreWords};
 ghost use Rattle.reference.specs.States.{has_number};
+ghost use Rattle.reference.specs.Soundness.{IsSoundDisk};
 ghost use Rattle.machine_model.specs.Reaches.{IsNew};
+ghost use Rattle.disk_port.specs.Ports.{port_disk};
 ghost use Rattle.standing_laws.specs.Starts.{image_machine, image_protections, journal_at_boot, IsGuarded};
 ghost use Rattle.machine.specs.Boot.{IsImageOf, image_text, RefusesImage};
 
 use crate::boot::BootRefusal;
 use crate::parts::Parts;
 use crate::start::judge_measure;
+use disk_port::Port;
 use elf64_load::KernelImage;
 use gstage_tables::Trees;
 use host_mem::HostMem;
@@ -37,13 +40,13 @@ impl Parts {
         alloc: Global,
         image: &KernelImage,
         policy: Policy,
-        disk: Vec<u8>,
+        port: Port,
     ) -> Result<Parts, BootRefusal>
         requires within { IsTrue (rules_within (rules_of policy)) }
         requires placed { ArePlaced policy.ram_pages (segments_of image.now) }
-        requires sectors { length disk.items % 512 ≡ 0 }
-        ensures made { IfOk result (λ p. p ≡ image_machine p.region.tables (rules_of policy) image.now.entry (segments_of image.now) disk.items) }
-        ensures new { (file : List ℕ) → IsImageOf file policy.ram_pages image.now → IfOk result (λ p. IsNew p (boot_start (rules_of policy) file disk.items)) }
+        requires quiet { IsSoundDisk (port_disk port) }
+        ensures made { IfOk result (λ p. p ≡ image_machine p.region.tables (rules_of policy) image.now.entry (segments_of image.now) (port_disk port)) }
+        ensures new { (file : List ℕ) → IsImageOf file policy.ram_pages image.now → IfOk result (λ p. IsNew p (image_start (rules_of policy) file (port_disk port))) }
         ensures journal { IfOk result (λ p. p.journal ≡ journal_at_boot) }
         ensures guarded { IfOk result IsGuarded }
         ensures measured { OnOk result (measure (image_text image.now) ≡ policy.kernel) }
@@ -51,7 +54,7 @@ impl Parts {
         ensures refused { IfErr result (RefusesImage image.now (rules_of policy)) }
     {
         judge_image(rt, alloc, image, &policy)?;
-        Ok(assemble(alloc, image, policy, disk)?)
+        Ok(assemble(alloc, image, policy, port)?)
     }
 }
 
@@ -89,18 +92,17 @@ fn assemble(
     alloc: Global,
     image: &KernelImage,
     policy: Policy,
-    disk: Vec<u8>,
+    port: Port,
 ) -> Result<Parts, AllocError>
     requires within { IsTrue (rules_within (rules_of policy)) }
     requires placed { ArePlaced policy.ram_pages (segments_of image.now) }
-    requires sectors { length disk.items % 512 ≡ 0 }
-    ensures made { IfOk result (λ p. p ≡ image_machine p.region.tables (rules_of policy) image.now.entry (segments_of image.now) disk.items) }
+    ensures made { IfOk result (λ p. p ≡ image_machine p.region.tables (rules_of policy) image.now.entry (segments_of image.now) (port_disk port)) }
     ensures guarded { IfOk result IsGuarded }
 {
     let mut mem = image_region(alloc, image, policy.ram_pages)?;
     let guard = image_guard(alloc, &mut mem, image, policy.ram_pages)?;
     let _tables = mem.table_bytes();
-    Parts::at_boot(alloc, policy, mem, guard, disk, image.entry)
+    Parts::at_boot(alloc, policy, mem, guard, port, image.entry)
 }
 
 // A region of so many pages of RAM with the image's segments, and room for its tables.

@@ -2,6 +2,7 @@
 
 ghost use Rattle.std.specs.Prelude.{◌≡◌, ℕ, ◌+◌, ◌-◌, ◌<◌, ◌≤◌, ◌^◌, [], length, replicate};
 ghost use Rattle.reference.specs.Counting.{CountsAtMost};
+ghost use Rattle.reference.specs.Disk.{disk_bytes};
 ghost use Rattle.reference.specs.Run.{run, step};
 ghost use Rattle.reference.specs.States.{State};
 ghost use Rattle.machine_model.specs.HardwareEvent.{IsEvent};
@@ -117,7 +118,7 @@ impl Machine {
 
     /// The bytes of the disk.
     pub fn disk(&self) -> &[u8]
-        ensures { result.now ≡ self.now.devices.disk.bytes }
+        ensures { result.now ≡ disk_bytes self.now.devices.disk }
     {
         self.parts.devices.disk()
     }

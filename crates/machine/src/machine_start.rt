@@ -3,15 +3,18 @@
 ghost use Rattle.std.specs.Prelude.{◌≡◌, ℕ, ◌≤◌, ◌%◌, List, length, true, IfOk, OnOk, IfErr, IsTrue};
 ghost use Rattle.sv_types.specs.Measure.{measure};
 ghost use Rattle.sv_types.specs.Policies.{rules_of, rules_within};
-ghost use Rattle.reference.specs.Start.{flat_start, boot_start};
+ghost use Rattle.reference.specs.Start.{flat_start, image_start, boot_start, virtio_start};
 ghost use Rattle.reference.specs.States.{has_number};
+ghost use Rattle.reference.specs.Soundness.{IsSoundDisk};
 ghost use Rattle.machine_model.specs.Reaches.{IsNew};
+ghost use Rattle.disk_port.specs.Ports.{port_disk};
 ghost use Rattle.standing_laws.specs.Starts.{journal_at_boot};
 ghost use Rattle.machine.specs.Boot.{IsImageOf, IsRead, image_text, RefusesFlat, RefusesImage};
 
 use crate::boot::BootRefusal;
 use crate::machine::Machine;
 use crate::parts::Parts;
+use disk_port::Port;
 use elf64_load::KernelImage;
 use std::alloc::Global;
 use std::thread::Threads;
@@ -37,8 +40,10 @@ impl Machine {
         let parts = Parts::flat(rt, alloc, pages, wanted)?;
         Ok(Machine { parts })
     }
+
     /// A machine of a kernel's image under a policy: the image's segments in RAM, its text approved, and hart 0 at its
-    /// entry. First the text is measured against the policy, and the entry has to be one of the policy's.
+    /// entry. First the text is measured against the policy, and the entry has to be one of the policy's. The disk is
+    /// behind this project's block device.
     pub fn boot<R: Threads + Sync>(
         rt: &R,
         alloc: Global,
@@ -55,7 +60,47 @@ impl Machine {
         ensures permitted { OnOk result (has_number policy.entries.items image.now.entry ≡ true) }
         ensures refused { IfErr result (RefusesImage image.now (rules_of policy)) }
     {
-        let parts = Parts::boot(rt, alloc, image, policy, disk)?;
+        Machine::boot_behind(rt, alloc, image, policy, Port::block(disk))
+    }
+
+    /// The same with its disk behind a virtio block device.
+    pub fn boot_virtio<R: Threads + Sync>(
+        rt: &R,
+        alloc: Global,
+        image: &KernelImage,
+        policy: Policy,
+        disk: Vec<u8>,
+    ) -> Result<Machine, BootRefusal>
+        requires within { IsTrue (rules_within (rules_of policy)) }
+        requires read { IsRead policy.ram_pages image.now }
+        requires sectors { length disk.items % 512 ≡ 0 }
+        ensures new { (file : List ℕ) → IsImageOf file policy.ram_pages image.now → IfOk result (λ m. IsNew m (virtio_start (rules_of policy) file disk.items)) }
+        ensures journal { IfOk result (λ m. m.journal ≡ journal_at_boot) }
+        ensures measured { OnOk result (measure (image_text image.now) ≡ policy.kernel) }
+        ensures permitted { OnOk result (has_number policy.entries.items image.now.entry ≡ true) }
+        ensures refused { IfErr result (RefusesImage image.now (rules_of policy)) }
+    {
+        Machine::boot_behind(rt, alloc, image, policy, Port::virtio(disk))
+    }
+
+    // The same with its disk behind a device as it stands.
+    fn boot_behind<R: Threads + Sync>(
+        rt: &R,
+        alloc: Global,
+        image: &KernelImage,
+        policy: Policy,
+        port: Port,
+    ) -> Result<Machine, BootRefusal>
+        requires within { IsTrue (rules_within (rules_of policy)) }
+        requires read { IsRead policy.ram_pages image.now }
+        requires quiet { IsSoundDisk (port_disk port) }
+        ensures new { (file : List ℕ) → IsImageOf file policy.ram_pages image.now → IfOk result (λ m. IsNew m (image_start (rules_of policy) file (port_disk port))) }
+        ensures journal { IfOk result (λ m. m.journal ≡ journal_at_boot) }
+        ensures measured { OnOk result (measure (image_text image.now) ≡ policy.kernel) }
+        ensures permitted { OnOk result (has_number policy.entries.items image.now.entry ≡ true) }
+        ensures refused { IfErr result (RefusesImage image.now (rules_of policy)) }
+    {
+        let parts = Parts::boot(rt, alloc, image, policy, port)?;
         Ok(Machine { parts })
     }
 }

@@ -18,7 +18,8 @@ use crate::attempts::attempt;
 use crate::beats::beat_disk;
 use crate::wires::HartWires;
 use call_answers::law_starts;
-use devices::{Block, Devices};
+use devices::Devices;
+use disk_port::Port;
 use dma_guard::Beaten;
 use gstage_cache::Cache;
 use hart::Cpu;
@@ -40,7 +41,7 @@ pub(crate) struct Parts {
     pub(crate) caches: Vec<Cache>,
     pub(crate) guard: Guard,
     pub(crate) modules: Modules,
-    pub(crate) devices: Devices<Block>,
+    pub(crate) devices: Devices<Port>,
     pub(crate) journal: Journal,
     pub(crate) cpu: Cpu,
     // How many printed bytes were taken away.
@@ -170,7 +171,7 @@ impl Parts {
         self.serve_turn(which);
     }
 
-    /// One beat of the block device.
+    /// One beat of the disk's device.
     #[tactic(auto, unfolding(machine_model::specs::HostEvents::event_served, machine_model::specs::HostEvents::beat_served, machine_model::specs::HostEvents::after_host_move))]
     pub(crate) fn beat(&mut self)
         requires beats { self.old.journal.counts.beats < 2 ^ 64 - 1 }

@@ -11,7 +11,8 @@ ghost use Rattle.machine.specs.Keeping.{gpa_behind, AreKeepable, IsKeepable, kep
 
 use crate::machine::Machine;
 use crate::parts::Parts;
-use devices::{Block, Devices};
+use devices::Devices;
+use disk_port::Port;
 use hart_answers::Seat;
 use module_answers::Modules;
 use processor::RAM_BASE;
@@ -48,7 +49,7 @@ impl Parts {
             retired: self.modules.gate.retired(),
             loading: saved_loading(&self.modules),
             console,
-            block: self.devices.port().state(),
+            port: self.devices.port().state(),
             disk,
             time: self.devices.time(),
             counts: self.journal.counts(),
@@ -75,7 +76,7 @@ fn saved_loading(modules: &Modules) -> Option<SavedLoad>
 fn saved_harts(
     alloc: Global,
     seats: &[Seat],
-    devices: &Devices<Block>,
+    devices: &Devices<Port>,
     tables: usize,
 ) -> Result<Vec<SavedHart>, AllocError>
     requires few { length seats.now ≤ 4 }

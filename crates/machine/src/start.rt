@@ -12,11 +12,13 @@ ghost use Rattle.hart_answers.specs.Hosts.{host_at, hosts_of};
 ghost use Rattle.reference.specs.Start.{flat_rules, flat_start};
 ghost use Rattle.machine_model.specs.Reaches.{IsNew};
 ghost use Rattle.standing_laws.specs.Starts.{host_at_boot, hosts_at_boot, machine_at_boot, first_approved, flat_ram, flat_machine, journal_at_boot, IsGuarded};
+ghost use Rattle.disk_port.specs.Ports.{port_disk};
 ghost use Rattle.machine.specs.Boot.{RefusesFlat};
 
 use crate::boot::BootRefusal;
 use crate::parts::Parts;
-use devices::{Block, Devices};
+use devices::Devices;
+use disk_port::Port;
 use gstage_cache::Cache;
 use gstage_tables::Trees;
 use hart::{Cpu, Hart};
@@ -38,14 +40,14 @@ const FLAT_PAGES: usize = 16;
 const FLAT_ENTRIES: [u64; 2] = [0x8000_0000, 0x8000_0100];
 
 impl Parts {
-    /// A machine under a policy, with pages that are guarded already: hart 0 begins at an entry, the others are stopped.
+    /// A machine under a policy, with pages that are guarded already and a disk behind its device: hart 0 begins at an entry, the others are stopped.
     #[tactic(auto, using(crate::proofs::Starting::empty_usable, crate::proofs::Starting::length_empty, crate::proofs::Starting::none_joined), unfolding(standing_laws::specs::Starts::machine_at_boot))]
     pub(crate) fn at_boot(
         alloc: Global,
         policy: Policy,
         mem: HostMem,
         guard: Guard,
-        disk: Vec<u8>,
+        port: Port,
         entry: u64,
     ) -> Result<Parts, AllocError>
         requires theirs { IsTheirs mem guard }
@@ -53,8 +55,7 @@ impl Parts {
         requires one { 1 ≤ policy.harts }
         requires four { policy.harts ≤ 4 }
         requires unbound { policy.bound.items ≡ [] }
-        requires sectors { length disk.items % 512 ≡ 0 }
-        ensures { IfOk result (λ p. p ≡ machine_at_boot (rules_of policy) mem entry guard disk.items) }
+        ensures { IfOk result (λ p. p ≡ machine_at_boot (rules_of policy) mem entry guard (port_disk port)) }
     {
         let entries = Entries::new(alloc, &policy.entries)?;
         let seats = seats_at_boot(alloc, &guard, policy.harts, entry)?;
@@ -70,7 +71,7 @@ impl Parts {
             caches,
             guard,
             modules,
-            devices: Devices::new(Block::new(disk)),
+            devices: Devices::new(port),
             journal,
             cpu,
             cleared: 0,
@@ -190,7 +191,8 @@ fn assemble(alloc: Global, pages: &[u8], wanted: Digest) -> Result<Parts, AllocE
     let mut mem = flat_region(alloc, pages)?;
     let guard = approved_start(alloc, &mut mem, (pages.len() / PAGE_SIZE) as u32)?;
     let _tables = mem.table_bytes();
-    Parts::at_boot(alloc, policy, mem, guard, Vec::new(alloc), RAM_BASE)
+    let port = Port::block(Vec::new(alloc));
+    Parts::at_boot(alloc, policy, mem, guard, port, RAM_BASE)
 }
 
 fn flat_policy(alloc: Global, wanted: Digest) -> Result<Policy, AllocError>

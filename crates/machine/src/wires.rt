@@ -3,14 +3,15 @@
 ghost use Rattle.std.specs.Prelude.{◌<◌};
 ghost use Rattle.reference.specs.Devices.{lines_at};
 
-use devices::{Block, Devices};
+use devices::Devices;
+use disk_port::Port;
 use hart::Wires;
 use processor::Lines;
 
 /// The wires of a hart, behind the devices.
 #[derive(Clone, Copy, Drop)]
 pub(crate) struct HartWires<'a> {
-    pub(crate) devices: &'a Devices<Block>,
+    pub(crate) devices: &'a Devices<Port>,
     pub(crate) hart: u8,
     ghost is_hart: { hart < 4 },
 }

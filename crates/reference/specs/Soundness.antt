@@ -7,7 +7,8 @@ use Rattle.processor.specs.Registers.{IsLegalSupervisor}
 use Rattle.sv_types.specs.declared.saved.SavedModule.{SavedModule}
 use Rattle.processor.specs.declared.mode.Mode.{Mode}
 use Rattle.processor.specs.declared.mode.Mode.TheVariants.{Kernel, User}
-use Rattle.reference.specs.States.{State, Hart, Disk, BlockDevice, BlockDisk, VirtioDisk, Loading, Binding, binding_at, module_pages, pages_in_rule, has_number, is_approved_in, find_module}
+use Rattle.reference.specs.States.{State, Hart, Disk, BlockDisk, VirtioDisk, Loading, Binding, binding_at, module_pages, pages_in_rule, has_number, is_approved_in, find_module}
+use Rattle.sv_types.specs.declared.block.BlockState.{BlockState}
 use Rattle.sv_types.specs.declared.virtio.VirtioMove.{VirtioMove}
 use Rattle.reference.specs.BlockDisk.{is_busy, beat_size}
 use Rattle.reference.specs.VirtioDevice.{VirtioDevice, Request}
@@ -55,8 +56,8 @@ IsSoundLoad rules approved loaded held (Some load) = HoldsModule rules approved 
 -- ---- the disk: no move reaches into a second page
 
 -- a transfer under way begins with whole beats
-abbrev pub IsSoundBlock : BlockDevice → Type 0
-IsSoundBlock d = is_busy d.block ≡ true → d.block.gpa % beat_size ≡ 0
+abbrev pub IsSoundBlock : BlockState → Type 0
+IsSoundBlock b = is_busy b ≡ true → b.gpa % beat_size ≡ 0
 
 -- there are bytes, all in one page
 abbrev pub StaysInPage : (gpa size : ℕ) → Type 0
@@ -84,7 +85,7 @@ pub record IsSoundVirtio (d : VirtioDevice) : Type 0 where
   pub moves : IsSoundRequest d.request
 
 abbrev pub IsSoundDisk : Disk → Type 0
-IsSoundDisk (BlockDisk d) = IsSoundBlock d
+IsSoundDisk (BlockDisk d) = IsSoundBlock d.block
 IsSoundDisk (VirtioDisk d) = IsSoundVirtio d
 
 pub record IsSound (r : State) : Type 0 where

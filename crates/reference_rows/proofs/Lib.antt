@@ -7,3 +7,4 @@ pub mod ExitRowsHold
 pub mod ModuleRowsHold
 pub mod GuestRowsHold
 pub mod EntryRowsHold
+pub mod VirtioRowsHold

@@ -9,16 +9,16 @@ use Rattle.sv_types.specs.declared.block.BlockCommand.TheVariants.{DiskToMemory,
 use Rattle.sv_types.specs.declared.block.BlockState.{BlockState}
 use Rattle.sv_types.specs.declared.block.BlockStatus.{BlockStatus}
 use Rattle.processor.specs.Bytes.{part}
-use Rattle.reference.specs.States.{State, Devices, Disk, with_hart}
+use Rattle.reference.specs.States.{State, Devices, Disk, BlockDisk, VirtioDisk, with_hart}
 use Rattle.reference.specs.Devices.{DeviceLoad, device_load, device_store, external_line}
-use Rattle.reference.specs.Disk.{disk_load, disk_store}
+use Rattle.reference.specs.Disk.{disk_bytes, disk_load, disk_store}
 use Rattle.reference.specs.Run.{step, run}
 use Rattle.reference.specs.Start.{block_at_boot}
 use Rattle.reference_rows.specs.Guests.{small, hart_of}
 
 -- a disk of two sectors, and its registers
 abbrev pub disk_with : BlockState → Disk
-disk_with block = record { block = block; bytes = replicate 512 7 ++ replicate 512 8 }
+disk_with block = BlockDisk (record { block = block; bytes = replicate 512 7 ++ replicate 512 8 })
 
 abbrev pub set_up : (sector gpa count : ℕ) → BlockState
 set_up sector gpa count = record block_at_boot { sector = sector; gpa = gpa; count = count }
@@ -34,9 +34,14 @@ abbrev pub input_after : Option DeviceLoad → List ℕ
 input_after None = []
 input_after (Some load) = load.devices.console
 
+-- the block device's registers
+abbrev pub block_of : Disk → BlockState
+block_of (BlockDisk d) = d.block
+block_of (VirtioDisk d) = block_at_boot
+
 abbrev pub block_after : Option Disk → BlockState
 block_after None = block_at_boot
-block_after (Some disk) = disk.block
+block_after (Some disk) = block_of disk
 
 -- what the device is after a command, and how it stands then
 abbrev pub told : BlockState → (command : ℕ) → BlockState
@@ -59,7 +64,7 @@ beaten block = step (machine_with block) Beat
 
 -- the status after a beat
 abbrev pub status_beaten : (command : BlockCommand) → (gpa done : ℕ) → ℕ
-status_beaten command gpa done = status_number (beaten (busy_with command gpa done)).devices.disk.block.status
+status_beaten command gpa done = status_number (block_of (beaten (busy_with command gpa done)).devices.disk).status
 
 abbrev pub input : List ℕ
 input = 65 ∷ 66 ∷ []
@@ -103,9 +108,9 @@ pub record DeviceRows : Type 0 where
   pub idle_beat : (beaten block_at_boot).ram ≡ (machine_with block_at_boot).ram
   pub idle_beat_counts : (beaten block_at_boot).journal.counts.beats ≡ 1
   pub beat_writes : part (beaten (busy_with DiskToMemory 0x80002000 1)).ram 0x2040 65 ≡ replicate 64 7 ++ (0 ∷ [])
-  pub beat_goes_on : (beaten (busy_with DiskToMemory 0x80002000 1)).devices.disk.block ≡ busy_with DiskToMemory 0x80002000 2
+  pub beat_goes_on : block_of (beaten (busy_with DiskToMemory 0x80002000 1)).devices.disk ≡ busy_with DiskToMemory 0x80002000 2
   pub last_beat : status_beaten DiskToMemory 0x80002000 7 ≡ 2
-  pub beat_reads : part (beaten (busy_with MemoryToDisk 0x80001000 0)).devices.disk.bytes 0 5 ≡ 4 ∷ 3 ∷ 2 ∷ 1 ∷ 0 ∷ []
+  pub beat_reads : part (disk_bytes (beaten (busy_with MemoryToDisk 0x80001000 0)).devices.disk) 0 5 ≡ 4 ∷ 3 ∷ 2 ∷ 1 ∷ 0 ∷ []
   pub beat_into_a_protected_page : (beaten (busy_with DiskToMemory 0x80000000 0)).journal.notes ≡ Denied 0x80000000 ∷ []
   pub denied_moves_nothing : (beaten (busy_with DiskToMemory 0x80000000 0)).ram ≡ (machine_with block_at_boot).ram
   pub denied_status : status_beaten DiskToMemory 0x80000000 0 ≡ 3

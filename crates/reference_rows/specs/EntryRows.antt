@@ -4,13 +4,13 @@ use Rattle.sv_types.specs.declared.event.Note.TheVariants.{Demote}
 use Rattle.processor.specs.declared.mode.Mode.{Mode}
 use Rattle.processor.specs.declared.mode.Mode.TheVariants.{Kernel, User}
 use Rattle.reference.specs.States.{State, Hart}
-use Rattle.reference.specs.Start.{start}
+use Rattle.reference.specs.Start.{start, block_disk}
 use Rattle.reference_rows.specs.Guests.{small_rules, small_ram, hart_in, turn_of_hart, hart_of, trapped, trap_of, at_pc}
 use Rattle.reference_rows.specs.TurnRows.{plain, unmapped}
 
 -- the entry at 0x80000100 is bound to an address; the first two pages are approved
 abbrev pub bound_to : (gpa word : ℕ) → State
-bound_to gpa word = start (record small_rules { format = 2; bound = gpa ∷ [] }) (small_ram word word) (0 ∷ 1 ∷ []) 0x80000000 []
+bound_to gpa word = start (record small_rules { format = 2; bound = gpa ∷ [] }) (small_ram word word) (0 ∷ 1 ∷ []) 0x80000000 (block_disk [])
 
 -- in kernel mode, in that entry
 abbrev pub inside : ℕ → Hart

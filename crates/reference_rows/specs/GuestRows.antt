@@ -11,8 +11,8 @@ use Rattle.processor.specs.declared.mode.Mode.TheVariants.{User}
 use Rattle.reference.specs.Calls.{supervisor_at_boot}
 use Rattle.reference.specs.Report.{output}
 use Rattle.reference.specs.Run.{run}
-use Rattle.reference.specs.Start.{start}
-use Rattle.reference.specs.States.{State, with_hart}
+use Rattle.reference.specs.Start.{start, block_disk}
+use Rattle.reference.specs.States.{State, BlockDisk, with_hart}
 use Rattle.reference_rows.specs.DeviceRows.{busy_with}
 use Rattle.reference_rows.specs.FlatRows.{nothing_denied}
 use Rattle.reference_rows.specs.Guests.{words, doubles, page, said, hart_in}
@@ -48,7 +48,7 @@ turns_and_beats i zero = []
 turns_and_beats i (suc n) = (if i % 8 == 7 then Beat else Turn 0) ∷ turns_and_beats (i + 1) n
 
 abbrev pub guest : ℕ → State
-guest n = run (start guest_rules (guest_ram n) (1 ∷ []) 0x80001000 (replicate 1024 7)) (turns_and_beats 0 (30 + 9 * n))
+guest n = run (start guest_rules (guest_ram n) (1 ∷ []) 0x80001000 (block_disk (replicate 1024 7))) (turns_and_beats 0 (30 + 9 * n))
 
 -- ---- the second runs under Sv39: page 1 is the kernel's at 0x1000, page 5 the user's at 0x5000; tables are pages 2 to 4. A beat
 -- writes the last table's first entries anew, and names page 6 for the kernel's
@@ -64,11 +64,11 @@ abbrev pub new_entries : List ℕ
 new_entries = padded (doubles (0 ∷ 0x2000184B ∷ 0 ∷ 0 ∷ 0 ∷ 0x2000145B ∷ [])) 512
 
 abbrev pub mapped_start : State
-mapped_start = start mapped_rules mapped_ram (1 ∷ []) 0x80001000 new_entries
+mapped_start = start mapped_rules mapped_ram (1 ∷ []) 0x80001000 (block_disk new_entries)
 
 abbrev pub mapped : State
 mapped = with_hart
-    (record mapped_start { devices = record mapped_start.devices { disk = record { block = busy_with DiskToMemory 0x80004000 0; bytes = new_entries } } })
+    (record mapped_start { devices = record mapped_start.devices { disk = BlockDisk (record { block = busy_with DiskToMemory 0x80004000 0; bytes = new_entries }) } })
     0 (record (hart_in User 0x5000 (replicate 32 0)) { supervisor = record supervisor_at_boot { stvec = 0x1000; satp = 0x8000000000080002 } })
 
 pub record GuestRows : Type 0 where

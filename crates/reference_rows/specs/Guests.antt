@@ -11,7 +11,7 @@ use Rattle.processor.specs.declared.mode.Mode.TheVariants.{Kernel, User}
 use Rattle.reference.specs.States.{State, Hart, with_hart}
 use Rattle.reference.specs.Calls.{stopped_hart, supervisor_at_boot}
 use Rattle.reference.specs.Run.{step, run}
-use Rattle.reference.specs.Start.{start, flat_start}
+use Rattle.reference.specs.Start.{start, flat_start, block_disk}
 
 -- instruction words as bytes
 abbrev pub words : List ℕ → List ℕ
@@ -55,7 +55,7 @@ abbrev pub small_ram : (kernel user : ℕ) → List ℕ
 small_ram kernel user = padded (page (words (kernel ∷ [])) ++ words (user ∷ [])) 16384
 
 abbrev pub small : (kernel user : ℕ) → State
-small kernel user = start small_rules (small_ram kernel user) (0 ∷ []) 0x80000000 []
+small kernel user = start small_rules (small_ram kernel user) (0 ∷ []) 0x80000000 (block_disk [])
 
 -- traps lead to the permitted entry
 abbrev pub with_vector : Supervisor

@@ -7,3 +7,4 @@ pub mod ExitRows
 pub mod ModuleRows
 pub mod GuestRows
 pub mod EntryRows
+pub mod VirtioRows

@@ -15,7 +15,7 @@ use Rattle.sv_types.specs.declared.policy.Export.{Export}
 use Rattle.processor.specs.declared.mode.Mode.TheVariants.{Kernel}
 use Rattle.reference.specs.Relocations.{masked, fields_right}
 use Rattle.reference.specs.Run.{step, run}
-use Rattle.reference.specs.Start.{start}
+use Rattle.reference.specs.Start.{start, block_disk}
 use Rattle.reference.specs.States.{State, with_hart}
 use Rattle.machine_model.specs.HostExits.{load_counted}
 use Rattle.machine_model.specs.Machine.{HostLoad}
@@ -70,7 +70,7 @@ abbrev pub memory : List ℕ
 memory = padded (page (words (0x00000073 ∷ 0x00000073 ∷ [])) ++ one_word_page ++ replicate 12288 0 ++ one_word_page ++ one_word_page ++ one_word_page) 32768
 
 abbrev pub begin : Option Span → State
-begin init = start (rules_with init) memory (0 ∷ 1 ∷ []) 0x80000000 []
+begin init = start (rules_with init) memory (0 ∷ 1 ∷ []) 0x80000000 (block_disk [])
 
 -- hart h makes a call of the modules' extension
 abbrev pub asks : State → (h function a0 a1 a2 : ℕ) → State
@@ -140,7 +140,7 @@ two_addresses = padded (page (words (0x00000073 ∷ 0x00000073 ∷ [])) ++ repli
     ++ page (words (0x80008000 ∷ 0 ∷ 0x00000073 ∷ [])) ++ page (words (0x80008004 ∷ 0 ∷ 0x00000073 ∷ []))) 32768
 
 abbrev pub loaded_at : ℕ → State
-loaded_at gpa = run (loads (start address_rules two_addresses (0 ∷ []) 0x80000000 []) 0 0 gpa) (Turn 0 ∷ Turn 0 ∷ [])
+loaded_at gpa = run (loads (start address_rules two_addresses (0 ∷ []) 0x80000000 (block_disk [])) 0 0 gpa) (Turn 0 ∷ Turn 0 ∷ [])
 
 -- what is kept of its load when its page was turned
 abbrev pub turned_at : ℕ → HostLoad

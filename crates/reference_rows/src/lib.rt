@@ -10,6 +10,7 @@ ghost use Rattle.reference_rows.specs.DeviceRows.{DeviceRows};
 ghost use Rattle.reference_rows.specs.ExitRows.{ExitRows};
 ghost use Rattle.reference_rows.specs.ModuleRows.{ModuleRows};
 ghost use Rattle.reference_rows.specs.GuestRows.{GuestRows};
+ghost use Rattle.reference_rows.specs.VirtioRows.{VirtioRows, RequestRows, AttackRows};
 
 /// Whole runs of one page.
 pub fn rows_of_one_page()
@@ -49,4 +50,11 @@ pub fn rows_of_guests()
 /// Turns in an entry that is bound to an address, for each case.
 pub fn rows_of_entries()
     ensures { EntryRows }
+{}
+
+/// Registers of the virtio block device, requests, and what an attacker makes of them.
+pub fn rows_of_requests()
+    ensures registers { VirtioRows }
+    ensures requests { RequestRows }
+    ensures attacks { AttackRows }
 {}

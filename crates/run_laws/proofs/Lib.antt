@@ -11,6 +11,8 @@ pub mod Sounds
 pub mod StartsSound
 pub mod StateLawsHold
 pub mod StepsGrow
+pub mod VirtioSound
+pub mod BeatsSound
 pub mod StepsSound
 pub mod OthersRest
 pub mod EntriesHold

@@ -19,20 +19,22 @@ use Rattle.processor.specs.declared.access.Access.TheVariants as Access
 use Rattle.processor_laws.proofs.ByteLemmas.{length_low_bytes}
 use Rattle.sv_types.specs.declared.event.Rule.TheVariants.{Entry, Write}
 use Rattle.sv_types.specs.declared.event.Verdict.TheVariants.{Stopped}
-use Rattle.reference.specs.States.{State, Hart, Disk, Devices, Journal, is_protected}
+use Rattle.reference.specs.States.{State, Hart, Disk, BlockDevice, BlockDisk, VirtioDisk, Devices, Journal, is_protected}
 use Rattle.reference.specs.Counting.{counted, count_trap, count_return, count_retired, machine_ended, printed_low}
 use Rattle.sv_types.specs.BlockNumbers.{command_of}
 use Rattle.sv_types.specs.declared.block.BlockCommand.{BlockCommand}
 use Rattle.sv_types.specs.declared.block.BlockState.{BlockState}
 use Rattle.sv_types.specs.declared.block.BlockStatus.{BlockStatus}
-use Rattle.reference.specs.BlockDisk.{BlockRegister, block_register, block_stored, unless_busy, is_busy, can_begin, block_ended, block_told, beat_size, Sector, Address, Count, Command, Status, sector_size}
+use Rattle.reference.specs.VirtioStores.{virtio_store}
+use Rattle.reference.specs.BlockDisk.{BlockRegister, block_register, block_store, block_stored, unless_busy, is_busy, can_begin, block_ended, block_told, beat_size, Sector, Address, Count, Command, Status, sector_size}
 use Rattle.reference.specs.Disk.{disk_load, disk_store}
 use Rattle.reference.specs.Devices.{DeviceLoad, DeviceStore, Port, ConsoleAt, DiskAt, Nowhere, port_at, device_load_of, port_load, port_store, device_load, device_store}
 use Rattle.reference.specs.Requests.{carried_out, carried_out_writing, settings_of, Source, NoSource, FromRam, FromDevice, Target, NoTarget, Guarded, ToRam, ToDevice, target_at, store_target, target_of, ram_word, carry_out_device_load, carry_out_load, carry_out_load_reserved, carry_out_device_store, carry_out_store, write_stopped, carry_out_store_conditional, carry_out_amo, carry_out_csr, csr_now, with_csr_set}
 use Rattle.reference.specs.Trapping.{trap_from, exception, returned_from_trap, hart_at_trap, hart_at_return, may_enter}
-use Rattle.reference.specs.Soundness.{IsSound, IsSoundHart, IsSoundDisk}
+use Rattle.reference.specs.Soundness.{IsSound, IsSoundHart, IsSoundBlock, IsSoundDisk}
 use Rattle.attempt_laws.proofs.Everywhere.{Keeps, first_stage_keeps}
 use Rattle.attempt_laws.proofs.Under.{moved}
+use Rattle.run_laws.proofs.VirtioSound.{virtio_stored}
 use Rattle.run_laws.proofs.Lookups.{unprotected, unheld, and_second}
 use Rattle.run_laws.proofs.HartsSound.{goes_behind, trap_sound, return_sound, csr_sound}
 use Rattle.run_laws.proofs.Sounds.{Goes, InFreePage, goes_set, goes_beside, goes_bytes, goes_on, choose_goes}
@@ -70,10 +72,6 @@ can_aligned : (b : BlockState) (size : ℕ) → can_begin b size ≡ true → b.
 can_aligned b size e =
     eqb-true (b.gpa % beat_size) 0 (and_second (nat_lt 0 b.count && nat_le (sector_size * (b.sector + b.count)) size) (b.gpa % beat_size == 0) e)
 
--- a block that is busy begins with whole beats
-abbrev pub IsSoundBlock : BlockState → Type 0
-IsSoundBlock b = is_busy b ≡ true → b.gpa % beat_size ≡ 0
-
 begun_sound : (b : BlockState) (command : BlockCommand) (can : Bool) → (can ≡ true → b.gpa % beat_size ≡ 0)
     → IsSoundBlock (if can then record b { status = BlockStatus.Busy command 0 } else block_ended b BlockStatus.OutOfRange)
 begun_sound b command true aligned busy = aligned refl
@@ -95,17 +93,28 @@ unless_sound : (b : BlockState) (size : ℕ) (register : BlockRegister) (value :
 unless_sound b size register value true at k = k
 unless_sound b size register value false at k = stored_sound b size register value at
 
-register_sound : (d next : Disk) (value : ℕ) (x : Option BlockRegister) → IsSoundDisk d
-    → option_map (λ k. record d { block = unless_busy d.block (block_stored d.block (length d.bytes) k value) }) x ≡ Some next → IsSoundDisk next
+register_sound : (d next : BlockDevice) (value : ℕ) (x : Option BlockRegister) → IsSoundBlock d.block
+    → option_map (λ k. record d { block = unless_busy d.block (block_stored d.block (length d.bytes) k value) }) x ≡ Some next → IsSoundBlock next.block
 register_sound d next value None k e = cc
 register_sound d next value (Some register) k e =
     let same : record d { block = unless_busy d.block (block_stored d.block (length d.bytes) register value) } ≡ next = cc in
-    subst IsSoundDisk same (unless_sound d.block (length d.bytes) register value (is_busy d.block) refl k)
+    subst (λ (x : BlockDevice). IsSoundBlock x.block) same (unless_sound d.block (length d.bytes) register value (is_busy d.block) refl k)
 
 -- a store leaves the disk sound
+block_put : (d next : BlockDevice) (offset width value : ℕ) → IsSoundBlock d.block → block_store d offset width value ≡ Some next → IsSoundBlock next.block
+unfolding block_store
+block_put d next offset width value k e = register_sound d next (value % 256 ^ width) (block_register offset width) k e
+
+put_behind : {D : Type 0} (behind : D → Disk) (next : Disk) (x : Option D) → ((d : D) → x ≡ Some d → IsSoundDisk (behind d)) → option_map behind x ≡ Some next → IsSoundDisk next
+put_behind behind next None all e = cc
+put_behind behind next (Some d) all e = let same : behind d ≡ next = cc in subst IsSoundDisk same (all d refl)
+
 disk_stored : (d next : Disk) (offset width value : ℕ) → IsSoundDisk d → disk_store d offset width value ≡ Some next → IsSoundDisk next
 unfolding disk_store
-disk_stored d next offset width value k e = register_sound d next (value % 256 ^ width) (block_register offset width) k e
+disk_stored (BlockDisk d) next offset width value k e =
+    put_behind BlockDisk next (block_store d offset width value) (λ after is. block_put d after offset width value k is) e
+disk_stored (VirtioDisk d) next offset width value k e =
+    put_behind VirtioDisk next (virtio_store d offset width value) (λ after is. virtio_stored d after offset width value k is) e
 
 by_disk : (d : Devices) (j : Journal) (next : DeviceStore) (x : Option Disk) → ((disk : Disk) → x ≡ Some disk → IsSoundDisk disk)
     → option_map (λ (disk : Disk). record { devices = record d { disk = disk }; journal = j }) x ≡ Some next → IsSoundDisk next.devices.disk

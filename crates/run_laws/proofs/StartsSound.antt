@@ -15,11 +15,12 @@ use Rattle.sv_types.specs.declared.image_fault.ImageFault.{ImageFault}
 use Rattle.sv_types.specs.declared.kernel.ProgramHeader.{ProgramHeader}
 use Rattle.processor_laws.proofs.ByteLemmas.{length_overwrite}
 use Rattle.sv_types.specs.declared.saved.SavedModule.{SavedModule}
-use Rattle.reference.specs.States.{has_number, is_approved_in, find_module}
+use Rattle.reference.specs.States.{Disk, has_number, is_approved_in, find_module}
 use Rattle.reference.specs.Calls.{hart_at, stopped_hart, registers_at_boot}
 use Rattle.reference.specs.Origins.{ownership, is_kernel_text}
-use Rattle.reference.specs.Start.{start, harts_at_boot, flat_rules, AreWords}
-use Rattle.reference.specs.Soundness.{IsSound, IsSoundHart}
+use Rattle.reference.specs.Start.{start, harts_at_boot, flat_rules, block_disk, virtio_disk, AreWords}
+use Rattle.reference.specs.VirtioStores.{reset}
+use Rattle.reference.specs.Soundness.{IsSound, IsSoundHart, IsSoundDisk}
 use Rattle.run_laws.proofs.HartsSound.{begin_sound, stopped_sound, entry_aligned}
 use Rattle.run_laws.proofs.Lookups.{and_first, and_second, and_both, is_there, numbers_bounds, number_filtered, approved_alone, part_short}
 use Rattle.run_laws.proofs.Sounds.{AreSound}
@@ -84,14 +85,14 @@ unfolding find_module
 none_found id m e = cc
 
 -- the kernel's text has the bytes that RAM has
-pub start_text : (rules : Rules) (ram text : List ℕ) (entry : ℕ) (disk : List ℕ) (page : ℕ) → is_kernel_text (ownership (start rules ram text entry disk)) page ≡ true
+pub start_text : (rules : Rules) (ram text : List ℕ) (entry : ℕ) (disk : Disk) (page : ℕ) → is_kernel_text (ownership (start rules ram text entry disk)) page ≡ true
     → approved_bytes (start rules ram text entry disk).approved page ≡ Some (page_bytes ram page)
 unfolding start
 start_text rules ram text entry disk page e = text_case ram text page true (and_first (has_number text page) true e)
 
-pub start_sound : (rules : Rules) (ram text : List ℕ) (entry : ℕ) (disk : List ℕ) → CanStart rules ram text entry → IsSound (start rules ram text entry disk)
+pub start_sound : (rules : Rules) (ram text : List ℕ) (entry : ℕ) (disk : Disk) → CanStart rules ram text entry → IsSoundDisk disk → IsSound (start rules ram text entry disk)
 unfolding start
-start_sound rules ram text entry disk can = record {
+start_sound rules ram text entry disk can quiet = record {
   within = can.within;
   words = can.words;
   number = count_harts rules.harts entry (some_hart rules can.within);
@@ -110,8 +111,16 @@ start_sound rules ram text entry disk can = record {
     inside = λ page e. can.below page (was_approved ram text page e);
     ids = λ m e. absurd (none_found m.id m e);
   };
-  disk = λ busy. refl;
+  disk = quiet;
 }
+
+-- the disk of a start is sound, whatever its device
+pub block_quiet : (bytes : List ℕ) → IsSoundDisk (block_disk bytes)
+block_quiet bytes busy = refl
+
+pub virtio_quiet : (bytes : List ℕ) → IsSoundDisk (virtio_disk bytes)
+unfolding reset
+virtio_quiet bytes = record { aligned = λ ready. cc; moves = tt }
 
 -- ---- plain pages
 

@@ -1,5 +1,5 @@
 -- The laws of bytes and of modules.
-use Rattle.std.proofs.Common.{◌≡◌, ℕ, ◌+◌, ◌-◌, ◌*◌, ◌/◌, ◌%◌, ◌<◌, ◌≤◌, inl, inr, List, [], length, take, drop, sym, ◌∙◌, ap, subst, arith, true, false, slice_get}
+use Rattle.std.proofs.Common.{◌≡◌, ℕ, ◌+◌, ◌-◌, ◌*◌, ◌/◌, ◌%◌, ◌<◌, ◌≤◌, inl, inr, List, [], length, take, drop, refl, sym, ◌∙◌, ap, subst, arith, true, false, slice_get}
 use Rattle.std.proofs.lemmas.List.{drop-take, take-take, drop-drop}
 use Rattle.std.specs.Prelude.{Option, Some, None}
 use Rattle.sv_types.specs.Boot.{flat_ram_pages}
@@ -10,15 +10,15 @@ use Rattle.sv_types.specs.ApprovedPages.{approved_bytes, numbers_from}
 use Rattle.sv_types.specs.declared.event.Event.{Event}
 use Rattle.sv_types.specs.declared.saved.SavedModule.{SavedModule}
 use Rattle.reference.specs.Origins.{IsPageOf, IsOwned, TextStays, is_kernel_text, ownership}
-use Rattle.reference.specs.States.{State, Loading, has_number, is_approved_in, find_module, pages_in_rule}
+use Rattle.reference.specs.States.{State, Disk, Loading, has_number, is_approved_in, find_module, pages_in_rule}
 use Rattle.reference.specs.Run.{run}
-use Rattle.reference.specs.Start.{IsStart, StartsFlat, StartsImage, start, flat_rules, flat_start, boot_start}
-use Rattle.reference.specs.Soundness.{IsSound, IsSoundLoad, HoldsModule}
+use Rattle.reference.specs.Start.{IsStart, StartsFlat, StartsBy, start, flat_rules, flat_start, image_start, boot_start, virtio_start, block_disk, virtio_disk}
+use Rattle.reference.specs.Soundness.{IsSound, IsSoundDisk, IsSoundLoad, HoldsModule}
 use Rattle.run_laws.specs.StateLaws.{BytesLaw, SoundLaw, IsText, IsModulePage, HasOrigin, HoldsLoad, HasOrigins, ModulesLaw}
 use Rattle.run_laws.proofs.Lookups.{not_true, both, all_found, numbers_bounds}
 use Rattle.run_laws.proofs.ModulesSound.{same_module}
 use Rattle.run_laws.proofs.Sounds.{Goes}
-use Rattle.run_laws.proofs.StartsSound.{CanStart, start_sound, start_text, flat_can, image_can}
+use Rattle.run_laws.proofs.StartsSound.{CanStart, start_sound, start_text, block_quiet, virtio_quiet, flat_can, image_can}
 use Rattle.run_laws.proofs.StepsSound.{run_goes}
 
 -- ---- starts
@@ -28,25 +28,26 @@ record Begins (s : State) : Type 0 where
   sound : IsSound s
   text : (page : ℕ) → is_kernel_text (ownership s) page ≡ true → approved_bytes s.approved page ≡ Some (page_bytes s.ram page)
 
-start_begins : (rules : Rules) (ram text : List ℕ) (entry : ℕ) (disk : List ℕ) → CanStart rules ram text entry → Begins (start rules ram text entry disk)
+start_begins : (rules : Rules) (ram text : List ℕ) (entry : ℕ) (disk : Disk) → CanStart rules ram text entry → IsSoundDisk disk → Begins (start rules ram text entry disk)
 unfolding start
-start_begins rules ram text entry disk can = record { sound = start_sound rules ram text entry disk can; text = λ page e. start_text rules ram text entry disk page e }
+start_begins rules ram text entry disk can quiet = record { sound = start_sound rules ram text entry disk can quiet; text = λ page e. start_text rules ram text entry disk page e }
 
 flat_begins : (s : State) → StartsFlat s → Begins s
 unfolding flat_start
 flat_begins s k = subst Begins (sym k.same)
-    (start_begins (flat_rules k.digest) (padded k.pages (page_size * flat_ram_pages)) (numbers_from 0 (length k.pages / page_size)) ram_base []
-    (flat_can k.pages k.digest k.fits))
+    (start_begins (flat_rules k.digest) (padded k.pages (page_size * flat_ram_pages)) (numbers_from 0 (length k.pages / page_size)) ram_base (block_disk [])
+    (flat_can k.pages k.digest k.fits) (block_quiet []))
 
-image_begins : (s : State) → StartsImage s → Begins s
-unfolding boot_start
-image_begins s k = subst Begins (sym k.same)
-    (start_begins k.rules (segments_ram (kernel_segments k.file) k.rules.ram_pages) (text_pages (kernel_segments k.file)) (header_entry k.file) k.disk
-    (image_can k.rules k.file k.within k.words k.accepted k.entry))
+image_begins : {boot : Rules → (file disk : List ℕ) → State} (s : State) (disk : Disk) (k : StartsBy boot s) → boot k.rules k.file k.disk ≡ image_start k.rules k.file disk → IsSoundDisk disk → Begins s
+image_begins s disk k same quiet = subst Begins (sym (k.same ∙ same))
+    (start_begins k.rules (segments_ram (kernel_segments k.file) k.rules.ram_pages) (text_pages (kernel_segments k.file)) (header_entry k.file) disk
+    (image_can k.rules k.file k.within k.words k.accepted k.entry) quiet)
 
 begins : (s : State) → IsStart s → Begins s
+unfolding boot_start virtio_start
 begins s (inl flat) = flat_begins s flat
-begins s (inr image) = image_begins s image
+begins s (inr (inl k)) = image_begins s (block_disk k.disk) k refl (block_quiet k.disk)
+begins s (inr (inr k)) = image_begins s (virtio_disk k.disk) k refl (virtio_quiet k.disk)
 
 -- every state that a run reaches from a start is sound
 pub reached_sound : (s : State) (events : List Event) → IsStart s → IsSound (run s events)

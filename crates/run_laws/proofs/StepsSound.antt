@@ -24,7 +24,6 @@ use Rattle.sv_types.specs.declared.event.Verdict.TheVariants.{Running, Shutdown,
 use Rattle.sv_types.specs.declared.block.BlockStatus.{BlockStatus}
 use Rattle.reference.specs.States.{State, Hart, Binding, Disk, Loading, is_protected}
 use Rattle.reference.specs.Counting.{count, counted, noted, count_turn, count_beat, count_key, count_tick, count_retired, count_demote, count_denied, count_dropped}
-use Rattle.reference.specs.BlockDisk.{block_to_memory, block_to_disk, transfer_ended, block_ended, block_after_beat, beat_gpa, beat_place, beat_size, beats_done, one_further, is_busy, is_to_memory, sector_size}
 use Rattle.reference.specs.Disk.{Beaten, disk_beat}
 use Rattle.reference.specs.Move.{Move, Idle, FromRam, IntoRam, DeniedAt, OutsideRam}
 use Rattle.reference.specs.Devices.{lines_at, with_disk, with_bytes, after_move, beat, key, tick}
@@ -36,6 +35,7 @@ use Rattle.reference.specs.Run.{happen, happen_under, step, run}
 use Rattle.reference.specs.Soundness.{IsSound, IsSoundHart, IsSoundDisk}
 use Rattle.attempt_laws.proofs.AllTold.{all_told}
 use Rattle.attempt_laws.proofs.EffectsAgree.{IsTold}
+use Rattle.run_laws.proofs.BeatsSound.{FreeMove, IsSoundBeat, beat_page, beat_sound}
 use Rattle.run_laws.proofs.CallsSound.{call_goes, load_step_goes}
 use Rattle.run_laws.proofs.HartsSound.{at_pc, demoted_sound, GoesRight, effects_right}
 use Rattle.run_laws.proofs.Lookups.{unprotected, unheld, not_false, part_short}
@@ -165,87 +165,6 @@ turn_goes r h s = hart_turn_goes r h (slice_get r.harts h) s refl
 
 -- ---- beats
 
--- what a beat writes: at most its bytes, at a multiple of their number, in RAM and in a page that isn't protected
-pub record IsFreeBeat (r : State) (gpa : ℕ) (bytes : List ℕ) : Type 0 where
-  pub aligned : ram_place gpa % beat_size ≡ 0
-  pub short : length bytes ≤ beat_size
-  pub inside : in_ram r.ram gpa beat_size ≡ true
-  pub free : not (is_protected r (page_of gpa)) ≡ true
-
-abbrev pub FreeMove : State → Move → Type 0
-FreeMove r (IntoRam gpa bytes) = IsFreeBeat r gpa bytes
-FreeMove r _ = Unit {0}
-
--- what a beat leaves
-pub record IsSoundBeat (r : State) (b : Beaten) : Type 0 where
-  pub disk : IsSoundDisk b.disk
-  pub move : FreeMove r b.move
-
-block_sound : (d : Disk) (last : Bool) → d.block.gpa % beat_size ≡ 0
-    → is_busy (if last then block_ended d.block BlockStatus.Done else record d.block { status = one_further d.block.status }) ≡ true
-    → (if last then block_ended d.block BlockStatus.Done else record d.block { status = one_further d.block.status }).gpa % beat_size ≡ 0
-block_sound d true aligned busy = aligned
-block_sound d false aligned busy = aligned
-
-beat_last : (p n : ℕ) → p % 64 ≡ 0 → n ≤ 64 → p + n ≤ 4096 * (p / 4096 + 1)
-beat_last p n aligned small = grind arith
-
-place_aligned : (gpa done : ℕ) → gpa % 64 ≡ 0 → ram_place (gpa + 64 * done) % 64 ≡ 0
-place_aligned gpa done e = grind arith
-
-room_of : (ram : List ℕ) (gpa n : ℕ) → n ≤ 64 → in_ram ram gpa 64 ≡ true → ram_place gpa + n ≤ length ram
-room_of ram gpa n small e = grind (arith, nat_tests)
-
-pub beat_page : (r : State) (gpa : ℕ) (bytes : List ℕ) → IsFreeBeat r gpa bytes → InFreePage r (ram_place gpa) bytes
-beat_page r gpa bytes k = record {
-  page = page_of gpa;
-  free = unprotected r (page_of gpa) (not_false (is_protected r (page_of gpa)) k.free);
-  unheld = unheld r (page_of gpa) (not_false (is_protected r (page_of gpa)) k.free);
-  first = whole_page (ram_place gpa);
-  last = beat_last (ram_place gpa) (length bytes) k.aligned k.short;
-  inside = room_of r.ram gpa (length bytes) k.short k.inside;
-}
-  where
-    whole_page : (p : ℕ) → 4096 * (p / 4096) ≤ p
-    whole_page p = omega arith
-
-memory_sound : (r : State) (d : Disk) (free : Bool) → d.block.gpa % beat_size ≡ 0 → in_ram r.ram (beat_gpa d.block) beat_size ≡ true
-    → not (is_protected r (page_of (beat_gpa d.block))) ≡ free
-    → IsSoundBeat r (if free
-    then record { disk = record d { block = block_after_beat d.block }; move = IntoRam (beat_gpa d.block) (part d.bytes (beat_place d.block) beat_size) }
-    else transfer_ended d BlockStatus.Denied (DeniedAt (beat_gpa d.block)))
-memory_sound r d true aligned inside free = record {
-  disk = block_sound d (beat_size * (beats_done d.block.status + 1) == sector_size * d.block.count) aligned;
-  move = record {
-    aligned = place_aligned d.block.gpa (beats_done d.block.status) aligned;
-    short = part_short d.bytes (beat_place d.block) beat_size;
-    inside = inside;
-    free = free;
-  };
-}
-memory_sound r d false aligned inside free = record { disk = λ busy. cc; move = tt }
-
-reads_sound : (r : State) (d : Disk) (memory : Bool) → d.block.gpa % beat_size ≡ 0 → in_ram r.ram (beat_gpa d.block) beat_size ≡ true
-    → IsSoundBeat r (if memory then to_memory d (λ page. not (is_protected r page)) else to_disk d r.ram)
-reads_sound r d true aligned inside = memory_sound r d (not (is_protected r (page_of (beat_gpa d.block)))) aligned inside refl
-reads_sound r d false aligned inside = record { disk = block_sound d (beat_size * (beats_done d.block.status + 1) == sector_size * d.block.count) aligned; move = tt }
-
-inside_sound : (r : State) (d : Disk) (inside : Bool) → d.block.gpa % beat_size ≡ 0 → in_ram r.ram (beat_gpa d.block) beat_size ≡ inside
-    → IsSoundBeat r (if not inside then transfer_ended d BlockStatus.OutOfRange OutsideRam else if is_to_memory d.block.status then to_memory d (λ page. not (is_protected r page)) else to_disk d r.ram)
-inside_sound r d true aligned inside = reads_sound r d (is_to_memory d.block.status) aligned inside
-inside_sound r d false aligned inside = record { disk = λ busy. cc; move = tt }
-
-busy_sound : (r : State) (d : Disk) (busy : Bool) → IsSoundDisk d → is_busy d.block ≡ busy
-    → IsSoundBeat r (if not busy then record { disk = d; move = Idle }
-    else if not (in_ram r.ram (beat_gpa d.block) beat_size) then transfer_ended d BlockStatus.OutOfRange OutsideRam
-    else if is_to_memory d.block.status then to_memory d (λ page. not (is_protected r page)) else to_disk d r.ram)
-busy_sound r d true k at = inside_sound r d (in_ram r.ram (beat_gpa d.block) beat_size) (k at) refl
-busy_sound r d false k at = record { disk = k; move = tt }
-
-pub beat_sound : (r : State) → IsSound r → IsSoundBeat r (disk_beat r.devices.disk r.ram (λ page. not (is_protected r page)))
-unfolding disk_beat
-beat_sound r s = busy_sound r r.devices.disk (is_busy r.devices.disk.block) s.disk refl
-
 same_free : (r : State) (disk : Disk) (gpa : ℕ) → not (is_protected r (page_of gpa)) ≡ true → not (is_protected (with_disk r disk) (page_of gpa)) ≡ true
 unfolding is_protected
 same_free r disk gpa free = free
@@ -258,7 +177,7 @@ moved_goes r disk (IntoRam gpa bytes) s k free =
     let first : Goes r (with_disk r disk) = goes_beside r (record r.devices { disk = disk }) r.journal s k in
     goes_on r (with_disk r disk) (with_bytes (with_disk r disk) (ram_place gpa) bytes) first
     (goes_bytes (with_disk r disk) (ram_place gpa) bytes first.sound
-    (beat_page (with_disk r disk) gpa bytes (record { aligned = free.aligned; short = free.short; inside = free.inside; free = same_free r disk gpa free.free })))
+    (beat_page (with_disk r disk) gpa bytes (record { size = free.size; some = free.some; short = free.short; one_page = free.one_page; inside = free.inside; free = same_free r disk gpa free.free })))
 moved_goes r disk (DeniedAt gpa) s k free = goes_beside r (record r.devices { disk = disk }) (noted (Denied gpa) (counted count_denied r.journal)) s k
 moved_goes r disk OutsideRam s k free = goes_beside r (record r.devices { disk = disk }) r.journal s k
 

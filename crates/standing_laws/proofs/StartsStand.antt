@@ -1,27 +1,28 @@
 -- A machine before its first event stands for its start.
 use Rattle.std.proofs.Common.{◌≡◌, ℕ, zero, suc, ◌+◌, ◌-◌, ◌*◌, ◌/◌, ◌≤◌, List, [], ◌∷◌, length, replicate, map, refl, sym, ◌∙◌, ap, subst, Bool, true, false, arith}
-use Rattle.std.specs.Prelude.{Option, Some, None, if◌then◌else◌, is_some}
+use Rattle.std.specs.Prelude.{Option, Some, None, if◌then◌else◌, is_some, IsTrue}
 use Rattle.std.proofs.lemmas.List.{length-map, length-replicate}
 use Rattle.sv_types.specs.Boot.{flat_ram_pages}
 use Rattle.processor.specs.Bytes.{padded, page_bytes, page_size, ram_base}
 use Rattle.sv_types.specs.ApprovedPages.{approved_pages, numbers_from}
 use Rattle.processor.specs.HypervisorRegisters.{registers_at_boot}
-use Rattle.sv_types.specs.Kernel.{header_entry, kernel_segments, segments_ram, text_pages}
-use Rattle.sv_types.specs.Policies.{Rules}
+use Rattle.sv_types.specs.Kernel.{header_entry, kernel_refusal, kernel_segments, segments_ram, text_pages}
+use Rattle.sv_types.specs.Policies.{Rules, rules_within}
 use Rattle.sv_types.specs.Views.{AreViews, with_ram}
 use Rattle.sv_types.specs.declared.protection.Protection.{Protection}
 use Rattle.sv_types.specs.declared.protection.Protection.TheVariants.{Free, Held, Approved}
 use Rattle.reference.specs.Calls.{hart_at, stopped_hart}
 use Rattle.reference.specs.Protections.{protection_at, with_pages, with_each}
-use Rattle.reference.specs.Start.{start, flat_start, boot_start, flat_rules, harts_at_boot}
-use Rattle.reference.specs.States.{State, protection_in, protection_by, has_number}
+use Rattle.reference.specs.Start.{AreWords, start, flat_start, image_start, boot_start, virtio_start, block_disk, virtio_disk, flat_rules, harts_at_boot}
+use Rattle.reference.specs.States.{State, Disk, protection_in, protection_by, has_number}
+use Rattle.reference.specs.Soundness.{IsSoundDisk}
 use Rattle.machine_model.specs.Machine.{Machine}
 use Rattle.machine_model.specs.Reaches.{IsNew}
 use Rattle.machine_model.specs.StandsFor.{bound_pages, Unseen, IsRightFor, machine_of, protections_of, host_harts}
 use Rattle.run_laws.proofs.Lookups.{approved_alone}
-use Rattle.run_laws.proofs.StartsSound.{CanStart, start_sound, flat_can, image_can}
+use Rattle.run_laws.proofs.StartsSound.{CanStart, start_sound, block_quiet, virtio_quiet, flat_can, image_can}
 use Rattle.answer_laws.proofs.ProtectionsChange.{each_changed, span_changed, views_from}
-use Rattle.standing_laws.specs.Starts.{IsGuarded, FlatStartLaw, ImageStartLaw, machine_at_boot, flat_machine, image_machine, host_at_boot, hosts_at_boot, flat_protections, image_protections}
+use Rattle.standing_laws.specs.Starts.{IsGuarded, FlatStartLaw, ImageStartLaw, VirtioStartLaw, machine_at_boot, flat_machine, image_machine, host_at_boot, hosts_at_boot, flat_protections, image_protections}
 
 -- ---- harts
 
@@ -45,7 +46,7 @@ boot_hosts tables harts entry = ap (◌∷◌ (host_at_boot entry true)) (stoppe
 
 -- ---- the machine of any start
 
-boot_same : (tables : List ℕ) (rules : Rules) (ram text : List ℕ) (entry : ℕ) (disk : List ℕ)
+boot_same : (tables : List ℕ) (rules : Rules) (ram text : List ℕ) (entry : ℕ) (disk : Disk)
     → machine_at_boot rules (with_ram tables ram) entry (protections_of (start rules ram text entry disk)) disk ≡ machine_of (unseen_at_boot tables rules) (start rules ram text entry disk)
 unfolding machine_at_boot machine_of start
 boot_same tables rules ram text entry disk = rw (boot_hosts (length tables) rules.harts entry) refl
@@ -60,7 +61,7 @@ all_pages r = length-map (numbers_from 0 r.rules.ram_pages) (protection_in r.app
 boot_views : (tables : List ℕ) (r : State) → AreViews tables (length (protections_of r)) (bound_pages r.rules) (protection_at (protections_of r)) → AreViews tables r.rules.ram_pages (bound_pages r.rules) (protection_in r.approved r.held)
 boot_views tables r views = views_from tables r (subst (λ (n : ℕ). AreViews tables n (bound_pages r.rules) (protection_at (protections_of r))) (all_pages r) views)
 
-boot_right : (tables : List ℕ) (rules : Rules) (ram text : List ℕ) (entry : ℕ) (disk : List ℕ)
+boot_right : (tables : List ℕ) (rules : Rules) (ram text : List ℕ) (entry : ℕ) (disk : Disk)
     → IsGuarded (machine_at_boot rules (with_ram tables ram) entry (protections_of (start rules ram text entry disk)) disk)
     → IsRightFor (unseen_at_boot tables rules) (start rules ram text entry disk)
 unfolding machine_at_boot start
@@ -71,29 +72,29 @@ boot_right tables rules ram text entry disk guarded = record {
   cleared = omega arith;
 }
 
-boot_new : (tables : List ℕ) (rules : Rules) (ram text : List ℕ) (entry : ℕ) (disk : List ℕ) → CanStart rules ram text entry
+boot_new : (tables : List ℕ) (rules : Rules) (ram text : List ℕ) (entry : ℕ) (disk : Disk) → CanStart rules ram text entry → IsSoundDisk disk
     → IsGuarded (machine_at_boot rules (with_ram tables ram) entry (protections_of (start rules ram text entry disk)) disk)
     → IsNew (machine_at_boot rules (with_ram tables ram) entry (protections_of (start rules ram text entry disk)) disk) (start rules ram text entry disk)
 unfolding machine_at_boot
-boot_new tables rules ram text entry disk can guarded = record {
+boot_new tables rules ram text entry disk can quiet guarded = record {
   stands = record {
     unseen = unseen_at_boot tables rules;
     same = boot_same tables rules ram text entry disk;
     unseen_is_right = boot_right tables rules ram text entry disk guarded;
-    sound = start_sound rules ram text entry disk can;
+    sound = start_sound rules ram text entry disk can quiet;
   };
   attempts = refl;
   cleared = refl;
 }
 
 -- with another list that is the state's
-given_new : (tables : List ℕ) (rules : Rules) (ram text : List ℕ) (entry : ℕ) (disk : List ℕ) (protections : List Protection) → CanStart rules ram text entry
+given_new : (tables : List ℕ) (rules : Rules) (ram text : List ℕ) (entry : ℕ) (disk : Disk) (protections : List Protection) → CanStart rules ram text entry → IsSoundDisk disk
     → protections_of (start rules ram text entry disk) ≡ protections → IsGuarded (machine_at_boot rules (with_ram tables ram) entry protections disk)
     → IsNew (machine_at_boot rules (with_ram tables ram) entry protections disk) (start rules ram text entry disk)
-given_new tables rules ram text entry disk protections can same =
+given_new tables rules ram text entry disk protections can quiet same =
     subst (λ (guard : List Protection). IsGuarded (machine_at_boot rules (with_ram tables ram) entry guard disk)
     → IsNew (machine_at_boot rules (with_ram tables ram) entry guard disk) (start rules ram text entry disk)) same
-    (λ guarded. boot_new tables rules ram text entry disk can guarded)
+    (λ guarded. boot_new tables rules ram text entry disk can quiet guarded)
 
 -- ---- protections
 
@@ -118,7 +119,7 @@ text_protection ram text page =
     by_text true bytes = refl
     by_text false bytes = refl
 
-start_protections : (rules : Rules) (ram text : List ℕ) (entry : ℕ) (disk : List ℕ)
+start_protections : (rules : Rules) (ram text : List ℕ) (entry : ℕ) (disk : Disk)
     → protections_of (start rules ram text entry disk) ≡ map (of_text text) (numbers_from 0 rules.ram_pages)
 unfolding start
 start_protections rules ram text entry disk =
@@ -148,19 +149,19 @@ flat_new : (tables pages digest : List ℕ) → length pages ≤ page_size * fla
     → IsNew (flat_machine tables pages digest) (flat_start pages digest)
 unfolding flat_machine flat_start
 flat_new tables pages digest fits guarded =
-    given_new tables (flat_rules digest) (padded pages (page_size * flat_ram_pages)) (numbers_from 0 (length pages / page_size)) ram_base [] (flat_protections pages)
-    (flat_can pages digest fits)
-    (start_protections (flat_rules digest) (padded pages (page_size * flat_ram_pages)) (numbers_from 0 (length pages / page_size)) ram_base []
+    given_new tables (flat_rules digest) (padded pages (page_size * flat_ram_pages)) (numbers_from 0 (length pages / page_size)) ram_base (block_disk []) (flat_protections pages)
+    (flat_can pages digest fits) (block_quiet [])
+    (start_protections (flat_rules digest) (padded pages (page_size * flat_ram_pages)) (numbers_from 0 (length pages / page_size)) ram_base (block_disk [])
     ∙ sym (held_and_approved flat_ram_pages (length pages / page_size))) guarded
 
-image_new : (tables : List ℕ) (rules : Rules) (file disk : List ℕ)
-    → CanStart rules (segments_ram (kernel_segments file) rules.ram_pages) (text_pages (kernel_segments file)) (header_entry file)
+image_new : (tables : List ℕ) (rules : Rules) (file : List ℕ) (disk : Disk)
+    → CanStart rules (segments_ram (kernel_segments file) rules.ram_pages) (text_pages (kernel_segments file)) (header_entry file) → IsSoundDisk disk
     → IsGuarded (image_machine tables rules (header_entry file) (kernel_segments file) disk)
-    → IsNew (image_machine tables rules (header_entry file) (kernel_segments file) disk) (boot_start rules file disk)
-unfolding image_machine boot_start
-image_new tables rules file disk can guarded =
+    → IsNew (image_machine tables rules (header_entry file) (kernel_segments file) disk) (image_start rules file disk)
+unfolding image_machine
+image_new tables rules file disk can quiet guarded =
     given_new tables rules (segments_ram (kernel_segments file) rules.ram_pages) (text_pages (kernel_segments file)) (header_entry file) disk
-    (image_protections rules.ram_pages (kernel_segments file)) can
+    (image_protections rules.ram_pages (kernel_segments file)) can quiet
     (start_protections rules (segments_ram (kernel_segments file) rules.ram_pages) (text_pages (kernel_segments file)) (header_entry file) disk
     ∙ sym (each_approved rules.ram_pages (text_pages (kernel_segments file)))) guarded
 
@@ -168,7 +169,22 @@ pub flat_start_law : FlatStartLaw
 flat_start_law m pages digest fits guarded same =
     subst (λ (k : Machine). IsNew k (flat_start pages digest)) (sym same) (flat_new m.region.tables pages digest fits (subst IsGuarded same guarded))
 
+-- whatever device the disk is behind
+pub any_start : (m : Machine) (rules : Rules) (file : List ℕ) (disk : Disk)
+    → IsTrue (rules_within rules) → AreWords rules.entries
+    → kernel_refusal file rules.ram_pages ≡ None → has_number rules.entries (header_entry file) ≡ true → IsGuarded m → IsSoundDisk disk
+    → m ≡ image_machine m.region.tables rules (header_entry file) (kernel_segments file) disk
+    → IsNew m (image_start rules file disk)
+any_start m rules file disk within words accepted entry guarded quiet same =
+    subst (λ (k : Machine). IsNew k (image_start rules file disk)) (sym same)
+    (image_new m.region.tables rules file disk (image_can rules file within words accepted entry) quiet (subst IsGuarded same guarded))
+
 pub image_start_law : ImageStartLaw
+unfolding boot_start
 image_start_law m rules file disk within words accepted entry guarded same =
-    subst (λ (k : Machine). IsNew k (boot_start rules file disk)) (sym same)
-    (image_new m.region.tables rules file disk (image_can rules file within words accepted entry) (subst IsGuarded same guarded))
+    any_start m rules file (block_disk disk) within words accepted entry guarded (block_quiet disk) same
+
+pub virtio_start_law : VirtioStartLaw
+unfolding virtio_start
+virtio_start_law m rules file disk within words accepted entry guarded same =
+    any_start m rules file (virtio_disk disk) within words accepted entry guarded (virtio_quiet disk) same

@@ -13,8 +13,8 @@ use Rattle.processor.specs.declared.mode.Mode.TheVariants.{Kernel}
 use Rattle.sv_types.specs.declared.protection.Protection.{Protection}
 use Rattle.sv_types.specs.declared.protection.Protection.TheVariants.{Free, Held, Approved}
 use Rattle.reference.specs.Protections.{is_free, protection_at, with_pages, with_each}
-use Rattle.reference.specs.Start.{AreWords, block_at_boot, flat_rules, flat_start, boot_start}
-use Rattle.reference.specs.States.{Journal, has_number}
+use Rattle.reference.specs.Start.{AreWords, block_disk, virtio_disk, flat_rules, flat_start, boot_start, virtio_start}
+use Rattle.reference.specs.States.{State, Disk, Journal, has_number}
 use Rattle.machine_model.specs.Machine.{Machine, HostHart}
 use Rattle.machine_model.specs.Reaches.{IsNew}
 use Rattle.machine_model.specs.StandsFor.{bound_pages, hregs_in}
@@ -46,7 +46,7 @@ abbrev pub journal_at_boot : Journal
 journal_at_boot = record { printed = []; notes = []; counts = no_counts; verdict = Running }
 
 -- nothing is loaded or recorded, no byte printed, and no attempt made
-unfoldable pub machine_at_boot : Rules → Region → ℕ → List Protection → List ℕ → Machine
+unfoldable pub machine_at_boot : Rules → Region → ℕ → List Protection → Disk → Machine
 machine_at_boot rules region entry protections disk = record {
   rules = rules;
   region = region;
@@ -56,7 +56,7 @@ machine_at_boot rules region entry protections disk = record {
   loaded = [];
   loading = None;
   retired = false;
-  devices = record { console = []; disk = record { block = block_at_boot; bytes = disk }; clock = clock_at_boot };
+  devices = record { console = []; disk = disk; clock = clock_at_boot };
   journal = journal_at_boot;
   cleared = 0;
   attempts = 0;
@@ -77,7 +77,7 @@ flat_ram pages = padded pages (page_size * flat_ram_pages)
 -- pages at the start of RAM, where the hart begins; no disk
 unfoldable pub flat_machine : (tables pages digest : List ℕ) → Machine
 flat_machine tables pages digest =
-    machine_at_boot (flat_rules digest) (with_ram tables (flat_ram pages)) ram_base (flat_protections pages) []
+    machine_at_boot (flat_rules digest) (with_ram tables (flat_ram pages)) ram_base (flat_protections pages) (block_disk [])
 
 -- ---- a machine of a kernel's image
 
@@ -86,7 +86,7 @@ abbrev pub image_protections : ℕ → List LoadedSegment → List Protection
 image_protections ram_pages segments = with_each (replicate ram_pages Free) (text_pages segments) Approved
 
 -- an image's segments in RAM, and hart 0 at its entry
-unfoldable pub image_machine : List ℕ → Rules → ℕ → List LoadedSegment → List ℕ → Machine
+unfoldable pub image_machine : List ℕ → Rules → ℕ → List LoadedSegment → Disk → Machine
 image_machine tables rules entry segments disk =
     machine_at_boot rules (with_ram tables (segments_ram segments rules.ram_pages)) entry
     (image_protections rules.ram_pages segments) disk
@@ -104,9 +104,17 @@ FlatStartLaw = (m : Machine) (pages digest : List ℕ) → length pages ≤ page
     → m ≡ flat_machine m.region.tables pages digest → IsNew m (flat_start pages digest)
 
 -- a machine of an accepted image, under a policy within its limits that permits its entry, stands for its start
-abbrev pub ImageStartLaw : Type 0
-ImageStartLaw = (m : Machine) (rules : Rules) (file disk : List ℕ)
+abbrev pub StartLaw : (List ℕ → Disk) → (Rules → (file disk : List ℕ) → State) → Type 0
+StartLaw device boot = (m : Machine) (rules : Rules) (file disk : List ℕ)
     → IsTrue (rules_within rules) → AreWords rules.entries
     → kernel_refusal file rules.ram_pages ≡ None → has_number rules.entries (header_entry file) ≡ true → IsGuarded m
-    → m ≡ image_machine m.region.tables rules (header_entry file) (kernel_segments file) disk
-    → IsNew m (boot_start rules file disk)
+    → m ≡ image_machine m.region.tables rules (header_entry file) (kernel_segments file) (device disk)
+    → IsNew m (boot rules file disk)
+
+-- with its disk behind this project's block device
+abbrev pub ImageStartLaw : Type 0
+ImageStartLaw = StartLaw block_disk boot_start
+
+-- with its disk behind a virtio block device
+abbrev pub VirtioStartLaw : Type 0
+VirtioStartLaw = StartLaw virtio_disk virtio_start

@@ -6,7 +6,7 @@ ghost use Rattle.standing_laws.specs.Laws.{DeterminesLaw, HartInLaw, HartsLaw, L
 
 mod start;
 
-pub use start::{law_flat_start, law_image_start};
+pub use start::{law_flat_start, law_image_start, law_virtio_start};
 
 /// Each hart may make an attempt: its pc is aligned, its registers are those of its mode, and its walks read the tables alone.
 pub fn law_harts()

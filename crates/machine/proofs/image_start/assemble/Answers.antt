@@ -2,6 +2,7 @@ use Rattle.std.proofs.Common.{◌≡◌, ◌∙◌}
 use Rattle.std.proofs.lemmas.Result.{IfOk-weaker}
 use Rattle.standing_laws.specs.Starts.{machine_at_boot, image_machine}
 use Rattle.elf64_load.specs.Images.{segments_of}
+use Rattle.disk_port.specs.Ports.{port_disk}
 use Rattle.sv_types.specs.Policies.{rules_of}
 use Rattle.machine.proofs.ImageStarting.{image_made, unbound_within}
 use Rattle.machine.proofs.image_start.assemble.Goals as goal
@@ -9,9 +10,9 @@ use Rattle.machine.proofs.image_start.assemble.Goals as goal
 pub returns-clause-made : goal.returns-clause-made
 returns-clause-made c =
     IfOk-weaker c.at_boot.result
-    (λ p. p ≡ machine_at_boot (rules_of c.args.policy) c.image_guard.new.mem c.args.image.now.entry c.in_ok-guard.guard c.args.disk.items)
-    (λ p. p ≡ image_machine p.region.tables (rules_of c.args.policy) c.args.image.now.entry (segments_of c.args.image.now) c.args.disk.items)
-    (λ p made. image_made p (rules_of c.args.policy) c.args.image.now.entry (segments_of c.args.image.now) c.image_guard.new.mem c.in_ok-guard.guard c.args.disk.items made (c.in_ok-guard.ensures.ram ∙ c.in_ok-mem.ensures.ram) c.in_ok-guard.ensures.guard)
+    (λ p. p ≡ machine_at_boot (rules_of c.args.policy) c.image_guard.new.mem c.args.image.now.entry c.in_ok-guard.guard (port_disk c.args.port))
+    (λ p. p ≡ image_machine p.region.tables (rules_of c.args.policy) c.args.image.now.entry (segments_of c.args.image.now) (port_disk c.args.port))
+    (λ p made. image_made p (rules_of c.args.policy) c.args.image.now.entry (segments_of c.args.image.now) c.image_guard.new.mem c.in_ok-guard.guard (port_disk c.args.port) made (c.in_ok-guard.ensures.ram ∙ c.in_ok-mem.ensures.ram) c.in_ok-guard.ensures.guard)
     c.at_boot.ensures
 
 pub at_boot-requires-clause-unbound : goal.at_boot-requires-clause-unbound
