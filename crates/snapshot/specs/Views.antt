@@ -1,5 +1,6 @@
 -- The parts that are read, as a form sees them. This project's own.
 use Rattle.std.specs.Prelude.{ℕ, List}
+use Rattle.sv_types.specs.declared.port.PortState.{PortState}
 use Rattle.snapshot.specs.declared.devices.Devices.{Devices}
 use Rattle.snapshot.specs.declared.journal.Recorded.{Recorded}
 use Rattle.snapshot.specs.declared.modules.Gate.{Gate}
@@ -18,7 +19,7 @@ abbrev pub gate_parts : Gate → page.Gate
 gate_parts g = (g.modules.items, (g.retired, g.loading))
 
 abbrev pub devices_parts : Devices → device.Devices
-devices_parts d = (d.console.items, (d.block, d.disk.items))
+devices_parts d = (d.console.items, (PortState.Block d.block, d.disk.items))
 
 abbrev pub recorded_parts : Recorded → recorded.JournalParts
 recorded_parts r = (r.counts, (r.notes.items, r.verdict))

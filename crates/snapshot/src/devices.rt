@@ -1,26 +1,40 @@
 // The bytes of the devices: the console's input, the block device and its disk.
 
-ghost use Rattle.std.specs.Prelude.{◌≡◌, ◌++◌, OnOk};
-ghost use Rattle.snapshot_form.specs.DeviceForms.{console, devices, disk};
-ghost use Rattle.snapshot.specs.Reading.{Reads};
+ghost use Rattle.std.specs.Prelude.{◌≡◌, ◌++◌, true, OnOk};
+ghost use Rattle.sv_types.specs.declared.port.PortState.{PortState};
+ghost use Rattle.snapshot_form.specs.DeviceForms.{console, devices, disk, is_block, port};
+ghost use Rattle.snapshot.specs.Reading.{Gives, Reads};
 ghost use Rattle.snapshot.specs.Views.{devices_parts};
 
 use crate::block::{holds_transfer, read_block, write_block};
 use crate::read_error::ReadError;
 use crate::values::{in_range, read_number, read_plain, write_measured};
 use saved_machine::Saved;
+use snapshot_form::SnapRefusal;
 use std::alloc::{AllocError, Global};
-use sv_types::BlockState;
+use sv_types::{BlockState, PortState};
 
 const MOST_WAITING_BYTES: u64 = 256;
 
 #[tactic(auto, unfolding(snapshot_form::specs::DeviceForms::devices, snapshot_form::specs::DeviceForms::console, snapshot_form::specs::DeviceForms::disk))]
 pub(crate) fn write_devices(out: &mut Vec<u8>, machine: &Saved) -> Result<(), AllocError>
-    ensures { OnOk result (out.new.items ≡ out.old.items ++ devices.spell (machine.now.console.items, (machine.now.block, machine.now.disk.items))) }
+    requires { is_block machine.now.port ≡ true }
+    ensures { OnOk result (out.new.items ≡ out.old.items ++ devices.spell (machine.now.console.items, (machine.now.port, machine.now.disk.items))) }
 {
     write_measured(out, &machine.console)?;
-    write_block(out, &machine.block)?;
+    write_port(out, &machine.port)?;
     write_measured(out, &machine.disk)
+}
+
+#[tactic(auto, unfolding(snapshot_form::specs::DeviceForms::port))]
+fn write_port(out: &mut Vec<u8>, state: &PortState) -> Result<(), AllocError>
+    requires { is_block state.now ≡ true }
+    ensures { OnOk result (out.new.items ≡ out.old.items ++ port.spell state.now) }
+{
+    match state {
+        PortState::Block(block) => write_block(out, block),
+        PortState::Virtio(_) => unreachable!(),
+    }
 }
 
 // ---- reading
@@ -38,7 +52,7 @@ pub(crate) fn read_devices(alloc: Global, bytes: &[u8]) -> Result<(Devices, &[u8
     ensures { Reads (λ x. (devices_parts x.0, x.1.now)) result (devices.taken bytes.now) }
 {
     let (console, rest) = read_console(alloc, bytes)?;
-    let (block, rest) = read_block(rest)?;
+    let (block, rest) = read_port(rest)?;
     let (disk, rest) = read_disk(alloc, rest, &block)?;
     Ok((
         Devices {
@@ -48,6 +62,15 @@ pub(crate) fn read_devices(alloc: Global, bytes: &[u8]) -> Result<(Devices, &[u8
         },
         rest,
     ))
+}
+
+// The block device.
+#[tactic(auto, unfolding(snapshot_form::specs::DeviceForms::port))]
+fn read_port(bytes: &[u8]) -> Result<(BlockState, &[u8]), SnapRefusal>
+    ensures { Gives (λ x. (PortState.Block x.0, x.1.now)) result (port.taken bytes.now) }
+{
+    let (block, rest) = read_block(bytes)?;
+    Ok((block, rest))
 }
 
 #[tactic(auto, unfolding(snapshot_form::specs::DeviceForms::console))]

@@ -2,6 +2,7 @@
 
 ghost use Rattle.std.specs.Prelude.{◌≡◌, ◌≤◌, ◌*◌, ◌++◌, true, length, Ok, OnOk, IfOk};
 ghost use Rattle.processor.specs.Bytes.{page_size};
+ghost use Rattle.snapshot_form.specs.DeviceForms.{is_block};
 ghost use Rattle.snapshot_form.specs.Forms.{plain};
 ghost use Rattle.snapshot_form.specs.Snapshots.{Contents, beginning, body, contents, hart_count, header, magic, page_count, snapshot, snapshot_read, whole_body, whole_header, whole_of};
 ghost use Rattle.snapshot.specs.Reading.{Gives, Reads};
@@ -18,6 +19,7 @@ use processor::PAGE_BYTES;
 use saved_machine::{Saved, SavedHart};
 use snapshot_form::{SnapRefusal, Snapshot};
 use std::alloc::{AllocError, Global};
+use sv_types::PortState;
 
 const MAGIC: &[u8; 8] = b"SVSNAP01";
 
@@ -31,9 +33,10 @@ const LEAST_RAM_PAGES: u64 = 16;
 
 const MOST_RAM_PAGES: u64 = 262_144;
 
-/// The bytes of a snapshot. Want of memory is the one refusal.
+/// The bytes of a snapshot, of a machine with a block device. Want of memory is the one refusal.
 #[tactic(auto, unfolding(snapshot_form::specs::Snapshots::snapshot))]
 pub fn write(alloc: Global, s: &Snapshot) -> Result<Vec<u8>, AllocError>
+    requires { is_block s.now.machine.port ≡ true }
     ensures { IfOk result (λ bytes. bytes.items ≡ snapshot.spell (contents s.now)) }
 {
     let mut out = Vec::new(alloc);
@@ -55,6 +58,7 @@ fn write_header(out: &mut Vec<u8>, s: &Snapshot) -> Result<(), AllocError>
 
 #[tactic(auto, unfolding(snapshot_form::specs::Snapshots::body))]
 fn write_body(out: &mut Vec<u8>, s: &Snapshot) -> Result<(), AllocError>
+    requires { is_block s.now.machine.port ≡ true }
     ensures { OnOk result (out.new.items ≡ out.old.items ++ (body (whole_header (contents s.now))).spell (whole_body (contents s.now))) }
 {
     let machine = &s.machine;
@@ -133,7 +137,7 @@ fn put_together(header: Header, body: Body) -> Snapshot
         retired,
         loading,
         console,
-        block,
+        port: PortState::Block(block),
         disk,
         time: header.time,
         counts,
