@@ -8,6 +8,7 @@ use Rattle.sv_types.specs.declared.event.Event.TheVariants.{Turn, Beat, Key, Tic
 use Rattle.sv_types.specs.declared.event.Verdict.{Verdict}
 use Rattle.sv_types.specs.declared.event.Verdict.TheVariants.{Running, Shutdown, Stopped}
 use Rattle.processor.specs.declared.outcome.Outcome.{Outcome}
+use Rattle.reference.specs.Disk.{disk_bytes}
 use Rattle.reference.specs.Report.{output, report}
 use Rattle.reference.specs.Run.{step}
 use Rattle.reference.specs.States.{State, Journal}
@@ -177,9 +178,9 @@ stands_printed m r cleared s =
 pub stands_verdict : (m : Machine) (r : State) (cleared : List ℕ) → Stands m cleared r → m.journal.verdict ≡ r.journal.verdict
 stands_verdict m r cleared s = verdict_is m r s.stands
 
-pub stands_disk : (m : Machine) (r : State) (cleared : List ℕ) → Stands m cleared r → m.devices.disk.bytes ≡ r.devices.disk.bytes
+pub stands_disk : (m : Machine) (r : State) (cleared : List ℕ) → Stands m cleared r → disk_bytes m.devices.disk ≡ disk_bytes r.devices.disk
 unfolding machine_of
-stands_disk m r cleared s = ap (λ (x : Machine). x.devices.disk.bytes) s.stands.same
+stands_disk m r cleared s = ap (λ (x : Machine). disk_bytes x.devices.disk) s.stands.same
 
 -- all that is printed of the state, in two parts
 pub stands_output : (m : Machine) (r : State) (cleared : List ℕ) → Stands m cleared r → cleared ++ machine_output m ≡ output r

@@ -5,31 +5,12 @@ ghost use Rattle.std.specs.Result.{result_err};
 ghost use Rattle.processor.specs.HypervisorRegisters.{registers_at_boot, virtual_interrupt_bits, hip_value, aliased, with_alias, is_hypervisor_number, refusal, csr_access, read_virtual, write_virtual, read_answer, after_write};
 ghost use Rattle.processor.specs.Registers.{legal_satp};
 
+use crate::masks::{
+    INTERRUPT_BITS, MISALIGNED, SATP_BITS, STATUS_BITS, TIME_ENABLE, TVEC_RESERVED, UXL,
+    VIRTUAL_EXTERNAL, VIRTUAL_INTERRUPT_BITS, VIRTUAL_SOFTWARE, VIRTUAL_TIMER,
+};
 use processor::{Csr, CsrFault, HRegs, Lines, Mode, has_bit};
 use std::marker::Model;
-
-/// SIE, SPIE, SPP, SUM and MXR of `vsstatus`.
-const STATUS_BITS: u64 = 1 << 1 | 1 << 5 | 1 << 8 | 1 << 18 | 1 << 19;
-/// UXL of `vsstatus`, as it is read: user mode has 64-bit registers.
-const UXL: u64 = 2 << 32;
-/// The guest's software, timer and external interrupt in `sie` and `sip`.
-const INTERRUPT_BITS: u64 = 1 << 1 | 1 << 5 | 1 << 9;
-/// The same interrupts in `hie`, `hip` and `hideleg`.
-const VIRTUAL_INTERRUPT_BITS: u64 = INTERRUPT_BITS << 1;
-/// The guest's software interrupt there, the only one that `hvip` keeps.
-const VIRTUAL_SOFTWARE: u64 = 1 << 2;
-/// The guest's timer interrupt there, a wire.
-const VIRTUAL_TIMER: u64 = 1 << 6;
-/// The guest's external interrupt there, a wire.
-const VIRTUAL_EXTERNAL: u64 = 1 << 10;
-/// The second of the two bits of `stvec`'s mode.
-const TVEC_RESERVED: u64 = 1 << 1;
-/// TM of `scounteren`: user mode reads the time.
-const TIME_ENABLE: u64 = 1 << 1;
-/// Instructions lie at multiples of 4.
-const MISALIGNED: u64 = 3;
-/// The mode and the root's page of `satp`.
-const SATP_BITS: u64 = 15 << 60 | (1 << 44) - 1;
 
 /// The registers of one hart: those of the virtual supervisor, `scounteren`, the interrupts, and, from `sepc` on, those
 /// that an exit writes. Each holds only bits that may stand in it; bits 33 and 32 of `vsstatus` are kept as 0.

@@ -3,8 +3,13 @@
 #![tactic(auto)]
 
 mod csrs;
+mod masks;
 #[cfg(test)]
 mod tests;
 
 pub use csrs::Csrs;
+pub use masks::{
+    INTERRUPT_BITS, MISALIGNED, SATP_BITS, SIE, SOFTWARE_INTERRUPT, SPIE, SPP, STATUS_BITS,
+    TIME_ENABLE, TVEC_RESERVED, VIRTUAL_SOFTWARE,
+};
 pub use processor::CsrFault;

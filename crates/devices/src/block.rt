@@ -16,15 +16,10 @@ use crate::block::registers::{Register, register_at};
 use dma_guard::{Beaten, DiskPort, DmaGuard, DmaRefused};
 use host_mem::HostMem;
 use std::marker::Model;
-use sv_types::{BlockCommand, BlockState, BlockStatus};
+use sv_types::{BEAT_BYTES, BlockCommand, BlockState, BlockStatus, SECTOR_BYTES};
 
-/// The bytes of a sector.
-pub const SECTOR_BYTES: u64 = 512;
-
-/// The bytes of a beat, as a length and as a number.
-const BEAT_LENGTH: usize = 64;
-
-const BEAT_BYTES: u64 = BEAT_LENGTH as u64;
+/// The bytes of a beat, as a length.
+const BEAT_LENGTH: usize = BEAT_BYTES as usize;
 
 /// A block device with its disk. Contracts see its registers, its transfer and the bytes of the disk.
 #[derive(Drop)]

@@ -4,9 +4,10 @@ ghost use Rattle.std.specs.Prelude.{◌≡◌, ◌<◌};
 ghost use Rattle.sv_types.specs.Clock.{latest, clock_at_boot, after_tick, timer_of, with_timer, is_due};
 
 use std::marker::Model;
+use sv_types::MOST_HARTS;
 
 /// How many harts have a timer.
-const HARTS: usize = 4;
+const HARTS: usize = MOST_HARTS as usize;
 
 /// A timer that never is due.
 const NEVER: u64 = u64::MAX;

@@ -6,9 +6,7 @@ ghost use Rattle.sv_types.specs.Console.ConsoleRegister.{Status};
 
 use arrayvec::ArrayVec;
 use std::marker::Model;
-
-/// The most bytes that wait.
-const MOST_QUEUED: usize = 256;
+use sv_types::MOST_QUEUED;
 
 /// The offsets of the registers, which are one byte wide.
 const DATA: u64 = 0;

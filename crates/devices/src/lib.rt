@@ -9,5 +9,6 @@ mod ports;
 #[cfg(test)]
 mod tests;
 
-pub use block::{Block, SECTOR_BYTES};
+pub use block::Block;
 pub use bus::Devices;
+pub use sv_types::SECTOR_BYTES;

@@ -9,10 +9,12 @@ use Rattle.elf64_sections.specs.Judged.{◌>>=◌, each}
 use Rattle.elf64_sections.specs.Sections.{Tables, sections_in_file, sections_of, tables_of, symbols_of, name_at}
 use Rattle.elf64_sections.specs.declared.tables.Symbol.{Symbol}
 use Rattle.elf64_load.specs.Refusals.{Judged}
+use Rattle.sv_types.specs.Elf.{et_exec, st_bind, stb_global, shn_undef}
+use Rattle.sv_types.specs.Limits.{most_exports}
 
 -- its binding is global, and a section defines it
 abbrev pub is_defined_global : Symbol → Bool
-is_defined_global s = s.info / 16 == 1 && not (s.section == 0)
+is_defined_global s = st_bind s.info == stb_global && not (s.section == shn_undef)
 
 abbrev pub is_name_of : List ℕ → Option (List ℕ) → Bool
 is_name_of wanted None = false
@@ -36,9 +38,9 @@ export_at name (Some addr) = Ok (record { name = name; addr = addr })
 abbrev pub export_of : Tables → List ℕ → Judged Export
 export_of tables name = export_at name (address_of tables name)
 
--- at most 4,096 of them
+-- not too many of them
 abbrev pub if_few : List Export → Judged (List Export)
-if_few exports = if nat_lt 4096 (length exports) then Err ImageFault.TooManyNames else Ok exports
+if_few exports = if nat_lt most_exports (length exports) then Err ImageFault.TooManyNames else Ok exports
 
 abbrev pub exports_in : Option Tables → List (List ℕ) → Judged (List Export)
 exports_in None names = Err ImageFault.NoSymbols
@@ -54,4 +56,4 @@ exports_of_file None file names = exports_in (kernel_tables file) names
 
 -- the header's faults come first
 unfoldable pub exports_judged : List ℕ → List (List ℕ) → Judged (List Export)
-exports_judged file names = exports_of_file (first_refusal (file_checks 2 file)) file names
+exports_judged file names = exports_of_file (first_refusal (file_checks et_exec file)) file names

@@ -3,17 +3,17 @@
 ghost use Rattle.std.specs.Prelude.{◌≡◌, ◌+◌, ◌*◌, ◌≤◌, ◌<◌, length, flat_map, All, IfNone, IfOk};
 ghost use Rattle.std.specs.List.{list_any};
 ghost use Rattle.elf64_load.specs.Headers.{HasMemory};
+ghost use Rattle.sv_types.specs.Elf.{file_header_size, program_header_size};
 ghost use Rattle.sv_types.specs.Kernel.{first_refusal, header_checks, table_checks, segment_checks, image_checks, is_executable, is_writable, memory_in_ram, table_place, table_count, table_in_file};
 
-use crate::headers::PROGRAM_HEADER_BYTES;
 use crate::shared_text::text_is_shared;
+use elf64_sections::elf::{
+    E_PHENTSIZE, E_PHNUM, E_PHOFF, ET_EXEC, PF_W_BIT, PF_X_BIT, PROGRAM_HEADER_BYTES,
+};
 use elf64_sections::{double, file_refusal, half};
 use processor::{PAGE_BYTES, has_bit, is_in_ram};
 use std::alloc::{AllocError, Global};
 use sv_types::{ImageFault, ProgramHeader};
-
-/// The kind of an executable file.
-pub(crate) const EXECUTABLE_FILE: u16 = 2;
 
 /// The end of a range, as a whole number.
 pub(crate) fn end_of(start: u64, size: u64) -> u128
@@ -23,20 +23,20 @@ pub(crate) fn end_of(start: u64, size: u64) -> u128
 }
 
 fn table_in_file(file: &[u8]) -> bool
-    requires { 64 ≤ length file.now }
+    requires { file_header_size ≤ length file.now }
     ensures { result ≡ table_in_file file.now }
 {
-    let size = PROGRAM_HEADER_BYTES as u64 * half(file, 56) as u64;
-    half(file, 54) as usize == PROGRAM_HEADER_BYTES
-        && end_of(double(file, 32), size) <= file.len() as u128
+    let size = PROGRAM_HEADER_BYTES as u64 * half(file, E_PHNUM) as u64;
+    half(file, E_PHENTSIZE) as usize == PROGRAM_HEADER_BYTES
+        && end_of(double(file, E_PHOFF), size) <= file.len() as u128
 }
 
 fn table_refusal(file: &[u8]) -> Option<ImageFault>
-    requires { 64 ≤ length file.now }
+    requires { file_header_size ≤ length file.now }
     ensures first { result ≡ first_refusal (table_checks file.now) }
-    ensures table { IfNone result (0 < table_count file.now → table_place file.now + 56 * table_count file.now ≤ length file.now) }
+    ensures table { IfNone result (0 < table_count file.now → table_place file.now + program_header_size * table_count file.now ≤ length file.now) }
 {
-    if half(file, 56) > 0 && !table_in_file(file) {
+    if half(file, E_PHNUM) > 0 && !table_in_file(file) {
         return Some(ImageFault::ProgramHeaders);
     }
     None
@@ -45,10 +45,10 @@ fn table_refusal(file: &[u8]) -> Option<ImageFault>
 /// The first fault of the header.
 pub(crate) fn header_refusal(file: &[u8]) -> Option<ImageFault>
     ensures first { result ≡ first_refusal (header_checks file.now) }
-    ensures long { IfNone result (64 ≤ length file.now) }
-    ensures table { IfNone result (0 < table_count file.now → table_place file.now + 56 * table_count file.now ≤ length file.now) }
+    ensures long { IfNone result (file_header_size ≤ length file.now) }
+    ensures table { IfNone result (0 < table_count file.now → table_place file.now + program_header_size * table_count file.now ≤ length file.now) }
 {
-    if let Some(fault) = file_refusal(file, EXECUTABLE_FILE) {
+    if let Some(fault) = file_refusal(file, ET_EXEC) {
         return Some(ImageFault::Header(fault));
     }
     table_refusal(file)
@@ -57,13 +57,13 @@ pub(crate) fn header_refusal(file: &[u8]) -> Option<ImageFault>
 pub(crate) fn is_executable(header: &ProgramHeader) -> bool
     ensures { result ≡ is_executable header.now }
 {
-    has_bit(header.flags as u64, 0)
+    has_bit(header.flags as u64, PF_X_BIT)
 }
 
 fn is_writable(header: &ProgramHeader) -> bool
     ensures { result ≡ is_writable header.now }
 {
-    has_bit(header.flags as u64, 1)
+    has_bit(header.flags as u64, PF_W_BIT)
 }
 
 fn memory_in_ram(ram_pages: u32, header: &ProgramHeader) -> bool

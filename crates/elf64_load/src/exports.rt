@@ -1,6 +1,7 @@
 // The addresses of the kernel's functions that modules call.
 
 ghost use Rattle.std.specs.Prelude.{◌≡◌, ◌≤◌, ◌*◌, ℕ, List, [], length, if◌then◌else◌, Some, Ok, IfOk, IfErr, OnOk, option_map};
+ghost use Rattle.sv_types.specs.Elf.{file_header_size};
 ghost use Rattle.elf64_load.specs.Addresses.{found};
 ghost use Rattle.elf64_load.specs.Exports as spec;
 ghost use Rattle.elf64_load.specs.Refusals.{Refuses};
@@ -8,8 +9,8 @@ ghost use Rattle.elf64_sections.specs.Judged.{each};
 ghost use Rattle.elf64_sections.specs.Sections.{sections_in_file, sections_of, tables_of};
 ghost use Rattle.elf64_sections.specs.Views.{tables_view};
 
-use crate::checks::EXECUTABLE_FILE;
 use crate::read::ElfRefusal;
+use elf64_sections::elf::{ET_EXEC, SHN_UNDEF, STB_GLOBAL};
 use elf64_sections::{
     Symbol, SymbolTables, file_refusal, name_at, section_headers, sections_in_file, symbol_at,
     symbol_count, symbol_tables,
@@ -22,7 +23,7 @@ use sv_types::{Export, ImageFault, Name};
 fn is_defined_global(symbol: &Symbol) -> bool
     ensures { result ≡ spec.is_defined_global symbol.now }
 {
-    symbol.info / 16 == 1 && symbol.section != 0
+    symbol.binding() == STB_GLOBAL && symbol.section != SHN_UNDEF
 }
 
 // Writes a symbol's value at its name, if it is a defined global one.
@@ -107,7 +108,7 @@ fn few_exports(
 
 // The symbol table of a kernel's file with that of its names, if they are good.
 fn kernel_tables(alloc: Global, file: &[u8]) -> Result<Option<SymbolTables<'_>>, AllocError>
-    requires { 64 ≤ length file.now }
+    requires { file_header_size ≤ length file.now }
     ensures { IfOk result (λ tables. option_map tables_view tables ≡ spec.kernel_tables file.now) }
 {
     if !sections_in_file(file) {
@@ -126,7 +127,7 @@ pub fn read_exports(alloc: Global, bytes: &[u8], names: &[Name]) -> Result<Vec<E
     ensures exports { IfOk result (λ exports. spec.exports_judged bytes.now names.now ≡ Ok exports.items) }
     ensures refused { IfErr result (Refuses (spec.exports_judged bytes.now names.now)) }
 {
-    if let Some(fault) = file_refusal(bytes, EXECUTABLE_FILE) {
+    if let Some(fault) = file_refusal(bytes, ET_EXEC) {
         return Err(ElfRefusal::Fault(ImageFault::Header(fault)));
     }
     match kernel_tables(alloc, bytes)? {

@@ -1,6 +1,7 @@
 // The reading of a kernel.
 
 ghost use Rattle.std.specs.Prelude.{◌≡◌, ◌+◌, ◌≤◌, None, length, flat_map, map, IfOk, OnOk, IfErr};
+ghost use Rattle.sv_types.specs.Elf.{file_header_size};
 ghost use Rattle.sv_types.specs.Kernel.{first_refusal, header_checks, segment_checks, loaded_headers, loaded_segment, header_entry, kernel_refusal, kernel_segments};
 ghost use Rattle.elf64_load.specs.Images.{segment_of, segments_of};
 ghost use Rattle.elf64_load.specs.Refusals.{IsRefusalOf};
@@ -10,6 +11,7 @@ use crate::checks::{header_refusal, image_refusal, is_executable, segments_refus
 use crate::headers::loaded_headers;
 use crate::image::{KernelImage, Segment};
 use elf64_sections::double;
+use elf64_sections::elf::E_ENTRY;
 use std::alloc::{AllocError, AllocFailed, Global};
 use sv_types::{ImageFault, ProgramHeader};
 use thiserror::Error;
@@ -56,7 +58,7 @@ fn judged_headers(
 ) -> Result<Vec<ProgramHeader>, ElfRefusal>
     ensures headers { IfOk result (λ headers. headers.items ≡ loaded_headers file.now) }
     ensures inside { IfOk result (λ headers. first_refusal (flat_map (segment_checks (length file.now) ram_pages) headers.items) ≡ None) }
-    ensures header { OnOk result (64 ≤ length file.now) }
+    ensures header { OnOk result (file_header_size ≤ length file.now) }
     ensures no_header_fault { OnOk result (first_refusal (header_checks file.now) ≡ None) }
     ensures accepted { OnOk result (kernel_refusal file.now ram_pages ≡ None) }
     ensures refused { IfErr result (IsRefusalOf file.now ram_pages) }
@@ -126,7 +128,7 @@ pub fn read_kernel(
         return Err(ElfRefusal::Memory);
     };
     Ok(KernelImage {
-        entry: double(bytes, 24),
+        entry: double(bytes, E_ENTRY),
         segments,
     })
 }

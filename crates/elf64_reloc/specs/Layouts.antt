@@ -8,14 +8,16 @@ use Rattle.elf64_reloc.specs.declared.layout.Ends.{Ends}
 use Rattle.elf64_reloc.specs.declared.layout.PlacedSection.{PlacedSection}
 use Rattle.elf64_reloc.specs.declared.layout.Space.{Space}
 use Rattle.elf64_reloc.specs.declared.layout.Space.TheVariants.{Text, Data, Elsewhere}
+use Rattle.processor.specs.Bytes.{page_size}
+use Rattle.sv_types.specs.Elf.{sht_progbits, shf_alloc_bit, shf_execinstr_bit}
 
--- a power of two up to 4,096, that is a number up to it that divides it; 0 stands for 1
+-- a power of two up to the size of a page, that is a number up to it that divides it; 0 stands for 1
 abbrev pub is_good_alignment : SectionHeader → Bool
-is_good_alignment s = s.alignment == 0 || (nat_le s.alignment 4096 && 4096 % s.alignment == 0)
+is_good_alignment s = s.alignment == 0 || (nat_le s.alignment page_size && page_size % s.alignment == 0)
 
 -- a section with memory is allocated, and text where it is the program's and executable
 abbrev pub space_of : SectionHeader → Space
-space_of s = if bit s.flags 1 then (if s.kind == 1 && bit s.flags 2 then Text else Data) else Elsewhere
+space_of s = if bit s.flags shf_alloc_bit then (if s.kind == sht_progbits && bit s.flags shf_execinstr_bit then Text else Data) else Elsewhere
 
 -- the bytes up to the next multiple of an alignment
 abbrev pub padding : ℕ → ℕ → ℕ

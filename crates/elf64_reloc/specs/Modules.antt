@@ -15,7 +15,7 @@ use Rattle.elf64_sections.specs.Judged.{◌>>=◌}
 use Rattle.elf64_sections.specs.Sections.{Tables, section_bytes, symbol_count, symbol_at, name_at}
 use Rattle.elf64_sections.specs.declared.sections.SectionHeader.{SectionHeader}
 use Rattle.elf64_sections.specs.declared.tables.Symbol.{Symbol}
-use Rattle.elf64_reloc.specs.Asking.{asked_of, asked_bytes, place_alignment, is_high}
+use Rattle.elf64_reloc.specs.Asking.{instruction_size, asked_of, asked_bytes, place_alignment, is_high}
 use Rattle.elf64_reloc.specs.Layouts.{space_of, is_good_alignment, padding, placed_sections, text_size}
 use Rattle.elf64_reloc.specs.Objects.{Object, object_judged}
 use Rattle.elf64_reloc.specs.Refusals.{Judged}
@@ -27,6 +27,9 @@ use Rattle.elf64_reloc.specs.declared.fault.ObjectFault.{ObjectFault}
 use Rattle.elf64_reloc.specs.declared.relocations.Relocation.{Relocation}
 use Rattle.elf64_reloc.specs.declared.sites.Found.{Found}
 use Rattle.elf64_reloc.specs.declared.symbols.Target.{Target}
+use Rattle.processor.specs.Bytes.{page_size}
+use Rattle.sv_types.specs.Elf.{shn_undef}
+use Rattle.sv_types.specs.Limits.{most_module_pages, most_module_sites, text_base, no_base}
 
 -- ---- wanted names
 
@@ -37,7 +40,7 @@ name_joined names (Some name) = Ok (replace_key (slice_cmp nat_cmp) names name)
 
 -- those of symbols alone that no section of the object defines
 unfoldable pub symbol_joined : List ℕ → List (List ℕ) → Symbol → Judged (List (List ℕ))
-symbol_joined strings names s = if s.section == 0 then name_joined names (name_at strings s.name) else Ok names
+symbol_joined strings names s = if s.section == shn_undef then name_joined names (name_at strings s.name) else Ok names
 
 -- a relocation without a symbol is passed over
 unfoldable pub joined_by : Tables → List (List ℕ) → Relocation → Judged (List (List ℕ))
@@ -84,11 +87,11 @@ one_field site = record { first = site; second = None }
 abbrev pub call_fields : Relocation → Target → Found
 call_fields r t = record {
   first = site_at r.place RelocationKind.PcrelHi20 t r.addend r.place;
-  second = Some (site_at (plus r.place 4) RelocationKind.PcrelLo12I t r.addend r.place);
+  second = Some (site_at (plus r.place instruction_size) RelocationKind.PcrelLo12I t r.addend r.place);
 }
 
 abbrev pub or_nothing : Option Target → Target
-or_nothing None = record { base = 2; value = 0 }
+or_nothing None = record { base = no_base; value = 0 }
 or_nothing (Some t) = t
 
 -- the low part goes by its high part's symbol, addend and place
@@ -100,7 +103,7 @@ abbrev pub fields_for : Judging → Relocation → Asked → Target → Judged F
 fields_for j r Call t = Ok (call_fields r t)
 fields_for j r (Field kind) t =
     if is_low_part kind
-    then (if r.addend == 0 && t.base == 0 then low_fields j r kind (j.high_at t.value) else Err ObjectFault.NoHighPart)
+    then (if r.addend == 0 && t.base == text_base then low_fields j r kind (j.high_at t.value) else Err ObjectFault.NoHighPart)
     else Ok (one_field (site_at r.place kind t r.addend r.place))
 
 abbrev pub fields_with : Judging → Relocation → Asked → Option Target → Judged Found
@@ -171,7 +174,7 @@ text_from file text (s ∷ ss) = text_from file (text_behind file text s) ss
 
 -- filled to whole pages
 abbrev pub whole_pages : List ℕ → List ℕ
-whole_pages text = text ++ zeros (padding (length text) 4096)
+whole_pages text = text ++ zeros (padding (length text) page_size)
 
 unfoldable pub text_of : Object → List ℕ
 text_of o = whole_pages (text_from o.file [] o.sections)
@@ -184,7 +187,7 @@ pub record Module : Type 0 where
 
 -- the pages of a text
 abbrev pub pages_of : List ℕ → ℕ
-pages_of text = length text / 4096
+pages_of text = length text / page_size
 
 -- the limits of a policy with so many exports, for a module by itself
 abbrev pub module_fits : (exports : ℕ) → Module → Bool
@@ -192,7 +195,7 @@ module_fits exports m =
     module_pages_within (pages_of m.text) && sites_count_within 0 (length m.sites) && sites_within (pages_of m.text) exports m.sites
 
 abbrev pub is_too_large : List SectionHeader → List Site → Bool
-is_too_large sections sites = nat_lt 65536 (length sites) || nat_lt (4096 * 1024) (text_size sections)
+is_too_large sections sites = nat_lt most_module_sites (length sites) || nat_lt (page_size * most_module_pages) (text_size sections)
 
 abbrev pub module_with : Object → List Site → Judged Module
 module_with o sites =

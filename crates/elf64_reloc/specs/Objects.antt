@@ -7,6 +7,7 @@ use Rattle.elf64_sections.specs.declared.sections.SectionHeader.{SectionHeader}
 use Rattle.sv_types.specs.declared.image_fault.HeaderFault.{HeaderFault}
 use Rattle.elf64_reloc.specs.Refusals.{Judged}
 use Rattle.elf64_reloc.specs.declared.fault.ObjectFault.{ObjectFault}
+use Rattle.sv_types.specs.Elf.{et_rel, sht_null, sht_nobits}
 
 -- a file with its sections, its symbols and their names
 pub record Object : Type 0 where
@@ -16,7 +17,7 @@ pub record Object : Type 0 where
 
 -- a section of no kind, or of zeros that don't stand in the file
 abbrev pub is_without_bytes : SectionHeader → Bool
-is_without_bytes s = s.kind == 0 || s.kind == 8
+is_without_bytes s = s.kind == sht_null || s.kind == sht_nobits
 
 abbrev pub is_good_part : List ℕ → SectionHeader → Bool
 is_good_part file s = is_without_bytes s || part_in_file file s
@@ -33,6 +34,6 @@ abbrev pub object_behind : Option HeaderFault → List ℕ → Judged Object
 object_behind (Some fault) file = Err (ObjectFault.Header fault)
 object_behind None file = if sections_in_file file then object_of file (sections_of file) else Err ObjectFault.SectionHeaders
 
--- a relocatable file is of kind 1
+-- a relocatable file
 unfoldable pub object_judged : List ℕ → Judged Object
-object_judged file = object_behind (first_refusal (file_checks 1 file)) file
+object_judged file = object_behind (first_refusal (file_checks et_rel file)) file

@@ -9,21 +9,22 @@ use Rattle.elf64_reloc.specs.declared.layout.PlacedSection.{PlacedSection}
 use Rattle.elf64_reloc.specs.declared.layout.Space.{Space}
 use Rattle.elf64_reloc.specs.declared.layout.Space.TheVariants.{Text, Data, Elsewhere}
 use Rattle.elf64_reloc.specs.declared.relocations.Relocation.{Relocation}
+use Rattle.sv_types.specs.Elf.{sht_rela, relocation_size, r_type, r_sym, r_addend, r_riscv_relax}
 
 -- the i-th relocation of a section of relocations, which belongs to a section of text
 unfoldable pub relocation_at : PlacedSection → List ℕ → ℕ → Relocation
 relocation_at home bytes i = record {
-  offset = word bytes (24 * i) 8;
+  offset = word bytes (relocation_size * i) 8;
   size = home.size;
-  place = plus home.place (word bytes (24 * i) 8);
-  kind = word bytes (24 * i + 8) 4;
-  symbol = word bytes (24 * i + 12) 4;
-  addend = word bytes (24 * i + 16) 8;
+  place = plus home.place (word bytes (relocation_size * i) 8);
+  kind = word bytes (relocation_size * i + r_type) 4;
+  symbol = word bytes (relocation_size * i + r_sym) 4;
+  addend = word bytes (relocation_size * i + r_addend) 8;
 }
 
 -- R_RISCV_RELAX only allows a linker to shorten the code, and is passed over
 abbrev pub kept : Relocation → List Relocation
-kept r = if r.kind == 51 then [] else r ∷ []
+kept r = if r.kind == r_riscv_relax then [] else r ∷ []
 
 abbrev pub kept_at : PlacedSection → List ℕ → ℕ → List Relocation
 kept_at home bytes i = kept (relocation_at home bytes i)
@@ -33,7 +34,7 @@ abbrev pub relocations_from : PlacedSection → List ℕ → (first n : ℕ) →
 relocations_from home bytes first n = flat_map (kept_at home bytes) (numbers_from first n)
 
 unfoldable pub relocations_in : PlacedSection → List ℕ → List Relocation
-relocations_in home bytes = relocations_from home bytes 0 (length bytes / 24)
+relocations_in home bytes = relocations_from home bytes 0 (length bytes / relocation_size)
 
 abbrev pub is_text : Space → Bool
 is_text Text = true
@@ -44,9 +45,9 @@ abbrev pub relocations_of_home : List ℕ → Option PlacedSection → List Relo
 relocations_of_home bytes None = []
 relocations_of_home bytes (Some home) = if is_text home.space then relocations_in home bytes else []
 
--- a section of kind 4 holds relocations of the section that it names
+-- a section of relocations holds those of the section that it names
 unfoldable pub relocations_of : List ℕ → List PlacedSection → SectionHeader → List Relocation
-relocations_of file placed s = if s.kind == 4 then relocations_of_home (section_bytes file s) (slice_get placed s.info) else []
+relocations_of file placed s = if s.kind == sht_rela then relocations_of_home (section_bytes file s) (slice_get placed s.info) else []
 
 -- all relocations of text, in the file's order
 abbrev pub all_relocations : List ℕ → List PlacedSection → List SectionHeader → List Relocation

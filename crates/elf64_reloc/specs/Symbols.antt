@@ -10,10 +10,12 @@ use Rattle.elf64_reloc.specs.declared.layout.PlacedSection.{PlacedSection}
 use Rattle.elf64_reloc.specs.declared.layout.Space.{Space}
 use Rattle.elf64_reloc.specs.declared.layout.Space.TheVariants.{Text, Data, Elsewhere}
 use Rattle.elf64_reloc.specs.declared.symbols.Target.{Target}
+use Rattle.sv_types.specs.Elf.{shn_undef, shn_loreserve, shn_abs}
+use Rattle.sv_types.specs.Limits.{text_base, data_base, no_base, first_export_base}
 
--- the base of the first export of a name: exports are numbered from 3 on
+-- the base of the first export of a name
 abbrev pub export_base : List Export → List ℕ → Option ℕ
-export_base exports name = position_from (λ e. bytes_eq e.name name) 3 exports
+export_base exports name = position_from (λ e. bytes_eq e.name name) first_export_base exports
 
 -- what symbols are looked up in: the tables, the sections with their places, and the bases of names
 pub record Names : Type 0 where
@@ -30,20 +32,20 @@ wanted_target base_of None = None
 wanted_target base_of (Some name) = target_at_base (base_of name)
 
 abbrev pub space_target : Space → (place value : ℕ) → Option Target
-space_target Text place value = Some (record { base = 0; value = plus value place })
-space_target Data place value = Some (record { base = 1; value = plus value place })
+space_target Text place value = Some (record { base = text_base; value = plus value place })
+space_target Data place value = Some (record { base = data_base; value = plus value place })
 space_target Elsewhere place value = None
 
 abbrev pub section_target : Option PlacedSection → (value : ℕ) → Option Target
 section_target None value = None
 section_target (Some p) value = space_target p.space p.place value
 
--- section 0: one that is wanted of the kernel; 0xFFF1: an absolute one; the others from 0xFF00 on are reserved
+-- without a section: one that is wanted of the kernel; then an absolute one; the other reserved numbers are none
 unfoldable pub target_of : Names → Symbol → Option Target
 target_of names s =
-    if s.section == 0 then wanted_target names.base_of (name_at names.tables.strings s.name)
-    else if s.section == 0xFFF1 then Some (record { base = 2; value = s.value })
-    else if nat_le 0xFF00 s.section then None
+    if s.section == shn_undef then wanted_target names.base_of (name_at names.tables.strings s.name)
+    else if s.section == shn_abs then Some (record { base = no_base; value = s.value })
+    else if nat_le shn_loreserve s.section then None
     else section_target (slice_get names.placed s.section) s.value
 
 -- the target of a symbol by its number

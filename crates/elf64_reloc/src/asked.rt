@@ -3,13 +3,15 @@
 ghost use Rattle.std.specs.Prelude.{◌≡◌};
 ghost use Rattle.elf64_reloc.specs.Asking as spec;
 
+use elf64_sections::elf::{R_RISCV_CALL, R_RISCV_CALL_PLT};
 use policy_limits::site_size;
 use sv_types::RelocationKind;
 
-/// R_RISCV_CALL and R_RISCV_CALL_PLT: a call by an AUIPC and the JALR behind it.
-const CALL: u32 = 18;
+/// The bytes of an instruction.
+pub(crate) const INSTRUCTION_BYTES: u64 = 4;
 
-const CALL_PLT: u32 = 19;
+/// The bytes of a call: two instructions.
+const CALL_BYTES: u64 = 2 * INSTRUCTION_BYTES;
 
 /// What a relocation of a module's text asks for.
 #[derive(Clone, Copy, Drop)]
@@ -25,7 +27,7 @@ impl Asked {
     pub(crate) fn of(number: u32) -> Option<Asked>
         ensures { result ≡ spec.asked_of number }
     {
-        if number == CALL || number == CALL_PLT {
+        if number == R_RISCV_CALL || number == R_RISCV_CALL_PLT {
             return Some(Asked::Call);
         }
         match RelocationKind::of(u64::from(number)) {
@@ -41,7 +43,7 @@ pub(crate) fn asked_bytes(asked: Asked) -> u64
 {
     match asked {
         Asked::Field(kind) => site_size(kind),
-        Asked::Call => 8,
+        Asked::Call => CALL_BYTES,
     }
 }
 
@@ -51,7 +53,7 @@ pub(crate) fn place_alignment(asked: Option<Asked>) -> u64
 {
     match asked {
         Some(Asked::Field(kind)) => site_size(kind),
-        Some(Asked::Call) | None => 4,
+        Some(Asked::Call) | None => INSTRUCTION_BYTES,
     }
 }
 

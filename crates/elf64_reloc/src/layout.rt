@@ -5,16 +5,9 @@ ghost use Rattle.std.specs.List.{list_all};
 ghost use Rattle.elf64_reloc.specs.Layouts as spec;
 
 use elf64_sections::SectionHeader;
+use elf64_sections::elf::{SHF_ALLOC_BIT, SHF_EXECINSTR_BIT, SHT_PROGBITS};
 use processor::{PAGE_BYTES, has_bit};
 use std::alloc::{AllocError, Global};
-
-/// The kind of a section that the program gives.
-const PROGRAM: u32 = 1;
-
-/// The flags of a section with memory, and of one with instructions.
-const ALLOCATED: u8 = 1;
-
-const EXECUTABLE: u8 = 2;
 
 /// The largest alignment.
 const MOST_ALIGNMENT: u64 = PAGE_BYTES;
@@ -56,7 +49,7 @@ pub(crate) fn is_good_alignment(section: &SectionHeader) -> bool
         || (section.alignment <= MOST_ALIGNMENT && MOST_ALIGNMENT % section.alignment == 0)
 }
 
-/// Whether each section's alignment is a power of two up to 4,096.
+/// Whether each section's alignment is a power of two up to the size of a page.
 pub(crate) fn are_good_alignments(sections: &[SectionHeader]) -> bool
     ensures { result ≡ list_all spec.is_good_alignment sections.now }
 {
@@ -67,10 +60,10 @@ pub(crate) fn are_good_alignments(sections: &[SectionHeader]) -> bool
 pub(crate) fn space_of(section: &SectionHeader) -> Space
     ensures { result ≡ spec.space_of section.now }
 {
-    if !has_bit(section.flags, ALLOCATED) {
+    if !has_bit(section.flags, SHF_ALLOC_BIT) {
         return Space::Elsewhere;
     }
-    if section.kind == PROGRAM && has_bit(section.flags, EXECUTABLE) {
+    if section.kind == SHT_PROGBITS && has_bit(section.flags, SHF_EXECINSTR_BIT) {
         Space::Text
     } else {
         Space::Data

@@ -8,19 +8,12 @@ ghost use Rattle.elf64_reloc.specs.Views.{object_view};
 
 use crate::fault::ObjectFault;
 use crate::refusal::RelocRefusal;
+use elf64_sections::elf::{ET_REL, SHT_NOBITS, SHT_NULL};
 use elf64_sections::{
     SectionHeader, SymbolTables, file_refusal, part_in_file, section_headers, sections_in_file,
     symbol_tables,
 };
 use std::alloc::Global;
-
-/// The kind of a relocatable file.
-const RELOCATABLE_FILE: u16 = 1;
-
-/// The kinds of sections whose bytes don't stand in the file.
-const NONE: u32 = 0;
-
-const ZEROS: u32 = 8;
 
 /// An object's file, the headers of its sections, and its symbols.
 #[derive(Drop)]
@@ -33,7 +26,7 @@ pub(crate) struct Object<'a> {
 fn is_good_part(file: &[u8], section: &SectionHeader) -> bool
     ensures { result ≡ spec.is_good_part file.now section.now }
 {
-    section.kind == NONE || section.kind == ZEROS || part_in_file(file, section)
+    section.kind == SHT_NULL || section.kind == SHT_NOBITS || part_in_file(file, section)
 }
 
 fn are_good_parts(file: &[u8], sections: &[SectionHeader]) -> bool
@@ -67,7 +60,7 @@ pub(crate) fn read_object(alloc: Global, file: &[u8]) -> Result<Object<'_>, Relo
     ensures parts { IfOk result (λ object. IsTrue (list_all (spec.is_good_part object.file.now) object.sections.items)) }
     ensures refused { IfErr result (Refuses (spec.object_judged file.now)) }
 {
-    if let Some(fault) = file_refusal(file, RELOCATABLE_FILE) {
+    if let Some(fault) = file_refusal(file, ET_REL) {
         return Err(RelocRefusal::Fault(ObjectFault::Header(fault)));
     }
     if !sections_in_file(file) {

@@ -2,6 +2,7 @@
 
 ghost use Rattle.std.specs.Prelude.{◌≤◌, length, IsTrue};
 ghost use Rattle.std.specs.List.{list_all};
+ghost use Rattle.sv_types.specs.Limits.{most_exports};
 ghost use Rattle.elf64_reloc.specs.Objects.{is_good_part};
 
 use crate::kind_names::kind_name;
@@ -24,7 +25,7 @@ pub fn refused_place(
     bytes: &[u8],
     exports: &[Export],
 ) -> Result<Option<String>, AllocError>
-    requires { length exports.now ≤ 4096 }
+    requires { length exports.now ≤ most_exports }
 {
     match read_object(alloc, bytes) {
         Ok(object) => object_place(alloc, &object, exports),
@@ -38,7 +39,7 @@ fn object_place(
     object: &Object,
     exports: &[Export],
 ) -> Result<Option<String>, AllocError>
-    requires few { length exports.now ≤ 4096 }
+    requires few { length exports.now ≤ most_exports }
     requires parts { IsTrue (list_all (is_good_part object.now.file.now) object.now.sections.items) }
 {
     let unaligned = object
@@ -59,7 +60,7 @@ fn relocation_place(
     placed: &[PlacedSection],
     exports: &[Export],
 ) -> Result<Option<String>, AllocError>
-    requires few { length exports.now ≤ 4096 }
+    requires few { length exports.now ≤ most_exports }
     requires parts { IsTrue (list_all (is_good_part object.now.file.now) object.now.sections.items) }
 {
     let relocations = all_relocations(alloc, object.file, placed, &object.sections)?;

@@ -4,6 +4,7 @@ ghost use Rattle.std.specs.Prelude.{◌≡◌, ◌≤◌, ◌^◌, [], Ok, IsTru
 ghost use Rattle.std.specs.BTreeMap.{get};
 ghost use Rattle.std.specs.Ordering.{nat_cmp};
 ghost use Rattle.std.specs.List.{list_all};
+ghost use Rattle.sv_types.specs.Limits.{most_exports};
 ghost use Rattle.elf64_reloc.specs.Layouts.{is_good_alignment, placed_sections, text_size};
 ghost use Rattle.elf64_reloc.specs.Modules as spec;
 ghost use Rattle.elf64_reloc.specs.ModuleViews.{module_view};
@@ -56,7 +57,7 @@ fn sites_of(
     placed: &[PlacedSection],
     exports: &[Export],
 ) -> Result<Vec<Site>, RelocRefusal>
-    requires few { length exports.now ≤ 4096 }
+    requires few { length exports.now ≤ most_exports }
     requires parts { IsTrue (list_all (is_good_part object.now.file.now) object.now.sections.items) }
     requires placed { placed.now ≡ placed_sections object.now.sections.items }
     ensures ok { IfOk result (λ sites. spec.sites_of exports.now (object_view object.now) ≡ Ok sites.items) }
@@ -110,7 +111,7 @@ fn module_of(
     object: &Object,
     exports: &[Export],
 ) -> Result<ModuleImage, RelocRefusal>
-    requires few { length exports.now ≤ 4096 }
+    requires few { length exports.now ≤ most_exports }
     requires parts { IsTrue (list_all (is_good_part object.now.file.now) object.now.sections.items) }
     ensures ok { IfOk result (λ image. spec.module_of exports.now (object_view object.now) ≡ Ok (module_view image)) }
     ensures refused { IfErr result (Refuses (spec.module_of exports.now (object_view object.now))) }
@@ -133,7 +134,7 @@ pub fn read_module(
     bytes: &[u8],
     exports: &[Export],
 ) -> Result<ModuleImage, RelocRefusal>
-    requires { length exports.now ≤ 4096 }
+    requires { length exports.now ≤ most_exports }
     ensures module { IfOk result (λ image. spec.module_judged bytes.now exports.now ≡ Ok (module_view image)) }
     ensures fits { length bytes.now ≤ 2 ^ 32 → IfOk result (λ image. spec.module_fits (length exports.now) (module_view image) ≡ true) }
     ensures refused { IfErr result (Refuses (spec.module_judged bytes.now exports.now)) }

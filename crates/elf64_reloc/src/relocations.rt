@@ -2,20 +2,16 @@
 
 ghost use Rattle.std.specs.Prelude.{◌≡◌, ◌+◌, ◌*◌, ◌≤◌, ◌++◌, IsTrue, length, option_map, IfOk, OnOk};
 ghost use Rattle.std.specs.List.{list_all};
+ghost use Rattle.sv_types.specs.Elf.{relocation_size};
 ghost use Rattle.elf64_reloc.specs.Relocations as spec;
 ghost use Rattle.elf64_reloc.specs.Objects.{is_good_part};
 
 use crate::layout::{PlacedSection, Space};
+use elf64_sections::elf::{
+    R_ADDEND, R_OFFSET, R_RISCV_RELAX, R_SYM, R_TYPE, RELOCATION_BYTES, SHT_RELA,
+};
 use elf64_sections::{SectionHeader, double, part, word};
 use std::alloc::{AllocError, Global};
-
-/// The kind of a section of relocations with addends, and the bytes of one of them.
-const RELOCATIONS: u32 = 4;
-
-const RELOCATION_BYTES: usize = 24;
-
-/// R_RISCV_RELAX, which allows a linker to shorten the code.
-const RELAX: u32 = 51;
 
 /// A relocation of a section of text: the field's offset in its section, which has so many bytes; its place in the text;
 /// its kind, its symbol's number, and the addend.
@@ -31,25 +27,25 @@ pub struct Relocation {
 
 #[tactic(auto, unfolding(crate::specs::Relocations::relocation_at))]
 fn relocation_at(home: &PlacedSection, bytes: &[u8], i: usize) -> Relocation
-    requires { 24 * i + 24 ≤ length bytes.now }
+    requires { relocation_size * i + relocation_size ≤ length bytes.now }
     ensures { result ≡ spec.relocation_at home.now bytes.now i }
 {
     let at = RELOCATION_BYTES * i;
-    let offset = double(bytes, at);
+    let offset = double(bytes, at + R_OFFSET);
     Relocation {
         offset,
         size: home.size,
         place: home.place.wrapping_add(offset),
-        kind: word(bytes, at + 8),
-        symbol: word(bytes, at + 12),
-        addend: double(bytes, at + 16),
+        kind: word(bytes, at + R_TYPE),
+        symbol: word(bytes, at + R_SYM),
+        addend: double(bytes, at + R_ADDEND),
     }
 }
 
 fn push_kept(relocations: &mut Vec<Relocation>, relocation: Relocation) -> Result<(), AllocError>
     ensures { OnOk result (relocations.new.items ≡ relocations.old.items ++ spec.kept relocation) }
 {
-    if relocation.kind == RELAX {
+    if relocation.kind == R_RISCV_RELAX {
         return Ok(());
     }
     relocations.push(relocation)?;
@@ -96,7 +92,7 @@ fn push_relocations_of(
     requires { IsTrue (is_good_part file.now section.now) }
     ensures { OnOk result (relocations.new.items ≡ relocations.old.items ++ spec.relocations_of file.now placed.now section.now) }
 {
-    if section.kind != RELOCATIONS {
+    if section.kind != SHT_RELA {
         return Ok(());
     }
     push_relocations_of_home(

@@ -1,31 +1,28 @@
 // The names of sections, for a person.
 
 ghost use Rattle.std.specs.Prelude.{◌≤◌, length};
+ghost use Rattle.sv_types.specs.Elf.{file_header_size};
 
-use elf64_sections::{
-    SECTION_HEADER_BYTES, SectionHeader, double, half, name_at, part, part_in_file, word,
-};
-
-/// The bytes of a file's header.
-const HEADER_BYTES: usize = 64;
+use elf64_sections::elf::{E_SHOFF, E_SHSTRNDX, FILE_HEADER_BYTES, SECTION_HEADER_BYTES, SH_NAME};
+use elf64_sections::{SectionHeader, double, half, name_at, part, part_in_file, word};
 
 // Where a section's name begins among the names of sections.
 fn name_place(file: &[u8], section: usize) -> Option<u32>
-    requires { 64 ≤ length file.now }
+    requires { file_header_size ≤ length file.now }
 {
-    let table = double(file, 40) as usize;
+    let table = double(file, E_SHOFF) as usize;
     let at = table.saturating_add(section.saturating_mul(SECTION_HEADER_BYTES));
     if at.saturating_add(4) > file.len() {
         return None;
     }
-    Some(word(file, at))
+    Some(word(file, at + SH_NAME))
 }
 
 // The header of the section with the names of sections.
 fn names_section(file: &[u8], sections: &[SectionHeader]) -> Option<SectionHeader>
-    requires { 64 ≤ length file.now }
+    requires { file_header_size ≤ length file.now }
 {
-    sections.get(half(file, 62) as usize).copied()
+    sections.get(half(file, E_SHSTRNDX) as usize).copied()
 }
 
 /// The name of a section. None where there is no name of 1 to 64 bytes of UTF-8 text.
@@ -34,7 +31,7 @@ pub(crate) fn section_name<'a>(
     sections: &[SectionHeader],
     section: usize,
 ) -> Option<&'a str> {
-    if file.len() < HEADER_BYTES {
+    if file.len() < FILE_HEADER_BYTES {
         return None;
     }
     let Some(names) = names_section(file, sections) else {

@@ -8,7 +8,7 @@ ghost use Rattle.elf64_reloc.specs.Modules as spec;
 ghost use Rattle.elf64_reloc.specs.Refusals.{Refuses};
 ghost use Rattle.elf64_reloc.specs.JudgingViews.{judging_view};
 
-use crate::asked::{Asked, asked_bytes, is_high, place_alignment};
+use crate::asked::{Asked, INSTRUCTION_BYTES, asked_bytes, is_high, place_alignment};
 use crate::fault::ObjectFault;
 use crate::refusal::RelocRefusal;
 use crate::relocations::Relocation;
@@ -16,7 +16,7 @@ use crate::symbols::{Names, Target, symbol_target};
 use policy_limits::is_low_part;
 use std::alloc::{AllocError, Global};
 use std::collections::BTreeMap;
-use sv_types::{RelocationKind, Site};
+use sv_types::{NO_BASE, RelocationKind, Site, TEXT_BASE};
 
 /// What relocations are judged by: the symbols, and the first high part of an address at each place.
 #[derive(Clone, Copy, Drop)]
@@ -76,7 +76,7 @@ fn call_fields(relocation: &Relocation, target: Target) -> Found
 {
     let place = relocation.place;
     let addend = relocation.addend;
-    let behind = place.wrapping_add(4);
+    let behind = place.wrapping_add(INSTRUCTION_BYTES);
     Found {
         first: site_at(place, RelocationKind::PcrelHi20, target, addend, place),
         second: Some(site_at(behind, RelocationKind::PcrelLo12I, target, addend, place)),
@@ -88,7 +88,10 @@ fn or_nothing(target: Option<Target>) -> Target
 {
     match target {
         Some(target) => target,
-        None => Target { base: 2, value: 0 },
+        None => Target {
+            base: NO_BASE,
+            value: 0,
+        },
     }
 }
 
@@ -128,7 +131,7 @@ fn one_field(
             second: None,
         });
     }
-    if relocation.addend != 0 || target.base != 0 {
+    if relocation.addend != 0 || target.base != TEXT_BASE {
         return Err(ObjectFault::NoHighPart);
     }
     let high = judging.highs.get(&target.value);

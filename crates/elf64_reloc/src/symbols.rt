@@ -2,25 +2,19 @@
 
 ghost use Rattle.std.specs.Prelude.{◌≡◌, ◌≤◌, ◌<◌, ℕ, List, length, if◌then◌else◌, Some, IfOk, OnOk, option_map};
 ghost use Rattle.std.specs.Str.{bytes_eq};
+ghost use Rattle.sv_types.specs.Limits.{most_exports};
 ghost use Rattle.elf64_reloc.specs.Symbols as spec;
 ghost use Rattle.elf64_reloc.specs.Bases.{found};
 ghost use Rattle.elf64_reloc.specs.Views.{names_view};
 
 use crate::layout::{PlacedSection, Space};
+use elf64_sections::elf::{SHN_ABS, SHN_LORESERVE, SHN_UNDEF};
 use elf64_sections::{Symbol, SymbolTables, name_at, symbol_at, symbol_count};
 use std::alloc::{AllocError, Global};
 use std::collections::BTreeMap;
-use sv_types::Export;
+use sv_types::{DATA_BASE, Export, FIRST_EXPORT_BASE, NO_BASE, TEXT_BASE};
 
-/// The number of the section of an absolute symbol, and the first of the reserved numbers.
-const ABSOLUTE: u16 = 0xFFF1;
-
-const FIRST_RESERVED: u16 = 0xFF00;
-
-/// The base of the first export.
-const FIRST_EXPORT: usize = 3;
-
-/// What a symbol stands for: the number of a base (0 text, 1 data, 2 none, and from 3 on exports) and the value on top.
+/// What a symbol stands for: the number of a base and the value on top.
 #[derive(Clone, Copy, Drop)]
 pub struct Target {
     pub base: u16,
@@ -40,12 +34,15 @@ pub(crate) fn export_bases<'a>(
     alloc: Global,
     exports: &'a [Export],
 ) -> Result<BTreeMap<&'a str, u16>, AllocError>
-    requires { length exports.now ≤ 4096 }
+    requires { length exports.now ≤ most_exports }
     ensures { IfOk result (λ bases. (name : List ℕ) → found bases name ≡ spec.export_base exports.now name) }
 {
     let mut bases = BTreeMap::new(alloc);
     'exports: for i in (0..exports.len()).rev() {
-        bases.insert(exports[i].name.text(), (FIRST_EXPORT + i) as u16)?;
+        bases.insert(
+            exports[i].name.text(),
+            (usize::from(FIRST_EXPORT_BASE) + i) as u16,
+        )?;
     }
     Ok(bases)
 }
@@ -71,11 +68,11 @@ fn section_target(placed: Option<&PlacedSection>, value: u64) -> Option<Target>
     match placed {
         Some(section) => match section.space {
             Space::Text => Some(Target {
-                base: 0,
+                base: TEXT_BASE,
                 value: value.wrapping_add(section.place),
             }),
             Space::Data => Some(Target {
-                base: 1,
+                base: DATA_BASE,
                 value: value.wrapping_add(section.place),
             }),
             Space::Elsewhere => None,
@@ -88,16 +85,16 @@ fn section_target(placed: Option<&PlacedSection>, value: u64) -> Option<Target>
 fn target_of(names: &Names, symbol: &Symbol) -> Option<Target>
     ensures { result ≡ spec.target_of (names_view names.now) symbol.now }
 {
-    if symbol.section == 0 {
+    if symbol.section == SHN_UNDEF {
         return wanted_target(names.bases, name_at(names.tables.strings, symbol.name));
     }
-    if symbol.section == ABSOLUTE {
+    if symbol.section == SHN_ABS {
         return Some(Target {
-            base: 2,
+            base: NO_BASE,
             value: symbol.value,
         });
     }
-    if symbol.section >= FIRST_RESERVED {
+    if symbol.section >= SHN_LORESERVE {
         return None;
     }
     section_target(names.placed.get(symbol.section as usize), symbol.value)

@@ -7,34 +7,36 @@ use Rattle.sv_types.specs.Policies.{is_between}
 use Rattle.sv_types.specs.ApprovedPages.{numbers_from}
 use Rattle.elf64_sections.specs.declared.sections.SectionHeader.{SectionHeader}
 use Rattle.elf64_sections.specs.declared.tables.Symbol.{Symbol}
+use Rattle.sv_types.specs.Elf.{e_shoff, e_shentsize, e_shnum, section_header_size, sh_type, sh_flags, sh_offset, sh_size, sh_link, sh_info, sh_addralign, sh_entsize, sht_symtab, sht_strtab, symbol_size, st_info, st_shndx, st_value}
+use Rattle.sv_types.specs.Limits.{most_name_bytes}
 
 -- ---- section headers
 
 -- where they begin, and how many there are
 abbrev pub sections_place : List ℕ → ℕ
-sections_place file = word file 40 8
+sections_place file = word file e_shoff 8
 
 abbrev pub sections_count : List ℕ → ℕ
-sections_count file = word file 60 2
+sections_count file = word file e_shnum 2
 
--- they are 64 bytes each, and in the file
+-- they have their size, and are in the file
 abbrev pub sections_in_file : List ℕ → Bool
-sections_in_file file = word file 58 2 == 64 && nat_le (sections_place file + 64 * sections_count file) (length file)
+sections_in_file file = word file e_shentsize 2 == section_header_size && nat_le (sections_place file + section_header_size * sections_count file) (length file)
 
 unfoldable pub section_at : List ℕ → ℕ → SectionHeader
 section_at file at = record {
-  kind = word file (at + 4) 4;
-  flags = word file (at + 8) 8;
-  offset = word file (at + 24) 8;
-  size = word file (at + 32) 8;
-  link = word file (at + 40) 4;
-  info = word file (at + 44) 4;
-  alignment = word file (at + 48) 8;
-  entry_size = word file (at + 56) 8;
+  kind = word file (at + sh_type) 4;
+  flags = word file (at + sh_flags) 8;
+  offset = word file (at + sh_offset) 8;
+  size = word file (at + sh_size) 8;
+  link = word file (at + sh_link) 4;
+  info = word file (at + sh_info) 4;
+  alignment = word file (at + sh_addralign) 8;
+  entry_size = word file (at + sh_entsize) 8;
 }
 
 unfoldable pub sections_among : List ℕ → ℕ → List SectionHeader
-sections_among file n = map (λ i. section_at file (sections_place file + 64 * i)) (numbers_from 0 n)
+sections_among file n = map (λ i. section_at file (sections_place file + section_header_size * i)) (numbers_from 0 n)
 
 abbrev pub sections_of : List ℕ → List SectionHeader
 sections_of file = sections_among file (sections_count file)
@@ -49,10 +51,10 @@ pub record Tables : Type 0 where
   pub symbols : List ℕ
   pub strings : List ℕ
 
--- the symbols are 24 bytes each, the names are a table of strings, and both are in the file
+-- the symbols have their size, the names are a table of strings, and both are in the file
 abbrev pub are_good_tables : List ℕ → SectionHeader → SectionHeader → Bool
 are_good_tables file symbols strings =
-    symbols.entry_size == 24 && part_in_file file symbols && strings.kind == 3 && part_in_file file strings
+    symbols.entry_size == symbol_size && part_in_file file symbols && strings.kind == sht_strtab && part_in_file file strings
 
 abbrev pub section_bytes : List ℕ → SectionHeader → List ℕ
 section_bytes file s = part file s.offset s.size
@@ -71,21 +73,21 @@ abbrev pub tables_from : List ℕ → List SectionHeader → Option SectionHeade
 tables_from file sections None = None
 tables_from file sections (Some symbols) = tables_with file symbols (slice_get sections symbols.link)
 
--- the first section of kind 2 holds the symbols, and the section that it names their names
+-- the first section of symbols holds the symbols, and the section that it names their names
 abbrev pub tables_of : List ℕ → List SectionHeader → Option Tables
-tables_of file sections = tables_from file sections (find (λ s. s.kind == 2) sections)
+tables_of file sections = tables_from file sections (find (λ s. s.kind == sht_symtab) sections)
 
 -- ---- symbols
 
 abbrev pub symbol_count : List ℕ → ℕ
-symbol_count symbols = length symbols / 24
+symbol_count symbols = length symbols / symbol_size
 
 unfoldable pub symbol_at : List ℕ → ℕ → Symbol
 symbol_at symbols i = record {
-  name = word symbols (24 * i) 4;
-  info = word symbols (24 * i + 4) 1;
-  section = word symbols (24 * i + 6) 2;
-  value = word symbols (24 * i + 8) 8;
+  name = word symbols (symbol_size * i) 4;
+  info = word symbols (symbol_size * i + st_info) 1;
+  section = word symbols (symbol_size * i + st_shndx) 2;
+  value = word symbols (symbol_size * i + st_value) 8;
 }
 
 -- n symbols, from one on
@@ -99,7 +101,7 @@ symbols_of symbols = symbols_from symbols 0 (symbol_count symbols)
 
 -- 1 to 64 bytes of UTF-8 text
 abbrev pub is_name : List ℕ → Bool
-is_name bytes = is_between 1 64 (length bytes) && is_utf8 bytes
+is_name bytes = is_between 1 most_name_bytes (length bytes) && is_utf8 bytes
 
 -- how many bytes stand in front of the first zero byte
 abbrev pub front_length : List ℕ → ℕ

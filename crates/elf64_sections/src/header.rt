@@ -1,54 +1,41 @@
 // The header of a file.
 
 ghost use Rattle.std.specs.Prelude.{◌≡◌, ◌≤◌, length, IfNone};
+ghost use Rattle.sv_types.specs.Elf.{file_header_size};
 ghost use Rattle.sv_types.specs.Kernel.{first_refusal, file_checks};
 
+use crate::elf::{
+    E_FLAGS, E_MACHINE, E_TYPE, E_VERSION, EF_RISCV_TSO, EI_CLASS, EI_DATA, EI_MAG0, EI_VERSION,
+    ELF_MAGIC, ELFCLASS64, ELFDATA2LSB, EM_RISCV, EV_CURRENT, FILE_HEADER_BYTES,
+};
 use crate::fields::{byte, half, word};
 use sv_types::HeaderFault;
-
-/// The bytes of the file's header.
-const HEADER_BYTES: usize = 64;
-
-/// The bytes 0x7F, E, L and F.
-const MAGIC: u32 = 0x464C_457F;
-
-/// Files of 64 bits, little-endian.
-const CLASS_64: u8 = 2;
-
-const LITTLE_ENDIAN: u8 = 1;
-
-const VERSION: u8 = 1;
-
-const RISC_V: u16 = 243;
-
-/// The flags of a file that ask for compressed instructions, floats or fewer registers.
-const UNKNOWN_FLAGS: u32 = 16;
 
 /// The first fault of the header of a file, which is to be of a kind.
 #[tactic(auto, unfolding(sv_types::specs::Kernel::file_checks))]
 pub fn file_refusal(file: &[u8], kind: u16) -> Option<HeaderFault>
     ensures first { result ≡ first_refusal (file_checks kind file.now) }
-    ensures long { IfNone result (64 ≤ length file.now) }
+    ensures long { IfNone result (file_header_size ≤ length file.now) }
 {
-    if file.len() < HEADER_BYTES {
+    if file.len() < FILE_HEADER_BYTES {
         return Some(HeaderFault::TooShort);
     }
-    if word(file, 0) != MAGIC {
+    if word(file, EI_MAG0) != ELF_MAGIC {
         return Some(HeaderFault::Magic);
     }
-    if byte(file, 4) != CLASS_64 || byte(file, 5) != LITTLE_ENDIAN {
+    if byte(file, EI_CLASS) != ELFCLASS64 || byte(file, EI_DATA) != ELFDATA2LSB {
         return Some(HeaderFault::Class);
     }
-    if byte(file, 6) != VERSION || word(file, 20) != VERSION as u32 {
+    if byte(file, EI_VERSION) != EV_CURRENT || word(file, E_VERSION) != EV_CURRENT as u32 {
         return Some(HeaderFault::Version);
     }
-    if half(file, 18) != RISC_V {
+    if half(file, E_MACHINE) != EM_RISCV {
         return Some(HeaderFault::Machine);
     }
-    if half(file, 16) != kind {
+    if half(file, E_TYPE) != kind {
         return Some(HeaderFault::Kind);
     }
-    if word(file, 48) % UNKNOWN_FLAGS != 0 {
+    if word(file, E_FLAGS) % EF_RISCV_TSO != 0 {
         return Some(HeaderFault::Flags);
     }
     None

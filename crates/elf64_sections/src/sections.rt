@@ -2,13 +2,15 @@
 
 ghost use Rattle.std.specs.Prelude.{◌≡◌, ◌+◌, ◌*◌, ◌≤◌, ◌++◌, length, replicate, IfOk, OnOk};
 ghost use Rattle.elf64_sections.specs.Sections as spec;
-ghost use Rattle.processor.specs.Bytes.{part};
+ghost use Rattle.processor.specs.Bytes.{page_size, part};
+ghost use Rattle.sv_types.specs.Elf.{file_header_size, section_header_size};
 
+use crate::elf::{
+    E_SHENTSIZE, E_SHNUM, E_SHOFF, SECTION_HEADER_BYTES, SH_ADDRALIGN, SH_ENTSIZE, SH_FLAGS,
+    SH_INFO, SH_LINK, SH_OFFSET, SH_SIZE, SH_TYPE,
+};
 use crate::fields::{double, half, word};
 use std::alloc::{AllocError, Global};
-
-/// The bytes of a section's header.
-pub const SECTION_HEADER_BYTES: usize = 64;
 
 /// What the header of a section says: its kind, its flags, its bytes in the file, the number of a section that it is tied
 /// to, another number by its kind, and which multiples its address has to be.
@@ -24,40 +26,41 @@ pub struct SectionHeader {
     pub entry_size: u64,
 }
 
-/// Whether the table of section headers has entries of 64 bytes and lies in the file.
+/// Whether the table of section headers has entries of their size and lies in the file.
 pub fn sections_in_file(file: &[u8]) -> bool
-    requires { 64 ≤ length file.now }
+    requires { file_header_size ≤ length file.now }
     ensures { result ≡ spec.sections_in_file file.now }
 {
-    let end = double(file, 40) as u128 + SECTION_HEADER_BYTES as u128 * half(file, 60) as u128;
-    half(file, 58) as usize == SECTION_HEADER_BYTES && end <= file.len() as u128
+    let end = double(file, E_SHOFF) as u128
+        + SECTION_HEADER_BYTES as u128 * half(file, E_SHNUM) as u128;
+    half(file, E_SHENTSIZE) as usize == SECTION_HEADER_BYTES && end <= file.len() as u128
 }
 
 #[tactic(auto, unfolding(crate::specs::Sections::section_at))]
 fn section_at(file: &[u8], at: usize) -> SectionHeader
-    requires { at + 64 ≤ length file.now }
+    requires { at + section_header_size ≤ length file.now }
     ensures { result ≡ spec.section_at file.now at }
 {
     SectionHeader {
-        kind: word(file, at + 4),
-        flags: double(file, at + 8),
-        offset: double(file, at + 24),
-        size: double(file, at + 32),
-        link: word(file, at + 40),
-        info: word(file, at + 44),
-        alignment: double(file, at + 48),
-        entry_size: double(file, at + 56),
+        kind: word(file, at + SH_TYPE),
+        flags: double(file, at + SH_FLAGS),
+        offset: double(file, at + SH_OFFSET),
+        size: double(file, at + SH_SIZE),
+        link: word(file, at + SH_LINK),
+        info: word(file, at + SH_INFO),
+        alignment: double(file, at + SH_ADDRALIGN),
+        entry_size: double(file, at + SH_ENTSIZE),
     }
 }
 
 /// The headers of all sections, in their order. Fails where memory is wanting.
 pub fn section_headers(alloc: Global, file: &[u8]) -> Result<Vec<SectionHeader>, AllocError>
-    requires header { 64 ≤ length file.now }
-    requires table { spec.sections_place file.now + 64 * spec.sections_count file.now ≤ length file.now }
+    requires header { file_header_size ≤ length file.now }
+    requires table { spec.sections_place file.now + section_header_size * spec.sections_count file.now ≤ length file.now }
     ensures { IfOk result (λ sections. sections.items ≡ spec.sections_of file.now) }
 {
-    let table = double(file, 40) as usize;
-    let count = half(file, 60);
+    let table = double(file, E_SHOFF) as usize;
+    let count = half(file, E_SHNUM);
     let mut sections = Vec::new(alloc);
     'sections: for i in 0..count as usize {
         sections.push(section_at(file, table + SECTION_HEADER_BYTES * i))?;
@@ -83,7 +86,7 @@ pub fn part<'a>(file: &'a [u8], section: &SectionHeader) -> &'a [u8]
 
 /// Puts zeros behind the bytes. Fails where memory is wanting.
 pub fn push_zeros(bytes: &mut Vec<u8>, count: usize) -> Result<(), AllocError>
-    requires { count ≤ 4096 }
+    requires { count ≤ page_size }
     ensures { OnOk result (bytes.new.items ≡ bytes.old.items ++ replicate count 0) }
 {
     bytes.resize(bytes.len() + count, 0)

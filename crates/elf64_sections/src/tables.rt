@@ -1,19 +1,13 @@
 // The symbol table, and the table of its names.
 
 ghost use Rattle.std.specs.Prelude.{◌≡◌, ◌*◌, ◌+◌, ◌≤◌, ◌/◌, ◌==◌, find, length, option_map, slice_get};
+ghost use Rattle.sv_types.specs.Elf.{sht_symtab, st_bind, symbol_size};
 ghost use Rattle.elf64_sections.specs.Sections as spec;
 ghost use Rattle.elf64_sections.specs.Views.{tables_view};
 
+use crate::elf::{SHT_STRTAB, SHT_SYMTAB, ST_INFO, ST_NAME, ST_SHNDX, ST_VALUE, SYMBOL_BYTES};
 use crate::fields::{byte, double, half, word};
 use crate::sections::{SectionHeader, part, part_in_file};
-
-/// The bytes of a symbol.
-pub const SYMBOL_BYTES: usize = 24;
-
-/// The kinds of sections that hold symbols and names.
-const SYMBOLS: u32 = 2;
-
-const STRINGS: u32 = 3;
 
 /// The bytes of a symbol table, and of the table in which its names stand. They stay in the file.
 #[derive(Clone, Copy, Debug, Drop)]
@@ -31,12 +25,21 @@ pub struct Symbol {
     pub value: u64,
 }
 
+impl Symbol {
+    /// The symbol's binding, which stands above the four bits of its type.
+    pub fn binding(&self) -> u8
+        ensures { result ≡ st_bind self.now.info }
+    {
+        self.info / 16
+    }
+}
+
 fn are_good_tables(file: &[u8], symbols: &SectionHeader, strings: &SectionHeader) -> bool
     ensures { result ≡ spec.are_good_tables file.now symbols.now strings.now }
 {
     symbols.entry_size as u128 == SYMBOL_BYTES as u128
         && part_in_file(file, symbols)
-        && strings.kind == STRINGS
+        && strings.kind == SHT_STRTAB
         && part_in_file(file, strings)
 }
 
@@ -70,12 +73,12 @@ fn tables_with<'a>(
 }
 
 fn symbol_section(sections: &[SectionHeader]) -> Option<SectionHeader>
-    ensures { result ≡ find (λ s. s.kind == 2) sections.now }
+    ensures { result ≡ find (λ s. s.kind == sht_symtab) sections.now }
 {
     sections
         .iter()
         .copied()
-        .find(|section| section.kind == SYMBOLS)
+        .find(|section| section.kind == SHT_SYMTAB)
 }
 
 /// The first symbol table of the sections with the table of its names. None where one is absent, outside the file, or of
@@ -91,7 +94,7 @@ pub fn symbol_tables<'a>(file: &'a [u8], sections: &[SectionHeader]) -> Option<S
 
 /// The number of symbols of a table.
 pub fn symbol_count(symbols: &[u8]) -> usize
-    ensures { result ≡ length symbols.now / 24 }
+    ensures { result ≡ length symbols.now / symbol_size }
 {
     symbols.len() / SYMBOL_BYTES
 }
@@ -99,14 +102,14 @@ pub fn symbol_count(symbols: &[u8]) -> usize
 /// The symbol at a place of a table.
 #[tactic(auto, unfolding(crate::specs::Sections::symbol_at))]
 pub fn symbol_at(symbols: &[u8], i: usize) -> Symbol
-    requires { 24 * i + 24 ≤ length symbols.now }
+    requires { symbol_size * i + symbol_size ≤ length symbols.now }
     ensures { result ≡ spec.symbol_at symbols.now i }
 {
     let at = SYMBOL_BYTES * i;
     Symbol {
-        name: word(symbols, at),
-        info: byte(symbols, at + 4),
-        section: half(symbols, at + 6),
-        value: double(symbols, at + 8),
+        name: word(symbols, at + ST_NAME),
+        info: byte(symbols, at + ST_INFO),
+        section: half(symbols, at + ST_SHNDX),
+        value: double(symbols, at + ST_VALUE),
     }
 }

@@ -13,5 +13,6 @@ mod wires;
 
 pub use cpu::Cpu;
 pub use hart::{Core, Hart};
+pub use memory::IMPLICIT_READ;
 pub use processor::{Outcome, Wrote};
 pub use wires::Wires;

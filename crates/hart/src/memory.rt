@@ -18,7 +18,7 @@ use processor::{Access, Cause, Exception, Fault, HRegs, has_bit};
 use sv39_walk::{Regime, translate_through};
 
 /// `htinst` of a guest-page fault at an entry of the first stage: a read of 64 bits for its translation.
-const IMPLICIT_READ: u32 = 0x3000;
+pub const IMPLICIT_READ: u32 = 0x3000;
 
 fn misaligned(access: Access) -> Cause
     ensures { result ≡ misaligned access }

@@ -7,13 +7,10 @@ ghost use Rattle.machine_model.specs.HardwareEvent.{interrupted_hosts};
 ghost use Rattle.hart_answers.specs.Hosts.{host_at, hosts_of};
 ghost use Rattle.hart_answers.specs.Seats.{forgotten, notified};
 
-use csr_file::Csrs;
+use csr_file::{Csrs, VIRTUAL_SOFTWARE};
 use hart::Hart;
 use page_guard::Side;
 use processor::has_bit;
-
-/// The guest's software interrupt in `hvip`.
-const SOFTWARE_INTERRUPT: u64 = 1 << 2;
 
 /// The base that names all harts, whatever the mask is.
 pub const ALL_HARTS: u64 = u64::MAX;
@@ -65,7 +62,7 @@ fn notify(seat: &mut Seat, named: bool)
 fn set_software(csrs: &mut Csrs)
     ensures { csrs.new ≡ record csrs.old { hvip = 4 } }
 {
-    csrs.hvip = SOFTWARE_INTERRUPT;
+    csrs.hvip = VIRTUAL_SOFTWARE;
 }
 
 // Whether a mask and a base name a hart: the hart base + i for each bit i of the mask, or all of them.

@@ -12,9 +12,7 @@ use processor::Mode;
 use reference::Beside;
 use std::alloc::{AllocError, Global};
 use std::marker::Model;
-use sv_types::{Counts, Note, Rule, SbiCode, Verdict};
-
-const MOST_NOTES: usize = 4096;
+use sv_types::{Counts, MOST_NOTES, Note, Rule, SbiCode, Verdict};
 
 /// The printed bytes for which there is room.
 pub const PRINTED_ROOM: usize = 4096;

@@ -16,15 +16,10 @@ use crate::modules::{find_module, place_of, remove_module};
 use crate::rules::{module_pages, pages_at, rule_of};
 use host_mem::HostMem;
 use page_guard::Guard;
+use policy_limits::{MOST_MODULE_PAGES, MOST_MODULES};
 use std::alloc::{AllocError, Global};
 use std::marker::Model;
 use sv_types::{Digest, Policy, SavedModule, Span};
-
-/// The most modules of a policy.
-const MOST_MODULES: usize = 64;
-
-/// The most pages of a module.
-const MOST_MODULE_PAGES: usize = 1024;
 
 /// What is loaded. Contracts see the loaded modules, ascending by id, whether a load is under way, and whether the init
 /// pages are retired.
@@ -54,7 +49,7 @@ impl Gate {
         ensures { IfOk result (λ gate. gate ≡ no_modules) }
     {
         let loaded = Vec::with_capacity(alloc, MOST_MODULES)?;
-        let room = Vec::with_capacity(alloc, MOST_MODULE_PAGES)?;
+        let room = Vec::with_capacity(alloc, MOST_MODULE_PAGES as usize)?;
         Ok(Gate {
             loaded,
             room: Some(room),

@@ -5,10 +5,7 @@ ghost use Rattle.sv_types.specs.Policies as limits;
 
 use crate::names::{is_exported, is_module};
 use crate::places::{is_aligned, is_anchor, is_behind, is_place};
-use sv_types::{Export, ModulePolicy, Policy, Site, Span};
-
-/// The most harts.
-pub const MOST_HARTS: u8 = 4;
+use sv_types::{Export, FIRST_EXPORT_BASE, MOST_HARTS, ModulePolicy, Policy, Site, Span};
 
 /// The fewest pages of RAM.
 pub const FEWEST_RAM_PAGES: u32 = 16;
@@ -75,7 +72,7 @@ fn base_within(exports: usize, base: u16) -> bool
     requires { exports ≤ 4096 }
     ensures { result ≡ limits.base_within exports base }
 {
-    usize::from(base) < 3 + exports
+    usize::from(base) < usize::from(FIRST_EXPORT_BASE) + exports
 }
 
 fn site_within(pages: u32, exports: usize, site: Site) -> bool

@@ -3,17 +3,17 @@
 ghost use Rattle.std.specs.Prelude.{◌≡◌};
 ghost use Rattle.reference.specs.Relocations as spec;
 
-use sv_types::{Bases, Export, RelocationKind, Site};
+use sv_types::{Bases, DATA_BASE, Export, FIRST_EXPORT_BASE, NO_BASE, RelocationKind, Site, TEXT_BASE};
 
 // The address that a symbol's base stands for: the text's, the data's, none, or an export's.
 fn symbol_base(exports: &[Export], bases: &Bases, base: u16) -> u64
     ensures { result ≡ spec.symbol_base exports.now bases.now base }
 {
     match base {
-        0 => bases.va,
-        1 => bases.data_va,
-        2 => 0,
-        _ => match exports.get((base - 3) as usize) {
+        TEXT_BASE => bases.va,
+        DATA_BASE => bases.data_va,
+        NO_BASE => 0,
+        _ => match exports.get((base - FIRST_EXPORT_BASE) as usize) {
             Some(export) => export.addr,
             None => 0,
         },

@@ -8,13 +8,7 @@ ghost use Rattle.snapshot_form.specs.DeviceForms.{block, command_under_way, goes
 use crate::values::{in_range, read_number, write_number};
 use snapshot_form::SnapRefusal;
 use std::alloc::AllocError;
-use sv_types::{BlockCommand, BlockState, BlockStatus};
-
-const SECTOR_BYTES: u64 = 512;
-
-const BEAT_BYTES: u64 = 64;
-
-const MOST_DISK_BYTES: u64 = 64 << 20;
+use sv_types::{BEAT_BYTES, BlockCommand, BlockState, BlockStatus, MOST_DISK_BYTES, SECTOR_BYTES};
 
 const BUSY: u64 = 1;
 

@@ -12,9 +12,7 @@ use crate::values::{in_range, read_number, read_plain, write_measured};
 use saved_machine::Saved;
 use snapshot_form::SnapRefusal;
 use std::alloc::{AllocError, Global};
-use sv_types::{BlockState, PortState};
-
-const MOST_WAITING_BYTES: u64 = 256;
+use sv_types::{BlockState, MOST_QUEUED, PortState};
 
 #[tactic(auto, unfolding(snapshot_form::specs::DeviceForms::devices, snapshot_form::specs::DeviceForms::console, snapshot_form::specs::DeviceForms::disk))]
 pub(crate) fn write_devices(out: &mut Vec<u8>, machine: &Saved) -> Result<(), AllocError>
@@ -78,7 +76,7 @@ fn read_console(alloc: Global, bytes: &[u8]) -> Result<(Vec<u8>, &[u8]), ReadErr
     ensures { Reads (λ x. (x.0.items, x.1.now)) result (console.taken bytes.now) }
 {
     let (count, rest) = read_number(bytes)?;
-    in_range(count <= MOST_WAITING_BYTES)?;
+    in_range(count <= MOST_QUEUED as u64)?;
     let (waiting, rest) = read_plain(rest, count)?;
     Ok((waiting.to_vec(alloc)?, rest))
 }

@@ -10,15 +10,12 @@ ghost use Rattle.snapshot.specs.Views.{gate_parts};
 use crate::pages::is_above;
 use crate::read_error::ReadError;
 use crate::values::{in_range, read_aligned, read_flag, read_number, write_flag, write_number};
+use policy_limits::{MOST_MODULE_PAGES, MOST_MODULES};
 use processor::{Mode, PAGE_BYTES};
 use saved_machine::{Saved, SavedHart, SavedLoad};
 use snapshot_form::SnapRefusal;
 use std::alloc::{AllocError, Global};
 use sv_types::SavedModule;
-
-const MOST_MODULES: u64 = 64;
-
-const MOST_MODULE_PAGES: u64 = 1024;
 
 #[tactic(auto, unfolding(snapshot_form::specs::PageForms::gate))]
 pub(crate) fn write_gate(out: &mut Vec<u8>, machine: &Saved) -> Result<(), AllocError>
@@ -106,7 +103,7 @@ fn read_modules(alloc: Global, bytes: &[u8]) -> Result<(Vec<SavedModule>, &[u8])
     ensures { Reads (λ x. (x.0.items, x.1.now)) result (modules.taken bytes.now) }
 {
     let (count, rest) = read_number(bytes)?;
-    in_range(count <= MOST_MODULES)?;
+    in_range(count <= MOST_MODULES as u64)?;
     read_loaded(alloc, rest, count)
 }
 
@@ -179,7 +176,7 @@ fn read_load<'a>(bytes: &'a [u8], harts: &[SavedHart]) -> Result<(SavedLoad, &'a
     let (hart, rest) = read_loading_hart(bytes, harts)?;
     let (loaded, rest) = read_module(rest, None)?;
     let (left, rest) = read_number(rest)?;
-    in_range(left <= MOST_MODULE_PAGES)?;
+    in_range(left <= u64::from(MOST_MODULE_PAGES))?;
     Ok((
         SavedLoad {
             hart,

@@ -10,9 +10,7 @@ use crate::read_error::ReadError;
 use crate::values::{in_range, read_hart_number, read_number, read_pc, write_number};
 use snapshot_form::SnapRefusal;
 use std::alloc::{AllocError, Global};
-use sv_types::{Note, SbiCode};
-
-const MOST_NOTES: u64 = 4096;
+use sv_types::{MOST_NOTES, Note, SbiCode};
 
 // The kinds.
 const DEMOTE: u64 = 1;
@@ -120,7 +118,7 @@ pub(crate) fn read_notes(
     ensures { Reads (λ x. (x.0.items, x.1.now)) result ((notes harts all).taken bytes.now) }
 {
     let (count, rest) = read_number(bytes)?;
-    in_range(count == MOST_NOTES.min(all))?;
+    in_range(count == (MOST_NOTES as u64).min(all))?;
     read_kept(alloc, rest, count, harts)
 }
 

@@ -7,24 +7,13 @@ ghost use Rattle.snapshot_form.specs.HartForms.{hart_parts, legal, status, trap_
 ghost use Rattle.snapshot.specs.Reading.{Gives};
 
 use crate::values::{in_range, read_number, write_number};
+use csr_file::{
+    INTERRUPT_BITS, MISALIGNED, SATP_BITS, SOFTWARE_INTERRUPT, STATUS_BITS, TIME_ENABLE,
+    TVEC_RESERVED,
+};
 use saved_machine::SavedHart;
 use snapshot_form::SnapRefusal;
 use std::alloc::AllocError;
-
-// SIE, SPIE, SPP, SUM and MXR.
-const STATUS_BITS: u64 = 1 << 1 | 1 << 5 | 1 << 8 | 1 << 18 | 1 << 19;
-// The software, the timer and the external interrupt.
-const INTERRUPT_BITS: u64 = 1 << 1 | 1 << 5 | 1 << 9;
-// The base and bit 0 of the mode.
-const VECTOR_BITS: u64 = !(1 << 1);
-// TM.
-const COUNTER_BITS: u64 = 1 << 1;
-// An instruction lies at a multiple of 4.
-const PC_BITS: u64 = !3;
-// Mode and page number.
-const ROOT_BITS: u64 = 15 << 60 | ((1 << 44) - 1);
-
-const SOFTWARE_INTERRUPT: u64 = 1 << 1;
 
 #[tactic(auto, unfolding(snapshot_form::specs::HartForms::status, snapshot_form::specs::HartForms::legal))]
 pub(crate) fn write_status(out: &mut Vec<u8>, h: &SavedHart) -> Result<(), AllocError>
@@ -140,7 +129,7 @@ fn read_stvec(bytes: &[u8]) -> Result<(u64, &[u8]), SnapRefusal>
     ensures { Gives (λ x. (x.0, x.1.now)) result ((legal legal_tvec).taken bytes.now) }
 {
     let (n, rest) = read_number(bytes)?;
-    in_range(n & VECTOR_BITS == n)?;
+    in_range(n & !TVEC_RESERVED == n)?;
     Ok((n, rest))
 }
 
@@ -149,7 +138,7 @@ fn read_scounteren(bytes: &[u8]) -> Result<(u64, &[u8]), SnapRefusal>
     ensures { Gives (λ x. (x.0, x.1.now)) result ((legal legal_counteren).taken bytes.now) }
 {
     let (n, rest) = read_number(bytes)?;
-    in_range(n & COUNTER_BITS == n)?;
+    in_range(n & TIME_ENABLE == n)?;
     Ok((n, rest))
 }
 
@@ -158,7 +147,7 @@ fn read_sepc(bytes: &[u8]) -> Result<(u64, &[u8]), SnapRefusal>
     ensures { Gives (λ x. (x.0, x.1.now)) result ((legal legal_epc).taken bytes.now) }
 {
     let (n, rest) = read_number(bytes)?;
-    in_range(n & PC_BITS == n)?;
+    in_range(n & !MISALIGNED == n)?;
     Ok((n, rest))
 }
 
@@ -186,7 +175,7 @@ fn is_root(n: u64) -> bool
 {
     let mode = n >> 60;
     if mode == 0 || mode == 8 {
-        n & ROOT_BITS == n
+        n & SATP_BITS == n
     } else {
         n == 0
     }

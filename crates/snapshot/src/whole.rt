@@ -15,23 +15,16 @@ use crate::modules::{Gate, read_gate, write_gate};
 use crate::pages::{Pages, read_pages, write_pages};
 use crate::read_error::ReadError;
 use crate::values::{in_range, read_number, read_plain, write_number};
+use policy_limits::{FEWEST_RAM_PAGES, MOST_RAM_PAGES};
 use processor::PAGE_BYTES;
 use saved_machine::{Saved, SavedHart};
 use snapshot_form::{SnapRefusal, Snapshot};
 use std::alloc::{AllocError, Global};
-use sv_types::PortState;
+use sv_types::{MOST_EVENTS, MOST_HARTS, PortState};
 
 const MAGIC: &[u8; 8] = b"SVSNAP01";
 
 const MOST_BYTES: usize = 1300 << 20;
-
-const MOST_EVENTS: u64 = 1 << 32;
-
-const MOST_HARTS: u64 = 4;
-
-const LEAST_RAM_PAGES: u64 = 16;
-
-const MOST_RAM_PAGES: u64 = 262_144;
 
 /// The bytes of a snapshot, of a machine with a block device. Want of memory is the one refusal.
 #[tactic(auto, unfolding(snapshot_form::specs::Snapshots::snapshot))]
@@ -200,7 +193,7 @@ fn read_hart_count(bytes: &[u8]) -> Result<(u8, &[u8]), SnapRefusal>
     ensures count { Gives (λ x. (x.0, x.1.now)) result (hart_count.taken bytes.now) }
 {
     let (n, rest) = read_number(bytes)?;
-    in_range(1 <= n && n <= MOST_HARTS)?;
+    in_range(1 <= n && n <= u64::from(MOST_HARTS))?;
     Ok((n as u8, rest))
 }
 
@@ -208,7 +201,7 @@ fn read_page_count(bytes: &[u8]) -> Result<(u32, &[u8]), SnapRefusal>
     ensures { Gives (λ x. (x.0, x.1.now)) result (page_count.taken bytes.now) }
 {
     let (n, rest) = read_number(bytes)?;
-    in_range(LEAST_RAM_PAGES <= n && n <= MOST_RAM_PAGES)?;
+    in_range(u64::from(FEWEST_RAM_PAGES) <= n && n <= u64::from(MOST_RAM_PAGES))?;
     Ok((n as u32, rest))
 }
 

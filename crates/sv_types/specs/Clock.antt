@@ -1,6 +1,7 @@
 -- The clock: the time, and the timer of each of four harts. This project's own; the timers are those of RISC-V SBI,
 -- "Timer Extension".
 use Rattle.std.specs.Prelude.{ℕ, ◌+◌, ◌-◌, ◌^◌, Bool, not, ◌&&◌, List, replicate, min, slice_index, slice_set, ◌==◌, nat_le}
+use Rattle.sv_types.specs.Limits.{most_harts}
 
 pub record Clock : Type 0 where
   pub time : ℕ
@@ -12,7 +13,7 @@ latest = 2 ^ 64 - 1
 
 -- time begins at 0, and no timer is set
 abbrev pub clock_at_boot : Clock
-clock_at_boot = record { time = 0; timers = replicate 4 latest }
+clock_at_boot = record { time = 0; timers = replicate most_harts latest }
 
 -- time goes on, and stands still at the latest
 abbrev pub after_tick : Clock → ℕ → Clock

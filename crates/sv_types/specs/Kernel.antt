@@ -6,6 +6,7 @@ use Rattle.processor.specs.Bits.{bit}
 use Rattle.processor.specs.Bytes.{word, part, padded, overwrite, ram_base, ram_place, page_size, page_of}
 use Rattle.sv_types.specs.ApprovedPages.{numbers_from}
 use Rattle.processor.specs.Regions.{most_ram_pages}
+use Rattle.sv_types.specs.Elf.{file_header_size, ei_class, ei_data, ei_version, e_type, e_machine, e_version, e_entry, e_phoff, e_flags, e_phentsize, e_phnum, elf_magic, elfclass64, elfdata2lsb, ev_current, et_exec, em_riscv, ef_riscv_tso, program_header_size, p_flags, p_offset, p_vaddr, p_paddr, p_filesz, p_memsz, pt_load, pf_x_bit, pf_w_bit}
 use Rattle.sv_types.specs.declared.image_fault.HeaderFault.{HeaderFault}
 use Rattle.sv_types.specs.declared.image_fault.ImageFault.{ImageFault}
 use Rattle.sv_types.specs.declared.kernel.ProgramHeader.{ProgramHeader}
@@ -18,29 +19,29 @@ first_refusal (check ∷ checks) = if check.1 then Some check.0 else first_refus
 -- ---- the header
 
 abbrev pub header_entry : List ℕ → ℕ
-header_entry file = word file 24 8
+header_entry file = word file e_entry 8
 
 -- where the program headers begin, and how many there are
 abbrev pub table_place : List ℕ → ℕ
-table_place file = word file 32 8
+table_place file = word file e_phoff 8
 
 abbrev pub table_count : List ℕ → ℕ
-table_count file = word file 56 2
+table_count file = word file e_phnum 2
 
--- the program headers are 56 bytes each, and in the file
+-- the program headers have their size, and are in the file
 abbrev pub table_in_file : List ℕ → Bool
-table_in_file file = word file 54 2 == 56 && nat_le (table_place file + 56 * table_count file) (length file)
+table_in_file file = word file e_phentsize 2 == program_header_size && nat_le (table_place file + program_header_size * table_count file) (length file)
 
 -- 0x7F, E, L, F; 64 bits, little-endian; version 1; RISC-V; a kind of file; no compressed instructions, no floats
 unfoldable pub file_checks : ℕ → List ℕ → List (HeaderFault × Bool)
 file_checks kind file =
-    (HeaderFault.TooShort, nat_lt (length file) 64)
-    ∷ (HeaderFault.Magic, not (word file 0 4 == 0x464C457F))
-    ∷ (HeaderFault.Class, not (word file 4 1 == 2 && word file 5 1 == 1))
-    ∷ (HeaderFault.Version, not (word file 6 1 == 1 && word file 20 4 == 1))
-    ∷ (HeaderFault.Machine, not (word file 18 2 == 243))
-    ∷ (HeaderFault.Kind, not (word file 16 2 == kind))
-    ∷ (HeaderFault.Flags, not (word file 48 4 % 16 == 0))
+    (HeaderFault.TooShort, nat_lt (length file) file_header_size)
+    ∷ (HeaderFault.Magic, not (word file 0 4 == elf_magic))
+    ∷ (HeaderFault.Class, not (word file ei_class 1 == elfclass64 && word file ei_data 1 == elfdata2lsb))
+    ∷ (HeaderFault.Version, not (word file ei_version 1 == ev_current && word file e_version 4 == ev_current))
+    ∷ (HeaderFault.Machine, not (word file e_machine 2 == em_riscv))
+    ∷ (HeaderFault.Kind, not (word file e_type 2 == kind))
+    ∷ (HeaderFault.Flags, not (word file e_flags 4 % ef_riscv_tso == 0))
     ∷ []
 
 -- a check of any file, as one of a kernel's
@@ -52,36 +53,36 @@ table_checks file = (ImageFault.ProgramHeaders, nat_lt 0 (table_count file) && n
 
 -- an executable file, with its table of program headers
 unfoldable pub header_checks : List ℕ → List (ImageFault × Bool)
-header_checks file = map image_check (file_checks 2 file) ++ table_checks file
+header_checks file = map image_check (file_checks et_exec file) ++ table_checks file
 
 -- ---- segments
 
 unfoldable pub header_at : List ℕ → ℕ → ProgramHeader
 header_at file at = record {
   kind = word file at 4;
-  flags = word file (at + 4) 4;
-  offset = word file (at + 8) 8;
-  va = word file (at + 16) 8;
-  gpa = word file (at + 24) 8;
-  file_size = word file (at + 32) 8;
-  memory_size = word file (at + 40) 8;
+  flags = word file (at + p_flags) 4;
+  offset = word file (at + p_offset) 8;
+  va = word file (at + p_vaddr) 8;
+  gpa = word file (at + p_paddr) 8;
+  file_size = word file (at + p_filesz) 8;
+  memory_size = word file (at + p_memsz) 8;
 }
 
 abbrev pub is_loaded : ProgramHeader → Bool
-is_loaded h = h.kind == 1 && nat_lt 0 h.memory_size
+is_loaded h = h.kind == pt_load && nat_lt 0 h.memory_size
 
 -- those of the first n program headers that are loaded, in their order
 unfoldable pub loaded_among : List ℕ → ℕ → List ProgramHeader
-loaded_among file n = filter is_loaded (map (λ i. header_at file (table_place file + 56 * i)) (numbers_from 0 n))
+loaded_among file n = filter is_loaded (map (λ i. header_at file (table_place file + program_header_size * i)) (numbers_from 0 n))
 
 abbrev pub loaded_headers : List ℕ → List ProgramHeader
 loaded_headers file = loaded_among file (table_count file)
 
 abbrev pub is_executable : ProgramHeader → Bool
-is_executable h = bit h.flags 0
+is_executable h = bit h.flags pf_x_bit
 
 abbrev pub is_writable : ProgramHeader → Bool
-is_writable h = bit h.flags 1
+is_writable h = bit h.flags pf_w_bit
 
 abbrev pub memory_in_ram : ℕ → ProgramHeader → Bool
 memory_in_ram ram_pages h = nat_le ram_base h.gpa && nat_le (ram_place h.gpa + h.memory_size) (page_size * ram_pages)

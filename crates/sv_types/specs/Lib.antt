@@ -10,6 +10,8 @@ pub mod Output
 pub mod Console
 pub mod Clock
 pub mod Schedule
+pub mod Elf
+pub mod Limits
 pub mod Kernel
 pub mod Policies
 pub mod SbiCodes

@@ -3,19 +3,20 @@
 use Rattle.std.specs.Prelude.{◌≡◌, ◌<◌, ◌≤◌, ℕ, List, length, take, IsUtf8}
 use Rattle.std.proofs.Common.{◌∙◌, ap}
 use Rattle.processor.specs.Bytes.{padded}
+use Rattle.sv_types.specs.Limits.{most_name_bytes}
 use Rattle.sv_types.specs.declared.name.Name.TheInside.{Inside}
 
 abbrev pub name_bytes : Inside → List ℕ
 name_bytes name = take name.length name.bytes
 
 abbrev pub name_inside : List ℕ → Inside
-name_inside bytes = record { bytes = padded bytes 64; length = length bytes }
+name_inside bytes = record { bytes = padded bytes most_name_bytes; length = length bytes }
 
 pub record IsName (name : Inside) : Type 0 where
   pub some : 0 < name.length
-  pub most : name.length ≤ 64
+  pub most : name.length ≤ most_name_bytes
   pub length_is : length (name_bytes name) ≡ name.length
-  pub zeros : padded (name_bytes name) 64 ≡ name.bytes
+  pub zeros : padded (name_bytes name) most_name_bytes ≡ name.bytes
   pub text : IsUtf8 (name_bytes name)
 
 pub name_inside-name_bytes : (name : Inside) → IsName name → name_inside (name_bytes name) ≡ name

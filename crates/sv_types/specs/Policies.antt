@@ -4,6 +4,7 @@ use Rattle.std.specs.List.{list_any}
 use Rattle.std.specs.Str.{bytes_eq}
 use Rattle.processor.specs.Bytes.{page_size, ram_base}
 use Rattle.processor.specs.Regions.{most_ram_pages}
+use Rattle.sv_types.specs.Limits.{most_harts, fewest_ram_pages, most_entries, most_exports, most_modules, most_module_pages, most_module_sites, most_sites, first_export_base}
 use Rattle.sv_types.specs.declared.module.Span.{Span}
 use Rattle.sv_types.specs.declared.module.Site.{Site}
 use Rattle.sv_types.specs.declared.policy.Export.{Export}
@@ -55,26 +56,26 @@ abbrev pub is_between : ℕ → ℕ → ℕ → Bool
 is_between low high n = nat_le low n && nat_le n high
 
 abbrev pub harts_within : ℕ → Bool
-harts_within = is_between 1 4
+harts_within = is_between 1 most_harts
 
 abbrev pub ram_pages_within : ℕ → Bool
-ram_pages_within = is_between 16 most_ram_pages
+ram_pages_within = is_between fewest_ram_pages most_ram_pages
 
 abbrev pub entries_count_within : ℕ → Bool
-entries_count_within = is_between 1 64
+entries_count_within = is_between 1 most_entries
 
 abbrev pub exports_count_within : ℕ → Bool
-exports_count_within n = nat_le n 4096
+exports_count_within n = nat_le n most_exports
 
 abbrev pub modules_count_within : ℕ → Bool
-modules_count_within n = nat_le n 64
+modules_count_within n = nat_le n most_modules
 
 abbrev pub module_pages_within : ℕ → Bool
-module_pages_within = is_between 1 1024
+module_pages_within = is_between 1 most_module_pages
 
 -- the sites of one module, and those of the modules before it
 abbrev pub sites_count_within : ℕ → ℕ → Bool
-sites_count_within before n = nat_le n 65536 && nat_le (before + n) 131072
+sites_count_within before n = nat_le n most_module_sites && nat_le (before + n) most_sites
 
 -- ---- lists, each of whose items is judged beside those before it
 
@@ -142,7 +143,7 @@ site_size Word64 = 8
 site_size _ = 4
 
 abbrev pub module_bytes : ℕ → ℕ
-module_bytes pages = 4096 * pages
+module_bytes pages = page_size * pages
 
 -- an instruction of the module begins there
 abbrev pub place_within : ℕ → ℕ → Bool
@@ -153,7 +154,7 @@ is_aligned kind offset = offset % site_size kind == 0
 
 -- text, data space, no base, or one of the exports
 abbrev pub base_within : ℕ → ℕ → Bool
-base_within exports base = nat_lt base (3 + exports)
+base_within exports base = nat_lt base (first_export_base + exports)
 
 abbrev pub anchor_within : ℕ → RelocationKind → ℕ → ℕ → Bool
 anchor_within pages kind offset anchor = place_within pages anchor && (is_low_part kind || anchor == offset)

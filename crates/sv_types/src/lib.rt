@@ -7,6 +7,7 @@ mod event;
 mod failed;
 mod image_fault;
 mod kernel;
+mod limits;
 mod module;
 mod name;
 mod policy;
@@ -25,6 +26,10 @@ pub use event::{Counts, Event, Note, Rule, Verdict};
 pub use failed::Failed;
 pub use image_fault::{HeaderFault, ImageFault};
 pub use kernel::ProgramHeader;
+pub use limits::{
+    BEAT_BYTES, DATA_BASE, FIRST_EXPORT_BASE, MOST_DISK_BYTES, MOST_EVENTS, MOST_HARTS, MOST_NOTES,
+    MOST_QUEUED, NO_BASE, SECTOR_BYTES, TEXT_BASE,
+};
 pub use module::{Bases, Site, Span};
 pub use name::{MOST_NAME_BYTES, Name};
 pub use policy::{Export, ModulePolicy, Policy};

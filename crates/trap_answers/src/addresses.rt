@@ -4,11 +4,9 @@ ghost use Rattle.std.specs.Prelude.{◌≡◌, ◌%◌, Some, None, if◌then◌
 ghost use Rattle.processor.specs.Bytes.{in_ram};
 ghost use Rattle.machine_model.specs.Served.{is_implicit, exit_gpa, device_gpa};
 
+use hart::IMPLICIT_READ;
 use host_mem::HostMem;
 use processor::Exit;
-
-/// The transformed instruction of an implicit read of a first-stage entry.
-const IMPLICIT_READ: u32 = 0x3000;
 
 /// The access was an implicit read of a first-stage entry.
 pub(crate) fn is_implicit(exit: &Exit) -> bool

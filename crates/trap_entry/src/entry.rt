@@ -4,15 +4,9 @@ ghost use Rattle.std.specs.Prelude.{◌≡◌, ◌%◌};
 ghost use Rattle.processor.specs.HypervisorRegisters.{registers_at_trap, registers_at_return, registers_at_exit};
 ghost use Rattle.processor.specs.Traps.{is_interrupt, guest_number, trap_target, trap_cause, status_at_trap, status_at_return, mode_at_return};
 
-use csr_file::Csrs;
+use csr_file::{Csrs, SIE, SPIE, SPP};
 use processor::{Exit, ExitCause, Mode, has_bit, with_bits};
 
-/// SIE of a status: kernel mode takes interrupts.
-const SIE: u64 = 1 << 1;
-/// SPIE: SIE before the trap.
-const SPIE: u64 = 1 << 5;
-/// SPP: the mode before the trap was kernel mode.
-const SPP: u64 = 1 << 8;
 /// The mode of a trap vector stands in its low bits.
 const VECTOR_MODE: u64 = 3;
 /// The bit of a cause that says that it is an interrupt.

@@ -6,9 +6,9 @@ ghost use Rattle.reference.specs.VirtioRegisters.{register_value};
 ghost use Rattle.reference.specs.VirtioStores.{reset, with_features, kept_status, with_status, can_set, can_be_used, with_ready, with_size, with_descriptors, with_available, with_used, with_low, with_high, put};
 ghost use Rattle.virtio_blk.specs.Held.{device_of, state_at_reset};
 
-use crate::{SECTOR_BYTES, Virtio};
+use crate::Virtio;
 use processor::has_bit;
-use sv_types::{VirtioRegister, VirtioState};
+use sv_types::{SECTOR_BYTES, VirtioRegister, VirtioState};
 
 /// The most places of the queue.
 const MOST_PLACES: u64 = 64;

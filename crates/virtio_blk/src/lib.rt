@@ -13,9 +13,6 @@ mod requests;
 use std::marker::Model;
 use sv_types::VirtioState;
 
-/// The bytes of a sector.
-const SECTOR_BYTES: u64 = 512;
-
 /// A virtio block device with its disk. Contracts see the device that it stands for.
 #[derive(Drop)]
 pub struct Virtio {

@@ -7,16 +7,9 @@ ghost use Rattle.reference.specs.VirtioBeats.{is_last};
 ghost use Rattle.saved_machine.specs.VirtioStates.{part_at, last_place, disk_place, last_left, moves_left};
 ghost use Rattle.virtio_blk.specs.Held.{IsPlaced, IsOnDisk, IsSame, CanBeMade, first_move};
 
-use crate::SECTOR_BYTES;
 use crate::requests::bytes_in;
-use processor::PAGE_SIZE;
-use sv_types::{VirtioMove, VirtioRequest};
-
-/// The most bytes of a data move.
-const BEAT_BYTES: u64 = 64;
-
-/// The bytes of a page.
-const PAGE_BYTES: u64 = PAGE_SIZE as u64;
+use processor::PAGE_BYTES;
+use sv_types::{BEAT_BYTES, SECTOR_BYTES, VirtioMove, VirtioRequest};
 
 // Passes over parts of which nothing is left.
 fn settle(q: &mut VirtioRequest)

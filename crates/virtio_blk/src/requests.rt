@@ -7,9 +7,8 @@ ghost use Rattle.reference.specs.VirtioChain.{header_of, result_of, is_header, i
 ghost use Rattle.virtio_blk.specs.Held.{HasHeader};
 ghost use Rattle.reference.specs.VirtioRequests.{bytes_in, lies_in, fits_type, are_sectors, can_move, result_by};
 
-use crate::SECTOR_BYTES;
 use processor::is_in_ram;
-use sv_types::VirtioPart;
+use sv_types::{SECTOR_BYTES, VirtioPart};
 
 /// The bytes of a request's header, and of its result.
 const HEADER_BYTES: u32 = 16;

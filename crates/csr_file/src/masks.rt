@@ -1,0 +1,36 @@
+// Bits of the supervisor registers. Privileged manual, "Supervisor CSRs" and "Hypervisor and Virtual Supervisor CSRs".
+
+/// SIE of a status: kernel mode takes interrupts.
+pub const SIE: u64 = 1 << 1;
+/// SPIE of a status: SIE before the trap.
+pub const SPIE: u64 = 1 << 5;
+/// SPP of a status: the mode before the trap was kernel mode.
+pub const SPP: u64 = 1 << 8;
+/// SUM of a status: kernel mode may reach pages of user mode.
+const SUM: u64 = 1 << 18;
+/// MXR of a status: what is executable may be read.
+const MXR: u64 = 1 << 19;
+/// The bits of a status that a guest writes.
+pub const STATUS_BITS: u64 = SIE | SPIE | SPP | SUM | MXR;
+/// UXL of `vsstatus`, as it is read: user mode has 64-bit registers.
+pub(crate) const UXL: u64 = 2 << 32;
+/// The guest's software interrupt in `sie` and `sip`.
+pub const SOFTWARE_INTERRUPT: u64 = 1 << 1;
+/// The guest's software, timer and external interrupt there.
+pub const INTERRUPT_BITS: u64 = SOFTWARE_INTERRUPT | 1 << 5 | 1 << 9;
+/// The same interrupts in `hie`, `hip` and `hideleg`.
+pub(crate) const VIRTUAL_INTERRUPT_BITS: u64 = INTERRUPT_BITS << 1;
+/// The guest's software interrupt there, the only one that `hvip` keeps.
+pub const VIRTUAL_SOFTWARE: u64 = SOFTWARE_INTERRUPT << 1;
+/// The guest's timer interrupt there, a wire.
+pub(crate) const VIRTUAL_TIMER: u64 = 1 << 6;
+/// The guest's external interrupt there, a wire.
+pub(crate) const VIRTUAL_EXTERNAL: u64 = 1 << 10;
+/// The second of the two bits of `stvec`'s mode.
+pub const TVEC_RESERVED: u64 = 1 << 1;
+/// TM of `scounteren`: user mode reads the time.
+pub const TIME_ENABLE: u64 = 1 << 1;
+/// Instructions lie at multiples of 4.
+pub const MISALIGNED: u64 = 3;
+/// The mode and the root's page of `satp`.
+pub const SATP_BITS: u64 = 15 << 60 | (1 << 44) - 1;

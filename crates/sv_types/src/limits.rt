@@ -1,0 +1,34 @@
+// Sizes and limits that several layers name.
+
+/// The bytes of a sector of a disk.
+pub const SECTOR_BYTES: u64 = 512;
+
+/// The most bytes that a device moves in a beat.
+pub const BEAT_BYTES: u64 = 64;
+
+/// The most bytes of a disk.
+pub const MOST_DISK_BYTES: u64 = 64 << 20;
+
+/// The most bytes of input that wait at the console.
+pub const MOST_QUEUED: usize = 256;
+
+/// The most notes that a journal keeps.
+pub const MOST_NOTES: usize = 4096;
+
+/// The most harts of a machine.
+pub const MOST_HARTS: u8 = 4;
+
+/// The most events of a run.
+pub const MOST_EVENTS: u64 = 1 << 32;
+
+/// The base of a field that is relocated by its module's text.
+pub const TEXT_BASE: u16 = 0;
+
+/// The base of a field that is relocated by its module's data.
+pub const DATA_BASE: u16 = 1;
+
+/// The base of a field whose value is absolute.
+pub const NO_BASE: u16 = 2;
+
+/// The base of the first export.
+pub const FIRST_EXPORT_BASE: u16 = 3;
