@@ -1,0 +1,71 @@
+-- What a run prints that goes on from a saved state.
+use Rattle.std.proofs.Common.{◌≡◌, ℕ, zero, suc, List, [], ◌∷◌, ◌++◌, take, drop, refl, sym, ap, subst, ◌∙◌, append_assoc}
+use Rattle.sv_types.specs.declared.event.Event.{Event}
+use Rattle.sv_types.specs.declared.event.Verdict.{Verdict}
+use Rattle.sv_types.specs.declared.event.Verdict.TheVariants.{Running, Shutdown, Stopped}
+use Rattle.reference.specs.States.{State}
+use Rattle.reference.specs.Report.{output, report}
+use Rattle.reference.specs.Run.{step, run, happen_under, HasEnded}
+use Rattle.resume_laws.proofs.AlikeSteps.{alike_law}
+use Rattle.resume_laws.specs.Continues.{Alike, drawn_under, drawn, ContinuesLaw}
+
+-- no run tells them apart
+run_alike : (front : List ℕ) (r next : State) (events : List Event) → Alike front r next → Alike front (run r events) (run next events)
+run_alike front r next [] alike = alike
+run_alike front r next (e ∷ events) alike = run_alike front (step r e) (step next e) events (alike_law front r next e alike)
+
+-- a machine that has ended stays as it is
+stays_by : (verdict : Verdict) (r : State) (e : Event) → HasEnded verdict → happen_under verdict r e ≡ r
+unfolding happen_under
+stays_by Running r e ended = absurd ended
+stays_by Shutdown r e ended = refl
+stays_by (Stopped rule h at) r e ended = refl
+
+stays : (r : State) (e : Event) → HasEnded r.journal.verdict → step r e ≡ r
+unfolding step
+stays r e ended = stays_by r.journal.verdict r e ended
+
+run_stays : (r : State) (events : List Event) → HasEnded r.journal.verdict → run r events ≡ r
+run_stays r [] ended = refl
+run_stays r (e ∷ events) ended = ap (λ (next : State). run next events) (stays r e ended) ∙ run_stays r events ended
+
+-- the events that are left, made by the state behind the first ones
+goes_on_by : (verdict : Verdict) (s : State) (k : ℕ) (e : Event) (events : List Event) → s.journal.verdict ≡ verdict
+    → run (run (step s e) (take k events)) (drop (drawn (step s e) (take k events)) events) ≡ run (step s e) events
+    → run (run (step s e) (take k events)) (drop (drawn_under verdict suc (drawn (step s e) (take k events))) (e ∷ events)) ≡ run (step s e) events
+unfolding drawn_under
+goes_on_by Running s k e events is rest = rest
+goes_on_by Shutdown s k e events is rest =
+    let ended : HasEnded s.journal.verdict = subst HasEnded (sym is) tt in
+    let same = stays s e ended in
+    rw (same, run_stays s (take k events) ended, same) refl
+goes_on_by (Stopped rule h at) s k e events is rest =
+    let ended : HasEnded s.journal.verdict = subst HasEnded (sym is) tt in
+    let same = stays s e ended in
+    rw (same, run_stays s (take k events) ended, same) refl
+
+goes_on : (s : State) (k : ℕ) (events : List Event) → run (run s (take k events)) (drop (drawn s (take k events)) events) ≡ run s events
+unfolding drawn
+goes_on s zero events = refl
+goes_on s (suc k) [] = refl
+goes_on s (suc k) (e ∷ events) = goes_on_by s.journal.verdict s k e events refl (goes_on (step s e) k events)
+
+same_output : (front : List ℕ) (r next : State) → Alike front r next → front ++ output next ≡ output r
+same_output front r next alike =
+    let text : report next.journal ≡ report r.journal = ap (λ (x : State). report x.journal) alike.rest in
+    rw (text, alike.printed) (sym (append_assoc front next.journal.printed (report r.journal)))
+
+continues : (front : List ℕ) (last other : State) → Alike front last other
+    → (front ++ output other ≡ output last) × (other.journal.verdict ≡ last.journal.verdict) × (other.devices.disk.bytes ≡ last.devices.disk.bytes)
+continues front last other alike =
+    (same_output front last other alike, ap (λ (x : State). x.journal.verdict) alike.rest, ap (λ (x : State). x.devices.disk.bytes) alike.rest)
+
+pub continues_law : ContinuesLaw
+continues_law s k events resumed none alike =
+    let saved : State = run s (take k events) in
+    let left : List Event = drop (drawn s (take k events)) events in
+    let front : List ℕ = saved.journal.printed in
+    let far : Alike front (run saved left) (run resumed left) = run_alike front saved resumed left alike in
+    let whole : Alike front (run s events) (run resumed left) = subst (λ (last : State). Alike front last (run resumed left)) (goes_on s k events) far in
+    let c = continues front (run s events) (run resumed left) whole in
+    record { output = c.0; verdict = c.1; disk = c.2 }

@@ -1,0 +1,10 @@
+pub mod ResumedHolds
+pub mod AlikeRequests
+pub mod AlikeCalls
+pub mod AlikeSteps
+pub mod ContinuesHolds
+pub mod KeepableParts
+pub mod KeepableRequests
+pub mod KeepableCalls
+pub mod KeepableSteps
+pub mod KeepableStarts

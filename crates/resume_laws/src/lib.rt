@@ -1,0 +1,32 @@
+//! The laws of a run that goes on from a saved state: which pages are approved, and what it prints.
+#![tactic(auto)]
+
+ghost use Rattle.resume_laws.specs.Resumed.{ResumedLaw};
+ghost use Rattle.resume_laws.specs.Continues.{AlikeLaw, ContinuesLaw};
+ghost use Rattle.resume_laws.specs.Keepable.{KeepableLaw, KeepsLaw};
+
+/// From any sound state, and not from a start alone: each approved page is the kernel's text, as it was there and not
+/// retired, or a loaded module's; and digests that are kept of the text stay right.
+pub fn law_resumed()
+    ensures { ResumedLaw }
+{}
+
+/// No event tells apart two states that differ in the bytes that were printed before and in the order of approved pages.
+pub fn law_alike()
+    ensures { AlikeLaw }
+{}
+
+/// What a run prints that is broken off and goes on from what was saved is what the whole run prints.
+pub fn law_continues()
+    ensures { ContinuesLaw }
+{}
+
+/// From any sound state, a run keeps what a snapshot asks beside soundness.
+pub fn law_keeps()
+    ensures { KeepsLaw }
+{}
+
+/// Each state that a run reaches from a start has it.
+pub fn law_keepable()
+    ensures { KeepableLaw }
+{}
