@@ -21,6 +21,7 @@ int main(void)
     while (sector[0] == 255)
         ; /* until its first bytes have come */
     virtio_table[1].gpa = (u64)victim - 448;
+    tell("changed in time", sector[448] != 0x13);
     tell("result", virtio_result());
     __asm__ volatile("fence.i");
     tell("after", victim(1));

@@ -1,6 +1,6 @@
 -- A beat of the machine's is the reference machine's: it asks DMA bits where the reference asks protections.
 use Rattle.std.proofs.Common.{◌≡◌, ℕ, zero, suc, ◌+◌, ◌*◌, ◌<◌, ◌≤◌, List, [], ◌∷◌, length, map, refl, sym, ◌∙◌, ap, subst, Bool, true, false, not, ◌&&◌, ◌||◌, arith, slice_get}
-use Rattle.std.specs.Prelude.{Option, Some, None, unwrap_or, option_map, if◌then◌else◌, nat_le, ◌==◌}
+use Rattle.std.specs.Prelude.{Option, Some, None, unwrap_or, option_map, if◌then◌else◌, nat_le}
 use Rattle.std.proofs.lemmas.Bool.Decides.{nat_tests}
 use Rattle.processor.specs.Bytes.{part, overwrite, low_bytes, in_ram, ram_base, ram_place, page_of, page_size}
 use Rattle.sv_types.specs.declared.protection.Protection.{Protection}

@@ -1,5 +1,5 @@
 -- The laws of attempts.
-use Rattle.std.proofs.Common.{◌≡◌, ℕ, ◌+◌, length, refl, sym, ◌∙◌, ap, subst, Bool, true, false, slice_get, slice_set}
+use Rattle.std.proofs.Common.{◌≡◌, ℕ, ◌+◌, length, refl, sym, ◌∙◌, ap, subst, true, false, slice_get, slice_set}
 use Rattle.std.specs.Prelude.{Option, Some, None, ◌==◌}
 use Rattle.processor.specs.Hardware.{Attempted, leave, with_region}
 use Rattle.processor.specs.HypervisorRegisters.{HypervisorRegisters, registers_at_exit}

@@ -1,6 +1,6 @@
 -- The block device: its registers and its beats, with one definition each for a load, a store, a beat and the line.
 -- This project's own. It knows no machine: a beat is told RAM and which pages may be written.
-use Rattle.std.specs.Prelude.{ℕ, ◌+◌, ◌*◌, ◌%◌, ◌^◌, Bool, true, false, not, ◌&&◌, ◌||◌, List, length, ◌==◌, if◌then◌else◌, nat_le, nat_lt, Option, Some, None, option_map}
+use Rattle.std.specs.Prelude.{ℕ, ◌+◌, ◌*◌, ◌%◌, ◌^◌, Bool, true, false, not, ◌&&◌, List, length, ◌==◌, if◌then◌else◌, nat_le, nat_lt, Option, Some, None, option_map}
 use Rattle.processor.specs.Bytes.{part, overwrite, in_ram, ram_place, page_of}
 use Rattle.sv_types.specs.BlockNumbers.{command_of, status_number}
 use Rattle.sv_types.specs.declared.block.BlockCommand.{BlockCommand}

@@ -1,6 +1,6 @@
 -- The virtio block device, computed.
 use Rattle.std.proofs.Common.{refl}
-use Rattle.reference_rows.specs.VirtioRows.{VirtioRows, RequestRows, AttackRows}
+use Rattle.reference_rows.specs.VirtioRows.{VirtioRows, RequestRows, LastRows, AttackRows}
 use Rattle.reference_rows.proofs.Computing.{computing}
 
 pub virtio_rows : VirtioRows
@@ -28,12 +28,16 @@ request_rows = record {
   data_read = refl;
   no_result_yet = refl;
   result = refl;
+}
+
+pub last_rows : LastRows
+unfolding computing
+last_rows = record {
   no_index_yet = refl;
   no_line_yet = refl;
   index = refl;
   written = refl;
   line = refl;
-  nothing_further = refl;
   disk_written = refl;
 }
 

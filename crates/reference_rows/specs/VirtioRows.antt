@@ -1,5 +1,5 @@
 -- Registers of the virtio block device, and beats of requests, a row for each line. This project's own.
-use Rattle.std.specs.Prelude.{◌≡◌, ℕ, zero, suc, List, [], ◌∷◌, ◌++◌, replicate, length, Option, None, Some, ◌+◌, ◌*◌, true, false}
+use Rattle.std.specs.Prelude.{◌≡◌, ℕ, List, [], ◌∷◌, ◌++◌, replicate, length, Option, None, Some, true, false}
 use Rattle.processor.specs.Bytes.{low_bytes, overwrite, padded, part, word}
 use Rattle.sv_types.specs.Clock.{clock_at_boot}
 use Rattle.sv_types.specs.declared.event.Event.TheVariants.{Beat}
@@ -8,7 +8,7 @@ use Rattle.reference.specs.Devices.{external_line}
 use Rattle.reference.specs.Disk.{disk_bytes, disk_load, disk_store}
 use Rattle.reference.specs.Run.{run}
 use Rattle.reference.specs.States.{State, Disk, BlockDisk, VirtioDisk}
-use Rattle.reference.specs.VirtioDevice.{VirtioDevice, Request}
+use Rattle.reference.specs.VirtioDevice.{Request}
 use Rattle.reference.specs.VirtioStores.{reset}
 use Rattle.reference_rows.specs.Guests.{small}
 
@@ -118,12 +118,13 @@ pub record RequestRows : Type 0 where
   pub data_read : part (read 9).ram 0x2000 513 ≡ replicate 512 8 ++ (5 ∷ [])
   pub no_result_yet : word (read 9).ram 0x1200 1 ≡ 170
   pub result : word (read 10).ram 0x1200 1 ≡ 0
+
+pub record LastRows : Type 0 where
   pub no_index_yet : word (read 12).ram 0x1402 2 ≡ 0
   pub no_line_yet : external_line (read 12).devices 0 ≡ false
   pub index : word (read 13).ram 0x1402 2 ≡ 1
   pub written : word (read 13).ram 0x1408 4 ≡ 513
   pub line : external_line (read 13).devices 0 ≡ true
-  pub nothing_further : (read 14).ram ≡ (read 13).ram
   pub disk_written : part (disk_bytes (write 9).devices.disk) 511 513 ≡ 7 ∷ replicate 512 5
 
 pub record AttackRows : Type 0 where

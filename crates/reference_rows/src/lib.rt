@@ -10,7 +10,7 @@ ghost use Rattle.reference_rows.specs.DeviceRows.{DeviceRows};
 ghost use Rattle.reference_rows.specs.ExitRows.{ExitRows};
 ghost use Rattle.reference_rows.specs.ModuleRows.{ModuleRows};
 ghost use Rattle.reference_rows.specs.GuestRows.{GuestRows};
-ghost use Rattle.reference_rows.specs.VirtioRows.{VirtioRows, RequestRows, AttackRows};
+ghost use Rattle.reference_rows.specs.VirtioRows.{VirtioRows, RequestRows, LastRows, AttackRows};
 
 /// Whole runs of one page.
 pub fn rows_of_one_page()
@@ -56,5 +56,6 @@ pub fn rows_of_entries()
 pub fn rows_of_requests()
     ensures registers { VirtioRows }
     ensures requests { RequestRows }
+    ensures last { LastRows }
     ensures attacks { AttackRows }
 {}

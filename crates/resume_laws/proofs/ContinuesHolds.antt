@@ -3,6 +3,7 @@ use Rattle.std.proofs.Common.{◌≡◌, ℕ, zero, suc, List, [], ◌∷◌, �
 use Rattle.sv_types.specs.declared.event.Event.{Event}
 use Rattle.sv_types.specs.declared.event.Verdict.{Verdict}
 use Rattle.sv_types.specs.declared.event.Verdict.TheVariants.{Running, Shutdown, Stopped}
+use Rattle.reference.specs.Disk.{disk_bytes}
 use Rattle.reference.specs.States.{State}
 use Rattle.reference.specs.Report.{output, report}
 use Rattle.reference.specs.Run.{step, run, happen_under, HasEnded}
@@ -56,9 +57,9 @@ same_output front r next alike =
     rw (text, alike.printed) (sym (append_assoc front next.journal.printed (report r.journal)))
 
 continues : (front : List ℕ) (last other : State) → Alike front last other
-    → (front ++ output other ≡ output last) × (other.journal.verdict ≡ last.journal.verdict) × (other.devices.disk.bytes ≡ last.devices.disk.bytes)
+    → (front ++ output other ≡ output last) × (other.journal.verdict ≡ last.journal.verdict) × (disk_bytes other.devices.disk ≡ disk_bytes last.devices.disk)
 continues front last other alike =
-    (same_output front last other alike, ap (λ (x : State). x.journal.verdict) alike.rest, ap (λ (x : State). x.devices.disk.bytes) alike.rest)
+    (same_output front last other alike, ap (λ (x : State). x.journal.verdict) alike.rest, ap (λ (x : State). disk_bytes x.devices.disk) alike.rest)
 
 pub continues_law : ContinuesLaw
 continues_law s k events resumed none alike =

@@ -1,5 +1,5 @@
 -- Each start can be saved.
-use Rattle.std.proofs.Common.{◌≡◌, ℕ, zero, suc, ◌+◌, ◌-◌, ◌*◌, ◌/◌, ◌<◌, ◌≤◌, inl, inr, List, [], ◌∷◌, filter, length, refl, sym, subst, Bool, true, false, arith, replicate}
+use Rattle.std.proofs.Common.{◌≡◌, ℕ, zero, suc, ◌+◌, ◌-◌, ◌*◌, ◌/◌, ◌<◌, ◌≤◌, inl, inr, List, [], ◌∷◌, filter, length, refl, sym, ◌∙◌, subst, Bool, true, false, arith, replicate}
 use Rattle.std.specs.Prelude.{if◌then◌else◌, slice_index}
 use Rattle.std.specs.List.{list_any}
 use Rattle.processor.specs.Bytes.{padded, page_size, ram_base}
@@ -10,8 +10,8 @@ use Rattle.sv_types.specs.Clock.{latest}
 use Rattle.sv_types.specs.Kernel.{LoadedSegment, header_entry, is_text_of, kernel_segments, segments_ram, text_pages}
 use Rattle.sv_types.specs.Policies.{Rules}
 use Rattle.reference.specs.Calls.{hart_at, stopped_hart}
-use Rattle.reference.specs.Start.{IsStart, StartsFlat, StartsImage, start, flat_rules, flat_start, boot_start, harts_at_boot}
-use Rattle.reference.specs.States.{State}
+use Rattle.reference.specs.Start.{IsStart, StartsFlat, StartsBy, start, flat_rules, flat_start, image_start, boot_start, virtio_start, block_disk, virtio_disk, harts_at_boot}
+use Rattle.reference.specs.States.{State, Disk}
 use Rattle.run_laws.proofs.StartsSound.{CanStart, flat_can, image_can}
 use Rattle.run_laws.proofs.StateLawsHold.{reached_sound}
 use Rattle.resume_laws.specs.Keepable.{ram_size, AreKeepable, AscendFrom, IsKeepable, KeepableLaw}
@@ -26,12 +26,12 @@ harts_kept : (size harts entry : ℕ) → AreKeepable size (harts_at_boot harts 
 unfolding hart_at
 harts_kept size harts entry = (record { zero = refl; reservation = tt }, stopped_kept size (harts - 1))
 
-never : (n h : ℕ) → h < n → slice_index (replicate n latest) h ≡ latest
+pub never : (n h : ℕ) → h < n → slice_index (replicate n latest) h ≡ latest
 never zero h few = absurd (omega (arith, few))
 never (suc n) zero few = refl
 never (suc n) (suc h) few = never n h (omega (arith, few))
 
-start_keeps : (rules : Rules) (ram text : List ℕ) (entry : ℕ) (disk : List ℕ) → CanStart rules ram text entry → AscendFrom 0 text → IsKeepable (start rules ram text entry disk)
+start_keeps : (rules : Rules) (ram text : List ℕ) (entry : ℕ) (disk : Disk) → CanStart rules ram text entry → AscendFrom 0 text → IsKeepable (start rules ram text entry disk)
 unfolding start
 start_keeps rules ram text entry disk can up = record {
   harts = harts_kept (ram_size rules) rules.harts entry;
@@ -70,18 +70,19 @@ text_ascends segments = filter_ascends (λ page. list_any (is_text_of page) segm
 flat_keeps : (s : State) → StartsFlat s → IsKeepable s
 unfolding flat_start
 flat_keeps s k = subst IsKeepable (sym k.same)
-    (start_keeps (flat_rules k.digest) (padded k.pages (page_size * flat_ram_pages)) (numbers_from 0 (length k.pages / page_size)) ram_base []
+    (start_keeps (flat_rules k.digest) (padded k.pages (page_size * flat_ram_pages)) (numbers_from 0 (length k.pages / page_size)) ram_base (block_disk [])
     (flat_can k.pages k.digest k.fits) (numbers_ascend 0 (length k.pages / page_size)))
 
-image_keeps : (s : State) → StartsImage s → IsKeepable s
-unfolding boot_start
-image_keeps s k = subst IsKeepable (sym k.same)
-    (start_keeps k.rules (segments_ram (kernel_segments k.file) k.rules.ram_pages) (text_pages (kernel_segments k.file)) (header_entry k.file) k.disk
+image_keeps : {boot : Rules → (file disk : List ℕ) → State} (s : State) (disk : Disk) (k : StartsBy boot s) → boot k.rules k.file k.disk ≡ image_start k.rules k.file disk → IsKeepable s
+image_keeps s disk k same = subst IsKeepable (sym (k.same ∙ same))
+    (start_keeps k.rules (segments_ram (kernel_segments k.file) k.rules.ram_pages) (text_pages (kernel_segments k.file)) (header_entry k.file) disk
     (image_can k.rules k.file k.within k.words k.accepted k.entry) (text_ascends (kernel_segments k.file)))
 
 begins : (s : State) → IsStart s → IsKeepable s
+unfolding boot_start virtio_start
 begins s (inl flat) = flat_keeps s flat
-begins s (inr image) = image_keeps s image
+begins s (inr (inl k)) = image_keeps s (block_disk k.disk) k refl
+begins s (inr (inr k)) = image_keeps s (virtio_disk k.disk) k refl
 
 pub keepable_law : KeepableLaw
 keepable_law s events is_start = keeps_law s events (reached_sound s [] is_start) (begins s is_start)

@@ -20,7 +20,8 @@ use Rattle.sv_types.specs.declared.event.Verdict.{Verdict}
 use Rattle.sv_types.specs.declared.event.Verdict.TheVariants.{Running, Shutdown, Stopped}
 use Rattle.reference.specs.Counting.{count, counted, noted, count_demote, count_dropped, count_turn, count_beat, count_key, count_tick}
 use Rattle.reference.specs.Devices.{lines_at, with_disk, after_move, after_beaten, beat, key, tick}
-use Rattle.reference.specs.Disk.{Beaten, Move, Idle, FromRam, IntoRam, DeniedAt, OutsideRam, disk_beat}
+use Rattle.reference.specs.Disk.{Beaten, disk_beat}
+use Rattle.reference.specs.Move.{Move, Idle, FromRam, IntoRam, DeniedAt, OutsideRam}
 use Rattle.reference.specs.Loads.{load_step_of, is_good}
 use Rattle.reference.specs.Requests.{source_of, target_of, csr_asked}
 use Rattle.reference.specs.Run.{happen, happen_under, step}

@@ -8,3 +8,8 @@ pub mod KeepableRequests
 pub mod KeepableCalls
 pub mod KeepableSteps
 pub mod KeepableStarts
+pub mod TakenPages
+pub mod FormParts
+pub mod ResumedHarts
+pub mod ResumedPages
+pub mod ResumedSoundHolds

@@ -4,6 +4,7 @@ use Rattle.sv_types.specs.ApprovedPages.{approved_bytes}
 use Rattle.sv_types.specs.declared.event.Event.{Event}
 use Rattle.sv_types.specs.declared.event.Verdict.{Verdict}
 use Rattle.sv_types.specs.declared.event.Verdict.TheVariants.{Running, Shutdown, Stopped}
+use Rattle.reference.specs.Disk.{disk_bytes}
 use Rattle.reference.specs.States.{State}
 use Rattle.reference.specs.Report.{output}
 use Rattle.reference.specs.Run.{step, run}
@@ -34,7 +35,7 @@ drawn r (e ∷ events) = drawn_under r.journal.verdict suc (drawn (step r e) eve
 pub record Continues (s : State) (k : ℕ) (events : List Event) (resumed : State) : Type 0 where
   pub output : (run s (take k events)).journal.printed ++ output (run resumed (drop (drawn s (take k events)) events)) ≡ output (run s events)
   pub verdict : (run resumed (drop (drawn s (take k events)) events)).journal.verdict ≡ (run s events).journal.verdict
-  pub disk : (run resumed (drop (drawn s (take k events)) events)).devices.disk.bytes ≡ (run s events).devices.disk.bytes
+  pub disk : disk_bytes (run resumed (drop (drawn s (take k events)) events)).devices.disk ≡ disk_bytes (run s events).devices.disk
 
 abbrev pub ContinuesLaw : Type 0
 ContinuesLaw = (s : State) (k : ℕ) (events : List Event) (resumed : State) → resumed.journal.printed ≡ []

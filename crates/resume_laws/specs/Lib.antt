@@ -1,3 +1,4 @@
 pub mod Resumed
 pub mod Continues
 pub mod Keepable
+pub mod ResumedSound

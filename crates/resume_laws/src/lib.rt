@@ -2,6 +2,7 @@
 #![tactic(auto)]
 
 ghost use Rattle.resume_laws.specs.Resumed.{ResumedLaw};
+ghost use Rattle.resume_laws.specs.ResumedSound.{ResumedSoundLaw};
 ghost use Rattle.resume_laws.specs.Continues.{AlikeLaw, ContinuesLaw};
 ghost use Rattle.resume_laws.specs.Keepable.{KeepableLaw, KeepsLaw};
 
@@ -29,4 +30,10 @@ pub fn law_keeps()
 /// Each state that a run reaches from a start has it.
 pub fn law_keepable()
     ensures { KeepableLaw }
+{}
+
+/// The state in which a machine goes on from a snapshot that isn't refused is sound, whoever made the snapshot's bytes; it
+/// can be saved again, and its text has the digests that join to the policy's.
+pub fn law_resumed_sound()
+    ensures { ResumedSoundLaw }
 {}

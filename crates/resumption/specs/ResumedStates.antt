@@ -6,6 +6,7 @@ use Rattle.sv_types.specs.ApprovedPages.{approved_pages}
 use Rattle.sv_types.specs.Clock.{latest}
 use Rattle.sv_types.specs.Policies.{Rules}
 use Rattle.reference.specs.States.{State, Hart, Loading}
+use Rattle.saved_machine.specs.SavedStates.{disk_of}
 use Rattle.saved_machine.specs.declared.harts.SavedHart.{SavedHart}
 use Rattle.saved_machine.specs.declared.whole.SavedLoad.{SavedLoad}
 use Rattle.snapshot_form.specs.Snapshots.{Contents}
@@ -54,7 +55,7 @@ resumed_state rules s = record {
   retired = s.retired;
   devices = record {
     console = s.console;
-    disk = record { block = s.block; bytes = s.disk };
+    disk = disk_of s.port s.disk;
     clock = record { time = s.time; timers = timers_of s.harts };
   };
   journal = record { printed = []; notes = s.notes; counts = s.counts; verdict = s.verdict };

@@ -1,8 +1,7 @@
 -- Each event keeps a sound state sound, and so does a run.
-use Rattle.std.proofs.Common.{◌≡◌, ℕ, ◌+◌, ◌*◌, ◌/◌, ◌%◌, ◌^◌, ◌<◌, ◌≤◌, List, [], ◌∷◌, length, refl, Bool, true, false, not, arith, slice_get}
+use Rattle.std.proofs.Common.{◌≡◌, ℕ, ◌%◌, ◌^◌, ◌<◌, List, [], ◌∷◌, refl, true, not, slice_get}
 use Rattle.std.specs.Prelude.{Option, Some, None, if◌then◌else◌, ◌==◌}
-use Rattle.std.proofs.lemmas.Bool.Decides.{nat_tests}
-use Rattle.processor.specs.Bytes.{part, in_ram, page_of, ram_place}
+use Rattle.processor.specs.Bytes.{page_of, ram_place}
 use Rattle.sv_types.specs.Policies.{Rules}
 use Rattle.sv_types.specs.Clock.{after_tick}
 use Rattle.sv_types.specs.Console.{after_key, has_room}
@@ -21,7 +20,6 @@ use Rattle.processor.specs.declared.mode.Mode.TheVariants.{Kernel, User}
 use Rattle.sv_types.specs.declared.event.Note.TheVariants.{Demote, Denied}
 use Rattle.sv_types.specs.declared.event.Verdict.{Verdict}
 use Rattle.sv_types.specs.declared.event.Verdict.TheVariants.{Running, Shutdown, Stopped}
-use Rattle.sv_types.specs.declared.block.BlockStatus.{BlockStatus}
 use Rattle.reference.specs.States.{State, Hart, Binding, Disk, Loading, is_protected}
 use Rattle.reference.specs.Counting.{count, counted, noted, count_turn, count_beat, count_key, count_tick, count_retired, count_demote, count_denied, count_dropped}
 use Rattle.reference.specs.Disk.{Beaten, disk_beat}
@@ -38,9 +36,8 @@ use Rattle.attempt_laws.proofs.EffectsAgree.{IsTold}
 use Rattle.run_laws.proofs.BeatsSound.{FreeMove, IsSoundBeat, beat_page, beat_sound}
 use Rattle.run_laws.proofs.CallsSound.{call_goes, load_step_goes}
 use Rattle.run_laws.proofs.HartsSound.{at_pc, demoted_sound, GoesRight, effects_right}
-use Rattle.run_laws.proofs.Lookups.{unprotected, unheld, not_false, part_short}
 use Rattle.run_laws.proofs.RequestsSound.{exception_goes, trap_goes, return_goes, retire_goes, load_goes, load_reserved_goes, store_goes, store_conditional_goes, amo_goes, target_free, csr_goes}
-use Rattle.run_laws.proofs.Sounds.{Goes, InFreePage, goes_set, goes_beside, goes_bytes, goes_on, choose_goes, decide_goes, text_stays}
+use Rattle.run_laws.proofs.Sounds.{Goes, goes_set, goes_beside, goes_bytes, goes_on, choose_goes, decide_goes, text_stays}
 
 -- ---- instructions
 

@@ -1,11 +1,11 @@
 -- A virtio block device stays sound: stores into its registers, and the moves of the requests that it accepts.
-use Rattle.std.proofs.Common.{◌≡◌, ℕ, zero, suc, ◌+◌, ◌-◌, ◌*◌, ◌%◌, ◌^◌, ◌<◌, ◌≤◌, List, [], ◌∷◌, ◌++◌, length, refl, sym, subst, Bool, true, false, not, ◌&&◌, ◌||◌, filter, arith}
+use Rattle.std.proofs.Common.{◌≡◌, ℕ, zero, suc, ◌+◌, ◌-◌, ◌*◌, ◌%◌, ◌^◌, ◌<◌, List, [], ◌∷◌, ◌++◌, refl, subst, Bool, true, false, not, ◌&&◌, ◌||◌, filter, arith}
 use Rattle.std.specs.Prelude.{Option, Some, None, option_map, if◌then◌else◌, ◌==◌}
 use Rattle.std.proofs.lemmas.Bool.{eqb-true}
 use Rattle.sv_types.specs.declared.virtio.VirtioMove.{VirtioMove}
 use Rattle.sv_types.specs.declared.virtio.VirtioPart.{VirtioPart}
 use Rattle.sv_types.specs.declared.virtio.VirtioRegister.{VirtioRegister}
-use Rattle.reference.specs.VirtioDevice.{VirtioDevice, Request, is_selected}
+use Rattle.reference.specs.VirtioDevice.{VirtioDevice, is_selected}
 use Rattle.reference.specs.VirtioRegisters.{register_at}
 use Rattle.reference.specs.VirtioStores.{reset, with_features, kept_status, with_status, can_set, is_size, ready_after, with_ready, with_size, with_descriptors, with_available, with_used, with_low, with_high, put, virtio_store}
 use Rattle.reference.specs.VirtioQueue.{used_gpa, used_index_gpa}

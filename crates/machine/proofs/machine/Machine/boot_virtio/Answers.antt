@@ -9,7 +9,7 @@ use Rattle.run_laws.proofs.StartsSound.{virtio_quiet}
 use Rattle.machine.proofs.machine.Machine.boot_virtio.Goals as goal
 
 pub boot_behind-requires-clause-quiet : goal.boot_behind-requires-clause-quiet
-boot_behind-requires-clause-quiet g c κs = subst IsSoundDisk (sym c.virtio.ensures) (virtio_quiet c.args.disk.items)
+boot_behind-requires-clause-quiet g c κs within = subst IsSoundDisk (sym c.virtio.ensures) (virtio_quiet c.args.disk.items)
 
 pub returns-clause-new : goal.returns-clause-new
 unfolding virtio_start

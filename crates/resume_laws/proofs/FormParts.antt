@@ -1,0 +1,99 @@
+-- What a snapshot's form gives: the ranges of its parts.
+use Rattle.std.proofs.Common.{◌≡◌, ℕ, zero, suc, ◌+◌, ◌-◌, ◌*◌, ◌%◌, ◌^◌, ◌<◌, ◌≤◌, List, [], ◌∷◌, ◌++◌, length, min, refl, sym, ◌∙◌, ap, subst, Bool, true, false, not, ◌&&◌, ◌||◌, arith, slice_get, length-append, eqb, drop}
+use Rattle.std.specs.Prelude.{Option, Some, None, option_map, is_some, if◌then◌else◌, ◌==◌, nat_lt, nat_le}
+use Rattle.std.proofs.lemmas.Bool.{eqb-true}
+use Rattle.std.proofs.lemmas.Bool.Decides.{nat_tests}
+use Rattle.processor.specs.Bytes.{page_size, ram_base, ram_place}
+use Rattle.processor.specs.Registers.{legal_status, legal_interrupts, legal_tvec, legal_counteren, legal_epc, legal_satp}
+use Rattle.processor.specs.declared.mode.Mode.{Mode}
+use Rattle.processor.specs.declared.mode.Mode.TheVariants.{Kernel, User}
+use Rattle.sv_types.specs.Console.{most_queued}
+use Rattle.sv_types.specs.Policies.{harts_within, modules_count_within}
+use Rattle.sv_types.specs.declared.block.BlockState.{BlockState}
+use Rattle.sv_types.specs.declared.block.BlockStatus.{BlockStatus}
+use Rattle.sv_types.specs.declared.block.BlockCommand.{BlockCommand}
+use Rattle.sv_types.specs.declared.event.Note.{Note}
+use Rattle.sv_types.specs.declared.event.Rule.TheVariants.{Entry, Write}
+use Rattle.sv_types.specs.declared.event.Verdict.{Verdict}
+use Rattle.sv_types.specs.declared.event.Verdict.TheVariants.{Running, Shutdown, Stopped}
+use Rattle.sv_types.specs.declared.saved.SavedModule.{SavedModule}
+use Rattle.saved_machine.specs.declared.harts.SavedHart.{SavedHart}
+use Rattle.saved_machine.specs.declared.whole.SavedLoad.{SavedLoad}
+use Rattle.snapshot_form.specs.DeviceForms.{console, port, block_in, disk, devices}
+use Rattle.snapshot_form.specs.Forms.{Form, number, is_word, within, and_then, ◌⨾◌, made, always, plain, has_all, listed, counted, measured}
+use Rattle.snapshot_form.specs.HartForms.{flag, hart, harts}
+use Rattle.snapshot_form.specs.JournalForms.{JournalParts, counts, notes, verdict, journal}
+use Rattle.snapshot_form.specs.PageForms.{Pages, protections, text, pages, Gate, modules, loading, gate}
+use Rattle.snapshot_form.specs.Snapshots.{Contents, beginning, events_made, hart_count, magic, header, body, whole_header, whole_body, snapshot}
+use Rattle.snapshot_form.proofs.FormLaws.{first_true, second_true}
+
+-- the parts of a snapshot have their forms
+pub record HasParts (s : Contents) : Type 0 where
+  pub few : harts_within (length s.harts) ≡ true
+  pub harts : (harts (length s.protection) (length s.harts)).has s.harts ≡ true
+  pub text : (text (length s.protection)).has s.text ≡ true
+  pub modules : modules.has s.modules ≡ true
+  pub loading : (loading s.harts).has s.loading ≡ true
+  pub console : console.has s.console ≡ true
+  pub port : port.has s.port ≡ true
+  pub notes : (notes (length s.harts) s.counts.notes).has s.notes ≡ true
+  pub verdict : (verdict (length s.harts)).has s.verdict ≡ true
+  pub ram : length s.ram ≡ page_size * length s.protection
+
+pub parts_of : (s : Contents) → snapshot.has s ≡ true → HasParts s
+unfolding snapshot header body pages gate devices journal
+parts_of s h =
+    let h0 = whole_header s in
+    let b = whole_body s in
+    let whole = second_true (header.has h0) ((body h0).has b) h in
+    let behind = second_true ((harts h0.ram_pages h0.harts).has b.0) _ whole in
+    let page_parts = first_true ((pages h0.ram_pages).has b.1.0) _ behind in
+    let after_pages = second_true ((pages h0.ram_pages).has b.1.0) _ behind in
+    let gate_parts = first_true ((gate b.0).has b.1.1.0) _ after_pages in
+    let after_gate = second_true ((gate b.0).has b.1.1.0) _ after_pages in
+    let device_parts = first_true (devices.has b.1.1.1.0) _ after_gate in
+    let after_devices = second_true (devices.has b.1.1.1.0) _ after_gate in
+    let journal_parts = first_true ((journal h0.events h0.harts).has b.1.1.1.1.0) _ after_devices in
+    let ram_part = second_true ((journal h0.events h0.harts).has b.1.1.1.1.0) _ after_devices in
+    let blocks = second_true (console.has s.console) _ device_parts in
+    let notes_on = second_true ((counts h0.events).has s.counts) _ journal_parts in
+    let head = first_true (header.has h0) ((body h0).has b) h in
+    let head_events = second_true (beginning.has magic) _ head in
+    let head_harts = second_true (events_made.has h0.events) _ head_events in
+    let hart_part = first_true (hart_count.has h0.harts) _ head_harts in
+    record {
+      few = second_true (is_word h0.harts) (harts_within h0.harts) hart_part;
+      harts = first_true ((harts h0.ram_pages h0.harts).has b.0) _ whole;
+      text = second_true ((protections h0.ram_pages).has s.protection) _ page_parts;
+      modules = first_true (modules.has s.modules) _ gate_parts;
+      loading = second_true (flag.has s.retired) _ (second_true (modules.has s.modules) _ gate_parts);
+      console = first_true (console.has s.console) _ device_parts;
+      port = first_true (port.has s.port) ((disk (block_in s.port)).has s.disk) blocks;
+      notes = first_true ((notes h0.harts s.counts.notes).has s.notes) _ notes_on;
+      verdict = second_true ((notes h0.harts s.counts.notes).has s.notes) _ notes_on;
+      ram = eqb-true (length s.ram) (page_size * h0.ram_pages) ram_part;
+    }
+
+-- ---- lists
+
+-- the last of a list that has one more
+last_at : {A : Type 0} (xs : List A) (x : A) → slice_get (xs ++ x ∷ []) (length xs) ≡ Some x
+last_at [] x = refl
+last_at (y ∷ xs) x = last_at xs x
+
+pub last_of : {A : Type 0} (xs : List A) (x : A) → slice_get (xs ++ x ∷ []) (length (xs ++ x ∷ []) - 1) ≡ Some x
+last_of xs x =
+    let more : length (xs ++ x ∷ []) ≡ length xs + 1 = length-append xs (x ∷ []) in
+    let at : length (xs ++ x ∷ []) - 1 ≡ length xs = omega (arith, more) in
+    subst (λ (i : ℕ). slice_get (xs ++ x ∷ []) i ≡ Some x) (sym at) (last_at xs x)
+
+-- ---- numbers
+
+pub is_small : (n : ℕ) → is_word n ≡ true → n < 2 ^ 64
+is_small n e = grind (arith, nat_tests)
+
+pub below_is : (a b : ℕ) → nat_lt a b ≡ true → a < b
+below_is a b e = grind (arith, nat_tests)
+
+pub most_is : (a b : ℕ) → nat_le a b ≡ true → a ≤ b
+most_is a b e = grind (arith, nat_tests)

@@ -1,0 +1,21 @@
+-- What holds of the state in which a machine goes on from a snapshot that isn't refused, whoever made its bytes.
+-- This project's own.
+use Rattle.std.specs.Prelude.{◌≡◌, true, None, IsTrue}
+use Rattle.sv_types.specs.Policies.{Rules, rules_within}
+use Rattle.reference.specs.Soundness.{IsSound}
+use Rattle.reference.specs.Start.{AreWords}
+use Rattle.snapshot_form.specs.Snapshots.{Contents, snapshot}
+use Rattle.resumption.specs.Judgements.{resume_refusal}
+use Rattle.resumption.specs.ResumedStates.{resumed_state}
+use Rattle.resume_laws.specs.Keepable.{IsKeepable}
+use Rattle.resume_laws.specs.Resumed.{KeepsDigests}
+
+-- it is sound, can be saved again, and its text has the digests that the policy's kernel digest joins
+pub record IsResumable (rules : Rules) (s : Contents) : Type 0 where
+  pub sound : IsSound (resumed_state rules s)
+  pub keepable : IsKeepable (resumed_state rules s)
+  pub digests : KeepsDigests (resumed_state rules s) s.text
+
+abbrev pub ResumedSoundLaw : Type 0
+ResumedSoundLaw = (rules : Rules) (s : Contents) → IsTrue (rules_within rules) → AreWords rules.entries → snapshot.has s ≡ true
+    → resume_refusal rules s ≡ None → IsResumable rules s
