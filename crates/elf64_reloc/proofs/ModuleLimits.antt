@@ -1,6 +1,6 @@
 -- A module that is read is within the limits: its text is whole pages, at most 1,024, and its fields stand in it, in the
 -- order of their places, under bases that there are.
-use Rattle.std.proofs.Common.{◌≡◌, ℕ, zero, suc, ◌+◌, ◌-◌, ◌*◌, ◌/◌, ◌%◌, ◌^◌, ◌<◌, ◌≤◌, Bool, true, false, List, [], ◌∷◌, ◌++◌, length, map, replicate, Option, Some, None, Ok, Err, Ordering, Less, Equal, Greater, refl, ap, sym, subst, ◌∙◌, arith, length-append}
+use Rattle.std.proofs.Common.{◌≡◌, ℕ, zero, suc, ◌+◌, ◌-◌, ◌*◌, ◌/◌, ◌%◌, ◌^◌, ◌<◌, ◌≤◌, Bool, true, false, List, [], ◌∷◌, ◌++◌, length, map, Option, Some, None, Ok, Err, Ordering, Less, Equal, Greater, refl, ap, sym, subst, ◌∙◌, arith, length-append}
 use Rattle.std.specs.Prelude.{◌&&◌, ◌||◌, ◌==◌, nat_le, nat_lt, if◌then◌else◌, Result, IfOk, slice_get}
 use Rattle.std.specs.BTreeMap.{insert_entry}
 use Rattle.std.specs.List.{list_all}
@@ -16,8 +16,8 @@ use Rattle.sv_types.specs.declared.module.Site.{Site}
 use Rattle.sv_types.specs.declared.policy.Export.{Export}
 use Rattle.elf64_sections.specs.Judged.{◌>>=◌}
 use Rattle.elf64_sections.specs.Sections.{Tables, sections_in_file, sections_among, sections_of, sections_count, sections_place, section_at, tables_of}
-use Rattle.elf64_reloc.specs.Layouts.{is_good_alignment, padding, ends_from, no_ends, placed_sections, text_size}
-use Rattle.elf64_reloc.specs.Modules.{Module, ordered_from, ordered_sites, field_end, some_touch, is_too_large, fields_overlap, module_with, module_of, module_judged, sites_of, relocations_of_object, text_of, text_from, whole_pages, zeros, pages_of, module_fits}
+use Rattle.elf64_reloc.specs.Layouts.{is_good_alignment, padding, no_ends, placed_sections, text_size}
+use Rattle.elf64_reloc.specs.Modules.{Module, ordered_from, ordered_sites, field_end, some_touch, is_too_large, fields_overlap, module_with, module_of, module_judged, sites_of, text_of, text_from, whole_pages, zeros, pages_of, module_fits}
 use Rattle.elf64_reloc.specs.ModuleViews.{module_view}
 use Rattle.elf64_reloc.specs.Objects.{Object, is_good_part, object_with, object_of, object_behind, object_judged}
 use Rattle.elf64_reloc.specs.Refusals.{Judged}

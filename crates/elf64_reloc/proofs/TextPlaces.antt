@@ -1,6 +1,6 @@
 -- The sections of text stand in the text, one behind the other. In a short file no place goes beyond 64 bits.
 use Rattle.std.proofs.Common.{◌≡◌, ℕ, zero, suc, ◌+◌, ◌*◌, ◌%◌, ◌^◌, ◌<◌, ◌≤◌, Bool, true, false, List, [], ◌∷◌, ◌++◌, length, take, drop, Option, Some, None, refl, ap, sym, subst, ◌∙◌, arith, length-append, length-take, length-drop}
-use Rattle.std.specs.Prelude.{◌&&◌, ◌||◌, ◌==◌, nat_le, if◌then◌else◌, flat_map, slice_get}
+use Rattle.std.specs.Prelude.{◌&&◌, ◌||◌, ◌==◌, if◌then◌else◌, flat_map, slice_get}
 use Rattle.std.specs.List.{list_all}
 use Rattle.std.proofs.lemmas.Bool.{and_parts, eqb-true, leb-true}
 use Rattle.std.proofs.lemmas.List.{length-replicate}
@@ -12,7 +12,7 @@ use Rattle.elf64_sections.specs.declared.sections.SectionHeader.{SectionHeader}
 use Rattle.elf64_reloc.specs.Layouts.{is_good_alignment, space_of, padding, place_behind, ends_with, placed_behind, ends_behind, placed_from, ends_from}
 use Rattle.elf64_reloc.specs.Modules.{zeros, text_behind, text_from}
 use Rattle.elf64_reloc.specs.Objects.{is_good_part}
-use Rattle.elf64_reloc.specs.Relocations.{is_text, relocation_at, kept, kept_at, relocations_in, relocations_of_home, relocations_of, all_relocations}
+use Rattle.elf64_reloc.specs.Relocations.{is_text, relocation_at, kept_at, relocations_in, relocations_of_home, relocations_of, all_relocations}
 use Rattle.elf64_reloc.specs.declared.layout.Ends.{Ends}
 use Rattle.elf64_reloc.specs.declared.layout.PlacedSection.{PlacedSection}
 use Rattle.elf64_reloc.specs.declared.layout.Space.{Space}

@@ -14,12 +14,12 @@ use std::sync::ledger::{Blank, Ledger};
 use sv39_walk::{Mapping, SecondStage, find_mapping};
 
 /// The lines of a cache.
-const LINES: u64 = 256;
+const LINES: usize = 256;
 
 /// A cache of second-stage translations. Contracts see its lines, each held or empty.
 #[derive(Drop)]
 pub struct Cache {
-    lines: [Option<CacheLine>; 256],
+    lines: [Option<CacheLine>; LINES],
 }
 
 impl Model for Cache {
@@ -40,7 +40,9 @@ impl Cache {
     pub fn new() -> Cache
         ensures { result ≡ no_lines }
     {
-        Cache { lines: [None; 256] }
+        Cache {
+            lines: [None; LINES],
+        }
     }
 
     /// Whether the translation of an address under an `hgatp` value is held.
@@ -56,7 +58,7 @@ impl Cache {
     fn line(&self, hgatp: u64, page: u64) -> Option<CacheLine>
         ensures { result ≡ line_for self.now hgatp page }
     {
-        let held = self.lines[(page % LINES) as usize];
+        let held = self.lines[(page % LINES as u64) as usize];
         match held {
             Some(line) => {
                 if line.hgatp == hgatp && line.page == page {
@@ -189,7 +191,7 @@ impl Cache {
     fn keep(&mut self, line: CacheLine)
         ensures { IsKept self.old self.new line }
     {
-        self.lines[(line.page % LINES) as usize] = Some(line);
+        self.lines[(line.page % LINES as u64) as usize] = Some(line);
     }
 
     /// Empties all lines.
@@ -200,10 +202,10 @@ impl Cache {
     }
 }
 
-fn empty() -> [Option<CacheLine>; 256]
+fn empty() -> [Option<CacheLine>; LINES]
     ensures { result ≡ no_lines }
 {
-    [None; 256]
+    [None; LINES]
 }
 
 // The line that keeps where the walk of an address led.

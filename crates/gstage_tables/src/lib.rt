@@ -26,6 +26,22 @@ use sv_types::{Protection, View};
 /// The pages of a block of 2 MiB, which one level-0 table maps, or one leaf of level 1.
 const BLOCK_PAGES: u64 = 512;
 
+/// The pages of a tree's root.
+const ROOT_PAGES: u64 = 4;
+
+/// The mode Sv39x4 of `hgatp`, whose VMID begins at bit 44, and the page of the root at bit 0.
+const SV39X4: u64 = 8 << 60;
+
+/// How the value of `hgatp` grows from one tree to the next: by a VMID and the pages of a root.
+const NEXT_TREE: u64 = (1 << 44) + ROOT_PAGES;
+
+/// The values of `hgatp` of the kernel view, of the user view, and of the first entry's. VMIDs begin with 1.
+const KERNEL_HGATP: u64 = SV39X4 + (1 << 44);
+
+const USER_HGATP: u64 = KERNEL_HGATP + NEXT_TREE;
+
+const FIRST_ENTRY_HGATP: u64 = USER_HGATP + NEXT_TREE;
+
 /// The trees in the table part of a region, and how many pages of each block aren't free. Contracts see the `Shape`.
 #[derive(Drop)]
 pub struct Trees {
@@ -168,9 +184,9 @@ impl Trees {
         ensures { result ≡ view_hgatp view }
     {
         match view {
-            View::Kernel => 0x8000_1000_0000_0000,
-            View::User => 0x8000_2000_0000_0004,
-            View::Entry(i) => 0x8000_3000_0000_0008 + 0x1000_0000_0004 * i as u64,
+            View::Kernel => KERNEL_HGATP,
+            View::User => USER_HGATP,
+            View::Entry(i) => FIRST_ENTRY_HGATP + NEXT_TREE * i as u64,
         }
     }
 

@@ -13,6 +13,10 @@ use Rattle.processor.specs.declared.instruction.CsrOp.TheVariants.{Csrrw}
 use Rattle.sv_types.specs.BlockNumbers.{command_number}
 use Rattle.sv_types.specs.declared.block.BlockCommand.TheVariants.{DiskToMemory}
 
+-- the most calls of the user
+abbrev pub most_calls : ℕ
+most_calls = 1000000
+
 -- ---- registers
 
 abbrev pub x0 : ℕ

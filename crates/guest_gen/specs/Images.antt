@@ -1,9 +1,10 @@
 -- An executable file of three segments, page by page: its headers, a page of text, and a body.
 -- ELF-64 Object File Format, "ELF Header" and "Program Header Table"; RISC-V ELF psABI, "File Header".
-use Rattle.std.specs.Prelude.{ℕ, ◌+◌, ◌*◌, List, [], ◌∷◌, ◌++◌, length, flat_map}
+use Rattle.std.specs.Prelude.{ℕ, ◌+◌, ◌*◌, ◌^◌, List, [], ◌∷◌, ◌++◌, length, flat_map}
 use Rattle.processor.specs.Bytes.{low_bytes, padded, page_size, ram_base}
 use Rattle.processor.specs.Encoding.{word_of}
 use Rattle.processor.specs.declared.instruction.Instr.{Instr}
+use Rattle.sv_types.specs.Elf.{file_header_size, elf_magic, elfclass64, elfdata2lsb, ev_current, et_exec, em_riscv, program_header_size, pt_load, pf_x_bit, pf_w_bit, pf_r_bit}
 use Rattle.sv_types.specs.declared.kernel.ProgramHeader.{ProgramHeader}
 use Rattle.guest_gen.specs.declared.fields.Field.{Field}
 use Rattle.guest_gen.specs.declared.fields.Field.TheVariants.{Byte, Half, Word, Double}
@@ -18,43 +19,21 @@ field_bytes (Double value) = low_bytes 8 value
 
 -- ---- headers
 
--- an executable file of RISC-V, 64 bits, little-endian, version 1, without sections
-abbrev pub magic : ℕ
-magic = 0x464C457F
-
-abbrev pub class_64 : ℕ
-class_64 = 2
-
-abbrev pub little_endian_data : ℕ
-little_endian_data = 1
-
-abbrev pub version : ℕ
-version = 1
-
-abbrev pub executable_file : ℕ
-executable_file = 2
-
-abbrev pub risc_v : ℕ
-risc_v = 243
-
--- the bytes of the file's header, behind which the program headers lie, and of one of these
-abbrev pub file_header_size : ℕ
-file_header_size = 64
-
-abbrev pub program_header_size : ℕ
-program_header_size = 56
+abbrev pub segment_count : ℕ
+segment_count = 3
 
 -- the text lies in page 1, and the kernel begins with it
 abbrev pub text_address : ℕ
 text_address = ram_base + page_size
 
--- behind the version of the identification stand zeros
+-- an executable file of RISC-V, 64 bits, little-endian, version 1, without sections. The program headers lie behind the
+-- header; behind the version of the identification stand zeros
 unfoldable pub file_header : List Field
 file_header =
-    Word magic ∷ Byte class_64 ∷ Byte little_endian_data ∷ Byte version ∷ Byte 0 ∷ Double 0
-    ∷ Half executable_file ∷ Half risc_v ∷ Word version
+    Word elf_magic ∷ Byte elfclass64 ∷ Byte elfdata2lsb ∷ Byte ev_current ∷ Byte 0 ∷ Double 0
+    ∷ Half et_exec ∷ Half em_riscv ∷ Word ev_current
     ∷ Double text_address ∷ Double file_header_size ∷ Double 0 ∷ Word 0
-    ∷ Half file_header_size ∷ Half program_header_size ∷ Half 3 ∷ Half 0 ∷ Half 0 ∷ Half 0 ∷ []
+    ∷ Half file_header_size ∷ Half program_header_size ∷ Half segment_count ∷ Half 0 ∷ Half 0 ∷ Half 0 ∷ []
 
 -- the last field is the alignment
 unfoldable pub program_header : ProgramHeader → List Field
@@ -64,22 +43,20 @@ program_header h =
 
 -- ---- segments
 
-abbrev pub loaded : ℕ
-loaded = 1
-
+-- the flags PF_X, PF_W and PF_R
 abbrev pub executable : ℕ
-executable = 1
+executable = 2 ^ pf_x_bit
 
 abbrev pub writable : ℕ
-writable = 2
+writable = 2 ^ pf_w_bit
 
 abbrev pub readable : ℕ
-readable = 4
+readable = 2 ^ pf_r_bit
 
 -- a segment that lies in RAM where it lies in the file
 unfoldable pub segment : (flags offset file_size memory_size : ℕ) → ProgramHeader
 segment flags offset file_size memory_size = record {
-  kind = loaded;
+  kind = pt_load;
   flags = flags;
   offset = offset;
   va = ram_base + offset;

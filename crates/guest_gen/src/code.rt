@@ -50,13 +50,16 @@ const SHUTDOWN_CALL: i64 = 8;
 
 const LETTER_K: i64 = 75;
 
+/// The most calls of the user.
+pub const MOST_CALLS: u64 = 1_000_000;
+
 /// The trap vector's place in the text.
 pub const TRAP_PLACE: usize = 256;
 
 // The upper bits of a number, rounded so that the rest is one of 12 bits with a sign.
 #[tactic(auto, unfolding(crate::specs::GuestCode::upper))]
 fn upper(n: u64) -> i64
-    requires { n ≤ 1000000 }
+    requires { n ≤ spec.most_calls }
     ensures value { result ≡ spec.upper n }
     ensures fits { IsTrue (is_immediate 32 4096 result) }
 {
@@ -65,7 +68,7 @@ fn upper(n: u64) -> i64
 
 #[tactic(auto, unfolding(crate::specs::GuestCode::upper, crate::specs::GuestCode::lower))]
 fn lower(n: u64) -> i64
-    requires { n ≤ 1000000 }
+    requires { n ≤ spec.most_calls }
     ensures value { result ≡ spec.lower n }
     ensures fits { IsTrue (is_immediate 12 1 result) }
 {
@@ -132,7 +135,7 @@ fn csrw(csr: u16, rs1: u8) -> Instr
 /// The kernel's begin, for so many calls.
 #[tactic(auto, unfolding(crate::specs::GuestCode::setup, processor::specs::Encoding::fits, processor::specs::Encoding::is_shift, processor::specs::Encoding::is_shift_32))]
 pub fn setup(calls: u64) -> [Instr; 16]
-    requires { calls ≤ 1000000 }
+    requires { calls ≤ spec.most_calls }
     ensures code { result ≡ spec.setup calls }
     ensures fits { IsTrue (list_all fits result) }
 {

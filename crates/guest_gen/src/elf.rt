@@ -7,6 +7,10 @@ ghost use Rattle.processor.specs.Encoding.{fits};
 ghost use Rattle.guest_gen.specs.Images as spec;
 
 use crate::fields::{Field, pad, push_code, push_fields};
+use elf64_sections::elf::{
+    ELF_MAGIC, ELFCLASS64, ELFDATA2LSB, EM_RISCV, ET_EXEC, EV_CURRENT, FILE_HEADER_BYTES, PF_R_BIT,
+    PF_W_BIT, PF_X_BIT, PROGRAM_HEADER_BYTES, PT_LOAD,
+};
 use processor::{PAGE_BYTES, PAGE_SIZE, RAM_BASE};
 use rv64_encode::Instr;
 use std::alloc::{AllocError, Global};
@@ -15,53 +19,37 @@ use sv_types::ProgramHeader;
 /// Where the text lies and the kernel begins.
 pub const TEXT_ADDRESS: u64 = 0x8000_1000;
 
-/// The bytes 0x7F, E, L and F.
-const MAGIC: u32 = 0x464C_457F;
+/// The number of segments.
+const SEGMENTS: u16 = 3;
 
-/// Files of 64 bits, little-endian.
-const CLASS_64: u8 = 2;
+/// The flags of a segment.
+const EXECUTABLE: u32 = 1 << PF_X_BIT;
 
-const LITTLE_ENDIAN: u8 = 1;
+const WRITABLE: u32 = 1 << PF_W_BIT;
 
-const VERSION: u8 = 1;
-
-const EXECUTABLE_FILE: u16 = 2;
-
-const RISC_V: u16 = 243;
-
-const FILE_HEADER_BYTES: u16 = 64;
-
-const PROGRAM_HEADER_BYTES: u16 = 56;
-
-const LOADED: u32 = 1;
-
-const EXECUTABLE: u32 = 1;
-
-const WRITABLE: u32 = 2;
-
-const READABLE: u32 = 4;
+const READABLE: u32 = 1 << PF_R_BIT;
 
 #[tactic(auto, unfolding(crate::specs::Images::file_header))]
 fn file_header() -> [Field; 19]
     ensures { result ≡ spec.file_header }
 {
     [
-        Field::Word(MAGIC),
-        Field::Byte(CLASS_64),
-        Field::Byte(LITTLE_ENDIAN),
-        Field::Byte(VERSION),
+        Field::Word(ELF_MAGIC),
+        Field::Byte(ELFCLASS64),
+        Field::Byte(ELFDATA2LSB),
+        Field::Byte(EV_CURRENT),
         Field::Byte(0),
         Field::Double(0),
-        Field::Half(EXECUTABLE_FILE),
-        Field::Half(RISC_V),
-        Field::Word(u32::from(VERSION)),
+        Field::Half(ET_EXEC),
+        Field::Half(EM_RISCV),
+        Field::Word(u32::from(EV_CURRENT)),
         Field::Double(TEXT_ADDRESS),
-        Field::Double(u64::from(FILE_HEADER_BYTES)),
+        Field::Double(FILE_HEADER_BYTES as u64),
         Field::Double(0),
         Field::Word(0),
-        Field::Half(FILE_HEADER_BYTES),
-        Field::Half(PROGRAM_HEADER_BYTES),
-        Field::Half(3),
+        Field::Half(FILE_HEADER_BYTES as u16),
+        Field::Half(PROGRAM_HEADER_BYTES as u16),
+        Field::Half(SEGMENTS),
         Field::Half(0),
         Field::Half(0),
         Field::Half(0),
@@ -90,7 +78,7 @@ fn segment(flags: u32, offset: u64, file_size: u64, memory_size: u64) -> Program
     ensures { result ≡ spec.segment flags offset file_size memory_size }
 {
     ProgramHeader {
-        kind: LOADED,
+        kind: PT_LOAD,
         flags,
         offset,
         va: RAM_BASE + offset,

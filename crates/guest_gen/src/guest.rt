@@ -5,6 +5,7 @@ ghost use Rattle.processor.specs.Bytes.{page_size};
 ghost use Rattle.sv_types.specs.Measure.{measure};
 ghost use Rattle.sv_types.specs.Policies.{rules_of, rules_within};
 ghost use Rattle.guest_gen.specs.Generated as spec;
+ghost use Rattle.guest_gen.specs.GuestCode.{most_calls};
 
 use crate::code::{TRAP_PLACE, setup, trap_handler, user_loop};
 use crate::elf::{TEXT_ADDRESS, laid_out};
@@ -17,7 +18,7 @@ use sv_types::{Digest, Policy};
 // The page of text, for so many calls.
 #[tactic(auto, unfolding(crate::specs::Generated::generated_text))]
 fn text(alloc: Global, n: u64) -> Result<Vec<u8>, AllocError>
-    requires { n ≤ 1000000 }
+    requires { n ≤ most_calls }
     ensures text { IfOk result (λ text. text.items ≡ spec.generated_text n) }
     ensures page { IfOk result (λ text. vec_len text ≡ page_size) }
 {
@@ -64,7 +65,7 @@ fn policy(alloc: Global, text: &[u8]) -> Result<Policy, AllocError>
 #[tactic(auto, unfolding(crate::specs::Generated::generated_image))]
 pub fn generate(alloc: Global, n: u64) -> Result<(Vec<u8>, Policy), AllocError>
     requires some { 1 ≤ n }
-    requires most { n ≤ 1000000 }
+    requires most { n ≤ most_calls }
     ensures image { IfOk result (λ made. made.0.items ≡ spec.generated_image n) }
     ensures policy { IfOk result (λ made. rules_of made.1 ≡ spec.generated_policy n) }
     ensures within { IfOk result (λ made. IsTrue (rules_within (rules_of made.1))) }

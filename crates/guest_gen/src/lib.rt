@@ -9,6 +9,7 @@ mod laws;
 #[cfg(test)]
 mod tests;
 
+pub use code::MOST_CALLS;
 pub use elf::image;
 pub use guest::generate;
 pub use laws::law_guest_boots;

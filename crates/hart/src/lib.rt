@@ -1,6 +1,7 @@
 //! A hart of hardware with the hypervisor extension: one attempt of an instruction under two stages of translation.
 #![tactic(auto)]
 
+mod call_registers;
 mod cpu;
 mod decoder;
 mod execution;
@@ -11,6 +12,7 @@ mod system;
 mod trap;
 mod wires;
 
+pub use call_registers::{A0, A1, A2, A3, A6, A7};
 pub use cpu::Cpu;
 pub use hart::{Core, Hart};
 pub use memory::IMPLICIT_READ;

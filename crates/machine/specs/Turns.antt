@@ -1,13 +1,13 @@
 -- What a turn does beside its attempt. This project's own.
-use Rattle.std.specs.Prelude.{◌≡◌, ℕ, true, false, IsTrue, None}
+use Rattle.std.specs.Prelude.{◌≡◌, ◌<◌, ◌%◌, ℕ, List, length, true, false, IsTrue, None}
 use Rattle.sv_types.specs.Policies.{rules_within}
 use Rattle.processor.specs.declared.outcome.Outcome.{Outcome}
 use Rattle.processor.specs.declared.mode.Mode.TheVariants.{Kernel}
-use Rattle.reference.specs.Counting.{counted, count_retired, count_trap}
+use Rattle.reference.specs.Counting.{MayCount, counted, count_retired, count_trap}
 use Rattle.reference.specs.Devices.{lines_at}
 use Rattle.machine_model.specs.HardwareEvent.{is_loading}
 use Rattle.machine_model.specs.HostExits.{host_exit_answered, served_exit}
-use Rattle.machine_model.specs.Machine.{Machine}
+use Rattle.machine_model.specs.Machine.{HostHart, Machine}
 use Rattle.machine_model.specs.Steps.{WithTables}
 use Rattle.machine_model.specs.declared.exits.ExitAnswer.{ExitAnswer}
 use Rattle.module_answers.specs.Conditions.{AreGuarded}
@@ -28,6 +28,19 @@ Finished (Outcome.Exit exit) m h after = WithTables m (served_exit m h exit) aft
 pub record IsGuarded (m : Machine) : Type 0 where
   pub within : IsTrue (rules_within m.rules)
   pub modules : AreGuarded m.rules m.protections m.loaded m.loading
+
+-- ---- what an answer asks for
+
+-- there is such a hart, and it stands at an instruction's address
+pub record MayTrap (harts : List HostHart) (h : ℕ) : Type 0 where
+  pub there : h < length harts
+  pub aligned : (hart_in harts h).core.pc % 4 ≡ 0
+
+-- the machine may count, print a byte and answer about modules
+pub record MayServe (m : Machine) : Type 0 where
+  pub counts : MayCount m.journal.counts
+  pub room : length m.journal.printed < 4096
+  pub guarded : IsGuarded m
 
 -- ---- answers
 

@@ -1,6 +1,6 @@
 // What SecVisor answers where a hart exits.
 
-ghost use Rattle.std.specs.Prelude.{◌≡◌, ◌<◌, ◌%◌, ◌*◌, length};
+ghost use Rattle.std.specs.Prelude.{◌≡◌, ◌<◌, ◌*◌, length};
 ghost use Rattle.reference.specs.Calls.{asked_by};
 ghost use Rattle.reference.specs.Counting.{MayCount};
 ghost use Rattle.reference.specs.ModuleCalls.{answer_of};
@@ -15,7 +15,7 @@ ghost use Rattle.processor.specs.declared.mode.Mode.TheVariants.{Kernel};
 ghost use Rattle.call_answers.specs.Known.{StartsOneOf};
 ghost use Rattle.trap_answers.specs.Possible.{IsPossible};
 ghost use Rattle.machine.specs.Attempts.{hart_in};
-ghost use Rattle.machine.specs.Turns.{IsGuarded, answered_exit};
+ghost use Rattle.machine.specs.Turns.{IsGuarded, MayServe, MayTrap, answered_exit};
 
 use crate::caches::fence;
 use crate::parts::Parts;
@@ -32,8 +32,7 @@ impl Parts {
     // What an exit of a hart is answered.
     #[tactic(auto, using(hart_answers::proofs::Hosts::hosts_length))]
     fn exit_answer(&self, which: u8, exit: &Exit) -> ExitAnswer
-        requires there { which < length self.now.harts }
-        requires aligned { (hart_in self.now.harts which).core.pc % 4 ≡ 0 }
+        requires hart { MayTrap self.now.harts which }
         ensures answer { result ≡ exit_answer (host_seen self.now.region.ram self.now.rules (hart_in self.now.harts which) (hart_in self.now.harts which).core.hregs.mode exit.now) exit.now }
         ensures possible { IsPossible (hart_in self.now.harts which).core.hregs.mode result }
     {
@@ -44,8 +43,7 @@ impl Parts {
     // A hart traps.
     #[tactic(auto, using(hart_answers::proofs::Hosts::hosts_length))]
     fn guest_trap(&mut self, which: u8, trap: Trap)
-        requires there { which < length self.old.harts }
-        requires aligned { (hart_in self.old.harts which).core.pc % 4 ≡ 0 }
+        requires hart { MayTrap self.old.harts which }
         requires counts { MayCount self.old.journal.counts }
         ensures { WithTables self.old (answered_exit self.old which (Traps trap.cause trap.tval)) self.new }
     {
@@ -95,8 +93,7 @@ impl Parts {
     // It loads from a device's register.
     #[tactic(auto, using(hart_answers::proofs::Hosts::hosts_length))]
     fn device_load(&mut self, which: u8, load: Load)
-        requires there { which < length self.old.harts }
-        requires aligned { (hart_in self.old.harts which).core.pc % 4 ≡ 0 }
+        requires hart { MayTrap self.old.harts which }
         requires counts { MayCount self.old.journal.counts }
         requires register { load.rd < 32 }
         ensures { WithTables self.old (answered_exit self.old which (LoadsDevice load.rd load.address load.width load.signed load.gpa)) self.new }
@@ -116,8 +113,7 @@ impl Parts {
     // It stores into a device's register.
     #[tactic(auto, using(hart_answers::proofs::Hosts::hosts_length))]
     fn device_store(&mut self, which: u8, store: Store)
-        requires there { which < length self.old.harts }
-        requires aligned { (hart_in self.old.harts which).core.pc % 4 ≡ 0 }
+        requires hart { MayTrap self.old.harts which }
         requires counts { MayCount self.old.journal.counts }
         requires room { length self.old.journal.printed < 4096 }
         ensures { WithTables self.old (answered_exit self.old which (StoresDevice store.address store.gpa store.width store.value)) self.new }
@@ -154,9 +150,7 @@ impl Parts {
     // Does what the answer to a call says, or the decision of a load.
     pub(crate) fn give(&mut self, which: u8, answer: &Answer)
         requires there { which < length self.old.harts }
-        requires counts { MayCount self.old.journal.counts }
-        requires room { length self.old.journal.printed < 4096 }
-        requires guarded { IsGuarded self.old }
+        requires may { MayServe self.old }
         requires given { IsGiven (host_facts self.old) self.old.loading answer.now.beside }
         requires starts { StartsOneOf (length self.old.harts) answer.now.beside }
         ensures { WithTables self.old (host_given self.old which answer.now) self.new }
@@ -183,9 +177,7 @@ impl Parts {
     // A call from kernel mode.
     fn serve_call(&mut self, which: u8)
         requires there { which < length self.old.harts }
-        requires counts { MayCount self.old.journal.counts }
-        requires room { length self.old.journal.printed < 4096 }
-        requires guarded { IsGuarded self.old }
+        requires may { MayServe self.old }
         ensures { WithTables self.old (served_call self.old which (hart_in self.old.harts which)) self.new }
     {
         let answer = self.call_answer(which);
@@ -195,11 +187,8 @@ impl Parts {
     // Does what an exit is answered.
     #[tactic(auto, unfolding(machine_model::specs::HostExits::host_exit_answered))]
     fn carry_out(&mut self, which: u8, answer: ExitAnswer)
-        requires there { which < length self.old.harts }
-        requires aligned { (hart_in self.old.harts which).core.pc % 4 ≡ 0 }
-        requires counts { MayCount self.old.journal.counts }
-        requires room { length self.old.journal.printed < 4096 }
-        requires guarded { IsGuarded self.old }
+        requires hart { MayTrap self.old.harts which }
+        requires may { MayServe self.old }
         requires possible { IsPossible (hart_in self.old.harts which).core.hregs.mode answer }
         ensures { WithTables self.old (answered_exit self.old which answer) self.new }
     {
@@ -246,11 +235,8 @@ impl Parts {
     /// The answer to an exit of a hart.
     #[tactic(auto, unfolding(machine_model::specs::HostExits::host_exit))]
     pub(crate) fn serve_exit(&mut self, which: u8, exit: Exit)
-        requires there { which < length self.old.harts }
-        requires aligned { (hart_in self.old.harts which).core.pc % 4 ≡ 0 }
-        requires counts { MayCount self.old.journal.counts }
-        requires room { length self.old.journal.printed < 4096 }
-        requires guarded { IsGuarded self.old }
+        requires hart { MayTrap self.old.harts which }
+        requires may { MayServe self.old }
         ensures { WithTables self.old (host_exit self.old which (hart_in self.old.harts which) (hart_in self.old.harts which).core.hregs.mode exit) self.new }
     {
         let answer = self.exit_answer(which, &exit);

@@ -12,7 +12,7 @@ ghost use Rattle.sv_types.specs.declared.event.Verdict.TheVariants.{Running};
 ghost use Rattle.machine_model.specs.Reaches.{without_first_printed};
 ghost use Rattle.machine_model.specs.Steps.{IsStep, IsTurn, TurnServed, WithTables};
 ghost use Rattle.machine.specs.Attempts.{hart_in, IsReady};
-ghost use Rattle.machine.specs.Turns.{AreOutside, IsGuarded, MayAttempt, Finished};
+ghost use Rattle.machine.specs.Turns.{AreOutside, IsGuarded, MayAttempt, MayServe, MayTrap, Finished};
 
 use crate::attempts::attempt;
 use crate::beats::beat_disk;
@@ -91,11 +91,8 @@ impl Parts {
     #[inline(always)]
     #[tactic(auto, using(crate::proofs::Turns::served_there))]
     fn finish(&mut self, which: u8, outcome: Outcome)
-        requires there { which < length self.old.harts }
-        requires aligned { (hart_in self.old.harts which).core.pc % 4 ≡ 0 }
-        requires counts { MayCount self.old.journal.counts }
-        requires room { length self.old.journal.printed < 4096 }
-        requires guarded { IsGuarded self.old }
+        requires hart { MayTrap self.old.harts which }
+        requires may { MayServe self.old }
         ensures { Finished outcome self.old which self.new }
     {
         match outcome {
@@ -119,9 +116,7 @@ impl Parts {
     // A load under way goes on: a page is counted, or its answer is given.
     fn serve_load_turn(&mut self, which: u8)
         requires there { which < length self.old.harts }
-        requires counts { MayCount self.old.journal.counts }
-        requires room { length self.old.journal.printed < 4096 }
-        requires guarded { IsGuarded self.old }
+        requires may { MayServe self.old }
         ensures { WithTables self.old (served_load_turn self.old which) self.new }
     {
         law_starts();
@@ -135,9 +130,7 @@ impl Parts {
     #[inline(always)]
     fn serve_turn(&mut self, which: u8)
         requires count { self.old.attempts < 2 ^ 64 - 1 }
-        requires counts { MayCount self.old.journal.counts }
-        requires room { length self.old.journal.printed < 4096 }
-        requires guarded { IsGuarded self.old }
+        requires may { MayServe self.old }
         requires ready { MayAttempt self.old which }
         ensures { TurnServed self.old which (slice_get self.old.harts which) self.new }
     {
@@ -161,9 +154,7 @@ impl Parts {
     pub(crate) fn turn(&mut self, which: u8)
         requires turns { self.old.journal.counts.turns < 2 ^ 64 - 1 }
         requires count { self.old.attempts < 2 ^ 64 - 1 }
-        requires counts { MayCount self.old.journal.counts }
-        requires room { length self.old.journal.printed < 4096 }
-        requires guarded { IsGuarded self.old }
+        requires may { MayServe self.old }
         requires ready { MayAttempt self.old which }
         ensures { IsTurn self.old which self.new }
     {

@@ -6,7 +6,7 @@ use Rattle.std.specs.Cmp.Lexicographic.{slice_cmp}
 use Rattle.hex.specs.Hex.{encode_lower}
 use Rattle.toml.specs.Data.{Data, string, integer, array, table, Members, no_members, member}
 use Rattle.toml.specs.View.{items_of}
-use Rattle.processor.specs.Bytes.{ram_base}
+use Rattle.processor.specs.Bytes.{page_size, ram_base}
 use Rattle.sv_types.specs.Output.{address_text}
 use Rattle.sv_types.specs.Policies.{Rules, ModuleRule}
 use Rattle.sv_types.specs.RelocationKinds.{kind_number}
@@ -33,7 +33,7 @@ unfoldable pub export_data : Export → Data
 export_data export = array (items_of (string export.name ∷ address_data export.addr ∷ []))
 
 unfoldable pub span_data : Span → Data
-span_data span = array (items_of (address_data (ram_base + 4096 * span.first) ∷ number_data span.count ∷ []))
+span_data span = array (items_of (address_data (ram_base + page_size * span.first) ∷ number_data span.count ∷ []))
 
 unfoldable pub site_data : Site → Data
 site_data site =

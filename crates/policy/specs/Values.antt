@@ -4,6 +4,7 @@ use Rattle.std.specs.Prelude.{ℕ, suc, ℤ, pos, negsuc, Bool, true, false, ◌
 use Rattle.std.specs.List.{list_any}
 use Rattle.std.specs.Str.{bytes_eq}
 use Rattle.toml.specs.Data.{Data, Items, no_items, item, Members, no_members, member, get_member, as_integer, as_str, as_array, as_table}
+use Rattle.sv_types.specs.Limits.{most_name_bytes}
 use Rattle.sv_types.specs.Numbers.{digest_of}
 use Rattle.text_numbers.specs.Addresses as addresses
 use Rattle.policy.specs.Refusals.{Judged, ◌>>=◌}
@@ -41,7 +42,7 @@ number_of fits d = natural_of d >>= λ n. limited (fits n) n
 
 -- 1 to 64 bytes
 abbrev pub name_within : List ℕ → Bool
-name_within name = nat_le 1 (length name) && nat_le (length name) 64
+name_within name = nat_le 1 (length name) && nat_le (length name) most_name_bytes
 
 abbrev pub name_of : Data → Judged (List ℕ)
 name_of d = text_of d >>= λ text. limited (name_within text) text

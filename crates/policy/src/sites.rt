@@ -11,7 +11,7 @@ use policy_limits::{
     MOST_MODULE_SITES, MOST_SITES, PolicyFault, is_aligned, is_anchor, is_behind, is_place,
 };
 use std::alloc::Global;
-use sv_types::{RelocationKind, Site};
+use sv_types::{FIRST_EXPORT_BASE, RelocationKind, Site};
 use toml::Value;
 
 /// What the sites of a module are judged by: its pages, and the number of exports.
@@ -58,7 +58,7 @@ fn base(exports: usize, value: &Value) -> Result<u16, PolicyFault>
     ensures { result ≡ spec.base_of exports (view value.now) }
 {
     let base = natural(value)?;
-    if base >= 3 + exports as u64 {
+    if base >= u64::from(FIRST_EXPORT_BASE) + exports as u64 {
         return Err(PolicyFault::BeyondLimit);
     }
     Ok(base as u16)
@@ -85,6 +85,7 @@ fn in_order(before: &[Site], site: Site) -> Result<Site, PolicyFault>
     }
 }
 
+// A field of its five values, each of which is judged by itself.
 #[tactic(auto, unfolding(crate::specs::Text::site_of_five))]
 fn site_of_five(
     bounds: Bounds,

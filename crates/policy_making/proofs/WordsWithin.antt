@@ -1,5 +1,5 @@
 -- Words in their ranges are within the limits of a policy.
-use Rattle.std.proofs.Common.{◌≡◌, ℕ, ◌-◌, ◌/◌, ◌%◌, Bool, true, false, ◌&&◌, List, [], ◌∷◌, ◌++◌, length, map, Option, Some, None, refl, ap, sym, subst, ◌∙◌}
+use Rattle.std.proofs.Common.{◌≡◌, ℕ, ◌%◌, Bool, true, false, ◌&&◌, List, [], ◌∷◌, ◌++◌, length, map, Option, Some, None, refl, sym, subst}
 use Rattle.std.specs.Prelude.{◌==◌, if◌then◌else◌, nat_le, unwrap_or}
 use Rattle.std.specs.List.{list_all, before_first, after_first}
 use Rattle.std.specs.Option.{option_map_or}
@@ -10,7 +10,7 @@ use Rattle.sv_types.specs.Numbers.{number_within}
 use Rattle.sv_types.specs.Policies.{each_within, entry_within, entries_count_within, entries_within, span_within}
 use Rattle.sv_types.specs.declared.module.Span.{Span}
 use Rattle.text_numbers.specs.Addresses.{address_of}
-use Rattle.policy_making.specs.WordRanges.{parts, is_entry, are_entries, address_or_zero, entries_of, span_from, span_at, span_of_numbers, span_of_two, span_of}
+use Rattle.policy_making.specs.WordRanges.{parts, is_entry, are_entries, address_or_zero, entries_of, span_from, span_of_numbers, span_of_two, span_of}
 
 -- ---- entries
 

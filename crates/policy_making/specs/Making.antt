@@ -6,6 +6,7 @@ use Rattle.std.specs.BTreeSet.{replace_key}
 use Rattle.std.specs.Cmp.Lexicographic.{slice_cmp}
 use Rattle.std.specs.Ordering.{nat_cmp}
 use Rattle.sv_types.specs.Kernel.{kernel_refusal, kernel_segments, text_of}
+use Rattle.sv_types.specs.Limits.{most_sites}
 use Rattle.sv_types.specs.Measure.{measure}
 use Rattle.sv_types.specs.Policies.{Rules, ModuleRule, sites_of}
 use Rattle.sv_types.specs.declared.image_fault.ImageFault.{ImageFault}
@@ -110,7 +111,7 @@ rules_with s digest exports modules = record {
 
 -- the modules' sites together are few enough
 abbrev pub few_sites : List ModuleRule → Bool
-few_sites modules = nat_le (sites_of modules) 131072
+few_sites modules = nat_le (sites_of modules) most_sites
 
 abbrev pub if_few_sites : Rules → Judged Rules
 if_few_sites r = if few_sites r.modules then Ok r else Err TooManySites

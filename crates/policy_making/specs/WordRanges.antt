@@ -3,8 +3,9 @@ use Rattle.std.specs.Prelude.{ℕ, ◌-◌, ◌/◌, ◌%◌, Bool, false, ◌&&
 use Rattle.std.specs.List.{list_all, list_any, slice_split, before_first, after_first}
 use Rattle.std.specs.Option.{option_map_or}
 use Rattle.std.specs.Str.{bytes_eq}
+use Rattle.sv_types.specs.Limits.{most_name_bytes}
 use Rattle.sv_types.specs.Numbers.{number_within}
-use Rattle.processor.specs.Bytes.{ram_base}
+use Rattle.processor.specs.Bytes.{page_size, ram_base}
 use Rattle.sv_types.specs.Policies.{each_within, entries_count_within, entry_within, modules_count_within, span_within}
 use Rattle.sv_types.specs.declared.module.Span.{Span}
 use Rattle.text_numbers.specs.Addresses.{address_of}
@@ -32,12 +33,12 @@ entries_of word = map address_or_zero (parts word)
 -- ---- init pages
 
 abbrev pub span_from : (address count : ℕ) → Span
-span_from address count = record { first = (address - ram_base) / 4096; count = count }
+span_from address count = record { first = (address - ram_base) / page_size; count = count }
 
 -- whole pages, all of them in RAM
 abbrev pub span_at : (ram_pages address count : ℕ) → Option Span
 span_at ram_pages address count =
-    if nat_le ram_base address && address % 4096 == 0 && span_within ram_pages (span_from address count)
+    if nat_le ram_base address && address % page_size == 0 && span_within ram_pages (span_from address count)
     then Some (span_from address count) else None
 
 abbrev pub span_of_numbers : (ram_pages : ℕ) → Option ℕ → Option ℕ → Option Span
@@ -56,7 +57,7 @@ span_of ram_pages word = span_of_two ram_pages (before_first (λ c. c == 58) wor
 
 -- 1 to 64 bytes
 abbrev pub is_name : List ℕ → Bool
-is_name word = nat_le 1 (length word) && nat_le (length word) 64
+is_name word = nat_le 1 (length word) && nat_le (length word) most_name_bytes
 
 abbrev pub is_among : List (List ℕ) → List ℕ → Bool
 is_among words name = list_any (λ word. bytes_eq word name) words

@@ -52,7 +52,7 @@ fn if_few_sites(policy: Policy) -> Result<Policy, MakingRefusal>
 
 /// The policy of a kernel whose digest is known, and of modules, of which these names are wanted. Refuses the exports, the
 /// objects and more than 131,072 sites of all modules, and for want of memory. Where the settings are in their ranges and
-/// the objects have names of modules, the policy is within its limits.
+/// the objects have names of modules, the policy is within its limits. Each parameter comes of a word or a file of its own.
 #[tactic(auto, unfolding(crate::specs::Making::policy_behind), using(crate::proofs::Refused::refused_on))]
 pub fn policy_behind<R: Threads + Sync>(
     rt: &R,

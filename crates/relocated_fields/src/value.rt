@@ -3,7 +3,9 @@
 ghost use Rattle.std.specs.Prelude.{◌≡◌};
 ghost use Rattle.reference.specs.Relocations as spec;
 
-use sv_types::{Bases, DATA_BASE, Export, FIRST_EXPORT_BASE, NO_BASE, RelocationKind, Site, TEXT_BASE};
+use sv_types::{
+    Bases, DATA_BASE, Export, FIRST_EXPORT_BASE, NO_BASE, RelocationKind, Site, TEXT_BASE,
+};
 
 // The address that a symbol's base stands for: the text's, the data's, none, or an export's.
 fn symbol_base(exports: &[Export], bases: &Bases, base: u16) -> u64

@@ -105,12 +105,15 @@ p_memsz = 40
 abbrev pub pt_load : ℕ
 pt_load = 1
 
--- the bits of PF_X and PF_W: executable and writable
+-- the bits of PF_X, PF_W and PF_R: executable, writable and readable
 abbrev pub pf_x_bit : ℕ
 pf_x_bit = 0
 
 abbrev pub pf_w_bit : ℕ
 pf_w_bit = 1
+
+abbrev pub pf_r_bit : ℕ
+pf_r_bit = 2
 
 -- ---- section headers
 

@@ -1,10 +1,3 @@
-use Rattle.std.proofs.Common.{◌≡◌, Ok, refl, sym, ap, ◌∙◌}
-use Rattle.std.specs.Prelude.{IfOk}
-use Rattle.elf64_sections.specs.Judged.{◌>>=◌}
-use Rattle.elf64_reloc.specs.Modules.{module_fits, module_of, module_judged}
-use Rattle.elf64_reloc.specs.ModuleViews.{module_view}
-use Rattle.elf64_reloc.specs.Refusals.{Judged}
-use Rattle.elf64_reloc.specs.Objects.{Object}
 use Rattle.elf64_reloc.proofs.ModuleLimits.{image_within}
 use Rattle.elf64_reloc.proofs.read.read_module.Goals as goal
 

@@ -1,5 +1,4 @@
-use Rattle.std.proofs.Common.{◌≡◌, ◌≤◌, ◌^◌, List, ℕ, length, true, sym, subst}
-use Rattle.elf64_reloc.specs.Modules.{module_fits}
+use Rattle.std.proofs.Common.{◌≤◌, ◌^◌, List, ℕ, length, sym, subst}
 use Rattle.elf64_reloc.specs.ModuleViews.{module_view}
 use Rattle.policy_making.proofs.FittingSites.{fitting_pages, fitting_inside, fitting_aligned}
 use Rattle.policy_making.proofs.WholePages.{module_is_whole}

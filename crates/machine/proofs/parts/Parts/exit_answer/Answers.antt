@@ -11,7 +11,7 @@ use Rattle.machine.proofs.parts.Parts.exit_answer.Goals as goal
 pub returns-clause-answer : goal.returns-clause-answer
 returns-clause-answer c =
     seen_there c.self.inside c.args.which c.index-seat.result.now c.index-seat.ensures c.args.exit.now c.exit_answer.result c.args.self.now c.self.view_is
-    c.requires.there
+    c.requires.hart.there
     (subst (λ (mode : Mode). c.exit_answer.result
     ≡ exit_answer (host_seen c.self.inside.mem.ram (rules_of c.self.inside.policy) (host_of c.index-seat.result.now.hart mode) mode c.args.exit.now) c.args.exit.now)
     c.mode.ensures (c.exit_answer.ensures.answer (rules_of c.self.inside.policy)))
@@ -19,4 +19,4 @@ returns-clause-answer c =
 pub returns-clause-possible : goal.returns-clause-possible
 returns-clause-possible c =
     possible_there c.self.inside c.args.which c.index-seat.result.now c.index-seat.ensures c.exit_answer.result c.args.self.now c.self.view_is
-    c.requires.there (subst (λ (mode : Mode). IsPossible mode c.exit_answer.result) c.mode.ensures c.exit_answer.ensures.possible)
+    c.requires.hart.there (subst (λ (mode : Mode). IsPossible mode c.exit_answer.result) c.mode.ensures c.exit_answer.ensures.possible)
