@@ -13,3 +13,4 @@ pub mod FormParts
 pub mod ResumedHarts
 pub mod ResumedPages
 pub mod ResumedSoundHolds
+pub mod SavedResumes

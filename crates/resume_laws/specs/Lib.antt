@@ -2,3 +2,4 @@ pub mod Resumed
 pub mod Continues
 pub mod Keepable
 pub mod ResumedSound
+pub mod SavedResumes

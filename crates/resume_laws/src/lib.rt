@@ -3,6 +3,7 @@
 
 ghost use Rattle.resume_laws.specs.Resumed.{ResumedLaw};
 ghost use Rattle.resume_laws.specs.ResumedSound.{ResumedSoundLaw};
+ghost use Rattle.resume_laws.specs.SavedResumes.{SavedResumesLaw};
 ghost use Rattle.resume_laws.specs.Continues.{AlikeLaw, ContinuesLaw};
 ghost use Rattle.resume_laws.specs.Keepable.{KeepableLaw, KeepsLaw};
 
@@ -36,4 +37,9 @@ pub fn law_keepable()
 /// can be saved again, and its text has the digests that join to the policy's.
 pub fn law_resumed_sound()
     ensures { ResumedSoundLaw }
+{}
+
+/// A machine that goes on from a snapshot of a state, under the same policy, is in that state with nothing printed.
+pub fn law_saved_resumes()
+    ensures { SavedResumesLaw }
 {}
