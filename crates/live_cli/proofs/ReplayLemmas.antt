@@ -27,6 +27,7 @@ use Rattle.secvisor_cli.specs.declared.file_fault.FileFault.{FileFault}
 use Rattle.secvisor_cli.specs.declared.file_fault.Part.{Part}
 use Rattle.secvisor_cli.specs.declared.refusal.Refusal.{Refusal}
 use Rattle.secvisor_cli.specs.declared.refusal.Refusal.TheVariants.{NoCommand, Measure, Entry}
+use Rattle.command_words.specs.declared.command.DiskKind.{DiskKind}
 use Rattle.secvisor_cli.specs.CommandLine.{Command, Run, RunWords, Source, Text, judged, split_judged, most_events, run_words, unless_none}
 use Rattle.secvisor_cli.specs.Plans.{Due, Refuse, RunFrom, Plan, End, Judge, most_policy_bytes, most_image_bytes, most_disk_bytes, most_script_bytes, policy_judged, policy_part, part_judged, kernel_part, disk_refusal, disk_part, text_part, script_part, image_measure, boot_judged, boot_plan, image_plan, run_plan, command_plan, plan_of}
 use Rattle.secvisor_cli.specs.Reading.{Follows}
@@ -46,7 +47,7 @@ pub record AreGood (rules : Rules) (parts : Parts) (start : State) : Type 0 wher
   pub image : kernel_refusal parts.image rules.ram_pages ≡ None
   pub disk_few : length parts.disk ≤ most_disk_bytes
   pub disk : disk_refusal parts.disk ≡ None
-  pub boots : (events : List Event) (save : Option (List ℕ)) → boot_judged rules parts.image parts.disk events save ≡ RunFrom start events save
+  pub boots : (events : List Event) (save : Option (List ℕ)) → boot_judged DiskKind.Block rules parts.image parts.disk events save ≡ RunFrom start events save
   pub harts : start.rules.harts ≡ rules.harts
 
 policy_good : (next : Rules → Plan) (judged : Judged Rules) (now read : FilesState) (start : State) (events : List Event) (save : Option (List ℕ)) →
@@ -97,8 +98,8 @@ boot_gives true false first asked again one other by_measure by_entry start even
 boot_gives false entered first asked again one other by_measure by_entry start events save is = absurd (cc is)
 
 booted : (rules : Rules) (file disk : List ℕ) (asked again : List Event) (one other : Option (List ℕ)) (start : State) (events : List Event) (save : Option (List ℕ)) →
-    boot_judged rules file disk asked one ≡ RunFrom start events save →
-    (asked ≡ events) × (start ≡ boot_start rules file disk) × (boot_judged rules file disk again other ≡ RunFrom start again other)
+    boot_judged DiskKind.Block rules file disk asked one ≡ RunFrom start events save →
+    (asked ≡ events) × (start ≡ boot_start rules file disk) × (boot_judged DiskKind.Block rules file disk again other ≡ RunFrom start again other)
 unfolding boot_judged
 booted rules file disk asked again one other start events save is =
     let it = boot_gives (bytes_eq (image_measure file) rules.kernel) (has_number rules.entries (header_entry file)) (boot_start rules file disk) asked again one other
@@ -125,15 +126,15 @@ record BehindImage (line : LiveLine) (count : ℕ) (rules : Rules) (file : List 
   pub held : IsTrue old.tells → HoldDisk old.held (unless_none line.disk) bytes
   pub asked_are : first_events count (Schedule.Auto rules.harts 0) ≡ asked
   pub start_is : start ≡ boot_start rules file bytes
-  pub boots : (events : List Event) (save : Option (List ℕ)) → boot_judged rules file bytes events save ≡ RunFrom start events save
+  pub boots : (events : List Event) (save : Option (List ℕ)) → boot_judged DiskKind.Block rules file bytes events save ≡ RunFrom start events save
 
 behind_image : (line : LiveLine) (count : ℕ) (rules : Rules) (file : List ℕ) (old read : FilesState) (start : State) (asked : List Event) (save : Option (List ℕ)) →
     Follows (boot_plan (drawn_run line.image line.policy line.disk count) rules file) old read (Some (RunFrom start asked save)) → BehindImage line count rules file old start asked
 unfolding boot_plan script_part
 behind_image line count rules file old read start asked save follows =
-    let d = disk_gives (unless_none line.disk) (λ disk. Judge (End (boot_judged rules file disk (first_events count (Schedule.Auto rules.harts 0)) None))) old read start asked save follows in
-    let ended = judge_gives (End (boot_judged rules file d.bytes (first_events count (Schedule.Auto rules.harts 0)) None)) d.now read (RunFrom start asked save) d.rest in
-    let is : boot_judged rules file d.bytes (first_events count (Schedule.Auto rules.harts 0)) None ≡ RunFrom start asked save = sym (some_same _ _ ended.0) in
+    let d = disk_gives (unless_none line.disk) (λ disk. Judge (End (boot_judged DiskKind.Block rules file disk (first_events count (Schedule.Auto rules.harts 0)) None))) old read start asked save follows in
+    let ended = judge_gives (End (boot_judged DiskKind.Block rules file d.bytes (first_events count (Schedule.Auto rules.harts 0)) None)) d.now read (RunFrom start asked save) d.rest in
+    let is : boot_judged DiskKind.Block rules file d.bytes (first_events count (Schedule.Auto rules.harts 0)) None ≡ RunFrom start asked save = sym (some_same _ _ ended.0) in
     let it = booted rules file d.bytes (first_events count (Schedule.Auto rules.harts 0)) [] None None start asked save is in
     record {
       bytes = d.bytes;
@@ -199,6 +200,7 @@ run_gives line count old read start asked save follows =
 
 abbrev pub again_run : LiveLine → (script : List ℕ) → (events : ℕ) → (save : Option (List ℕ)) → RunWords
 again_run line script events save = record {
+  kind = DiskKind.Block;
   image = line.image;
   policy = line.policy;
   disk = unless_none line.disk;
@@ -231,8 +233,8 @@ boot_due : (line : LiveLine) (rules : Rules) (parts : Parts) (start : State) (jo
     due_in held (boot_plan (again_run line script events save) rules parts.image) ≡ RunFrom start journal save
 unfolding boot_plan
 boot_due line rules parts start journal held script text events save good holds is it few =
-    disk_due held (unless_none line.disk) (λ disk. script_part rules.harts (Text script) (λ schedule. Judge (End (boot_judged rules parts.image disk (first_events events schedule) save)))) parts.disk holds.disk good.disk_few good.disk
-    ∙ script_due held rules.harts script text journal (λ schedule. Judge (End (boot_judged rules parts.image parts.disk (first_events events schedule) save))) is it
+    disk_due held (unless_none line.disk) (λ disk. script_part rules.harts (Text script) (λ schedule. Judge (End (boot_judged DiskKind.Block rules parts.image disk (first_events events schedule) save)))) parts.disk holds.disk good.disk_few good.disk
+    ∙ script_due held rules.harts script text journal (λ schedule. Judge (End (boot_judged DiskKind.Block rules parts.image parts.disk (first_events events schedule) save))) is it
     ∙ good.boots (first_events events (Schedule.Listed journal)) save
     ∙ ap (λ (es : List Event). RunFrom start es save) (first_all events journal few)
 
@@ -348,6 +350,7 @@ no_dash line words script events save good names saves few =
 
 split_as : (line : LiveLine) (script : List ℕ) (events : ℕ) (save : List ℕ) → list_any has_dash (run_line line script events save) ≡ false →
     split_words (run_line line script events save) ≡ Some (Split.Run (record {
+      kind = DiskKind.Block;
       image = line.image;
       policy = line.policy;
       disk = line.disk;
@@ -363,7 +366,7 @@ pub run_judged_as : (line : LiveLine) (words : LiveWords) (script : List ℕ) (e
     judged (run_line line script events save) ≡ Ok (Run (again_run line script events (unless_none save)))
 unfolding judged run_words
 run_judged_as line words script events save good names saves few =
-    let split : RunSplit = record { image = line.image; policy = line.policy; disk = line.disk; script = script; events = decimal events; save = save } in
+    let split : RunSplit = record { kind = DiskKind.Block; image = line.image; policy = line.policy; disk = line.disk; script = script; events = decimal events; save = save } in
     ap split_judged (split_as line script events save (no_dash line words script events save good names saves few))
     ∙ ap (λ (source : Option Source). run_words split source (number_within 0 most_events (decimal events))) names.file
     ∙ ap (λ (count : Option ℕ). run_words split (Some (Text script)) count) (number_of_run events few)

@@ -3,6 +3,7 @@ use Rattle.std.specs.Prelude.{◌≡◌, ◌≤◌, ◌^◌, ◌-◌, ℕ, List,
 use Rattle.std.specs.List.{list_any}
 use Rattle.std.specs.Str.{bytes_eq}
 use Rattle.sv_types.specs.Numbers.{number_within}
+use Rattle.command_words.specs.declared.command.DiskKind.{DiskKind}
 use Rattle.command_words.specs.Commands.{has_dash}
 use Rattle.secvisor_cli.specs.declared.refusal.Word.{Word}
 use Rattle.secvisor_cli.specs.declared.refusal.Refusal.{Refusal}
@@ -25,6 +26,7 @@ most_live_events = 2 ^ 32 - 16384
 
 abbrev pub drawn_run : (image policy disk : List ℕ) → (events : ℕ) → RunWords
 drawn_run image policy disk events = record {
+  kind = DiskKind.Block;
   image = image;
   policy = policy;
   disk = unless_none disk;

@@ -4,6 +4,7 @@ use Rattle.std.specs.Fmt.{decimal}
 use Rattle.sv_types.specs.declared.event.Event.{Event}
 use Rattle.sv_types.specs.declared.status.Status.{Status}
 use Rattle.sv_types.specs.Output.{run_status}
+use Rattle.reference.specs.Disk.{disk_bytes}
 use Rattle.reference.specs.States.{State}
 use Rattle.reference.specs.Report.{output}
 use Rattle.reference.specs.Run.{run}
@@ -107,7 +108,7 @@ pub record Replays (line : LiveLine) (old new : LiveOutside) (answer : Status) :
   pub saved : IsTrue old.files.tells → new.files.held line.out ≡ Some text
   pub bytes : new.sink ≡ after_taking old.sink (output (run start journal))
   pub status : (answer ≡ run_status (run start journal).journal.verdict) ⊎ ((answer ≡ Status.ReadFault) × (old.keys.faults < new.keys.faults))
-  pub disk : (machine : Machine) × (new.bench ≡ Some machine) × (machine.devices.disk.bytes ≡ (run start journal).devices.disk.bytes)
+  pub disk : (machine : Machine) × (new.bench ≡ Some machine) × (disk_bytes machine.devices.disk ≡ disk_bytes (run start journal).devices.disk)
   pub few : length journal ≤ 2 ^ 32
   -- in all files that hold the same parts, and the text under a name of their own, with at least as many events
   pub again : (held : List ℕ → Option (List ℕ)) (script : List ℕ) (events : ℕ) (save : List ℕ) → HoldParts held line parts → held script ≡ Some text →

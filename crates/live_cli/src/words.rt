@@ -2,7 +2,7 @@
 ghost use Rattle.std.specs.Prelude.{◌≡◌, map, string_bytes};
 ghost use Rattle.live_cli.specs.LiveWords.{live_judged, live_shape, live_named, live_split, IsLive};
 
-use secvisor_cli::{Refusal, Run, Source, Word, any_has_dash, unless_none};
+use secvisor_cli::{DiskKind, Refusal, Run, Source, Word, any_has_dash, unless_none};
 use text_numbers::number_within;
 
 /// The most events of a live run, so that with every key they are at most 2^32.
@@ -57,6 +57,7 @@ fn read_rest(rest: &[String]) -> Result<Live<'_>, Refusal>
             };
             Ok(Live {
                 run: Run {
+                    kind: DiskKind::Block,
                     image: image.as_str(),
                     policy: policy.as_str(),
                     disk: unless_none(disk.as_str()),

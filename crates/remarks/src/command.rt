@@ -28,7 +28,7 @@ fn judged<A: Again>(
     match words {
         [name, rest @ ..] => match name.as_str() {
             "flat" => flat_words(alloc, rest, files, most),
-            "run" => run_words(alloc, rest, files, most),
+            "run" | "vrun" => run_words(alloc, rest, files, most),
             "live" => live_words(alloc, rest, files, most),
             "measure" => measure_words(alloc, rest, files, most),
             _ => Ok(()),

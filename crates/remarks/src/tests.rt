@@ -28,7 +28,7 @@ struct Row {
     said: &'static str,
 }
 
-static ROWS: [Row; 9] = [
+static ROWS: [Row; 10] = [
     Row {
         words: &["flat", "one", "00", "5"],
         said: "one: no whole pages of 4096 bytes",
@@ -44,6 +44,10 @@ static ROWS: [Row; 9] = [
     Row {
         words: &["run", "one", "one", "none", "none", "5", "none"],
         said: "one: TOML parse error at line 1, column 2: key with no value, expected `=`",
+    },
+    Row {
+        words: &["vrun", "one", "bad.policy", "none", "none", "5", "none"],
+        said: "bad.policy: key harts: a number, a length or an address is beyond its limit",
     },
     Row {
         words: &["live", "one", "good.policy", "none", "5", "keys"],

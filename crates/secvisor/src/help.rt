@@ -9,6 +9,8 @@ How secvisor is used:
       makes the policy of a kernel and its modules, and saves it as OUT
   secvisor run IMAGE POLICY DISK SCRIPT EVENTS SAVE
       runs a kernel under a policy
+  secvisor vrun IMAGE POLICY DISK SCRIPT EVENTS SAVE
+      the same with a virtio disk
   secvisor live IMAGE POLICY DISK EVENTS OUT
       runs a kernel with the keys of standard input, up to its end, and saves its events as
       OUT, a script for run

@@ -16,7 +16,8 @@ use Rattle.sv_types.specs.Schedule.{Schedule, first_events}
 use Rattle.guest_gen.specs.Generated.{generated_image, generated_policy}
 use Rattle.sv_types.specs.Measure.{measure}
 use Rattle.sv_types.specs.Boot.{no_counts}
-use Rattle.reference.specs.Start.{start, flat_start, boot_start}
+use Rattle.reference.specs.Start.{start, flat_start, boot_start, virtio_start}
+use Rattle.command_words.specs.declared.command.DiskKind.{DiskKind}
 use Rattle.outside.specs.Outside.{FilesState}
 use Rattle.machine.specs.declared.boot.BootRefusal.{BootRefusal}
 use Rattle.machine.specs.Boot.{RefusesFlat}
@@ -30,7 +31,7 @@ use Rattle.secvisor_cli.specs.declared.ready.Ready.TheVariants.{Run}
 use Rattle.secvisor_cli.specs.declared.ready.Stop.{Stop}
 use Rattle.secvisor_cli.specs.declared.ready.Stop.TheVariants.{Refused, Memory}
 use Rattle.secvisor_cli.specs.CommandLine.{most_events}
-use Rattle.secvisor_cli.specs.Plans.{Due, Refuse, RunFrom, Plan, End, Judge, Found, Faulty, Missing, Longer, Held, found_plan, read_part, measure_judged, pages_judged, is_whole_pages, gen_disk, gen_due}
+use Rattle.secvisor_cli.specs.Plans.{Due, Refuse, RunFrom, Plan, End, Judge, Found, Faulty, Missing, Longer, Held, found_plan, read_part, measure_judged, pages_judged, is_whole_pages, gen_disk, gen_due, start_with}
 use Rattle.secvisor_cli.specs.Reading.{FoundAs}
 use Rattle.console_run.proofs.Standing.{printed_few}
 use Rattle.machine.proofs.Repeated.{counts_are}
@@ -145,10 +146,26 @@ pub fresh_boot : (rules : Rules) (file disk : List ℕ) (m : Machine) → IsNew 
 unfolding boot_start start
 fresh_boot rules file disk m new = fresh_state (boot_start rules file disk) m refl refl new
 
+fresh_virtio : (rules : Rules) (file disk : List ℕ) (m : Machine) → IsNew m (virtio_start rules file disk) → CountsAtMost 0 m.journal.counts × (m.journal.printed ≡ [])
+unfolding virtio_start start
+fresh_virtio rules file disk m new = fresh_state (virtio_start rules file disk) m refl refl new
+
+pub fresh_with : (kind : DiskKind) (rules : Rules) (file disk : List ℕ) (m : Machine) → IsNew m (start_with kind rules file disk) → CountsAtMost 0 m.journal.counts × (m.journal.printed ≡ [])
+fresh_with DiskKind.Block rules file disk m new = fresh_boot rules file disk m new
+fresh_with DiskKind.Virtio rules file disk m new = fresh_virtio rules file disk m new
+
 -- the machine that boots has the policy's rules
-pub boot_rules : (rules : Rules) (file disk : List ℕ) (m : Machine) → IsNew m (boot_start rules file disk) → m.rules ≡ rules
+block_rules : (rules : Rules) (file disk : List ℕ) (m : Machine) → IsNew m (boot_start rules file disk) → m.rules ≡ rules
 unfolding boot_start start machine_of
-boot_rules rules file disk m new = ap (λ (x : Machine). x.rules) new.stands.same
+block_rules rules file disk m new = ap (λ (x : Machine). x.rules) new.stands.same
+
+virtio_rules : (rules : Rules) (file disk : List ℕ) (m : Machine) → IsNew m (virtio_start rules file disk) → m.rules ≡ rules
+unfolding virtio_start start machine_of
+virtio_rules rules file disk m new = ap (λ (x : Machine). x.rules) new.stands.same
+
+pub boot_rules : (kind : DiskKind) (rules : Rules) (file disk : List ℕ) (m : Machine) → IsNew m (start_with kind rules file disk) → m.rules ≡ rules
+boot_rules DiskKind.Block rules file disk m new = block_rules rules file disk m new
+boot_rules DiskKind.Virtio rules file disk m new = virtio_rules rules file disk m new
 
 pub booted_ready : (pages wanted : List ℕ) (events : List Event) (result : Result Ready Stop) → measure pages ≡ wanted → IsReady (RunFrom (flat_start pages wanted) events None) result →
     IsReady (measure_judged pages wanted events) result

@@ -3,6 +3,7 @@ use Rattle.std.proofs.Common.{◌≡◌, ◌≢◌, ◌≤◌, ◌<◌, ℕ, Lis
 use Rattle.sv_types.specs.declared.event.Event.{Event}
 use Rattle.sv_types.specs.declared.status.Status.{Status}
 use Rattle.sv_types.specs.Output.{run_status}
+use Rattle.reference.specs.Disk.{disk_bytes}
 use Rattle.reference.specs.Report.{output}
 use Rattle.reference.specs.Run.{run}
 use Rattle.reference.specs.States.{State}
@@ -182,28 +183,28 @@ pub run_not_saved : (start : State) (events : List Event) (save : Option (List �
 run_not_saved start events save m files old new trouble w runs = record {
   written = Err trouble;
   writes = w;
-  saves = not_saved (saving (run start events).devices.disk.bytes save) files trouble;
+  saves = not_saved (saving (disk_bytes (run start events).devices.disk) save) files trouble;
   runs = runs;
 }
 
 pub run_saved : (start : State) (events : List Event) (save : Option (List ℕ)) (m : Machine) (f0 f1 : FilesState) (old new : SinkState) (status : Status) (u : Unit {0}) →
-    m.devices.disk.bytes ≡ (run start events).devices.disk.bytes → Writes (run_status (run start events).journal.verdict) (output (run start events)) old new (Ok status) →
-    RunsTo (IsErrOf {T = Status} (Ok status) Memory) start events m old new → AfterSave (saving m.devices.disk.bytes save) f0 f1 (Ok u) → RunsAndSaves start events save m f0 f1 old new (Ok status)
+    disk_bytes m.devices.disk ≡ disk_bytes (run start events).devices.disk → Writes (run_status (run start events).journal.verdict) (output (run start events)) old new (Ok status) →
+    RunsTo (IsErrOf {T = Status} (Ok status) Memory) start events m old new → AfterSave (saving (disk_bytes m.devices.disk) save) f0 f1 (Ok u) → RunsAndSaves start events save m f0 f1 old new (Ok status)
 run_saved start events save m f0 f1 old new status u disk w runs it = record {
   written = Ok status;
   writes = w;
   saves =
-      saved_ok (saving (run start events).devices.disk.bytes save) f0 f1 status u
+      saved_ok (saving (disk_bytes (run start events).devices.disk) save) f0 f1 status u
       (subst (λ (bytes : List ℕ). AfterSave (saving bytes save) f0 f1 (Ok u)) disk it);
   runs = runs;
 }
 
 pub run_broke : (start : State) (events : List Event) (save : Option (List ℕ)) (m : Machine) (f0 f1 : FilesState) (old new : SinkState) (status : Status) (trouble : Trouble) →
-    m.devices.disk.bytes ≡ (run start events).devices.disk.bytes → Writes (run_status (run start events).journal.verdict) (output (run start events)) old new (Ok status) →
-    RunsTo (IsErrOf {T = Status} (Ok status) Memory) start events m old new → AfterSave (saving m.devices.disk.bytes save) f0 f1 (Err trouble) →
+    disk_bytes m.devices.disk ≡ disk_bytes (run start events).devices.disk → Writes (run_status (run start events).journal.verdict) (output (run start events)) old new (Ok status) →
+    RunsTo (IsErrOf {T = Status} (Ok status) Memory) start events m old new → AfterSave (saving (disk_bytes m.devices.disk) save) f0 f1 (Err trouble) →
     RunsAndSaves start events save m f0 f1 old new (Err trouble)
 run_broke start events save m f0 f1 old new status trouble disk w runs it =
-    let asked : Option Saving = saving (run start events).devices.disk.bytes save in
+    let asked : Option Saving = saving (disk_bytes (run start events).devices.disk) save in
     let behind : SavedBehind asked f0 f1 (Ok status) (Err trouble) =
     saved_err asked f0 f1 status trouble (subst (λ (bytes : List ℕ). AfterSave (saving bytes save) f0 f1 (Err trouble)) disk it) in
     record {

@@ -13,7 +13,7 @@ use Rattle.policy.specs.Refusals.{Judged}
 use Rattle.policy.specs.Text.{rules_of_text}
 use Rattle.elf64_load.specs.Images.{segments_of}
 use Rattle.elf64_load.specs.declared.image.KernelImage.{KernelImage}
-use Rattle.reference.specs.Start.{boot_start}
+use Rattle.command_words.specs.declared.command.DiskKind.{DiskKind}
 use Rattle.reference.specs.States.{has_number}
 use Rattle.machine.specs.declared.boot.BootRefusal.{BootRefusal}
 use Rattle.machine.specs.Boot.{IsImageOf, RefusesImage}
@@ -27,7 +27,7 @@ use Rattle.secvisor_cli.specs.declared.ready.Ready.{Ready}
 use Rattle.secvisor_cli.specs.declared.ready.Stop.{Stop}
 use Rattle.secvisor_cli.specs.declared.ready.Stop.TheVariants.{Refused, Memory}
 use Rattle.secvisor_cli.specs.CommandLine.{Command, RunWords, Rounds, Auto, Text}
-use Rattle.secvisor_cli.specs.Plans.{Due, Refuse, RunFrom, Plan, End, Judge, Held, found_plan, read_part, most_policy_bytes, most_disk_bytes, most_script_bytes, policy_judged, policy_part, part_judged, kernel_part, disk_refusal, disk_part, text_part, script_part, image_measure, boot_judged, boot_plan, command_plan, plan_of}
+use Rattle.secvisor_cli.specs.Plans.{Due, Refuse, RunFrom, Plan, End, Judge, Held, found_plan, read_part, most_policy_bytes, most_disk_bytes, most_script_bytes, policy_judged, policy_part, part_judged, kernel_part, disk_refusal, disk_part, text_part, script_part, image_measure, boot_judged, boot_plan, command_plan, plan_of, start_with}
 use Rattle.secvisor_cli.specs.Reading.{FoundAs, Follows, MayFollow}
 use Rattle.secvisor_cli.specs.Ready.{PartRead, stop_of, IsReady, Prepares, Passes, Staged, MayStage, IsPolicy, IsKernel, IsScript}
 use Rattle.secvisor_cli.proofs.ReadyLemmas.{end_ready, judge_ready, judge_wants, judge_end, read_ready, stopped_ready, bytes_eq-same, bytes_eq-other}
@@ -235,54 +235,54 @@ image_measured : (file : List ℕ) (ram_pages : ℕ) (image : KernelImage) (dige
     digest ≡ image_measure file
 image_measured file ram_pages image digest of is = is ∙ ap (λ (ss : List LoadedSegment). measure (text_of ss)) of.segments
 
-abbrev entry_due : Rules → (file disk : List ℕ) → List Event → Option (List ℕ) → Bool → Due
-entry_due rules file disk events save permitted = if permitted then RunFrom (boot_start rules file disk) events save else Refuse (Entry (header_entry file))
+abbrev entry_due : DiskKind → Rules → (file disk : List ℕ) → List Event → Option (List ℕ) → Bool → Due
+entry_due kind rules file disk events save permitted = if permitted then RunFrom (start_with kind rules file disk) events save else Refuse (Entry (header_entry file))
 
-abbrev measure_due : Rules → (file disk : List ℕ) → List Event → Option (List ℕ) → Bool → Due
-measure_due rules file disk events save measured =
-    if measured then entry_due rules file disk events save (has_number rules.entries (header_entry file)) else Refuse (Measure (image_measure file) rules.kernel)
+abbrev measure_due : DiskKind → Rules → (file disk : List ℕ) → List Event → Option (List ℕ) → Bool → Due
+measure_due kind rules file disk events save measured =
+    if measured then entry_due kind rules file disk events save (has_number rules.entries (header_entry file)) else Refuse (Measure (image_measure file) rules.kernel)
 
 is_measured : (rules : Rules) (file : List ℕ) (digest : List ℕ) → digest ≡ image_measure file → digest ≡ rules.kernel → bytes_eq (image_measure file) rules.kernel ≡ true
 is_measured rules file digest found wanted = ap (λ (w : List ℕ). bytes_eq (image_measure file) w) (sym wanted ∙ found) ∙ bytes_eq-same (image_measure file)
 
-pub image_booted : (rules : Rules) (file disk : List ℕ) (events : List Event) (save : Option (List ℕ)) (image : KernelImage) (result : Result Ready Stop) → IsImageOf file rules.ram_pages image →
-    measure (text_of (segments_of image)) ≡ rules.kernel → has_number rules.entries image.entry ≡ true → IsReady (RunFrom (boot_start rules file disk) events save) result →
-    IsReady (boot_judged rules file disk events save) result
+pub image_booted : (kind : DiskKind) (rules : Rules) (file disk : List ℕ) (events : List Event) (save : Option (List ℕ)) (image : KernelImage) (result : Result Ready Stop) → IsImageOf file rules.ram_pages image →
+    measure (text_of (segments_of image)) ≡ rules.kernel → has_number rules.entries image.entry ≡ true → IsReady (RunFrom (start_with kind rules file disk) events save) result →
+    IsReady (boot_judged kind rules file disk events save) result
 unfolding boot_judged
-image_booted rules file disk events save image result of measured permitted ready =
-    subst (λ (b : Bool). IsReady (measure_due rules file disk events save b) result) (sym (is_measured rules file _ (image_measured file rules.ram_pages image _ of refl) measured))
-    (subst (λ (b : Bool). IsReady (entry_due rules file disk events save b) result) (sym permitted ∙ ap (λ (e : ℕ). has_number rules.entries e) of.entry) ready)
+image_booted kind rules file disk events save image result of measured permitted ready =
+    subst (λ (b : Bool). IsReady (measure_due kind rules file disk events save b) result) (sym (is_measured rules file _ (image_measured file rules.ram_pages image _ of refl) measured))
+    (subst (λ (b : Bool). IsReady (entry_due kind rules file disk events save b) result) (sym permitted ∙ ap (λ (e : ℕ). has_number rules.entries e) of.entry) ready)
 
-boot_wants : (rules : Rules) (file disk : List ℕ) (events : List Event) (save : Option (List ℕ)) → IsReady (boot_judged rules file disk events save) (Err Memory)
+boot_wants : (kind : DiskKind) (rules : Rules) (file disk : List ℕ) (events : List Event) (save : Option (List ℕ)) → IsReady (boot_judged kind rules file disk events save) (Err Memory)
 unfolding boot_judged
-boot_wants rules file disk events save =
-    elim (bytes_eq (image_measure file) rules.kernel) as (λ b. IsReady (measure_due rules file disk events save b) (Err Memory)) [
-      | true ↦ elim (has_number rules.entries (header_entry file)) as (λ b. IsReady (entry_due rules file disk events save b) (Err Memory)) [
+boot_wants kind rules file disk events save =
+    elim (bytes_eq (image_measure file) rules.kernel) as (λ b. IsReady (measure_due kind rules file disk events save b) (Err Memory)) [
+      | true ↦ elim (has_number rules.entries (header_entry file)) as (λ b. IsReady (entry_due kind rules file disk events save b) (Err Memory)) [
         | true ↦ tt
         | false ↦ tt
       ]
       | false ↦ tt
     ]
 
-pub boot_stopped : (rules : Rules) (file disk : List ℕ) (events : List Event) (save : Option (List ℕ)) (image : KernelImage) (boot : BootRefusal) → IsImageOf file rules.ram_pages image →
-    RefusesImage image rules boot → IsReady (boot_judged rules file disk events save) (Err (stop_of boot))
+pub boot_stopped : (kind : DiskKind) (rules : Rules) (file disk : List ℕ) (events : List Event) (save : Option (List ℕ)) (image : KernelImage) (boot : BootRefusal) → IsImageOf file rules.ram_pages image →
+    RefusesImage image rules boot → IsReady (boot_judged kind rules file disk events save) (Err (stop_of boot))
 unfolding boot_judged
-boot_stopped rules file disk events save image (BootRefusal.Measure found asked) of it =
+boot_stopped kind rules file disk events save image (BootRefusal.Measure found asked) of it =
     let is : found ≡ image_measure file = image_measured file rules.ram_pages image found of it.0 in
     let other : image_measure file ≢ rules.kernel = λ same. it.2 (is ∙ same) in
-    subst (λ (b : Bool). IsReady (measure_due rules file disk events save b) (Err (Refused (Measure found asked)))) (sym (bytes_eq-other (image_measure file) rules.kernel other))
+    subst (λ (b : Bool). IsReady (measure_due kind rules file disk events save b) (Err (Refused (Measure found asked)))) (sym (bytes_eq-other (image_measure file) rules.kernel other))
     (ap (λ (f : List ℕ). Measure f asked) is ∙ ap (λ (w : List ℕ). Measure (image_measure file) w) it.1)
-boot_stopped rules file disk events save image (BootRefusal.Entry entry) of it =
+boot_stopped kind rules file disk events save image (BootRefusal.Entry entry) of it =
     let is : entry ≡ header_entry file = it.0 ∙ of.entry in
-    subst (λ (b : Bool). IsReady (measure_due rules file disk events save b) (Err (Refused (Entry entry)))) (sym (is_measured rules file _ (image_measured file rules.ram_pages image _ of refl) it.1.1))
-    (subst (λ (b : Bool). IsReady (entry_due rules file disk events save b) (Err (Refused (Entry entry)))) (sym it.1.0 ∙ ap (λ (e : ℕ). has_number rules.entries e) is)
+    subst (λ (b : Bool). IsReady (measure_due kind rules file disk events save b) (Err (Refused (Entry entry)))) (sym (is_measured rules file _ (image_measured file rules.ram_pages image _ of refl) it.1.1))
+    (subst (λ (b : Bool). IsReady (entry_due kind rules file disk events save b) (Err (Refused (Entry entry)))) (sym it.1.0 ∙ ap (λ (e : ℕ). has_number rules.entries e) is)
     (ap (λ (e : ℕ). Entry e) is))
-boot_stopped rules file disk events save image BootRefusal.Memory of it = boot_wants rules file disk events save
+boot_stopped kind rules file disk events save image BootRefusal.Memory of it = boot_wants kind rules file disk events save
 
 -- ---- what stands behind the image
 
 abbrev after_script : RunWords → Rules → (file disk : List ℕ) → Schedule → Plan
-after_script words rules file disk schedule = Judge (End (boot_judged rules file disk (first_events words.events schedule) words.save))
+after_script words rules file disk schedule = Judge (End (boot_judged words.kind rules file disk (first_events words.events schedule) words.save))
 
 abbrev after_disk : RunWords → Rules → (file disk : List ℕ) → Plan
 after_disk words rules file disk = script_part rules.harts words.script (after_script words rules file disk)
@@ -319,7 +319,7 @@ script_stopped words rules file disk old now new stop accepted pass it =
 
 pub script_ready : (words : RunWords) (rules : Rules) (file disk : List ℕ) (schedule : Schedule) (old now new : FilesState) (result : Result Ready Stop) → kernel_refusal file rules.ram_pages ≡ None →
     Passes (disk_part words.disk) disk old now → Passes (script_part rules.harts words.script) schedule now new →
-    IsReady (boot_judged rules file disk (first_events words.events schedule) words.save) result → Prepares (kernel_part rules file (boot_plan words rules file)) old new result
+    IsReady (boot_judged words.kind rules file disk (first_events words.events schedule) words.save) result → Prepares (kernel_part rules file (boot_plan words rules file)) old new result
 script_ready words rules file disk schedule old now new result accepted pass script ready =
     disk_ready words rules file disk old now new result accepted pass
     (pass_ready (script_part rules.harts words.script) schedule (after_script words rules file disk) now new new result script (judge_end _ new result ready))

@@ -40,8 +40,9 @@ use Rattle.secvisor_cli.specs.declared.ready.Stop.TheVariants as stop
 use Rattle.secvisor_cli.specs.declared.trouble.Trouble.{Trouble}
 use Rattle.secvisor_cli.specs.declared.trouble.Trouble.TheVariants.{Write, Memory}
 use Rattle.secvisor_cli.specs.Refusals.{refusal_line, refusal_status, takes_memory}
+use Rattle.command_words.specs.declared.command.DiskKind.{DiskKind}
 use Rattle.secvisor_cli.specs.CommandLine.{Command, Flat, Generated, Run, RunWords, Source, Rounds, Auto, Text, MakePolicy, PolicyWords, most_events, judged}
-use Rattle.secvisor_cli.specs.Plans.{Due, Refuse, RunFrom, Make, measured_line, Exactly, Saving, policy_saving, saves_due, most_image_bytes, most_object_bytes, making_fault, made_judged, made_part, Kernel, digest_part, Modules, no_modules, with_module, module_part, modules_part, making_plan, measure_plan, Plan, End, bytes_due, status_due, found_plan, flat_plan, command_plan, plan_of, measure_judged, pages_judged, is_whole_pages, flat_events, gen_plan, gen_due, gen_disk, policy_judged, policy_part, part_judged, kernel_part, disk_refusal, disk_part, text_part, script_part, image_measure, boot_judged, boot_plan, image_plan, run_plan}
+use Rattle.secvisor_cli.specs.Plans.{Due, Refuse, RunFrom, Make, measured_line, Exactly, Saving, policy_saving, saves_due, most_image_bytes, most_object_bytes, making_fault, made_judged, made_part, Kernel, digest_part, Modules, no_modules, with_module, module_part, modules_part, making_plan, measure_plan, Plan, End, bytes_due, status_due, found_plan, flat_plan, command_plan, plan_of, measure_judged, pages_judged, is_whole_pages, flat_events, gen_plan, gen_due, gen_disk, policy_judged, policy_part, part_judged, kernel_part, disk_refusal, disk_part, text_part, script_part, image_measure, boot_judged, boot_plan, image_plan, run_plan, start_with}
 use Rattle.secvisor_cli.specs.Reading.{Follows, MayFollow, MaySave, Saved, SaveBroke, SavesUnder}
 use Rattle.secvisor_cli.specs.Ready.{IsMade, IsReady, IsReadyWhere, IsFresh, MayCarryOut, MaySaveRun, Prepares}
 use Rattle.secvisor_cli.specs.Answers.{Outside, outside, Writes, SavesAndWrites, WritesAndSaves, Answers, AnswersReached, Performs, MeetsSaves, MeetsSavesBehind, Meets, MeetsReached, Headline, BenchAfter, settled}
@@ -412,14 +413,14 @@ policy_found_faults : (next : Rules → Plan) (judged : Judged Rules) → ((rule
 policy_found_faults next (Ok rules) never = never rules
 policy_found_faults next (Err refused) never = λ e. cc e
 
-boot_no_read_fault : (rules : Rules) (file disk : List ℕ) (events : List Event) (save : Option (List ℕ)) → status_due (boot_judged rules file disk events save) ≢ Status.ReadFault
+boot_no_read_fault : (kind : DiskKind) (rules : Rules) (file disk : List ℕ) (events : List Event) (save : Option (List ℕ)) → status_due (boot_judged kind rules file disk events save) ≢ Status.ReadFault
 unfolding boot_judged
-boot_no_read_fault rules file disk events save =
+boot_no_read_fault kind rules file disk events save =
     elim (bytes_eq (image_measure file) rules.kernel) as (λ b. status_due (if b then
-    (if has_number rules.entries (header_entry file) then RunFrom (boot_start rules file disk) events save else Refuse (Entry (header_entry file)))
+    (if has_number rules.entries (header_entry file) then RunFrom (start_with kind rules file disk) events save else Refuse (Entry (header_entry file)))
     else Refuse (Measure (image_measure file) rules.kernel)) ≢ Status.ReadFault) [
-      | true ↦ elim (has_number rules.entries (header_entry file)) as (λ b. status_due (if b then RunFrom (boot_start rules file disk) events save else Refuse (Entry (header_entry file))) ≢ Status.ReadFault) [
-        | true ↦ run_no_read_fault (run (boot_start rules file disk) events).journal.verdict
+      | true ↦ elim (has_number rules.entries (header_entry file)) as (λ b. status_due (if b then RunFrom (start_with kind rules file disk) events save else Refuse (Entry (header_entry file))) ≢ Status.ReadFault) [
+        | true ↦ run_no_read_fault (run (start_with kind rules file disk) events).journal.verdict
         | false ↦ λ e. cc e
       ]
       | false ↦ λ e. cc e
@@ -440,7 +441,7 @@ script_found_faults harts (Text name) next never =
 boot_found_faults : (words : RunWords) (rules : Rules) (file : List ℕ) → HasFoundFaults (boot_plan words rules file)
 unfolding boot_plan
 boot_found_faults words rules file =
-    disk_found_faults words.disk _ (λ disk. script_found_faults rules.harts words.script _ (λ schedule. boot_no_read_fault rules file disk (first_events words.events schedule) words.save))
+    disk_found_faults words.disk _ (λ disk. script_found_faults rules.harts words.script _ (λ schedule. boot_no_read_fault words.kind rules file disk (first_events words.events schedule) words.save))
 
 image_found_faults : (words : RunWords) (rules : Rules) → HasFoundFaults (image_plan words rules)
 unfolding image_plan kernel_part found_plan

@@ -13,6 +13,7 @@ use Rattle.policy_making.specs.Making.{Terms}
 use Rattle.policy_making.specs.Ranges.{terms_within}
 use Rattle.policy_making.specs.WordRanges.{are_entries, entries_of, are_module_names, span_of}
 use Rattle.policy_making.proofs.WordsWithin.{entries_count, entries_good, span_of_within}
+use Rattle.command_words.specs.declared.command.DiskKind.{DiskKind}
 use Rattle.command_words.specs.Commands.{Split, RunSplit, MeasureSplit, flat_split, gen_split, run_split, measure_split, split_words}
 use Rattle.secvisor_cli.specs.declared.refusal.Refusal.{Refusal}
 use Rattle.secvisor_cli.specs.declared.refusal.Refusal.TheVariants.{OutOfRange}
@@ -35,15 +36,15 @@ not_gen [] other = refl
 not_gen (a ∷ []) other = absurd (other refl)
 not_gen (a ∷ b ∷ rest) other = refl
 
-pub not_run : (words : List (List ℕ)) → length words ≢ 6 → run_split words ≡ None
-not_run [] other = refl
-not_run (a ∷ []) other = refl
-not_run (a ∷ b ∷ []) other = refl
-not_run (a ∷ b ∷ c ∷ []) other = refl
-not_run (a ∷ b ∷ c ∷ d ∷ []) other = refl
-not_run (a ∷ b ∷ c ∷ d ∷ e ∷ []) other = refl
-not_run (a ∷ b ∷ c ∷ d ∷ e ∷ f ∷ []) other = absurd (other refl)
-not_run (a ∷ b ∷ c ∷ d ∷ e ∷ f ∷ g ∷ rest) other = refl
+pub not_run : (kind : DiskKind) (words : List (List ℕ)) → length words ≢ 6 → run_split kind words ≡ None
+not_run kind [] other = refl
+not_run kind (a ∷ []) other = refl
+not_run kind (a ∷ b ∷ []) other = refl
+not_run kind (a ∷ b ∷ c ∷ []) other = refl
+not_run kind (a ∷ b ∷ c ∷ d ∷ []) other = refl
+not_run kind (a ∷ b ∷ c ∷ d ∷ e ∷ []) other = refl
+not_run kind (a ∷ b ∷ c ∷ d ∷ e ∷ f ∷ []) other = absurd (other refl)
+not_run kind (a ∷ b ∷ c ∷ d ∷ e ∷ f ∷ g ∷ rest) other = refl
 
 pub not_measure : (words : List (List ℕ)) → length words < 6 → measure_split words ≡ None
 not_measure [] few = refl

@@ -4,6 +4,7 @@ use Rattle.sv_types.specs.declared.event.Event.{Event}
 use Rattle.sv_types.specs.declared.status.Status.{Status}
 use Rattle.reference.specs.States.{State}
 use Rattle.sv_types.specs.Output.{run_status}
+use Rattle.reference.specs.Disk.{disk_bytes}
 use Rattle.reference.specs.Report.{output}
 use Rattle.reference.specs.Run.{run}
 use Rattle.machine_model.specs.Machine.{Machine}
@@ -116,7 +117,7 @@ pub record RunsAndSaves (start : State) (events : List Event) (save : Option (Li
   -- how writing ended
   pub written : Result Status Trouble
   pub writes : Writes (run_status (run start events).journal.verdict) (output (run start events)) old new written
-  pub saves : SavedBehind (saving (run start events).devices.disk.bytes save) files_old files_new written result
+  pub saves : SavedBehind (saving (disk_bytes (run start events).devices.disk) save) files_old files_new written result
   pub runs : RunsTo (IsErrOf result Memory) start events machine old new
 
 -- A policy was saved, and then its line written. Where the save failed, nothing was written.

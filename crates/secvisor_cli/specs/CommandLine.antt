@@ -2,6 +2,7 @@
 -- project's own.
 use Rattle.std.specs.Prelude.{ℕ, ◌^◌, ◌-◌, List, if◌then◌else◌, Option, Some, None, option_map, take, drop, Result, Ok, Err, codes}
 use Rattle.std.specs.Str.{bytes_eq}
+use Rattle.command_words.specs.declared.command.DiskKind.{DiskKind}
 use Rattle.command_words.specs.Commands.{Split, FlatSplit, RunSplit, MeasureSplit, split_words}
 use Rattle.sv_types.specs.Numbers.{number_within, digest_of}
 use Rattle.processor.specs.Regions.{most_ram_pages}
@@ -23,6 +24,8 @@ pub data Source : Type 0 where
 
 -- a run of an image under a policy
 pub record RunWords : Type 0 where
+  -- which block device the machine has
+  pub kind : DiskKind
   pub image : List ℕ
   pub policy : List ℕ
   -- none for an empty disk
@@ -75,7 +78,7 @@ gen_words (Some calls) = Ok (Generated calls)
 abbrev pub gen_judged : List ℕ → Result Command Refusal
 gen_judged calls = gen_words (number_within 1 most_calls calls)
 
--- ---- run IMAGE POLICY DISK SCRIPT EVENTS SAVE
+-- ---- run IMAGE POLICY DISK SCRIPT EVENTS SAVE, and vrun with the same words
 
 -- a name, where the word isn't `none`
 abbrev pub unless_none : List ℕ → Option (List ℕ)
@@ -93,6 +96,7 @@ source_of word =
 
 abbrev pub run_of : RunSplit → Source → ℕ → RunWords
 run_of w script events = record {
+  kind = w.kind;
   image = w.image;
   policy = w.policy;
   disk = unless_none w.disk;

@@ -13,14 +13,16 @@ use Rattle.policy.specs.Refusals.{Judged}
 use Rattle.policy.specs.Text.{rules_of_text}
 use Rattle.sv_types.specs.Kernel.{header_entry, kernel_refusal, kernel_segments, text_of}
 use Rattle.sv_types.specs.Policies.{Rules}
-use Rattle.reference.specs.Start.{flat_start, boot_start}
+use Rattle.reference.specs.Start.{flat_start, boot_start, virtio_start}
 use Rattle.sv_types.specs.Measure.{measure}
 use Rattle.sv_types.specs.Output.{run_status, line_feed, hexadecimal_bytes}
+use Rattle.reference.specs.Disk.{disk_bytes}
 use Rattle.reference.specs.Report.{output}
 use Rattle.reference.specs.States.{State, has_number}
 use Rattle.reference.specs.Run.{run}
 use Rattle.sv_types.specs.Schedule.{Schedule, first_events}
 use Rattle.script.specs.AutoScripts.{events_of_text, first_refused}
+use Rattle.command_words.specs.declared.command.DiskKind.{DiskKind}
 use Rattle.policy_making.specs.declared.refusal.MakingFault.{MakingFault}
 use Rattle.policy_making.specs.declared.refusal.MakingFault.TheVariants as making
 use Rattle.policy_making.specs.Refusals.{Judged as Made}
@@ -77,7 +79,7 @@ policy_saving name rules = record { name = name; content = PolicyOf rules }
 -- what is saved
 abbrev pub saves_due : Due → Option Saving
 saves_due (Refuse refusal) = None
-saves_due (RunFrom start events save) = saving (run start events).devices.disk.bytes save
+saves_due (RunFrom start events save) = saving (disk_bytes (run start events).devices.disk) save
 saves_due (Make name rules) = Some (policy_saving name rules)
 
 -- ---- plans
@@ -146,7 +148,7 @@ gen_due calls =
 unfoldable pub gen_plan : ℕ → Plan
 gen_plan calls = Judge (End (gen_due calls))
 
--- ---- run: each part is judged before the next one is read
+-- ---- run and vrun: each part is judged before the next one is read
 
 abbrev pub most_policy_bytes : ℕ
 most_policy_bytes = 16 * 2 ^ 20
@@ -202,11 +204,16 @@ script_part harts (Text name) next = text_part harts name next
 abbrev pub image_measure : List ℕ → List ℕ
 image_measure file = measure (text_of (kernel_segments file))
 
+-- the start with a disk of such a kind
+abbrev pub start_with : DiskKind → Rules → (file disk : List ℕ) → State
+start_with DiskKind.Block rules file disk = boot_start rules file disk
+start_with DiskKind.Virtio rules file disk = virtio_start rules file disk
+
 -- the text is measured, and the entry has to be a permitted one
-unfoldable pub boot_judged : Rules → (file disk : List ℕ) → List Event → (save : Option (List ℕ)) → Due
-boot_judged rules file disk events save =
+unfoldable pub boot_judged : DiskKind → Rules → (file disk : List ℕ) → List Event → (save : Option (List ℕ)) → Due
+boot_judged kind rules file disk events save =
     if bytes_eq (image_measure file) rules.kernel then
-    (if has_number rules.entries (header_entry file) then RunFrom (boot_start rules file disk) events save
+    (if has_number rules.entries (header_entry file) then RunFrom (start_with kind rules file disk) events save
     else Refuse (Entry (header_entry file)))
     else Refuse (Measure (image_measure file) rules.kernel)
 
@@ -214,7 +221,7 @@ boot_judged rules file disk events save =
 unfoldable pub boot_plan : RunWords → Rules → (file : List ℕ) → Plan
 boot_plan words rules file =
     disk_part words.disk (λ disk. script_part rules.harts words.script
-    (λ schedule. Judge (End (boot_judged rules file disk (first_events words.events schedule) words.save))))
+    (λ schedule. Judge (End (boot_judged words.kind rules file disk (first_events words.events schedule) words.save))))
 
 unfoldable pub image_plan : RunWords → Rules → Plan
 image_plan words rules = image_part rules words.image (boot_plan words rules)

@@ -24,6 +24,7 @@ source_value (named.Text name) = Text name.now
 
 abbrev pub run_value : AskedRun → RunWords
 run_value run = record {
+  kind = run.kind;
   image = run.image.now;
   policy = run.policy.now;
   disk = option_copied run.disk;

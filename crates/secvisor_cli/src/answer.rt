@@ -4,6 +4,7 @@ ghost use Rattle.std.specs.Option.{option_copied};
 ghost use Rattle.std.specs.Result.{is_ok};
 ghost use Rattle.sv_types.specs.Output.{run_status};
 ghost use Rattle.reference.specs.Counting.{CountsAtMost};
+ghost use Rattle.reference.specs.Disk.{disk_bytes};
 ghost use Rattle.reference.specs.Report.{output};
 ghost use Rattle.reference.specs.Run.{run};
 ghost use Rattle.reference.specs.States.{State};
@@ -286,7 +287,7 @@ fn run_and_report<O: Sink>(
     ensures machine { (start : State) → IsNew machine.old start →
         RunsTo (IsErrOf result Trouble.Memory) start (first_events events script) machine.new (O.state out.old) (O.state out.new) }
     ensures disk { OnOk result ((start : State) → IsNew machine.old start →
-        machine.new.devices.disk.bytes ≡ (run start (first_events events script)).devices.disk.bytes) }
+        disk_bytes machine.new.devices.disk ≡ disk_bytes (run start (first_events events script)).devices.disk) }
 {
     run(machine, script, events, out)?;
     finish(alloc, machine, out)

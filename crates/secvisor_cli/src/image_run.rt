@@ -1,11 +1,15 @@
-// The command `run`.
-ghost use Rattle.std.specs.Prelude.{◌≡◌, ◌<◌, ◌≤◌, ◌-◌, ◌^◌, ◌%◌, ◌==◌, ℕ, IfOk, IsTrue, length};
+// The commands `run` and `vrun`.
+ghost use Rattle.std.specs.Prelude.{◌≡◌, ◌<◌, ◌≤◌, ◌-◌, ◌^◌, ◌%◌, ◌==◌, ℕ, List, IfOk, OnOk, IfErr, IsTrue, length, true};
 ghost use Rattle.std.specs.Option.{option_copied};
+ghost use Rattle.sv_types.specs.Measure.{measure};
 ghost use Rattle.sv_types.specs.Policies.{rules_of, rules_within};
 ghost use Rattle.sv_types.specs.Schedule.{Schedule};
+ghost use Rattle.reference.specs.States.{has_number};
+ghost use Rattle.machine_model.specs.Reaches.{IsNew};
+ghost use Rattle.machine.specs.Boot.{IsImageOf, IsRead, image_text, RefusesImage};
 ghost use Rattle.policy.specs.Text.{rules_of_text};
 ghost use Rattle.secvisor_cli.specs.CommandLine.{Auto};
-ghost use Rattle.secvisor_cli.specs.Plans.{policy_part, kernel_part, disk_part, text_part, script_part, boot_plan, run_plan};
+ghost use Rattle.secvisor_cli.specs.Plans.{policy_part, kernel_part, disk_part, text_part, script_part, boot_plan, run_plan, start_with};
 ghost use Rattle.secvisor_cli.specs.Reading.{MayFollow};
 ghost use Rattle.secvisor_cli.specs.Ready.{Prepares, Staged, MayStage, DrawsFrom, IsPolicy, IsKernel, IsScript};
 ghost use Rattle.secvisor_cli.specs.Words.{source_value, run_value};
@@ -15,8 +19,9 @@ use crate::parts::read_part;
 use crate::ready::{Booted, Ready, Stop};
 use crate::refusal::Refusal;
 use crate::words::{Run, Source};
+use command_words::DiskKind;
 use elf64_load::{ElfRefusal, KernelImage, read_kernel};
-use machine::{Machine, SECTOR_BYTES};
+use machine::{BootRefusal, Machine, SECTOR_BYTES};
 use outside::Files;
 use policy::PolicyRefusal;
 use script::{Script, ScriptRefusal, auto, rounds};
@@ -73,13 +78,36 @@ fn boot_file<'a, R: Threads + Sync, F: Files>(
     let image = judge_kernel(alloc, file, policy.ram_pages)?;
     let disk = read_disk(alloc, asked.disk, files)?;
     let script = read_script(alloc, &asked.script, policy.harts, files)?;
-    let machine = Machine::boot(rt, alloc, &image, policy, disk)?;
+    let machine = boot_with(rt, alloc, asked.kind, &image, policy, disk)?;
     Ok(Ready::Run(Booted {
         machine,
         script,
         events: asked.events,
         save: asked.save,
     }))
+}
+
+// A machine with a disk of such a kind.
+fn boot_with<R: Threads + Sync>(
+    rt: &R,
+    alloc: Global,
+    kind: DiskKind,
+    image: &KernelImage,
+    policy: Policy,
+    disk: Vec<u8>,
+) -> Result<Machine, BootRefusal>
+    requires within { IsTrue (rules_within (rules_of policy)) }
+    requires read { IsRead policy.ram_pages image.now }
+    requires sectors { length disk.items % 512 ≡ 0 }
+    ensures new { (file : List ℕ) → IsImageOf file policy.ram_pages image.now → IfOk result (λ m. IsNew m (start_with kind (rules_of policy) file disk.items)) }
+    ensures measured { OnOk result (measure (image_text image.now) ≡ policy.kernel) }
+    ensures permitted { OnOk result (has_number policy.entries.items image.now.entry ≡ true) }
+    ensures refused { IfErr result (RefusesImage image.now (rules_of policy)) }
+{
+    match kind {
+        DiskKind::Block => Machine::boot(rt, alloc, image, policy, disk),
+        DiskKind::Virtio => Machine::boot_virtio(rt, alloc, image, policy, disk),
+    }
 }
 
 // ---- the policy

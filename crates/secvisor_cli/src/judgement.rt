@@ -7,7 +7,7 @@ ghost use Rattle.secvisor_cli.specs.Words.{IsJudged};
 
 use crate::refusal::{Refusal, Word};
 use crate::words::{read_flat, read_generated, read_run, read_terms};
-use command_words::{FlatWords, RunWords};
+use command_words::{DiskKind, FlatWords, RunWords};
 use policy_making::are_module_names;
 
 /// Judges the words from left to right, without memory.
@@ -54,7 +54,8 @@ fn judge_named(name: &str, rest: &[String]) -> Result<(), Refusal>
     match name {
         "flat" => judge_flat(rest),
         "gen" => judge_generated(rest),
-        "run" => judge_run(rest),
+        "run" => judge_run(DiskKind::Block, rest),
+        "vrun" => judge_run(DiskKind::Virtio, rest),
         "measure" => judge_measure(rest),
         _ => Err(Refusal::NoCommand),
     }
@@ -91,12 +92,13 @@ fn judge_generated(rest: &[String]) -> Result<(), Refusal>
 }
 
 #[tactic(auto, using(crate::proofs::WordLemmas::not_run))]
-fn judge_run(rest: &[String]) -> Result<(), Refusal>
-    ensures { IsJudged (split_judged (run_split (map string_bytes rest.now))) result }
+fn judge_run(kind: DiskKind, rest: &[String]) -> Result<(), Refusal>
+    ensures { IsJudged (split_judged (run_split kind (map string_bytes rest.now))) result }
 {
     match rest {
         [image, policy, disk, script, events, save] => {
             read_run(&RunWords {
+                kind,
                 image: image.as_str(),
                 policy: policy.as_str(),
                 disk: disk.as_str(),

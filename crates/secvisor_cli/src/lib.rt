@@ -17,6 +17,7 @@ mod trouble;
 mod words;
 
 pub use answer::{Bench, finish, refuse, secvisor};
+pub use command_words::DiskKind;
 pub use file_fault::{FileFault, Part};
 pub use flat::MOST_FLAT_BYTES;
 pub use image_run::{

@@ -9,7 +9,7 @@ ghost use Rattle.secvisor_cli.specs.CommandLine.{command_judged, flat_judged, ge
 ghost use Rattle.secvisor_cli.specs.Words.{IsRead, HasTerms, HasModuleNames, IsInRange, source_value, run_value};
 
 use crate::refusal::{Refusal, Word};
-use command_words::{CommandWords, FlatWords, MeasureWords, RunWords};
+use command_words::{CommandWords, DiskKind, FlatWords, MeasureWords, RunWords};
 use policy_limits::{FEWEST_RAM_PAGES, MOST_HARTS, MOST_RAM_PAGES};
 use policy_making::{are_entries, span_of};
 use sv_types::{Digest, Span};
@@ -37,9 +37,12 @@ pub struct Flat<'a> {
     pub events: u64,
 }
 
-/// `run IMAGE POLICY DISK SCRIPT EVENTS SAVE`: the files' names, where the events come from, and their number.
+/// `run IMAGE POLICY DISK SCRIPT EVENTS SAVE`, or `vrun` with the same words: the files' names, where the events come
+/// from, and their number.
 #[derive(Drop)]
 pub struct Run<'a> {
+    /// Which block device the machine has.
+    pub kind: DiskKind,
     pub image: &'a str,
     pub policy: &'a str,
     /// None for an empty disk.
@@ -129,7 +132,7 @@ pub fn read_generated(calls: &str) -> Result<Command<'_>, Refusal>
     }
 }
 
-/// The words of `run`.
+/// The words of `run`, or of `vrun`.
 #[tactic(auto, unfolding(crate::specs::CommandLine::run_words))]
 pub fn read_run<'a>(words: &RunWords<'a>) -> Result<Command<'a>, Refusal>
     ensures read { IsRead (run_judged (run_split_of words.now)) result }
@@ -150,6 +153,7 @@ fn run_of<'a>(words: &RunWords<'a>, script: Source<'a>, events: u64) -> Run<'a>
     ensures events { result.events ≡ events }
 {
     Run {
+        kind: words.kind,
         image: words.image,
         policy: words.policy,
         disk: unless_none(words.disk),

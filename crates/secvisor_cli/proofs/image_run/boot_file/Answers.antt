@@ -5,7 +5,7 @@ use Rattle.secvisor_cli.specs.declared.ready.Ready.TheVariants.{Run}
 use Rattle.secvisor_cli.specs.Plans.{kernel_part, boot_plan}
 use Rattle.secvisor_cli.specs.Ready.{Prepares, IsFresh, stop_of}
 use Rattle.secvisor_cli.specs.Words.{run_value}
-use Rattle.secvisor_cli.proofs.ReadyLemmas.{err_by, boot_rules, fresh_boot}
+use Rattle.secvisor_cli.proofs.ReadyLemmas.{err_by, boot_rules, fresh_with}
 use Rattle.secvisor_cli.proofs.StageLemmas.{kernel_stopped, disk_may, script_may, disk_stopped, script_stopped, script_ready, image_booted, boot_stopped}
 use Rattle.secvisor_cli.proofs.image_run.boot_file.Goals as goal
 
@@ -50,16 +50,16 @@ returns-in_err-machine-clause-prepares g c =
     c.from_residual-in_err-machine.ensures.1
     (script_ready (run_value c.args.asked.now) (rules_of c.args.policy) c.args.file.now c.in_ok-disk.disk.items c.in_ok-script.script _ _ _ _ c.in_ok-image.ensures.accepted
     c.in_ok-disk.ensures.stage c.in_ok-script.ensures.stage
-    (boot_stopped (rules_of c.args.policy) c.args.file.now c.in_ok-disk.disk.items _ _ c.in_ok-image.image c.in_err-machine.field-0.0 c.in_ok-image.ensures c.in_err-machine.ensures.refused))
+    (boot_stopped c.args.asked.now.kind (rules_of c.args.policy) c.args.file.now c.in_ok-disk.disk.items _ _ c.in_ok-image.image c.in_err-machine.field-0.0 c.in_ok-image.ensures c.in_err-machine.ensures.refused))
 
 pub returns-clause-prepares : goal.returns-clause-prepares
 returns-clause-prepares g c =
     let new = c.in_ok-machine.ensures.new c.args.file.now c.in_ok-image.ensures in
-    let fresh = fresh_boot (rules_of c.args.policy) c.args.file.now c.in_ok-disk.disk.items c.in_ok-machine.machine new in
+    let fresh = fresh_with c.args.asked.now.kind (rules_of c.args.policy) c.args.file.now c.in_ok-disk.disk.items c.in_ok-machine.machine new in
     let it : IsFresh (record { machine = c.in_ok-machine.machine; script = c.in_ok-script.script; events = c.args.asked.now.events; save = c.args.asked.now.save }) = record { events = c.requires.events; state = record { state = _; stands = new.stands }; counts = fresh.0; console = fresh.1 } in
     script_ready (run_value c.args.asked.now) (rules_of c.args.policy) c.args.file.now c.in_ok-disk.disk.items c.in_ok-script.script _ _ _ _ c.in_ok-image.ensures.accepted
     c.in_ok-disk.ensures.stage c.in_ok-script.ensures.stage
-    (image_booted (rules_of c.args.policy) c.args.file.now c.in_ok-disk.disk.items (first_events c.args.asked.now.events c.in_ok-script.script) _ c.in_ok-image.image
+    (image_booted c.args.asked.now.kind (rules_of c.args.policy) c.args.file.now c.in_ok-disk.disk.items (first_events c.args.asked.now.events c.in_ok-script.script) _ c.in_ok-image.image
     (Ok (Run (record { machine = c.in_ok-machine.machine; script = c.in_ok-script.script; events = c.args.asked.now.events; save = c.args.asked.now.save })))
     c.in_ok-image.ensures c.in_ok-machine.ensures.measured c.in_ok-machine.ensures.permitted (new, refl, refl, it))
 
@@ -67,4 +67,4 @@ pub returns-clause-draws : goal.returns-clause-draws
 returns-clause-draws g c = λ number is.
     let new = c.in_ok-machine.ensures.new c.args.file.now c.in_ok-image.ensures in
     c.in_ok-script.ensures.draws number is
-    ∙ ap (λ (r : Rules). Schedule.Auto r.harts number) (sym (boot_rules (rules_of c.args.policy) c.args.file.now c.in_ok-disk.disk.items c.in_ok-machine.machine new))
+    ∙ ap (λ (r : Rules). Schedule.Auto r.harts number) (sym (boot_rules c.args.asked.now.kind (rules_of c.args.policy) c.args.file.now c.in_ok-disk.disk.items c.in_ok-machine.machine new))
