@@ -2,7 +2,7 @@
 use Rattle.std.specs.Prelude.{ℕ}
 use Rattle.reference.specs.States.{Devices, Journal}
 use Rattle.machine_model.specs.Machine.{Machine, HostHart}
-use Rattle.trap_answers.specs.Answered.{answered}
+use Rattle.trap_answers.specs.Answered.{with_hart}
 
-abbrev pub accessed : Machine → ℕ → HostHart → Devices → Journal → Machine
-accessed m h host devices journal = record (answered m h host journal) { devices = devices }
+abbrev pub with_devices : Machine → ℕ → HostHart → Devices → Journal → Machine
+with_devices m h host devices journal = record (with_hart m h host journal) { devices = devices }

@@ -12,7 +12,7 @@ use Rattle.answer_laws.proofs.TurnsServed.{step_law}
 
 -- ---- printed bytes taken away
 
-dropped_twice : (m n : ℕ) (list : List ℕ) → drop n (drop m list) ≡ drop (m + n) list
+pub dropped_twice : (m n : ℕ) (list : List ℕ) → drop n (drop m list) ≡ drop (m + n) list
 dropped_twice zero n list = let e : n ≡ 0 + n = omega arith in ap (λ (k : ℕ). drop k list) e
 dropped_twice (suc m) zero [] = let e : suc m ≡ suc m + 0 = omega arith in ap (λ (k : ℕ). drop {A = ℕ} k []) e
 dropped_twice (suc m) (suc n) [] = let e : suc (m + suc n) ≡ suc m + suc n = omega arith in ap (λ (k : ℕ). drop {A = ℕ} k []) e

@@ -1,6 +1,7 @@
 // What an answer does: to the hart that called, to other harts, to devices and to the journal.
 
 ghost use Rattle.std.specs.Prelude.{◌≡◌, ◌<◌, ◌≤◌, length};
+ghost use Rattle.sv_types.specs.Limits.{most_harts};
 ghost use Rattle.reference.specs.Answers.{devices_beside, journal_beside};
 ghost use Rattle.reference.specs.Counting.{MayCount};
 ghost use Rattle.machine_model.specs.HostCalls.{host_replied, hosts_beside};
@@ -36,8 +37,8 @@ fn change_harts(seats: &mut [Seat], guard: &Guard, beside: Beside)
 // What happens to devices.
 #[tactic(auto, unfolding(reference::specs::Answers::devices_beside))]
 fn change_devices<D: DiskPort>(which: u8, devices: &mut Devices<D>, beside: Beside)
-    requires there { which < 4 }
-    requires starts { StartsOneOf 4 beside }
+    requires there { which < most_harts }
+    requires starts { StartsOneOf most_harts beside }
     ensures { devices.new ≡ devices_beside beside which devices.old }
 {
     match beside {
@@ -66,7 +67,7 @@ pub fn give<D: DiskPort>(
     answer: &Answer,
 )
     requires there { which < length seats.old }
-    requires few { length seats.old ≤ 4 }
+    requires few { length seats.old ≤ most_harts }
     requires room { length journal.old.printed < 4096 }
     requires counts { MayCount journal.old.counts }
     requires starts { StartsOneOf (length seats.old) answer.now.beside }

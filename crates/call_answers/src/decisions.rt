@@ -1,6 +1,7 @@
 // What each call is answered. Each function is the definition's line of the same name.
 
 ghost use Rattle.std.specs.Prelude.{◌≡◌, ◌<◌, ◌≤◌, ℕ, length, slice_get, OnSome, false};
+ghost use Rattle.sv_types.specs.Limits.{most_harts};
 ghost use Rattle.reference.specs.Calls.{Facts, first_input, base_call, timer_call, ipi_call, fence_call, start_other, status_of_hart, hart_call, shut_down, reset_call};
 ghost use Rattle.reference.specs.ModuleCalls.{answer_of};
 ghost use Rattle.hart_answers.specs.Asking.{is_about_modules};
@@ -129,7 +130,7 @@ fn is_started(seats: &[Seat], hart: u64) -> Option<bool>
 
 #[tactic(auto, unfolding(reference::specs::Calls::start_other))]
 fn start_other(seats: &[Seat], entries: &Entries, asked: &Asked) -> Answer
-    requires few { length seats.now ≤ 4 }
+    requires few { length seats.now ≤ most_harts }
     ensures answer { (f : Facts) → f.rules.entries ≡ entries.now → result ≡ start_other f asked.now (slice_get (started_of seats.now) asked.now.a0) }
     ensures starts { StartsOneOf (length seats.now) result.beside }
 {
@@ -164,7 +165,7 @@ fn status_of_hart(seats: &[Seat], asked: &Asked) -> Reply
 
 #[tactic(auto, unfolding(reference::specs::Calls::hart_call))]
 fn hart_call(seats: &[Seat], entries: &Entries, asked: &Asked) -> Answer
-    requires few { length seats.now ≤ 4 }
+    requires few { length seats.now ≤ most_harts }
     ensures answer { (f : Facts) → f.rules.entries ≡ entries.now → f.started ≡ started_of seats.now → result ≡ hart_call f asked.now }
     ensures starts { StartsOneOf (length seats.now) result.beside }
 {
@@ -204,7 +205,7 @@ fn reset_call(asked: &Asked) -> Answer
 /// The answer to a call from kernel mode that isn't one about modules.
 #[tactic(auto, using(crate::proofs::Started::started_number), unfolding(reference::specs::ModuleCalls::answer_by))]
 pub fn answer_of(seats: &[Seat], entries: &Entries, input: &[u8], asked: &Asked) -> Answer
-    requires few { length seats.now ≤ 4 }
+    requires few { length seats.now ≤ most_harts }
     requires others { is_about_modules asked.now ≡ false }
     ensures answer { (f : Facts) → f.rules.entries ≡ entries.now → f.started ≡ started_of seats.now → f.input ≡ input.now → result ≡ answer_of f asked.now }
     ensures starts { StartsOneOf (length seats.now) result.beside }

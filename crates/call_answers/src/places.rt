@@ -7,13 +7,10 @@ ghost use Rattle.machine_model.specs.HostCalls.{host_replied};
 ghost use Rattle.machine_model.specs.Machine.{update};
 ghost use Rattle.hart_answers.specs.Hosts.{host_of, hosts_of};
 
-use hart::Hart;
+use hart::{A0, Hart};
 use hart_answers::{Seat, answer, set, start, stay, stop};
 use page_guard::Guard;
 use reference::Reply;
-
-/// The register a0.
-const A0: u8 = 10;
 
 // What becomes of the hart that called.
 #[tactic(auto, unfolding(machine_model::specs::HostCalls::host_replied))]

@@ -1,12 +1,8 @@
 -- Events that are drawn in rows.
 use Rattle.std.proofs.Common.{◌≡◌, ℕ, zero, suc, [], ◌++◌, replicate, refl, sym, ◌∙◌, ap, Option, None}
 use Rattle.sv_types.specs.declared.event.Event.{Event}
-use Rattle.sv_types.specs.Schedule.{Schedule, first_events, next_event, after_event, begun_with}
-
-begun_none : (n : ℕ) (script : Schedule) → next_event script ≡ None → first_events n script ≡ []
-unfolding first_events
-begun_none zero script is = refl
-begun_none (suc n) script is = ap (λ (o : Option Event). begun_with o (first_events n (after_event script))) is
+use Rattle.sv_types.specs.Schedule.{Schedule, first_events, next_event}
+use Rattle.script.proofs.FirstEvents.{begun_none}
 
 -- no event is at hand, and none is to be drawn
 pub none_asked : (count undrawn : ℕ) (event : Event) (script : Schedule) → count ≡ 0 → undrawn ≡ 0 → replicate count event ++ first_events undrawn script ≡ []

@@ -3,7 +3,7 @@ ghost use Rattle.std.specs.Prelude.{◌≡◌, ◌<◌, ◌≤◌, ◌-◌, ◌^
 ghost use Rattle.reference.specs.Counting.{CountsAtMost};
 ghost use Rattle.sv_types.specs.Schedule.{first_events};
 ghost use Rattle.machine_model.specs.Reaches.{Cleared};
-ghost use Rattle.outside.specs.Outside.{BreaksOff};
+ghost use Rattle.outside.specs.Outside.{BreaksOff, MayWrite};
 ghost use Rattle.console_run.specs.Standing.{HasState};
 ghost use Rattle.console_run.specs.Console.{is_due, Flushed, HasTaken, HasRunFromStart, RunBrokeFromStart};
 
@@ -26,8 +26,7 @@ fn is_due(printed: &[u8]) -> bool
 /// Writes the console's bytes where they are due.
 #[tactic(auto, using(crate::proofs::Standing::flushed_all, crate::proofs::Standing::flushed_none, crate::proofs::Standing::cleared_none))]
 pub fn flush_due<O: Sink>(machine: &mut Machine, out: &mut O) -> Result<(), Failed>
-    requires is_open { IsTrue (O.state out.old).is_open }
-    requires count { (O.state out.old).faults < 2 ^ 64 - 1 }
+    requires sink { MayWrite (O.state out.old) }
     requires room { length machine.old.journal.printed ≤ 4096 }
     ensures flushed { OnOk result (Flushed machine.old machine.new (O.state out.old) (O.state out.new)) }
     ensures cleared { Cleared machine.old machine.new }
@@ -52,8 +51,7 @@ pub fn run<O: Sink>(
     events: u64,
     out: &mut O,
 ) -> Result<(), Failed>
-    requires is_open { IsTrue (O.state out.old).is_open }
-    requires count { (O.state out.old).faults < 2 ^ 64 - 1 }
+    requires sink { MayWrite (O.state out.old) }
     requires events { events ≤ 2 ^ 32 }
     requires state { HasState machine.old }
     requires counts { CountsAtMost 0 machine.old.journal.counts }

@@ -8,7 +8,7 @@ ghost use Rattle.reference.specs.States.{BlockDisk};
 ghost use Rattle.sv_types.specs.declared.block.BlockCommand.TheVariants.{DiskToMemory, MemoryToDisk};
 ghost use Rattle.sv_types.specs.declared.block.BlockStatus.TheVariants.{Busy};
 ghost use Rattle.dma_guard.specs.Transfers.{told, after_move};
-ghost use Rattle.devices.specs.BlockRegisters.{idle_disk, register_named, width_of, beat_to_memory, beat_to_disk};
+ghost use Rattle.devices.specs.BlockRegisters.{IsSound, idle_disk, register_named, width_of, beat_to_memory, beat_to_disk};
 
 mod registers;
 
@@ -54,6 +54,18 @@ impl Block {
                 count: 0,
                 status: BlockStatus::Idle,
             },
+            bytes: disk,
+        }
+    }
+
+    /// A device with a disk, as its registers and its transfer say. A transfer under way begins at a multiple of a beat's
+    /// bytes, has beats left, and lies on the disk.
+    pub fn from_state(state: BlockState, disk: Vec<u8>) -> Block
+        requires sound { IsSound (record { block = state; bytes = disk.items }) }
+        ensures { result ≡ record { block = state; bytes = disk.items } }
+    {
+        Block {
+            block: state,
             bytes: disk,
         }
     }

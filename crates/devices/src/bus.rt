@@ -44,6 +44,17 @@ impl<D: DiskPort> Devices<D> {
         }
     }
 
+    /// The devices at a time with the timers of four harts, and a disk's device as it stands. No input waits.
+    pub fn from_values(disk: D, time: u64, timers: [u64; 4]) -> Devices<D>
+        ensures { result ≡ record (devices_at_boot (D.state disk)) { clock = record { time = time; timers = timers } } }
+    {
+        Devices {
+            console: Console::new(),
+            disk,
+            clock: Clock::from_values(time, timers),
+        }
+    }
+
     /// A load of `width` bytes at a guest-physical address. None where no register is there; then nothing changes.
     #[tactic(auto, unfolding(reference::specs::Devices::device_load, reference::specs::Devices::port_load))]
     pub fn load(&mut self, gpa: u64, width: u8) -> Option<u64>

@@ -38,6 +38,13 @@ impl Clock {
         }
     }
 
+    /// A time, with the timers of four harts.
+    pub fn from_values(time: u64, timers: [u64; HARTS]) -> Clock
+        ensures { result ≡ record { time = time; timers = timers } }
+    {
+        Clock { time, timers }
+    }
+
     /// Lets `n` ticks pass. Time stands still at its type's end.
     pub fn tick(&mut self, n: u64)
         ensures { self.new ≡ after_tick self.old n }

@@ -10,7 +10,7 @@ ghost use Rattle.machine_model.specs.HostHarts.{host_entered, host_at_trap, host
 ghost use Rattle.hart_answers.specs.Hosts.{host_of};
 
 use csr_file::Csrs;
-use hart::Hart;
+use hart::{A0, A1, Hart};
 use page_guard::{Entries, Forbidden, Guard, Side};
 use processor::{ExitCause, Mode};
 use rv64_exec::Regs;
@@ -111,8 +111,8 @@ pub fn set(hart: &mut Hart, rd: u8, value: u64)
 pub fn answer(hart: &mut Hart, a0: u64, a1: u64)
     ensures hart { (mode : Privilege) → host_of hart.new mode ≡ host_answered a0 a1 (host_of hart.old mode) }
 {
-    hart.core.regs.set(10, a0);
-    hart.core.regs.set(11, a1);
+    hart.core.regs.set(A0, a0);
+    hart.core.regs.set(A1, a1);
     pass(hart);
 }
 
@@ -141,8 +141,8 @@ pub fn start(hart: &mut Hart, side: &mut Side, guard: &Guard, which: u8, pc: u64
 {
     *side = Side::at_boot(guard);
     hart.core.regs = Regs::new();
-    hart.core.regs.set(10, u64::from(which));
-    hart.core.regs.set(11, opaque);
+    hart.core.regs.set(A0, u64::from(which));
+    hart.core.regs.set(A1, opaque);
     hart.core.pc = pc;
     hart.core.csrs = Csrs::at_boot();
     hart.core.reservation = None;

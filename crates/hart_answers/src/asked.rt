@@ -5,6 +5,7 @@ ghost use Rattle.reference.specs.Calls.{Facts, asked_by};
 ghost use Rattle.reference.specs.ModuleCalls.{answer_of, module_call};
 ghost use Rattle.hart_answers.specs.Asking.{is_about_modules};
 
+use hart::{A0, A1, A2, A3, A6, A7};
 use reference::Extension;
 use rv64_exec::Regs;
 use std::marker::Model;
@@ -40,12 +41,12 @@ impl Asked {
         ensures { result ≡ asked_by regs.now }
     {
         Asked {
-            extension: regs.get(17),
-            function: regs.get(16),
-            a0: regs.get(10),
-            a1: regs.get(11),
-            a2: regs.get(12),
-            a3: regs.get(13),
+            extension: regs.get(A7),
+            function: regs.get(A6),
+            a0: regs.get(A0),
+            a1: regs.get(A1),
+            a2: regs.get(A2),
+            a3: regs.get(A3),
         }
     }
 

@@ -1,11 +1,11 @@
 // What the machine records.
 
-ghost use Rattle.std.specs.Prelude.{◌≡◌, ◌<◌, ◌-◌, ◌^◌, [], length, IfOk};
+ghost use Rattle.std.specs.Prelude.{◌≡◌, ◌<◌, ◌≤◌, ◌-◌, ◌^◌, [], length, IfOk};
 ghost use Rattle.sv_types.specs.Boot.{no_counts};
 ghost use Rattle.sv_types.specs.declared.event.Note.TheVariants.{Demote, Denied, Load, Unload, Retire};
 ghost use Rattle.sv_types.specs.declared.event.Verdict.TheVariants.{Running, Shutdown, Stopped};
 ghost use Rattle.sv_types.specs.declared.sbi.SbiCode.TheVariants.{Success};
-ghost use Rattle.reference.specs.Counting.{counted, count_turn, count_beat, count_key, count_tick, count_retired, count_trap, count_return, count_demote, count_denied, count_dropped, count_load, count_unload, MayCount, noted, printed_low, machine_ended};
+ghost use Rattle.reference.specs.Counting.{counted, count_turn, count_beat, count_key, count_tick, count_retired, count_trap, count_return, count_demote, count_denied, count_dropped, count_load, count_unload, MayCount, most_notes, noted, printed_low, machine_ended};
 ghost use Rattle.reference.specs.Answers.{count_answer, journal_beside};
 
 use processor::Mode;
@@ -52,6 +52,27 @@ impl Journal {
             notes,
             counts: Counts::default(),
             verdict: Verdict::Running,
+        })
+    }
+
+    /// What was recorded before, with nothing printed. There is room for all that is kept later.
+    pub fn from_values(
+        alloc: Global,
+        counts: Counts,
+        notes: &[Note],
+        verdict: Verdict,
+    ) -> Result<Journal, AllocError>
+        requires few { length notes.now ≤ most_notes }
+        ensures { IfOk result (λ j. j ≡ record { printed = []; notes = notes.now; counts = counts; verdict = verdict }) }
+    {
+        let printed = Vec::with_capacity(alloc, PRINTED_ROOM)?;
+        let mut kept = Vec::with_capacity(alloc, MOST_NOTES)?;
+        kept.extend_from_slice(notes)?;
+        Ok(Journal {
+            printed,
+            notes: kept,
+            counts,
+            verdict,
         })
     }
 

@@ -12,6 +12,7 @@ use Rattle.sv_types.specs.Schedule.{Schedule, first_events, next_event, after_ev
 use Rattle.sv_types.specs.declared.event.Event.{Event}
 use Rattle.sv_types.specs.declared.image_fault.ImageFault.{ImageFault}
 use Rattle.sv_types.specs.declared.event.Event.TheVariants.{Turn, Beat, Key, Tick}
+use Rattle.sv_types.specs.Limits.{most_events, most_disk_bytes}
 use Rattle.policy.specs.Refusals.{Judged}
 use Rattle.policy.specs.Text.{rules_of_text}
 use Rattle.reference.specs.Start.{boot_start, start as begin}
@@ -28,8 +29,8 @@ use Rattle.secvisor_cli.specs.declared.file_fault.Part.{Part}
 use Rattle.secvisor_cli.specs.declared.refusal.Refusal.{Refusal}
 use Rattle.secvisor_cli.specs.declared.refusal.Refusal.TheVariants.{NoCommand, Measure, Entry}
 use Rattle.command_words.specs.declared.command.DiskKind.{DiskKind}
-use Rattle.secvisor_cli.specs.CommandLine.{Command, Run, RunWords, Source, Text, judged, split_judged, most_events, run_words, unless_none}
-use Rattle.secvisor_cli.specs.Plans.{Due, Refuse, RunFrom, Plan, End, Judge, most_policy_bytes, most_image_bytes, most_disk_bytes, most_script_bytes, policy_judged, policy_part, part_judged, kernel_part, disk_refusal, disk_part, text_part, script_part, image_measure, boot_judged, boot_plan, image_plan, run_plan, command_plan, plan_of}
+use Rattle.secvisor_cli.specs.CommandLine.{Command, Run, RunWords, Source, Text, judged, split_judged, run_words, unless_none}
+use Rattle.secvisor_cli.specs.Plans.{Due, Refuse, RunFrom, Plan, End, Judge, most_policy_bytes, most_image_bytes, most_script_bytes, policy_judged, policy_part, part_judged, kernel_part, disk_refusal, disk_part, text_part, script_part, image_measure, boot_judged, boot_plan, image_plan, run_plan, command_plan, plan_of}
 use Rattle.secvisor_cli.specs.Reading.{Follows}
 use Rattle.secvisor_cli.proofs.PlanLemmas.{Keeps}
 use Rattle.live_cli.specs.LiveAnswers.{IsScriptOf}

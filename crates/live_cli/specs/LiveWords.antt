@@ -3,6 +3,8 @@ use Rattle.std.specs.Prelude.{◌≡◌, ◌≤◌, ◌^◌, ◌-◌, ℕ, List,
 use Rattle.std.specs.List.{list_any}
 use Rattle.std.specs.Str.{bytes_eq}
 use Rattle.sv_types.specs.Numbers.{number_within}
+use Rattle.sv_types.specs.Limits.{most_events}
+use Rattle.live_keys.specs.Line.{most_keys}
 use Rattle.command_words.specs.declared.command.DiskKind.{DiskKind}
 use Rattle.command_words.specs.Commands.{has_dash}
 use Rattle.secvisor_cli.specs.declared.refusal.Word.{Word}
@@ -20,7 +22,7 @@ pub record LiveWords : Type 0 where
 
 -- with every key these are at most 2^32 events
 abbrev pub most_live_events : ℕ
-most_live_events = 2 ^ 32 - 16384
+most_live_events = most_events - most_keys
 
 -- ---- live IMAGE POLICY DISK EVENTS OUT
 

@@ -16,6 +16,7 @@ ghost use Rattle.live_cli.specs.LiveWords.{live_judged, live_plan};
 ghost use Rattle.live_cli.specs.LiveReady.{IsLiveFresh, out_of, MaySaveUnder};
 ghost use Rattle.live_cli.specs.LiveAnswers.{live_outside, SavesScript, after_reading, is_refusal, Reports, RunsLive, PerformsLive, LiveHeadline};
 ghost use Rattle.live_cli.specs.Replays.{LiveLine, live_line, HasEnded, Replays, ComesToDue};
+ghost use Rattle.outside.specs.Outside.{MayWrite};
 
 use crate::ready::{LiveReady, prepare_live};
 use live_drive::{LiveEnd, LiveRun};
@@ -34,8 +35,7 @@ fn report_and_save<F: Files, O: Sink>(
     files: &mut F,
     out: &mut O,
 ) -> Result<Status, Trouble>
-    requires is_open { IsTrue (O.state out.old).is_open }
-    requires count { (O.state out.old).faults < 2 ^ 64 - 1 }
+    requires sink { MayWrite (O.state out.old) }
     requires saves { (F.state files.old).save_faults < 2 ^ 64 - 1 }
     requires permitted { MaySaveUnder name.now (F.state files.old) }
     requires way { IsUnderWay live.now }
@@ -76,8 +76,7 @@ fn report<F: Files, O: Sink>(
     files: &mut F,
     out: &mut O,
 ) -> Result<Status, Trouble>
-    requires is_open { end.write_failed ≡ false → IsTrue (O.state out.old).is_open }
-    requires count { end.write_failed ≡ false → (O.state out.old).faults < 2 ^ 64 - 1 }
+    requires sink { end.write_failed ≡ false → MayWrite (O.state out.old) }
     requires saves { (F.state files.old).save_faults < 2 ^ 64 - 1 }
     requires permitted { MaySaveUnder name.now (F.state files.old) }
     requires way { IsUnderWay live.now }
@@ -105,8 +104,7 @@ fn carry_out<R: Threads + Wait + Sync, F: Files, K: Keys + Send, O: Sink, P: Pac
 ) -> Result<Status, Trouble>
     requires fresh { IsLiveFresh ready }
     requires state { (start : State) × IsNew ready.live.machine start }
-    requires is_open { IsTrue (O.state out.old).is_open }
-    requires count { (O.state out.old).faults < 2 ^ 64 - 1 }
+    requires sink { MayWrite (O.state out.old) }
     requires reads { (K.state keys.old).faults < 2 ^ 64 - 1 }
     requires saves { (F.state files.old).save_faults < 2 ^ 64 - 1 }
     requires permitted { MaySaveUnder ready.out.now (F.state files.old) }
@@ -126,7 +124,7 @@ fn carry_out<R: Threads + Wait + Sync, F: Files, K: Keys + Send, O: Sink, P: Pac
     result
 }
 
-// What the words ask for is made ready and run, or refused.
+// What the words ask for is made ready and run, or refused. Each parameter is a thing of its own outside of the program.
 fn answer<R: Threads + Wait + Sync, F: Files, K: Keys + Send, O: Sink, P: Pace + Sync>(
     rt: &R,
     alloc: Global,
@@ -139,11 +137,10 @@ fn answer<R: Threads + Wait + Sync, F: Files, K: Keys + Send, O: Sink, P: Pace +
 ) -> Result<Status, Trouble>
     requires permitted { MayFollow (live_plan (live_judged (map string_bytes words.now))) (F.state files.old) }
     requires script { MaySaveUnder (out_of (live_judged (map string_bytes words.now))) (F.state files.old) }
-    requires is_open { IsTrue (O.state out.old).is_open }
+    requires sink { MayWrite (O.state out.old) }
     requires reads { (F.state files.old).read_faults < 2 ^ 64 - 1 }
     requires saves { (F.state files.old).save_faults < 2 ^ 64 - 1 }
     requires keys { (K.state keys.old).faults < 2 ^ 64 - 1 }
-    requires writes { (O.state out.old).faults < 2 ^ 64 - 1 }
     ensures { PerformsLive (live_judged (map string_bytes words.now))
         (live_outside (F.state files.old) (O.state out.old) (K.state keys.old) bench.old.machine)
         (live_outside (F.state files.new) (O.state out.new) (K.state keys.new) bench.new.machine) result }
@@ -172,11 +169,10 @@ pub fn secvisor_live<R: Threads + Wait + Sync, F: Files, K: Keys + Send, O: Sink
     // saved under the last of them.
     requires permitted { MayFollow (live_plan (live_judged (map string_bytes words.now))) (F.state files.old) }
     requires script { MaySaveUnder (out_of (live_judged (map string_bytes words.now))) (F.state files.old) }
-    requires is_open { IsTrue (O.state out.old).is_open }
+    requires sink { MayWrite (O.state out.old) }
     requires reads { (F.state files.old).read_faults < 2 ^ 64 - 1 }
     requires saves { (F.state files.old).save_faults < 2 ^ 64 - 1 }
     requires keys { (K.state keys.old).faults < 2 ^ 64 - 1 }
-    requires writes { (O.state out.old).faults < 2 ^ 64 - 1 }
     // For every file, words, number of events and keys, and however the threads run, there is one list of events of which all that
     // was written and saved is.
     ensures headline { LiveHeadline (live_judged (map string_bytes words.now))

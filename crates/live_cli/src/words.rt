@@ -2,11 +2,13 @@
 ghost use Rattle.std.specs.Prelude.{◌≡◌, map, string_bytes};
 ghost use Rattle.live_cli.specs.LiveWords.{live_judged, live_shape, live_named, live_split, IsLive};
 
+use live_keys::MOST_KEYS;
 use secvisor_cli::{DiskKind, Refusal, Run, Source, Word, any_has_dash, unless_none};
+use sv_types::MOST_EVENTS;
 use text_numbers::number_within;
 
-/// The most events of a live run, so that with every key they are at most 2^32.
-const MOST_LIVE_EVENTS: u64 = (1 << 32) - 16384;
+/// The most events of a live run, so that with every key they are no more than a run may have.
+const MOST_LIVE_EVENTS: u64 = MOST_EVENTS - MOST_KEYS;
 
 /// `live IMAGE POLICY DISK EVENTS OUT`: a run whose events are drawn, and the name that its script is saved under.
 #[derive(Drop)]

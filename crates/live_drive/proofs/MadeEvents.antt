@@ -10,8 +10,8 @@ use Rattle.reference.specs.Run.{run, step}
 use Rattle.reference.specs.States.{State}
 use Rattle.machine_model.specs.Machine.{Machine}
 use Rattle.machine_model.specs.Reaches.{Cleared, ReachesFrom, without_first_printed}
-use Rattle.answer_laws.proofs.RunsReach.{clear_law}
-use Rattle.outside.specs.Outside.{SinkState, after_taking, BreaksOff}
+use Rattle.answer_laws.proofs.RunsReach.{clear_law, dropped_twice}
+use Rattle.outside.specs.Outside.{SinkState, after_taking, BreaksOff, MayWrite}
 use Rattle.outside.proofs.SinkLemmas.{after_taking-append, after_taking-nil}
 use Rattle.live_keys.specs.Journal.{events_of, key_bytes}
 use Rattle.live_keys.specs.declared.journal.Journal.{Journal}
@@ -28,16 +28,6 @@ use Rattle.live_drive.proofs.DrawnEvents.{same_harts}
 
 -- ---- printed bytes that are taken away twice
 
-drop_nil : (n : ℕ) → drop {A = ℕ} n [] ≡ []
-drop_nil zero = refl
-drop_nil (suc n) = refl
-
-drop_drop : (n more : ℕ) (bytes : List ℕ) → drop more (drop n bytes) ≡ drop (n + more) bytes
-drop_drop zero more bytes = let same : more ≡ zero + more = omega arith in ap (λ (k : ℕ). drop k bytes) same
-drop_drop (suc n) more [] = drop_nil more ∙ sym (drop_nil (suc n + more))
-drop_drop (suc n) more (b ∷ bytes) =
-    let same : suc (n + more) ≡ suc n + more = omega arith in drop_drop n more bytes ∙ ap (λ (k : ℕ). drop k (b ∷ bytes)) same
-
 cleared_join : (a b c : Machine) → Cleared a b → Cleared b c → Cleared a c
 cleared_join a b c one two =
     let printed : List ℕ = a.journal.printed in
@@ -51,7 +41,7 @@ cleared_join a b c one two =
       same =
           two.same
           ∙ ap (λ (x : Machine). without_first_printed x two.taken) one.same
-          ∙ ap (λ (p : List ℕ). record a { journal = record a.journal { printed = p }; cleared = a.cleared + one.taken + two.taken }) (drop_drop one.taken two.taken printed)
+          ∙ ap (λ (p : List ℕ). record a { journal = record a.journal { printed = p }; cleared = a.cleared + one.taken + two.taken }) (dropped_twice one.taken two.taken printed)
           ∙ ap (λ (n : ℕ). record a { journal = record a.journal { printed = drop (one.taken + two.taken) printed }; cleared = n }) sum;
     }
 
@@ -137,11 +127,11 @@ breaks_to {made = made} {a = a} {b = b} {s = s} {t = t} x same = subst (λ (es :
 
 -- ---- what a sink keeps
 
-pub sink_open : {made more : List Event} {a b : Machine} {s t : SinkState} → GoesOn made more a b s t → IsTrue s.is_open → IsTrue t.is_open
-sink_open on is = subst (λ b. IsTrue b) (sym (ap (λ (k : SinkState). k.is_open) on.taken.taken)) is
-
-pub sink_count : {made more : List Event} {a b : Machine} {s t : SinkState} → GoesOn made more a b s t → s.faults < 2 ^ 64 - 1 → t.faults < 2 ^ 64 - 1
-sink_count on few = subst (λ k. k < 2 ^ 64 - 1) (sym (ap (λ (k : SinkState). k.faults) on.taken.taken)) few
+pub may_write : {made more : List Event} {a b : Machine} {s t : SinkState} → GoesOn made more a b s t → MayWrite s → MayWrite t
+may_write on may = record {
+  is_open = subst (λ b. IsTrue b) (sym (ap (λ (k : SinkState). k.is_open) on.taken.taken)) may.is_open;
+  count = subst (λ k. k < 2 ^ 64 - 1) (sym (ap (λ (k : SinkState). k.faults) on.taken.taken)) may.count;
+}
 
 -- ---- answers
 

@@ -8,6 +8,8 @@ use Rattle.machine_model.specs.Reaches.{ReachesFrom}
 use Rattle.outside.specs.Outside.{SinkState, after_taking, BreaksOff}
 use Rattle.console_run.specs.Standing.{Stands}
 use Rattle.console_run.specs.Console.{HasTaken, HasRun}
+use Rattle.live_drive.specs.LiveRuns.{events_made}
+use Rattle.live_drive.specs.declared.live_run.LiveRun.{LiveRun}
 
 -- Whichever run had made the events so far has made these; of its console the sink took what isn't left in the machine.
 pub record GoesOn (made more : List Event) (old new : Machine) (before after : SinkState) : Type 0 where
@@ -24,3 +26,11 @@ pub record HasBroken (first : Machine) (start : State) (events : List Event) (ma
 -- whichever run had made the events so far has made these, and then a write failed
 pub record Breaks (made more : List Event) (old new : Machine) (before after : SinkState) : Type 0 where
   pub broke : (first : Machine) (start : State) (sink : SinkState) → HasRun first start made old sink before → HasBroken first start more new sink after
+
+-- a live run has made the events up to another, and the sink took the console's bytes
+abbrev pub WentOn : (old new : LiveRun) (before after : SinkState) → Type 0
+WentOn old new before after = GoesOn (events_made old) (events_made new) old.machine new.machine before after
+
+-- it has, and then a write failed
+abbrev pub BrokeOff : (old new : LiveRun) (before after : SinkState) → Type 0
+BrokeOff old new before after = Breaks (events_made old) (events_made new) old.machine new.machine before after

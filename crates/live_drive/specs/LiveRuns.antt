@@ -43,3 +43,13 @@ pub record MayStep (machine : Machine) : Type 0 where
   pub state : HasState machine
   pub counts : CountsAtMost (2 ^ 64 - 2) machine.journal.counts
   pub room : length machine.journal.printed < 4096
+
+-- events may be made
+pub record MayGoOn (l : LiveRun) : Type 0 where
+  pub way : IsUnderWay l
+  pub room : length l.machine.journal.printed < 4096
+
+-- no more events of the script were made than are asked for, and these aren't too many
+pub record MakesFew (l : LiveRun) : Type 0 where
+  pub events : l.events ≤ 2 ^ 32
+  pub autos : l.journal.autos ≤ l.events

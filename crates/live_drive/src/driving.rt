@@ -2,8 +2,9 @@
 ghost use Rattle.std.specs.Prelude.{◌≡◌, ◌≢◌, ◌<◌, ◌≤◌, ◌+◌, ◌-◌, ◌^◌, ◌⊎◌, [], length, IsTrue, OnOk, OnErr};
 ghost use Rattle.sv_types.specs.declared.event.Verdict.TheVariants.{Running};
 ghost use Rattle.live_keys.specs.Line.{TookAllOf};
-ghost use Rattle.live_drive.specs.LiveRuns.{harts_of, events_made, IsUnderWay};
-ghost use Rattle.live_drive.specs.Drives.{GoesOn, Breaks};
+ghost use Rattle.live_drive.specs.LiveRuns.{harts_of, IsUnderWay, MakesFew, MayGoOn};
+ghost use Rattle.live_drive.specs.Drives.{WentOn, BrokeOff};
+ghost use Rattle.outside.specs.Outside.{MayWrite};
 
 use crate::live_run::LiveRun;
 use crate::making::{make_auto, make_keys, show_console};
@@ -17,12 +18,10 @@ const SHOWN_EVERY: u64 = 4096;
 
 // The console, every so many events.
 fn show_often<O: Sink>(live: &mut LiveRun, out: &mut O) -> Result<(), Failed>
-    requires is_open { IsTrue (O.state out.old).is_open }
-    requires count { (O.state out.old).faults < 2 ^ 64 - 1 }
-    requires way { IsUnderWay live.old }
-    requires room { length live.old.machine.journal.printed < 4096 }
-    ensures on { OnOk result (GoesOn (events_made live.old) (events_made live.new) live.old.machine live.new.machine (O.state out.old) (O.state out.new)) }
-    ensures broke { OnErr result (Breaks (events_made live.old) (events_made live.new) live.old.machine live.new.machine (O.state out.old) (O.state out.new)) }
+    requires sink { MayWrite (O.state out.old) }
+    requires on { MayGoOn live.old }
+    ensures on { OnOk result (WentOn live.old live.new (O.state out.old) (O.state out.new)) }
+    ensures broke { OnErr result (BrokeOff live.old live.new (O.state out.old) (O.state out.new)) }
     ensures way { IsUnderWay live.new }
     ensures room { OnOk result (length live.new.machine.journal.printed < 4096) }
     ensures taker { live.new.taker ≡ live.old.taker }
@@ -44,14 +43,12 @@ fn make_round<R: Wait, O: Sink, P: Pace>(
     line: &KeyLine,
     pace: &P,
 ) -> Result<(), Failed>
-    requires is_open { IsTrue (O.state out.old).is_open }
-    requires count { (O.state out.old).faults < 2 ^ 64 - 1 }
-    requires way { IsUnderWay live.old }
-    requires room { length live.old.machine.journal.printed < 4096 }
+    requires sink { MayWrite (O.state out.old) }
+    requires on { MayGoOn live.old }
     requires autos { live.old.journal.autos < 2 ^ 32 }
     requires line { live.old.taker.line ≡ line.now }
-    ensures on { OnOk result (GoesOn (events_made live.old) (events_made live.new) live.old.machine live.new.machine (O.state out.old) (O.state out.new)) }
-    ensures broke { OnErr result (Breaks (events_made live.old) (events_made live.new) live.old.machine live.new.machine (O.state out.old) (O.state out.new)) }
+    ensures on { OnOk result (WentOn live.old live.new (O.state out.old) (O.state out.new)) }
+    ensures broke { OnErr result (BrokeOff live.old live.new (O.state out.old) (O.state out.new)) }
     ensures way { IsUnderWay live.new }
     ensures room { OnOk result (length live.new.machine.journal.printed < 4096) }
     ensures line { live.new.taker.line ≡ line.now }
@@ -75,15 +72,12 @@ fn make_autos<R: Wait, O: Sink, P: Pace>(
     line: &KeyLine,
     pace: &P,
 ) -> Result<(), Failed>
-    requires is_open { IsTrue (O.state out.old).is_open }
-    requires count { (O.state out.old).faults < 2 ^ 64 - 1 }
-    requires way { IsUnderWay live.old }
-    requires room { length live.old.machine.journal.printed < 4096 }
-    requires events { live.old.events ≤ 2 ^ 32 }
-    requires autos { live.old.journal.autos ≤ live.old.events }
+    requires sink { MayWrite (O.state out.old) }
+    requires on { MayGoOn live.old }
+    requires few { MakesFew live.old }
     requires line { live.old.taker.line ≡ line.now }
-    ensures on { OnOk result (GoesOn (events_made live.old) (events_made live.new) live.old.machine live.new.machine (O.state out.old) (O.state out.new)) }
-    ensures broke { OnErr result (Breaks (events_made live.old) (events_made live.new) live.old.machine live.new.machine (O.state out.old) (O.state out.new)) }
+    ensures on { OnOk result (WentOn live.old live.new (O.state out.old) (O.state out.new)) }
+    ensures broke { OnErr result (BrokeOff live.old live.new (O.state out.old) (O.state out.new)) }
     ensures way { IsUnderWay live.new }
     ensures room { OnOk result (length live.new.machine.journal.printed < 4096) }
     ensures line { live.new.taker.line ≡ line.now }
@@ -112,18 +106,15 @@ impl LiveRun {
         line: &KeyLine,
         pace: &P,
     ) -> Result<(), Failed>
-        requires is_open { IsTrue (O.state out.old).is_open }
-        requires count { (O.state out.old).faults < 2 ^ 64 - 1 }
-        requires way { IsUnderWay self.old }
-        requires room { length self.old.machine.journal.printed < 4096 }
-        requires events { self.old.events ≤ 2 ^ 32 }
-        requires autos { self.old.journal.autos ≤ self.old.events }
+        requires sink { MayWrite (O.state out.old) }
+        requires on { MayGoOn self.old }
+        requires few { MakesFew self.old }
         requires line { self.old.taker.line ≡ line.now }
         // The machine has run over the events of the journal, and the sink took the console's bytes.
-        ensures on { OnOk result (GoesOn (events_made self.old) (events_made self.new) self.old.machine self.new.machine (O.state out.old) (O.state out.new)) }
+        ensures on { OnOk result (WentOn self.old self.new (O.state out.old) (O.state out.new)) }
         ensures console { OnOk result (self.new.machine.journal.printed ≡ []) }
         // The same up to a write that failed, behind which nothing was made.
-        ensures broke { OnErr result (Breaks (events_made self.old) (events_made self.new) self.old.machine self.new.machine (O.state out.old) (O.state out.new)) }
+        ensures broke { OnErr result (BrokeOff self.old self.new (O.state out.old) (O.state out.new)) }
         // The keys of the journal are those that were taken, and its other events were drawn for as many harts as before.
         ensures way { IsUnderWay self.new }
         ensures line { self.new.taker.line ≡ line.now }

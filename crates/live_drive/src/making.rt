@@ -7,8 +7,9 @@ ghost use Rattle.machine_model.specs.Reaches.{Cleared};
 ghost use Rattle.live_keys.specs.Line.{most_keys, TookAllOf};
 ghost use Rattle.live_keys.specs.Journal.{events_of, key_bytes, HasRoom};
 ghost use Rattle.console_run.specs.Standing.{HasState};
-ghost use Rattle.live_drive.specs.LiveRuns.{harts_of, events_made, IsUnderWay, MayStep};
-ghost use Rattle.live_drive.specs.Drives.{GoesOn, Breaks};
+ghost use Rattle.live_drive.specs.LiveRuns.{harts_of, IsUnderWay, MayGoOn, MayStep};
+ghost use Rattle.live_drive.specs.Drives.{GoesOn, Breaks, WentOn, BrokeOff};
+ghost use Rattle.outside.specs.Outside.{MayWrite};
 
 use crate::live_run::LiveRun;
 use console_run::flush_due;
@@ -20,8 +21,7 @@ use sv_types::Event;
 
 /// Writes all bytes of the console that stand.
 pub fn show_console<O: Sink>(machine: &mut Machine, out: &mut O) -> Result<(), Failed>
-    requires is_open { IsTrue (O.state out.old).is_open }
-    requires count { (O.state out.old).faults < 2 ^ 64 - 1 }
+    requires sink { MayWrite (O.state out.old) }
     ensures on { OnOk result ((made : List Made) → GoesOn made made machine.old machine.new (O.state out.old) (O.state out.new)) }
     ensures broke { OnErr result ((made : List Made) → Breaks made made machine.old machine.new (O.state out.old) (O.state out.new)) }
     ensures none { OnOk result (machine.new.journal.printed ≡ []) }
@@ -34,8 +34,7 @@ pub fn show_console<O: Sink>(machine: &mut Machine, out: &mut O) -> Result<(), F
 
 // One event, and the console where it is due.
 fn make<O: Sink>(machine: &mut Machine, out: &mut O, event: Event) -> Result<(), Failed>
-    requires is_open { IsTrue (O.state out.old).is_open }
-    requires count { (O.state out.old).faults < 2 ^ 64 - 1 }
+    requires sink { MayWrite (O.state out.old) }
     requires may { MayStep machine.old }
     ensures on { OnOk result ((made : List Made) → GoesOn made (made ++ event ∷ []) machine.old machine.new (O.state out.old) (O.state out.new)) }
     ensures broke { OnErr result ((made : List Made) → Breaks made (made ++ event ∷ []) machine.old machine.new (O.state out.old) (O.state out.new)) }
@@ -55,8 +54,7 @@ fn make_key<O: Sink>(
     out: &mut O,
     byte: u8,
 ) -> Result<(), Failed>
-    requires is_open { IsTrue (O.state out.old).is_open }
-    requires count { (O.state out.old).faults < 2 ^ 64 - 1 }
+    requires sink { MayWrite (O.state out.old) }
     requires may { MayStep machine.old }
     requires places { HasRoom journal.old }
     requires few { vec_len journal.old.keys < most_keys }
@@ -81,14 +79,12 @@ pub fn make_keys<R: Wait, O: Sink>(
     out: &mut O,
     line: &KeyLine,
 ) -> Result<(), Failed>
-    requires is_open { IsTrue (O.state out.old).is_open }
-    requires count { (O.state out.old).faults < 2 ^ 64 - 1 }
-    requires way { IsUnderWay live.old }
-    requires room { length live.old.machine.journal.printed < 4096 }
+    requires sink { MayWrite (O.state out.old) }
+    requires on { MayGoOn live.old }
     requires autos { live.old.journal.autos ≤ 2 ^ 32 }
     requires line { live.old.taker.line ≡ line.now }
-    ensures on { OnOk result (GoesOn (events_made live.old) (events_made live.new) live.old.machine live.new.machine (O.state out.old) (O.state out.new)) }
-    ensures broke { OnErr result (Breaks (events_made live.old) (events_made live.new) live.old.machine live.new.machine (O.state out.old) (O.state out.new)) }
+    ensures on { OnOk result (WentOn live.old live.new (O.state out.old) (O.state out.new)) }
+    ensures broke { OnErr result (BrokeOff live.old live.new (O.state out.old) (O.state out.new)) }
     ensures way { IsUnderWay live.new }
     ensures room { OnOk result (length live.new.machine.journal.printed < 4096) }
     ensures line { live.new.taker.line ≡ line.now }
@@ -108,13 +104,11 @@ pub fn make_keys<R: Wait, O: Sink>(
 
 /// The next event of the script.
 pub fn make_auto<O: Sink>(live: &mut LiveRun, out: &mut O) -> Result<(), Failed>
-    requires is_open { IsTrue (O.state out.old).is_open }
-    requires count { (O.state out.old).faults < 2 ^ 64 - 1 }
-    requires way { IsUnderWay live.old }
-    requires room { length live.old.machine.journal.printed < 4096 }
+    requires sink { MayWrite (O.state out.old) }
+    requires on { MayGoOn live.old }
     requires autos { live.old.journal.autos < 2 ^ 32 }
-    ensures on { OnOk result (GoesOn (events_made live.old) (events_made live.new) live.old.machine live.new.machine (O.state out.old) (O.state out.new)) }
-    ensures broke { OnErr result (Breaks (events_made live.old) (events_made live.new) live.old.machine live.new.machine (O.state out.old) (O.state out.new)) }
+    ensures on { OnOk result (WentOn live.old live.new (O.state out.old) (O.state out.new)) }
+    ensures broke { OnErr result (BrokeOff live.old live.new (O.state out.old) (O.state out.new)) }
     ensures way { IsUnderWay live.new }
     ensures room { OnOk result (length live.new.machine.journal.printed < 4096) }
     ensures taker { live.new.taker ≡ live.old.taker }

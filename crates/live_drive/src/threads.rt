@@ -5,9 +5,10 @@ ghost use Rattle.sv_types.specs.Schedule.{Schedule, first_events};
 ghost use Rattle.live_keys.specs.Feeding.{Feeds};
 ghost use Rattle.live_keys.specs.Line.{TookAllOf};
 ghost use Rattle.live_keys.specs.Placed.{keys_among, others_among};
-ghost use Rattle.live_drive.specs.LiveRuns.{harts_of, events_made, IsUnderWay};
-ghost use Rattle.live_drive.specs.Drives.{GoesOn, Breaks};
+ghost use Rattle.live_drive.specs.LiveRuns.{harts_of, events_made, IsUnderWay, MakesFew, MayGoOn};
+ghost use Rattle.live_drive.specs.Drives.{WentOn, BrokeOff};
 ghost use Rattle.live_drive.specs.Inputs.{HasKeys};
+ghost use Rattle.outside.specs.Outside.{MayWrite};
 
 use crate::live_run::LiveRun;
 use live_keys::{Fed, Feeder, KeyLine, Keys, Pace, law_journal_events};
@@ -41,18 +42,16 @@ impl LiveRun {
         pace: &P,
         driven: Result<(), Failed>,
     ) -> Result<(), Failed>
-        requires is_open { OnOk driven (IsTrue (O.state out.old).is_open) }
-        requires count { OnOk driven ((O.state out.old).faults < 2 ^ 64 - 1) }
+        requires sink { OnOk driven (MayWrite (O.state out.old)) }
         requires room { OnOk driven (length self.old.machine.journal.printed < 4096) }
         requires way { IsUnderWay self.old }
-        requires events { self.old.events ≤ 2 ^ 32 }
-        requires autos { self.old.journal.autos ≤ self.old.events }
+        requires few { MakesFew self.old }
         requires line { self.old.taker.line ≡ line.now }
         ensures first { OnErr driven (IsErr result) }
         ensures stays { OnErr driven ((self.new ≡ self.old) × (O.state out.new ≡ O.state out.old)) }
-        ensures on { OnOk result (GoesOn (events_made self.old) (events_made self.new) self.old.machine self.new.machine (O.state out.old) (O.state out.new)) }
+        ensures on { OnOk result (WentOn self.old self.new (O.state out.old) (O.state out.new)) }
         ensures console { OnOk result (self.new.machine.journal.printed ≡ []) }
-        ensures broke { OnOk driven (OnErr result (Breaks (events_made self.old) (events_made self.new) self.old.machine self.new.machine (O.state out.old) (O.state out.new))) }
+        ensures broke { OnOk driven (OnErr result (BrokeOff self.old self.new (O.state out.old) (O.state out.new))) }
         ensures way { IsUnderWay self.new }
         ensures all { self.new.taker.all ≡ self.old.taker.all }
         ensures harts { harts_of self.new.script ≡ harts_of self.old.script }
@@ -78,16 +77,13 @@ impl LiveRun {
         requires feeder { (feeder.line ≡ line.now) × (feeder.bytes ≡ []) }
         requires line { self.old.taker.line ≡ line.now }
         requires reads { (K.state keys.old).faults < 2 ^ 64 - 1 }
-        requires is_open { IsTrue (O.state out.old).is_open }
-        requires count { (O.state out.old).faults < 2 ^ 64 - 1 }
-        requires way { IsUnderWay self.old }
-        requires room { length self.old.machine.journal.printed < 4096 }
-        requires events { self.old.events ≤ 2 ^ 32 }
-        requires autos { self.old.journal.autos ≤ self.old.events }
+        requires sink { MayWrite (O.state out.old) }
+        requires on { MayGoOn self.old }
+        requires few { MakesFew self.old }
         ensures fed { Feeds line.now (K.state keys.old) (K.state keys.new) result.0.feeder result.0.failed }
-        ensures on { OnOk result.1 (GoesOn (events_made self.old) (events_made self.new) self.old.machine self.new.machine (O.state out.old) (O.state out.new)) }
+        ensures on { OnOk result.1 (WentOn self.old self.new (O.state out.old) (O.state out.new)) }
         ensures console { OnOk result.1 (self.new.machine.journal.printed ≡ []) }
-        ensures broke { OnErr result.1 (Breaks (events_made self.old) (events_made self.new) self.old.machine self.new.machine (O.state out.old) (O.state out.new)) }
+        ensures broke { OnErr result.1 (BrokeOff self.old self.new (O.state out.old) (O.state out.new)) }
         ensures way { IsUnderWay self.new }
         ensures line { self.new.taker.line ≡ line.now }
         ensures harts { harts_of self.new.script ≡ harts_of self.old.script }
@@ -116,16 +112,13 @@ impl LiveRun {
         requires source { (source.feeder.line ≡ source.line) × (source.feeder.bytes ≡ []) }
         requires line { self.old.taker.line ≡ source.line }
         requires reads { (K.state keys.old).faults < 2 ^ 64 - 1 }
-        requires is_open { IsTrue (O.state out.old).is_open }
-        requires count { (O.state out.old).faults < 2 ^ 64 - 1 }
-        requires way { IsUnderWay self.old }
-        requires room { length self.old.machine.journal.printed < 4096 }
-        requires events { self.old.events ≤ 2 ^ 32 }
-        requires autos { self.old.journal.autos ≤ self.old.events }
+        requires sink { MayWrite (O.state out.old) }
+        requires on { MayGoOn self.old }
+        requires few { MakesFew self.old }
         // However the threads run, the machine has run over the events of the journal, and the sink took the console's bytes.
-        ensures on { result.write_failed ≡ false → GoesOn (events_made self.old) (events_made self.new) self.old.machine self.new.machine (O.state out.old) (O.state out.new) }
+        ensures on { result.write_failed ≡ false → WentOn self.old self.new (O.state out.old) (O.state out.new) }
         ensures console { result.write_failed ≡ false → self.new.machine.journal.printed ≡ [] }
-        ensures broke { result.write_failed ≡ true → Breaks (events_made self.old) (events_made self.new) self.old.machine self.new.machine (O.state out.old) (O.state out.new) }
+        ensures broke { result.write_failed ≡ true → BrokeOff self.old self.new (O.state out.old) (O.state out.new) }
         // The journal's keys are, in order and each once, the bytes that were read.
         ensures keys { HasKeys (K.state keys.old) (K.state keys.new) (keys_among (events_made self.new)) result }
         // Its other events are the first ones of the script, fewer than asked for only where the machine has ended.

@@ -19,7 +19,7 @@ use Rattle.machine_model.specs.Steps.{WithTables}
 use Rattle.page_guard.specs.Guarded.{IsTheirs}
 use Rattle.hart_answers.specs.Hosts.{hosts_of}
 use Rattle.hart_answers.specs.declared.seats.Seat.{Seat}
-use Rattle.module_answers.specs.Parts.{loading_of, facts_in, moduled}
+use Rattle.module_answers.specs.Parts.{loading_of, facts_in, with_modules}
 use Rattle.module_answers.specs.declared.modules.Modules.{Modules}
 use Rattle.machine.proofs.Turns.{stays, views_shown}
 use Rattle.machine.specs.Parts.{machine_of_parts}
@@ -36,7 +36,7 @@ module _ (p : Inside) where
 
   -- the machine of the parts that an answer leaves
   abbrev pub left_parts : List Seat → Devices → Journal → Region → List Protection → Modules → Machine
-  left_parts seats devices journal mem guard modules = record (moduled whole (rules_of p.policy) mem guard modules) {
+  left_parts seats devices journal mem guard modules = record (with_modules whole (rules_of p.policy) mem guard modules) {
     harts = hosts_of seats;
     devices = devices;
     journal = journal;
@@ -45,7 +45,7 @@ module _ (p : Inside) where
   pub gives : (h : ℕ) (a : Answer) (seats : List Seat) (devices : Devices) (journal : Journal) (mem : Region) (guard : List Protection) (modules : Modules) (now : Machine)
       → whole ≡ now → hosts_of seats ≡ hosts_beside a.beside (update (hosts_of p.seats.items) h (host_replied a.reply))
       → devices ≡ devices_beside a.beside h p.devices → journal ≡ journal_beside a.beside h p.journal
-      → moduled whole (rules_of p.policy) mem guard modules ≡ with_tables (host_pages_beside a.beside h whole) mem.tables
+      → with_modules whole (rules_of p.policy) mem guard modules ≡ with_tables (host_pages_beside a.beside h whole) mem.tables
       → IsTheirs p.mem p.guard → IsTheirs mem guard → length guard ≡ length p.guard → length p.guard ≡ p.policy.ram_pages → p.policy.bound.items ≡ []
       → WithTables now (host_given now h a) (left_parts seats devices journal mem guard modules)
   unfolding host_given
@@ -69,12 +69,12 @@ module _ (p : Inside) where
 
   -- a load that counts a page leaves the tables as they are
   pub counts : (f : Machine → Machine) (modules : Modules) (now : Machine) → whole ≡ now
-      → moduled whole (rules_of p.policy) p.mem p.guard modules ≡ f whole
+      → with_modules whole (rules_of p.policy) p.mem p.guard modules ≡ f whole
       → IsTheirs p.mem p.guard → length p.guard ≡ p.policy.ram_pages → p.policy.bound.items ≡ []
-      → WithTables now (f now) (moduled whole (rules_of p.policy) p.mem p.guard modules)
+      → WithTables now (f now) (with_modules whole (rules_of p.policy) p.mem p.guard modules)
   counts f modules now is made theirs pages unbound =
-      subst (λ (m : Machine). WithTables m (f m) (moduled whole (rules_of p.policy) p.mem p.guard modules)) is
-      (stays whole (f whole) (moduled whole (rules_of p.policy) p.mem p.guard modules) (record { region = refl; protections = refl }) made theirs pages unbound)
+      subst (λ (m : Machine). WithTables m (f m) (with_modules whole (rules_of p.policy) p.mem p.guard modules)) is
+      (stays whole (f whole) (with_modules whole (rules_of p.policy) p.mem p.guard modules) (record { region = refl; protections = refl }) made theirs pages unbound)
 
   -- a load that is decided
   pub decides : (h : ℕ) (answer : Answer) (modules : Modules) (after now : Machine) → whole ≡ now → modules ≡ p.modules

@@ -17,8 +17,8 @@ use Rattle.page_guard.specs.Guarded.{IsTheirs}
 use Rattle.hart_answers.proofs.Hosts.{hosts_length, hosts_set, hosts_same}
 use Rattle.hart_answers.specs.Hosts.{host_at, hosts_of}
 use Rattle.hart_answers.specs.declared.seats.Seat.{Seat}
-use Rattle.access_answers.specs.Accessed.{accessed}
-use Rattle.trap_answers.specs.Answered.{answered}
+use Rattle.access_answers.specs.Accessed.{with_devices}
+use Rattle.trap_answers.specs.Answered.{with_hart}
 use Rattle.trap_answers.specs.Possible.{IsPossible}
 use Rattle.machine.proofs.Hosts.{host_there, none_entered, started_there}
 use Rattle.machine.proofs.Turns.{stays}
@@ -36,7 +36,7 @@ module _ (p : Inside) (h : ℕ) (old : Seat) (is : old ≡ slice_index_or p.seat
   whole = machine_of_parts p
 
   -- the hart that was there
-  put_back : answered whole h (host_at old) p.journal ≡ whole
+  put_back : with_hart whole h (host_at old) p.journal ≡ whole
   put_back =
       ap (λ (harts : List HostHart). record whole { harts = harts })
       (subst (λ (s : Seat). slice_set (hosts_of p.seats.items) h (host_at s) ≡ hosts_of p.seats.items) (sym is) (hosts_same p.seats.items h old))
@@ -81,7 +81,7 @@ module _ (p : Inside) (h : ℕ) (old : Seat) (is : old ≡ slice_index_or p.seat
   -- what an answer on the hart makes of the machine, whose tables stay
   behind : (f : Machine → HostHart → Mode → Machine) (after now : Machine) → whole ≡ now → h < length now.harts
       → IsTheirs p.mem p.guard → length p.guard ≡ p.policy.ram_pages → p.policy.bound.items ≡ []
-      → HasPagesOf whole after → after ≡ f (answered whole h (host_at old) p.journal) (host_at old) old.side
+      → HasPagesOf whole after → after ≡ f (with_hart whole h (host_at old) p.journal) (host_at old) old.side
       → WithTables now (f now (hart_in now.harts h) (hart_in now.harts h).core.hregs.mode) after
   behind f after now same below theirs pages unbound has made =
       let here = subst (λ (m : Machine). h < length m.harts) (sym same) below in
@@ -95,7 +95,7 @@ module _ (p : Inside) (h : ℕ) (old : Seat) (is : old ≡ slice_index_or p.seat
 
   pub answers : (f : Machine → HostHart → Mode → Machine) (new : Seat) (devices : Devices) (journal : Journal) (now : Machine) → whole ≡ now
       → h < length now.harts → IsTheirs p.mem p.guard → length p.guard ≡ p.policy.ram_pages → p.policy.bound.items ≡ []
-      → accessed whole h (host_at new) devices journal ≡ f (answered whole h (host_at old) p.journal) (host_at old) old.side
+      → with_devices whole h (host_at new) devices journal ≡ f (with_hart whole h (host_at old) p.journal) (host_at old) old.side
       → WithTables now (f now (hart_in now.harts h) (hart_in now.harts h).core.hregs.mode)
       (record whole { harts = hosts_of (slice_set p.seats.items h new); devices = devices; journal = journal })
   answers f new devices journal now same below theirs pages unbound made =
@@ -106,7 +106,7 @@ module _ (p : Inside) (h : ℕ) (old : Seat) (is : old ≡ slice_index_or p.seat
   -- an answer that leaves the hart as it is
   pub journal_answers : (f : Machine → HostHart → Mode → Machine) (journal : Journal) (now : Machine) → whole ≡ now
       → h < length now.harts → IsTheirs p.mem p.guard → length p.guard ≡ p.policy.ram_pages → p.policy.bound.items ≡ []
-      → answered whole h (host_at old) journal ≡ f (answered whole h (host_at old) p.journal) (host_at old) old.side
+      → with_hart whole h (host_at old) journal ≡ f (with_hart whole h (host_at old) p.journal) (host_at old) old.side
       → WithTables now (f now (hart_in now.harts h) (hart_in now.harts h).core.hregs.mode) (record whole { journal = journal })
   journal_answers f journal now same below theirs pages unbound made =
       behind f (record whole { journal = journal }) now same below theirs pages unbound (record { region = refl; protections = refl })

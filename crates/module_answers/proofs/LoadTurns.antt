@@ -13,7 +13,7 @@ use Rattle.machine_model.specs.HostExits.{host_is_good, host_decide, host_load_s
 use Rattle.machine_model.specs.Machine.{Machine, HostLoad}
 use Rattle.module_gate.specs.Gates.{Records, PageTurns, host_load, next_counted}
 use Rattle.module_answers.specs.Conditions.{AreJoined, TakesItsPages}
-use Rattle.module_answers.specs.Parts.{moduled, load_of}
+use Rattle.module_answers.specs.Parts.{with_modules, load_of}
 use Rattle.module_answers.specs.declared.modules.Modules.{Modules}
 use Rattle.module_answers.specs.declared.modules.UnderWay.{UnderWay}
 
@@ -44,11 +44,11 @@ served_is m h load e = ap (load_served m h) e
 
 module _ (m : Machine) (rules : Rules) (region : Region) (h : ℕ) (guard : List Protection) (modules : Modules) where
   abbrev old : Machine
-  old = moduled m rules region guard modules
+  old = with_modules m rules region guard modules
 
   pub turn_counts : (u : UnderWay) (left : ℕ) (after : PageTurns) → modules.loading ≡ Some u → u.load.left ≡ suc left
       → host_load u.hart after ≡ load_counted rules region.ram (host_load u.hart u.load) left (slice_get rules.modules u.load.about.id)
-      → moduled m rules region guard (record modules { loading = Some (record { hart = u.hart; load = after }) }) ≡ served_load_turn old h
+      → with_modules m rules region guard (record modules { loading = Some (record { hart = u.hart; load = after }) }) ≡ served_load_turn old h
   unfolding host_load_step
   turn_counts u left after there some counts =
       ap (λ (load : HostLoad). record old { loading = Some load }) counts

@@ -13,7 +13,7 @@ use Rattle.machine_model.specs.HostExits.{with_tables}
 use Rattle.machine_model.specs.Machine.{Machine}
 use Rattle.page_guard.specs.Guarded.{with_span}
 use Rattle.module_gate.specs.Gates.{PageTurns, begun, load_span, pages_at}
-use Rattle.module_answers.specs.Parts.{moduled}
+use Rattle.module_answers.specs.Parts.{with_modules}
 use Rattle.module_answers.specs.declared.modules.Modules.{Modules}
 use Rattle.module_answers.specs.declared.modules.UnderWay.{UnderWay}
 
@@ -22,10 +22,10 @@ at_load P o u there holds = subst (λ (o : Option UnderWay). IfSome o P) there h
 
 module _ (m : Machine) (rules : Rules) (region : Region) (h : ℕ) (guard : List Protection) (modules : Modules) (tables : List ℕ) where
   abbrev after : List Protection → Modules → Machine
-  after guard modules = moduled m rules (record region { tables = tables }) guard modules
+  after guard modules = with_modules m rules (record region { tables = tables }) guard modules
 
   abbrev old : Machine
-  old = moduled m rules region guard modules
+  old = with_modules m rules region guard modules
 
   pub begins : (about : SavedModule) (pages asked : ℕ) → pages ≡ asked
       → after (with_span guard (load_span (begun about pages)) Held) (record { gate = record modules.gate { loading = true }; loading = Some (record { hart = h; load = begun about pages }) })

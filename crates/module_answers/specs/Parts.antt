@@ -20,8 +20,8 @@ load_of u = host_load u.hart u.load
 abbrev pub loading_of : Modules → Option HostLoad
 loading_of modules = option_map load_of modules.loading
 
-abbrev pub moduled : Machine → Rules → Region → List Protection → Modules → Machine
-moduled m rules region guard modules = record m {
+abbrev pub with_modules : Machine → Rules → Region → List Protection → Modules → Machine
+with_modules m rules region guard modules = record m {
   rules = rules;
   region = region;
   protections = guard;

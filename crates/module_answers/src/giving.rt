@@ -12,7 +12,7 @@ ghost use Rattle.page_guard.specs.Guarded.{with_span, IsTheirs, StaysTheirs};
 ghost use Rattle.module_gate.specs.Gates.{begun, is_good_place, load_span};
 ghost use Rattle.module_answers.specs.Changes.{sets_protections};
 ghost use Rattle.module_answers.specs.Conditions.{AreJoined, AreGuarded, MayEnd};
-ghost use Rattle.module_answers.specs.Parts.{moduled, loading_of, facts_in};
+ghost use Rattle.module_answers.specs.Parts.{with_modules, loading_of, facts_in};
 
 use crate::modules::{Modules, UnderWay, put_load};
 use host_mem::HostMem;
@@ -90,7 +90,7 @@ pub fn give_pages(
     requires joined { AreJoined (rules_of policy.now) modules.old }
     requires guarded { AreGuarded (rules_of policy.now) guard.old modules.old.gate.loaded (loading_of modules.old) }
     requires given { IsGiven (facts_in [] [] (rules_of policy.now) mem.old.ram guard.old modules.old) (loading_of modules.old) beside.now }
-    ensures machine { (m : Machine) → moduled m (rules_of policy.now) mem.new guard.new modules.new ≡ with_tables (host_pages_beside beside.now which (moduled m (rules_of policy.now) mem.old guard.old modules.old)) mem.new.tables }
+    ensures machine { (m : Machine) → with_modules m (rules_of policy.now) mem.new guard.new modules.new ≡ with_tables (host_pages_beside beside.now which (with_modules m (rules_of policy.now) mem.old guard.old modules.old)) mem.new.tables }
     ensures changed { result ≡ sets_protections beside.now }
     ensures kept { result ≡ false → (guard.new ≡ guard.old) × (mem.new ≡ mem.old) }
     ensures joined { AreJoined (rules_of policy.now) modules.new }

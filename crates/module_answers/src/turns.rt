@@ -12,7 +12,7 @@ ghost use Rattle.machine_model.specs.HostExits.{host_is_good, load_counted, serv
 ghost use Rattle.machine_model.specs.Machine.{Machine};
 ghost use Rattle.module_gate.specs.Gates.{host_load};
 ghost use Rattle.module_answers.specs.Conditions.{AreJoined, IsReadable};
-ghost use Rattle.module_answers.specs.Parts.{moduled, loading_of};
+ghost use Rattle.module_answers.specs.Parts.{with_modules, loading_of};
 
 use crate::decisions::load_decision;
 use crate::modules::{Modules, UnderWay, put_load};
@@ -58,8 +58,8 @@ pub fn load_turn(mem: &HostMem, policy: &Policy, modules: &mut Modules) -> Optio
     requires within { IsTrue (rules_within (rules_of policy.now)) }
     requires joined { AreJoined (rules_of policy.now) modules.old }
     requires readable { IsReadable (rules_of policy.now) mem.now modules.old }
-    ensures counted { result ≡ None → (m : Machine) (h : ℕ) (guard : List Protection) → moduled m (rules_of policy.now) mem.now guard modules.new ≡ served_load_turn (moduled m (rules_of policy.now) mem.now guard modules.old) h }
-    ensures decided { IfSome result (λ answer. (m : Machine) (h : ℕ) (guard : List Protection) → served_load_turn (moduled m (rules_of policy.now) mem.now guard modules.old) h ≡ host_given (moduled m (rules_of policy.now) mem.now guard modules.old) h answer) }
+    ensures counted { result ≡ None → (m : Machine) (h : ℕ) (guard : List Protection) → with_modules m (rules_of policy.now) mem.now guard modules.new ≡ served_load_turn (with_modules m (rules_of policy.now) mem.now guard modules.old) h }
+    ensures decided { IfSome result (λ answer. (m : Machine) (h : ℕ) (guard : List Protection) → served_load_turn (with_modules m (rules_of policy.now) mem.now guard modules.old) h ≡ host_given (with_modules m (rules_of policy.now) mem.now guard modules.old) h answer) }
     ensures given { IfSome result (λ answer. IsOfLoad (rules_of policy.now) (loading_of modules.old) answer.beside) }
     ensures kept { OnSome result (modules.new ≡ modules.old) }
     ensures joined { AreJoined (rules_of policy.now) modules.new }

@@ -1,10 +1,7 @@
 -- Lists of modules that ascend by id. This project's own.
 use Rattle.std.specs.Prelude.{ℕ, ◌+◌, ◌≤◌, List, [], ◌∷◌}
+use Rattle.sv_types.specs.Limits.{most_modules}
 use Rattle.sv_types.specs.declared.saved.SavedModule.{SavedModule}
-
--- the most modules of a policy, whose ids are below it
-abbrev pub most_modules : ℕ
-most_modules = 64
 
 -- each id is above the one before, from a lowest one on, and below the limit
 abbrev pub AscendsFrom : ℕ → List SavedModule → Type 0

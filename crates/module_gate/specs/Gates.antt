@@ -32,10 +32,6 @@ pub record PageTurns : Type 0 where
 abbrev pub host_load : ℕ → PageTurns → HostLoad
 host_load hart load = record { hart = hart; about = load.about; left = load.left; digests = load.digests; right = load.right }
 
--- the most pages of a module
-abbrev pub most_module_pages : ℕ
-most_module_pages = 1024
-
 -- so many pages from an address on
 abbrev pub pages_at : ℕ → ℕ → Span
 pages_at gpa pages = record { first = page_of gpa; count = pages }

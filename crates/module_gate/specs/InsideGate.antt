@@ -1,8 +1,9 @@
 -- What the gate's fields stand for, and what is true of them.
 use Rattle.std.specs.Prelude.{◌≡◌, ◌≤◌, [], not, is_some, IfSome, vec_capacity}
-use Rattle.module_gate.specs.Ascending.{AscendsFrom, most_modules}
-use Rattle.module_gate.specs.Gates.{Records, most_module_pages}
+use Rattle.module_gate.specs.Ascending.{AscendsFrom}
+use Rattle.module_gate.specs.Gates.{Records}
 use Rattle.module_gate.specs.declared.gate.Gate.TheInside.{Inside}
+use Rattle.sv_types.specs.Limits.{most_modules, most_module_pages}
 
 abbrev pub records_of : Inside → Records
 records_of g = record { loaded = g.loaded.items; loading = not (is_some g.room); retired = g.retired }

@@ -1,7 +1,7 @@
 -- What a load's fields stand for, and what is true of them.
 use Rattle.std.specs.Prelude.{◌≡◌, ◌+◌, ◌<◌, ◌≤◌, length, vec_capacity}
-use Rattle.module_gate.specs.Ascending.{most_modules}
-use Rattle.module_gate.specs.Gates.{PageTurns, pages_at, most_module_pages}
+use Rattle.sv_types.specs.Limits.{most_modules, most_module_pages}
+use Rattle.module_gate.specs.Gates.{PageTurns, pages_at}
 use Rattle.module_gate.specs.declared.load.Load.TheInside.{Inside}
 
 abbrev pub turns_of : Inside → PageTurns

@@ -1,14 +1,15 @@
 // The gate of modules.
 
 ghost use Rattle.std.specs.Prelude.{◌≡◌, ◌<◌, ◌≤◌, length, slice_get, Some, None, IfOk, IsTrue, IsSome, true, false, vec_capacity};
+ghost use Rattle.sv_types.specs.Limits.{most_modules, most_module_pages};
 ghost use Rattle.sv_types.specs.Policies.{rules_of, rules_within};
 ghost use Rattle.sv_types.specs.declared.protection.Protection.TheVariants.{Free, Held};
 ghost use Rattle.reference.specs.Protections.{with_each};
 ghost use Rattle.reference.specs.States.{find_module, with_module, without_module, pages_in_rule};
 ghost use Rattle.page_guard.specs.Guarded.{with_span, IsTheirs, StaysTheirs};
-ghost use Rattle.module_gate.specs.Ascending.{AscendsFrom, most_modules};
+ghost use Rattle.module_gate.specs.Ascending.{AscendsFrom};
 ghost use Rattle.module_gate.specs.Retiring.{kernel_pages};
-ghost use Rattle.module_gate.specs.Gates.{most_module_pages, no_modules, begun, is_good_place, load_span, module_span, AreApproved};
+ghost use Rattle.module_gate.specs.Gates.{no_modules, begun, is_good_place, load_span, module_span, AreApproved};
 
 use crate::init::free_pages;
 use crate::load::Load;
@@ -54,6 +55,25 @@ impl Gate {
             loaded,
             room: Some(room),
             retired: false,
+        })
+    }
+
+    /// These modules are loaded, ascending by id, and no load is under way. The room that loads need is taken now.
+    pub fn from_values(
+        alloc: Global,
+        modules: &[SavedModule],
+        retired: bool,
+    ) -> Result<Gate, AllocError>
+        requires ascends { AscendsFrom 0 modules.now }
+        ensures { IfOk result (λ gate. gate ≡ record { loaded = modules.now; loading = false; retired = retired }) }
+    {
+        let mut loaded = Vec::with_capacity(alloc, MOST_MODULES)?;
+        loaded.extend_from_slice(modules)?;
+        let room = Vec::with_capacity(alloc, MOST_MODULE_PAGES)?;
+        Ok(Gate {
+            loaded,
+            room: Some(room),
+            retired,
         })
     }
 

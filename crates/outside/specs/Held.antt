@@ -3,6 +3,7 @@ use Rattle.std.specs.Prelude.{◌+◌, ◌-◌, ◌^◌, ◌<◌, ◌≤◌, ◌
 use Rattle.std.specs.List.{list_any}
 use Rattle.std.specs.Str.{bytes_eq}
 use Rattle.std.specs.declared.alloc.Global.{Global}
+use Rattle.sv_types.specs.Limits.{most_name_bytes}
 use Rattle.outside.specs.declared.FileRefusal.{FileRefusal}
 use Rattle.outside.specs.declared.FileRefusal.TheVariants.{Absent, Failed, TooLong, Memory}
 use Rattle.outside.specs.Outside.{FilesState, SinkState}
@@ -49,9 +50,9 @@ call_number calls = min (calls + 1) (2 ^ 64 - 1)
 abbrev pub is_to_fail : List ℕ → ℕ → Bool
 is_to_fail failing calls = list_any (λ number. number == call_number calls) failing
 
--- a text that can be a name has 1 to 64 bytes
+-- a text that can be a name has one byte at least, and no more than a name may have
 abbrev pub is_name_text : List ℕ → Bool
-is_name_text text = nat_lt 0 (length text) && nat_le (length text) 64
+is_name_text text = nat_lt 0 (length text) && nat_le (length text) most_name_bytes
 
 -- A save fails: its number is listed, it is beyond the room that is left, the text is no name, or no file more has a place.
 abbrev pub save_fails : (failing : List ℕ) → (saves room places : ℕ) → (name bytes : List ℕ) → Bool

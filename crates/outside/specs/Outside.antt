@@ -1,6 +1,6 @@
 -- What files and a sink mean to the program: what they hold and took, where they tell it, what may be asked of them, and
 -- how often they failed.
-use Rattle.std.specs.Prelude.{◌≡◌, ◌≢◌, ◌<◌, ◌≤◌, ℕ, List, [], ◌∷◌, ◌++◌, length, Bool, IsTrue, Option, Some, None, Result, Ok, Err, Vec}
+use Rattle.std.specs.Prelude.{◌^◌, ◌-◌, ◌≡◌, ◌≢◌, ◌<◌, ◌≤◌, ℕ, List, [], ◌∷◌, ◌++◌, length, Bool, IsTrue, Option, Some, None, Result, Ok, Err, Vec}
 use Rattle.std.specs.declared.alloc.Global.{Global}
 use Rattle.outside.specs.declared.FileRefusal.{FileRefusal}
 use Rattle.outside.specs.declared.FileRefusal.TheVariants.{Absent, Failed, TooLong, Memory}
@@ -55,6 +55,11 @@ pub record SinkState : Type 0 where
   pub is_open : Bool
   -- how often a write failed
   pub faults : ℕ
+
+-- the sink may be written to, and a failure counted
+pub record MayWrite (sink : SinkState) : Type 0 where
+  pub is_open : IsTrue sink.is_open
+  pub count : sink.faults < 2 ^ 64 - 1
 
 abbrev pub appended : Option (List ℕ) → List ℕ → Option (List ℕ)
 appended None bytes = None

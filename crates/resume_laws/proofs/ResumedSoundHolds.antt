@@ -34,7 +34,7 @@ use Rattle.snapshot_form.specs.PageForms.{loading}
 use Rattle.snapshot_form.specs.Snapshots.{Contents, snapshot}
 use Rattle.snapshot_form.specs.declared.whole.TextPage.{TextPage}
 use Rattle.snapshot_form.proofs.FormLaws.{first_true, second_true}
-use Rattle.resumption.specs.Judgements.{page_numbers, is_retired, text_left, loaded_pages, load_pages, approved_of, is_bound, fits, load_fits, is_of_policy, taken, then_held, guard_due, are_same, is_due, is_guarded_right, joins, is_there, has_text, has_modules, resume_refusal}
+use Rattle.resumption.specs.Judgements.{page_numbers, is_retired, text_left, loaded_pages, load_pages, approved_of, is_bound, fits, is_loaded, load_fits, is_of_policy, taken, then_held, guard_due, are_same, is_due, is_guarded_right, joins, is_there, has_text, has_modules, resume_refusal}
 use Rattle.resumption.specs.ResumedStates.{resumed_hart, resumed_load, resumed_state, timers_of}
 use Rattle.resumption.specs.declared.refusal.ResumeRefusal.{ResumeRefusal}
 use Rattle.resumption.specs.declared.refusal.ResumeRefusal.TheVariants.{OtherPolicy, OtherPages, OtherKernel, OtherText, OtherModule}
@@ -233,13 +233,22 @@ record LoadFits (rules : Rules) (modules : List SavedModule) (l : SavedLoad) : T
   other : find_module modules l.«module».id ≡ None
   left : l.left ≤ pages_in_rule (slice_get rules.modules l.«module».id)
 
+none_by : (x : SavedModule) (b : Bool) (any : Bool) (rest : Option SavedModule) → (b || any) ≡ false → (any ≡ false → rest ≡ None) → (if b then Some x else rest) ≡ None
+none_by x true any rest e later = cc
+none_by x false any rest e later = later e
+
+not_loaded : (ms : List SavedModule) (id : ℕ) → is_loaded ms id ≡ false → find_module ms id ≡ None
+unfolding find_module
+not_loaded [] id e = refl
+not_loaded (x ∷ ms) id e = none_by x (x.id == id) (is_loaded ms id) (find_module ms id) e (not_loaded ms id)
+
 load_fits_is : (rules : Rules) (ms : List SavedModule) (l : SavedLoad) → load_fits rules ms (Some l) ≡ true → LoadFits rules ms l
 load_fits_is rules ms l e =
-    let two = first_true (fits rules l.«module» && not (is_some (find_module ms l.«module».id))) _ e in
+    let two = first_true (fits rules l.«module» && not (is_loaded ms l.«module».id)) _ e in
     record {
       its = fits_is rules l.«module» (first_true (fits rules l.«module») _ two);
-      other = none_there (find_module ms l.«module».id) (not_false (is_some (find_module ms l.«module».id)) (second_true (fits rules l.«module») _ two));
-      left = most_is l.left (pages_in_rule (slice_get rules.modules l.«module».id)) (second_true (fits rules l.«module» && not (is_some (find_module ms l.«module».id))) _ e);
+      other = not_loaded ms l.«module».id (not_false (is_loaded ms l.«module».id) (second_true (fits rules l.«module») _ two));
+      left = most_is l.left (pages_in_rule (slice_get rules.modules l.«module».id)) (second_true (fits rules l.«module» && not (is_loaded ms l.«module».id)) _ e);
     }
 
 load_free : (rules : Rules) (s : Contents) (page : ℕ) → Known rules s → has_number (load_pages rules s.loading) page ≡ true

@@ -1,7 +1,7 @@
 -- Whether a machine can go on from a snapshot under a policy. Each judgement is one question; the first that is answered no
 -- refuses. This project's own.
 use Rattle.std.specs.Prelude.{ℕ, ◌+◌, ◌*◌, ◌-◌, List, [], ◌∷◌, ◌++◌, length, map, filter, replicate, Bool, true, false, not, ◌&&◌, ◌||◌, Option, Some, None, slice_get, slice_set, is_some, nat_lt, nat_le, ◌==◌, if◌then◌else◌}
-use Rattle.std.specs.List.{list_all}
+use Rattle.std.specs.List.{list_all, list_any}
 use Rattle.std.specs.Str.{bytes_eq}
 use Rattle.processor.specs.Bytes.{page_size, page_bytes, ram_base, ram_place}
 use Rattle.sv_types.specs.Measure.{page_digest, joined_digests}
@@ -56,11 +56,15 @@ fits rules m =
     nat_lt m.id (length rules.modules) && nat_le ram_base m.gpa &&
     nat_le (ram_place m.gpa + page_size * pages_in_rule (slice_get rules.modules m.id)) (page_size * rules.ram_pages)
 
+-- a module of an id is loaded
+abbrev pub is_loaded : List SavedModule → ℕ → Bool
+is_loaded modules id = list_any (λ (m : SavedModule). m.id == id) modules
+
 -- the module isn't loaded, and no more pages are left than it has
 abbrev pub load_fits : Rules → List SavedModule → Option SavedLoad → Bool
 load_fits rules modules None = true
 load_fits rules modules (Some load) =
-    fits rules load.«module» && not (is_some (find_module modules load.«module».id)) &&
+    fits rules load.«module» && not (is_loaded modules load.«module».id) &&
     nat_le load.left (pages_in_rule (slice_get rules.modules load.«module».id))
 
 unfoldable pub is_of_policy : Rules → Contents → Bool

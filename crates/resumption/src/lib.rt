@@ -2,6 +2,10 @@
 //! stand the judgements and the state in which the machine goes on.
 #![tactic(auto)]
 
+mod policy;
 mod refusal;
+mod text;
 
+pub use policy::is_of_policy;
 pub use refusal::ResumeRefusal;
+pub use text::{has_text, joins};

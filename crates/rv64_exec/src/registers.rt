@@ -19,7 +19,7 @@ impl Model for Regs {
 }
 
 impl Regs {
-    ghost use Rattle.std.specs.Prelude.{◌≡◌, ◌<◌, length, replicate};
+    ghost use Rattle.std.specs.Prelude.{◌≡◌, ◌<◌, length, replicate, slice_index};
     ghost use Rattle.processor.specs.Effects.{register, set_register};
 
     /// All registers are 0.
@@ -27,6 +27,14 @@ impl Regs {
         ensures { result ≡ replicate 32 0 }
     {
         Regs { values: [0; 32] }
+    }
+
+    /// Registers with these values, of which the first is 0.
+    pub fn from_values(values: [u64; 32]) -> Self
+        requires zero { slice_index values 0 ≡ 0 }
+        ensures { result ≡ values }
+    {
+        Regs { values }
     }
 
     /// The value of a register.

@@ -16,6 +16,7 @@ use Rattle.sv_types.specs.Schedule.{Schedule, first_events}
 use Rattle.guest_gen.specs.Generated.{generated_image, generated_policy}
 use Rattle.sv_types.specs.Measure.{measure}
 use Rattle.sv_types.specs.Boot.{no_counts}
+use Rattle.sv_types.specs.Limits.{most_events}
 use Rattle.reference.specs.Start.{start, flat_start, boot_start, virtio_start}
 use Rattle.command_words.specs.declared.command.DiskKind.{DiskKind}
 use Rattle.outside.specs.Outside.{FilesState}
@@ -30,7 +31,6 @@ use Rattle.secvisor_cli.specs.declared.ready.Ready.{Ready}
 use Rattle.secvisor_cli.specs.declared.ready.Ready.TheVariants.{Run}
 use Rattle.secvisor_cli.specs.declared.ready.Stop.{Stop}
 use Rattle.secvisor_cli.specs.declared.ready.Stop.TheVariants.{Refused, Memory}
-use Rattle.secvisor_cli.specs.CommandLine.{most_events}
 use Rattle.secvisor_cli.specs.Plans.{Due, Refuse, RunFrom, Plan, End, Judge, Found, Faulty, Missing, Longer, Held, found_plan, read_part, measure_judged, pages_judged, is_whole_pages, gen_disk, gen_due, start_with}
 use Rattle.secvisor_cli.specs.Reading.{FoundAs}
 use Rattle.console_run.proofs.Standing.{printed_few}

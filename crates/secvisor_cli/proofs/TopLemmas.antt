@@ -20,6 +20,7 @@ use Rattle.reference.specs.Run.{run}
 use Rattle.machine_model.specs.Machine.{Machine}
 use Rattle.machine_model.specs.Reaches.{IsNew}
 use Rattle.sv_types.specs.Schedule.{Schedule, first_events}
+use Rattle.sv_types.specs.Limits.{most_events}
 use Rattle.script.specs.AutoScripts.{events_of_text, first_refused}
 use Rattle.outside.specs.Outside.{FilesState, SinkState, after_taking, TookPrefix, BreaksOff}
 use Rattle.outside.proofs.SinkLemmas.{prefix_none, prefix_whole}
@@ -41,7 +42,7 @@ use Rattle.secvisor_cli.specs.declared.trouble.Trouble.{Trouble}
 use Rattle.secvisor_cli.specs.declared.trouble.Trouble.TheVariants.{Write, Memory}
 use Rattle.secvisor_cli.specs.Refusals.{refusal_line, refusal_status, takes_memory}
 use Rattle.command_words.specs.declared.command.DiskKind.{DiskKind}
-use Rattle.secvisor_cli.specs.CommandLine.{Command, Flat, Generated, Run, RunWords, Source, Rounds, Auto, Text, MakePolicy, PolicyWords, most_events, judged}
+use Rattle.secvisor_cli.specs.CommandLine.{Command, Flat, Generated, Run, RunWords, Source, Rounds, Auto, Text, MakePolicy, PolicyWords, judged}
 use Rattle.secvisor_cli.specs.Plans.{Due, Refuse, RunFrom, Make, measured_line, Exactly, Saving, policy_saving, saves_due, most_image_bytes, most_object_bytes, making_fault, made_judged, made_part, Kernel, digest_part, Modules, no_modules, with_module, module_part, modules_part, making_plan, measure_plan, Plan, End, bytes_due, status_due, found_plan, flat_plan, command_plan, plan_of, measure_judged, pages_judged, is_whole_pages, flat_events, gen_plan, gen_due, gen_disk, policy_judged, policy_part, part_judged, kernel_part, disk_refusal, disk_part, text_part, script_part, image_measure, boot_judged, boot_plan, image_plan, run_plan, start_with}
 use Rattle.secvisor_cli.specs.Reading.{Follows, MayFollow, MaySave, Saved, SaveBroke, SavesUnder}
 use Rattle.secvisor_cli.specs.Ready.{IsMade, IsReady, IsReadyWhere, IsFresh, MayCarryOut, MaySaveRun, Prepares}

@@ -9,6 +9,8 @@ use Rattle.sv_types.specs.Policies.{harts_within, ram_pages_within, entries_coun
 use Rattle.processor.specs.Regions.{most_ram_pages}
 use Rattle.sv_types.specs.declared.module.Span.{Span}
 use Rattle.sv_types.specs.declared.status.Status.{Status}
+use Rattle.sv_types.specs.Limits.{most_events}
+use Rattle.guest_gen.specs.GuestCode.{most_calls}
 use Rattle.policy_making.specs.Making.{Terms}
 use Rattle.policy_making.specs.Ranges.{terms_within}
 use Rattle.policy_making.specs.WordRanges.{are_entries, entries_of, are_module_names, span_of}
@@ -19,7 +21,7 @@ use Rattle.secvisor_cli.specs.declared.refusal.Refusal.{Refusal}
 use Rattle.secvisor_cli.specs.declared.refusal.Refusal.TheVariants.{OutOfRange}
 use Rattle.secvisor_cli.specs.declared.refusal.Word.{Word}
 use Rattle.secvisor_cli.specs.Refusals.{refusal_status}
-use Rattle.secvisor_cli.specs.CommandLine.{Command, Source, most_events, flat_words, most_calls, gen_words, source_of, run_words, entries_judged, init_of, terms_with, terms_words, terms_judged, making_words, command_judged, split_judged, judged}
+use Rattle.secvisor_cli.specs.CommandLine.{Command, Source, flat_words, gen_words, source_of, run_words, entries_judged, init_of, terms_with, terms_words, terms_judged, making_words, command_judged, split_judged, judged}
 use Rattle.secvisor_cli.specs.Words.{HasModuleNames}
 
 -- ---- so many words are of no command

@@ -7,6 +7,8 @@ use Rattle.command_words.specs.Commands.{Split, FlatSplit, RunSplit, MeasureSpli
 use Rattle.sv_types.specs.Numbers.{number_within, digest_of}
 use Rattle.processor.specs.Regions.{most_ram_pages}
 use Rattle.sv_types.specs.declared.module.Span.{Span}
+use Rattle.sv_types.specs.Limits.{most_events, most_harts, fewest_ram_pages}
+use Rattle.guest_gen.specs.GuestCode.{most_calls}
 use Rattle.policy_making.specs.Making.{Terms}
 use Rattle.policy_making.specs.WordRanges.{are_entries, entries_of, span_of, are_module_names}
 use Rattle.secvisor_cli.specs.declared.refusal.Word.{Word}
@@ -54,9 +56,6 @@ pub data Command : Type 0 where
 
 -- ---- flat FILE MEASURE EVENTS
 
-abbrev pub most_events : ℕ
-most_events = 2 ^ 32
-
 unfoldable pub flat_words : List ℕ → Option (List ℕ) → Option ℕ → Result Command Refusal
 flat_words file None events = Err (OutOfRange Word.Measure)
 flat_words file (Some wanted) None = Err (OutOfRange Word.Events)
@@ -67,9 +66,6 @@ abbrev pub flat_judged : FlatSplit → Result Command Refusal
 flat_judged w = flat_words w.file (digest_of w.wanted) (number_within 0 most_events w.events)
 
 -- ---- gen N
-
-abbrev pub most_calls : ℕ
-most_calls = 1000000
 
 unfoldable pub gen_words : Option ℕ → Result Command Refusal
 gen_words None = Err (OutOfRange Word.Calls)
@@ -133,7 +129,7 @@ terms_words init (Some ram_pages) (Some harts) None = Err (OutOfRange Word.Entri
 terms_words init (Some ram_pages) (Some harts) (Some entries) = terms_with ram_pages harts entries (init_of ram_pages init)
 
 abbrev pub terms_judged : (ram harts entries init : List ℕ) → Result Terms Refusal
-terms_judged ram harts entries init = terms_words init (number_within 16 most_ram_pages ram) (number_within 1 4 harts) (entries_judged entries)
+terms_judged ram harts entries init = terms_words init (number_within fewest_ram_pages most_ram_pages ram) (number_within 1 most_harts harts) (entries_judged entries)
 
 -- the modules are judged behind the other words
 unfoldable pub making_words : MeasureSplit → Result Terms Refusal → Result Command Refusal

@@ -16,11 +16,13 @@ use Rattle.sv_types.specs.Policies.{Rules}
 use Rattle.reference.specs.Start.{flat_start, boot_start, virtio_start}
 use Rattle.sv_types.specs.Measure.{measure}
 use Rattle.sv_types.specs.Output.{run_status, line_feed, hexadecimal_bytes}
+use Rattle.reference.specs.BlockDisk.{sector_size}
 use Rattle.reference.specs.Disk.{disk_bytes}
 use Rattle.reference.specs.Report.{output}
 use Rattle.reference.specs.States.{State, has_number}
 use Rattle.reference.specs.Run.{run}
 use Rattle.sv_types.specs.Schedule.{Schedule, first_events}
+use Rattle.sv_types.specs.Limits.{most_events, most_disk_bytes}
 use Rattle.script.specs.AutoScripts.{events_of_text, first_refused}
 use Rattle.command_words.specs.declared.command.DiskKind.{DiskKind}
 use Rattle.policy_making.specs.declared.refusal.MakingFault.{MakingFault}
@@ -32,7 +34,7 @@ use Rattle.secvisor_cli.specs.declared.file_fault.FileFault.{FileFault}
 use Rattle.secvisor_cli.specs.declared.refusal.Refusal.{Refusal}
 use Rattle.secvisor_cli.specs.declared.refusal.Refusal.TheVariants.{ReadFault, File, Measure, Entry}
 use Rattle.secvisor_cli.specs.Refusals.{refusal_line, refusal_status}
-use Rattle.secvisor_cli.specs.CommandLine.{Command, Flat, Generated, Run, RunWords, MakePolicy, PolicyWords, Source, Rounds, Auto, Text, most_events}
+use Rattle.secvisor_cli.specs.CommandLine.{Command, Flat, Generated, Run, RunWords, MakePolicy, PolicyWords, Source, Rounds, Auto, Text}
 
 -- ---- what is due
 
@@ -156,9 +158,6 @@ most_policy_bytes = 16 * 2 ^ 20
 abbrev pub most_image_bytes : ℕ
 most_image_bytes = 64 * 2 ^ 20
 
-abbrev pub most_disk_bytes : ℕ
-most_disk_bytes = 64 * 2 ^ 20
-
 abbrev pub most_script_bytes : ℕ
 most_script_bytes = 2 ^ 20
 
@@ -184,7 +183,7 @@ image_part rules name next = read_part Part.Image name most_image_bytes (λ file
 
 -- whole sectors
 abbrev pub disk_refusal : List ℕ → Option FileFault
-disk_refusal bytes = if length bytes % 512 == 0 then None else Some FileFault.DiskSectors
+disk_refusal bytes = if length bytes % sector_size == 0 then None else Some FileFault.DiskSectors
 
 unfoldable pub disk_part : Option (List ℕ) → (List ℕ → Plan) → Plan
 disk_part None next = next []

@@ -2,6 +2,8 @@
 use Rattle.std.specs.Prelude.{◌≡◌, ◌≤◌, ◌^◌, IsTrue, map, Result, Ok, Err}
 use Rattle.std.specs.Option.{option_copied}
 use Rattle.std.specs.Result.{is_ok}
+use Rattle.sv_types.specs.Limits.{most_events}
+use Rattle.guest_gen.specs.GuestCode.{most_calls}
 use Rattle.policy_making.specs.Making.{Terms}
 use Rattle.policy_making.specs.Ranges.{terms_within}
 use Rattle.policy_making.specs.WordRanges.{entries_of, are_module_names}
@@ -73,7 +75,7 @@ HasModuleNames (Split.Run w) = Unit {0}
 HasModuleNames (Split.Measure w) = IsTrue (are_module_names w.modules)
 
 abbrev pub IsInRange : Asked → Type 0
-IsInRange (asked.Flat flat) = flat.events ≤ 2 ^ 32
-IsInRange (asked.Generated calls) = (1 ≤ calls) × (calls ≤ 1000000)
-IsInRange (asked.Run run) = run.events ≤ 2 ^ 32
+IsInRange (asked.Flat flat) = flat.events ≤ most_events
+IsInRange (asked.Generated calls) = (1 ≤ calls) × (calls ≤ most_calls)
+IsInRange (asked.Run run) = run.events ≤ most_events
 IsInRange (asked.MakePolicy policy) = IsTrue (terms_within (terms_value policy.terms)) × IsTrue (are_module_names (map (λ name. name.now) policy.modules.items))

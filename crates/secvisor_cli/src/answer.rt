@@ -18,6 +18,7 @@ ghost use Rattle.secvisor_cli.specs.Plans.{Due, Exactly, RunFrom, command_plan, 
 ghost use Rattle.secvisor_cli.specs.Reading.{MayFollow, IsNamed, SavesUnder};
 ghost use Rattle.secvisor_cli.specs.Ready.{Prepares, IsReady, IsFresh, MayCarryOut, MaySaveRun};
 ghost use Rattle.secvisor_cli.specs.Answers.{outside, Writes, Answers, SavesAndWrites, Performs, RunsTo, RunsAndSaves, Headline, settled};
+ghost use Rattle.outside.specs.Outside.{MayWrite};
 
 use crate::flat::prepare_flat;
 use crate::generated::prepare_gen;
@@ -58,10 +59,9 @@ pub fn secvisor<R: Threads + Sync, F: Files, O: Sink>(
     // Nothing but what the words name may be asked for, in its order, each part once and up to its limit; and what is due at
     // the end may be saved once.
     requires permitted { MayFollow (plan_of (judged (map string_bytes words.now))) (F.state files.old) }
-    requires is_open { IsTrue (O.state out.old).is_open }
+    requires sink { MayWrite (O.state out.old) }
     requires reads { (F.state files.old).read_faults < 2 ^ 64 - 1 }
     requires saves { (F.state files.old).save_faults < 2 ^ 64 - 1 }
-    requires writes { (O.state out.old).faults < 2 ^ 64 - 1 }
 
     // For every file, words and number of events the report, the status and the machine are the reference machine's, and a
     // policy that is made is the one that the files ask for: it is saved, and then its line is written.
@@ -109,10 +109,9 @@ fn answer<R: Threads + Sync, F: Files, O: Sink>(
     bench: &mut Bench,
 ) -> Result<Status, Trouble>
     requires permitted { MayFollow (plan_of (judged (map string_bytes words.now))) (F.state files.old) }
-    requires is_open { IsTrue (O.state out.old).is_open }
+    requires sink { MayWrite (O.state out.old) }
     requires reads { (F.state files.old).read_faults < 2 ^ 64 - 1 }
     requires saves { (F.state files.old).save_faults < 2 ^ 64 - 1 }
-    requires writes { (O.state out.old).faults < 2 ^ 64 - 1 }
     ensures { Performs (plan_of (judged (map string_bytes words.now)))
         (outside (F.state files.old) (O.state out.old) bench.old.machine)
         (outside (F.state files.new) (O.state out.new) bench.new.machine) result }
@@ -163,8 +162,7 @@ fn prepare_command<'a, R: Threads + Sync, F: Files>(
 
 /// Writes the line of a refusal, and answers its status.
 pub fn refuse<O: Sink>(alloc: Global, refusal: &Refusal, out: &mut O) -> Result<Status, Trouble>
-    requires is_open { IsTrue (O.state out.old).is_open }
-    requires count { (O.state out.old).faults < 2 ^ 64 - 1 }
+    requires sink { MayWrite (O.state out.old) }
     ensures writes { Writes (refusal_status refusal.now) (refusal_line refusal.now) (O.state out.old) (O.state out.new) result }
     ensures wants { IsErrOf result Trouble.Memory → IsTrue (takes_memory refusal.now) }
     ensures quiet { IsErrOf result Trouble.Memory → O.state out.new ≡ O.state out.old }
@@ -181,8 +179,7 @@ fn carry_out<F: Files, O: Sink>(
     out: &mut O,
     bench: &mut Bench,
 ) -> Result<Status, Trouble>
-    requires is_open { IsTrue (O.state out.old).is_open }
-    requires count { (O.state out.old).faults < 2 ^ 64 - 1 }
+    requires sink { MayWrite (O.state out.old) }
     requires saves { (F.state files.old).save_faults < 2 ^ 64 - 1 }
     requires permitted { MayCarryOut ready (F.state files.old) }
     ensures { (due : Due) → IsReady due (Ok ready.entry) → Answers due
@@ -202,8 +199,7 @@ fn save_policy<F: Files, O: Sink>(
     files: &mut F,
     out: &mut O,
 ) -> Result<Status, Trouble>
-    requires is_open { IsTrue (O.state out.old).is_open }
-    requires count { (O.state out.old).faults < 2 ^ 64 - 1 }
+    requires sink { MayWrite (O.state out.old) }
     requires saves { (F.state files.old).save_faults < 2 ^ 64 - 1 }
     requires permitted { IsTrue ((F.state files.old).permits_save ((made.now.name.now, made.now.text.items) ∷ [])) }
     ensures { SavesAndWrites (record { name = made.now.name.now; content = Exactly made.now.text.items }) (string_bytes made.now.line)
@@ -222,8 +218,7 @@ fn run_on_bench<F: Files, O: Sink>(
     out: &mut O,
     bench: &mut Bench,
 ) -> Result<Status, Trouble>
-    requires is_open { IsTrue (O.state out.old).is_open }
-    requires count { (O.state out.old).faults < 2 ^ 64 - 1 }
+    requires sink { MayWrite (O.state out.old) }
     requires saves { (F.state files.old).save_faults < 2 ^ 64 - 1 }
     requires fresh { IsFresh ready }
     requires permitted { MaySaveRun ready.machine (first_events ready.events ready.script) (option_copied ready.save) (F.state files.old) }
@@ -252,8 +247,7 @@ fn run_and_save<F: Files, O: Sink>(
     files: &mut F,
     out: &mut O,
 ) -> Result<Status, Trouble>
-    requires is_open { IsTrue (O.state out.old).is_open }
-    requires count { (O.state out.old).faults < 2 ^ 64 - 1 }
+    requires sink { MayWrite (O.state out.old) }
     requires saves { (F.state files.old).save_faults < 2 ^ 64 - 1 }
     requires events { events ≤ 2 ^ 32 }
     requires state { HasState machine.old }
@@ -276,8 +270,7 @@ fn run_and_report<O: Sink>(
     events: u64,
     out: &mut O,
 ) -> Result<Status, Trouble>
-    requires is_open { IsTrue (O.state out.old).is_open }
-    requires count { (O.state out.old).faults < 2 ^ 64 - 1 }
+    requires sink { MayWrite (O.state out.old) }
     requires events { events ≤ 2 ^ 32 }
     requires state { HasState machine.old }
     requires counts { CountsAtMost 0 machine.old.journal.counts }
@@ -295,8 +288,7 @@ fn run_and_report<O: Sink>(
 
 /// Writes the rest of the console, and the report. Where memory is wanting, nothing is written.
 pub fn finish<O: Sink>(alloc: Global, machine: &Machine, out: &mut O) -> Result<Status, Trouble>
-    requires is_open { IsTrue (O.state out.old).is_open }
-    requires count { (O.state out.old).faults < 2 ^ 64 - 1 }
+    requires sink { MayWrite (O.state out.old) }
     ensures writes { Writes (run_status machine.now.journal.verdict) (machine_output machine.now) (O.state out.old) (O.state out.new) result }
     ensures quiet { IsErrOf result Trouble.Memory → O.state out.new ≡ O.state out.old }
 {

@@ -3,6 +3,7 @@ ghost use Rattle.std.specs.Prelude.{◌≡◌, ◌≤◌, IfOk, IfErr, IsTrue};
 ghost use Rattle.sv_types.specs.Policies.{rules_of, rules_within};
 ghost use Rattle.reference.specs.Start.{boot_start};
 ghost use Rattle.machine_model.specs.Reaches.{IsNew};
+ghost use Rattle.guest_gen.specs.GuestCode.{most_calls};
 ghost use Rattle.guest_gen.specs.Booting.{IsBootable};
 ghost use Rattle.secvisor_cli.specs.Plans.{gen_due, gen_disk};
 ghost use Rattle.secvisor_cli.specs.Ready.{IsReady};
@@ -14,9 +15,7 @@ use machine::{BootRefusal, Machine};
 use script::weave;
 use std::alloc::{AllocError, Global};
 use std::thread::Threads;
-use sv_types::Policy;
-
-const MOST_EVENTS: u64 = 1 << 32;
+use sv_types::{MOST_EVENTS, Policy};
 
 const DISK_BYTES: u32 = 1024;
 
@@ -27,7 +26,7 @@ pub fn prepare_gen<R: Threads + Sync>(
     calls: u64,
 ) -> Result<Ready<'static>, Stop>
     requires some { 1 ≤ calls }
-    requires most { calls ≤ 1000000 }
+    requires most { calls ≤ most_calls }
     ensures { IsReady (gen_due calls) result }
 {
     let (file, policy) = generate(alloc, calls)?;

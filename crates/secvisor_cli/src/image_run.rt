@@ -13,6 +13,7 @@ ghost use Rattle.secvisor_cli.specs.Plans.{policy_part, kernel_part, disk_part, 
 ghost use Rattle.secvisor_cli.specs.Reading.{MayFollow};
 ghost use Rattle.secvisor_cli.specs.Ready.{Prepares, Staged, MayStage, DrawsFrom, IsPolicy, IsKernel, IsScript};
 ghost use Rattle.secvisor_cli.specs.Words.{source_value, run_value};
+ghost use Rattle.script.specs.HartCounts.{IsHartCount};
 
 use crate::file_fault::{FileFault, Part};
 use crate::parts::read_part;
@@ -36,7 +37,7 @@ pub const MOST_POLICY_BYTES: usize = 16 << 20;
 pub const MOST_IMAGE_BYTES: usize = 64 << 20;
 
 /// The most bytes of a disk.
-pub const MOST_DISK_BYTES: usize = 64 << 20;
+pub const MOST_DISK_BYTES: usize = sv_types::MOST_DISK_BYTES as usize;
 
 /// The most bytes of a script's text.
 pub const MOST_SCRIPT_BYTES: usize = 1 << 20;
@@ -186,8 +187,7 @@ fn read_script<F: Files>(
 ) -> Result<Script, Stop>
     requires permitted { MayStage (script_part harts (source_value source.now)) (F.state files.old) }
     requires reads { (F.state files.old).read_faults < 2 ^ 64 - 1 }
-    requires some { 0 < harts }
-    requires few { harts ≤ 4 }
+    requires harts { IsHartCount harts }
     ensures stage { Staged (script_part harts (source_value source.now)) (λ script. script) (F.state files.old) (F.state files.new) result }
     ensures draws { (number : ℕ) → source_value source.now ≡ Auto number → IfOk result (λ script. script ≡ Schedule.Auto harts number) }
 {
@@ -201,8 +201,7 @@ fn read_script<F: Files>(
 fn read_text<F: Files>(alloc: Global, name: &str, harts: u8, files: &mut F) -> Result<Script, Stop>
     requires permitted { MayStage (text_part harts name.now) (F.state files.old) }
     requires reads { (F.state files.old).read_faults < 2 ^ 64 - 1 }
-    requires some { 0 < harts }
-    requires few { harts ≤ 4 }
+    requires harts { IsHartCount harts }
     ensures { Staged (text_part harts name.now) (λ script. script) (F.state files.old) (F.state files.new) result }
 {
     let text = read_part(alloc, files, Part::Script, name, MOST_SCRIPT_BYTES)?;
@@ -210,8 +209,7 @@ fn read_text<F: Files>(alloc: Global, name: &str, harts: u8, files: &mut F) -> R
 }
 
 fn judge_script(alloc: Global, text: &[u8], harts: u8) -> Result<Script, Stop>
-    requires some { 0 < harts }
-    requires few { harts ≤ 4 }
+    requires harts { IsHartCount harts }
     ensures { IsScript harts text.now result }
 {
     match script::read(alloc, text, harts) {

@@ -1,6 +1,6 @@
 // Why a command isn't carried out.
 ghost use Rattle.std.specs.Prelude.{◌≡◌, ◌<◌, ◌-◌, ◌^◌, IsTrue, IsErrOf, OnOk, IfOk, string_bytes};
-ghost use Rattle.outside.specs.Outside.{after_taking, BreaksOff};
+ghost use Rattle.outside.specs.Outside.{after_taking, BreaksOff, MayWrite};
 ghost use Rattle.secvisor_cli.specs.Refusals.{refusal_line, refusal_status, takes_memory};
 
 use crate::file_fault::{FileFault, Part};
@@ -80,8 +80,7 @@ impl Refusal {
 
     /// Writes the line. Words are refused without asking for memory.
     pub fn write_line<O: Sink>(&self, alloc: Global, out: &mut O) -> Result<(), Trouble>
-        requires is_open { IsTrue (O.state out.old).is_open }
-        requires count { (O.state out.old).faults < 2 ^ 64 - 1 }
+        requires sink { MayWrite (O.state out.old) }
         ensures whole { OnOk result (O.state out.new ≡ after_taking (O.state out.old) (refusal_line self.now)) }
         ensures failed { IsErrOf result Trouble.Write → BreaksOff (O.state out.old) (O.state out.new) (refusal_line self.now) }
         ensures wants { IsErrOf result Trouble.Memory → IsTrue (takes_memory self.now) }

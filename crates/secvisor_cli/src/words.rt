@@ -10,14 +10,11 @@ ghost use Rattle.secvisor_cli.specs.Words.{IsRead, HasTerms, HasModuleNames, IsI
 
 use crate::refusal::{Refusal, Word};
 use command_words::{CommandWords, DiskKind, FlatWords, MeasureWords, RunWords};
+use guest_gen::MOST_CALLS;
 use policy_limits::{FEWEST_RAM_PAGES, MOST_HARTS, MOST_RAM_PAGES};
 use policy_making::{are_entries, span_of};
-use sv_types::{Digest, Span};
+use sv_types::{Digest, MOST_EVENTS, Span};
 use text_numbers::{digest_of, number_within};
-
-const MOST_EVENTS: u64 = 1 << 32;
-
-const MOST_CALLS: u64 = 1_000_000;
 
 /// What the words ask for.
 #[derive(Drop)]

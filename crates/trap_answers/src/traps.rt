@@ -7,7 +7,7 @@ ghost use Rattle.machine_model.specs.HostHarts.{host_trap, host_return, host_dem
 ghost use Rattle.machine_model.specs.Machine.{Machine};
 ghost use Rattle.reference.specs.Counting.{MayCount};
 ghost use Rattle.hart_answers.specs.Hosts.{host_at};
-ghost use Rattle.trap_answers.specs.Answered.{answered};
+ghost use Rattle.trap_answers.specs.Answered.{with_hart};
 
 use hart_answers::{Seat, Trap, demote, return_from_trap, take_trap};
 use journal_records::Journal;
@@ -25,7 +25,7 @@ pub fn guest_trap(
 )
     requires aligned { seat.old.hart.core.pc % 4 ≡ 0 }
     requires counts { MayCount journal.old.counts }
-    ensures machine { (m : Machine) → m.rules.entries ≡ entries.now → m.rules.bound ≡ [] → answered m which (host_at seat.new) journal.new ≡ host_trap (answered m which (host_at seat.old) journal.old) which (host_at seat.old) seat.old.side (is_interrupt trap.cause) (guest_number trap.cause) trap.tval }
+    ensures machine { (m : Machine) → m.rules.entries ≡ entries.now → m.rules.bound ≡ [] → with_hart m which (host_at seat.new) journal.new ≡ host_trap (with_hart m which (host_at seat.old) journal.old) which (host_at seat.old) seat.old.side (is_interrupt trap.cause) (guest_number trap.cause) trap.tval }
 {
     let from = seat.side.mode();
     match take_trap(&mut seat.hart, &mut seat.side, guard, entries, trap) {
@@ -44,7 +44,7 @@ pub fn guest_trap(
 pub fn guest_return(seat: &mut Seat, guard: &Guard, journal: &mut Journal)
     requires kernel { seat.old.side ≡ Kernel }
     requires counts { MayCount journal.old.counts }
-    ensures machine { (m : Machine) (h : ℕ) → answered m h (host_at seat.new) journal.new ≡ host_return (answered m h (host_at seat.old) journal.old) h (host_at seat.old) }
+    ensures machine { (m : Machine) (h : ℕ) → with_hart m h (host_at seat.new) journal.new ≡ host_return (with_hart m h (host_at seat.old) journal.old) h (host_at seat.old) }
 {
     return_from_trap(&mut seat.hart, &mut seat.side, guard);
     journal.count_return(seat.side.mode());
@@ -54,7 +54,7 @@ pub fn guest_return(seat: &mut Seat, guard: &Guard, journal: &mut Journal)
 #[tactic(auto, using(crate::proofs::Places::update_there))]
 pub fn guest_demotion(which: u8, seat: &mut Seat, guard: &Guard, journal: &mut Journal, gpa: u64)
     requires counts { MayCount journal.old.counts }
-    ensures machine { (m : Machine) → answered m which (host_at seat.new) journal.new ≡ host_demote (answered m which (host_at seat.old) journal.old) which (host_at seat.old) gpa }
+    ensures machine { (m : Machine) → with_hart m which (host_at seat.new) journal.new ≡ host_demote (with_hart m which (host_at seat.old) journal.old) which (host_at seat.old) gpa }
 {
     journal.demote(which, seat.hart.core.pc, gpa);
     demote(&mut seat.hart, &mut seat.side, guard);
@@ -62,7 +62,7 @@ pub fn guest_demotion(which: u8, seat: &mut Seat, guard: &Guard, journal: &mut J
 
 /// The machine stops, since a hart was to write a protected page.
 pub fn stop_at_write(which: u8, seat: &Seat, journal: &mut Journal, gpa: u64)
-    ensures machine { (m : Machine) → answered m which (host_at seat.now) journal.new ≡ host_write_stopped (answered m which (host_at seat.now) journal.old) which (host_at seat.now) gpa }
+    ensures machine { (m : Machine) → with_hart m which (host_at seat.now) journal.new ≡ host_write_stopped (with_hart m which (host_at seat.now) journal.old) which (host_at seat.now) gpa }
 {
     journal.stop(
         which,

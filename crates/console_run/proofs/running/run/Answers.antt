@@ -38,8 +38,10 @@ repeat-made-requires-clause-counts g c =
 
 pub flush_due-requires : goal.flush_due-requires
 flush_due-requires g c = record {
-  is_open = subst (λ b. IsTrue b) (sym (ap (λ (s : SinkState). s.is_open) c.events.invariant.taken.taken)) c.requires.is_open;
-  count = subst (λ n. n < 18446744073709551615) (sym (ap (λ (s : SinkState). s.faults) c.events.invariant.taken.taken)) c.requires.count;
+  sink = record {
+    is_open = subst (λ b. IsTrue b) (sym (ap (λ (s : SinkState). s.is_open) c.events.invariant.taken.taken)) c.requires.sink.is_open;
+    count = subst (λ n. n < 18446744073709551615) (sym (ap (λ (s : SinkState). s.faults) c.events.invariant.taken.taken)) c.requires.sink.count;
+  };
   room = room_again c.repeat-made.result c.events.machine c.repeat-made.new.self c.in-Some.row.event c.events.invariant.has c.repeat-made.ensures.chain c.events.invariant.room;
 }
 

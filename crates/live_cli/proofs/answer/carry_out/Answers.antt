@@ -1,5 +1,5 @@
 use Rattle.std.proofs.Common.{ℕ, List, length, ap, arith}
-use Rattle.live_drive.proofs.MadeEvents.{sink_open, sink_count}
+use Rattle.live_drive.proofs.MadeEvents.{may_write}
 use Rattle.live_cli.proofs.LiveLemmas.{runs_live}
 use Rattle.live_cli.proofs.answer.carry_out.Goals as goal
 
@@ -8,17 +8,20 @@ returns g c = λ start new.
     runs_live c.args.ready c.run-end.new.self c.run-end.result start _ _ _ _ _ _ _ _ _ c.requires.fresh new (record { on = c.run-end.ensures.on; broke = c.run-end.ensures.broke })
     c.run-end.ensures.keys c.run-end.ensures.others c.run-end.ensures.autos c.run-end.ensures.end c.run-end.ensures.harts c.report-result.ensures
 
-pub run-end-requires-clause-room : goal.run-end-requires-clause-room
-run-end-requires-clause-room g c = let none = ap (λ (bytes : List ℕ). length bytes) c.requires.fresh.console in omega arith
+pub run-end-requires-clause-on : goal.run-end-requires-clause-on
+run-end-requires-clause-on g c = record {
+  way = c.requires.fresh.way;
+  room = let none = ap (λ (bytes : List ℕ). length bytes) c.requires.fresh.console in omega arith;
+}
 
-pub run-end-requires-clause-autos : goal.run-end-requires-clause-autos
-run-end-requires-clause-autos g c = let none = c.requires.fresh.autos in omega arith
+pub run-end-requires-clause-few : goal.run-end-requires-clause-few
+run-end-requires-clause-few g c = record {
+  events = c.requires.fresh.events;
+  autos = let none = c.requires.fresh.autos in omega arith;
+}
 
-pub report-result-requires-clause-is_open : goal.report-result-requires-clause-is_open
-report-result-requires-clause-is_open g c = λ done. sink_open (c.run-end.ensures.on done) c.requires.is_open
-
-pub report-result-requires-clause-count : goal.report-result-requires-clause-count
-report-result-requires-clause-count g c = λ done. sink_count (c.run-end.ensures.on done) c.requires.count
+pub report-result-requires-clause-sink : goal.report-result-requires-clause-sink
+report-result-requires-clause-sink g c = λ done. may_write (c.run-end.ensures.on done) c.requires.sink
 
 pub report-result-requires-clause-autos : goal.report-result-requires-clause-autos
 report-result-requires-clause-autos g c = let most = c.run-end.ensures.autos in let few = c.requires.fresh.events in omega arith

@@ -1,21 +1,15 @@
 use Rattle.outside.proofs.SinkLemmas.{on_err}
-use Rattle.live_drive.proofs.MadeEvents.{on_then, on_breaks, sink_open, sink_count, ok_map, err_map}
+use Rattle.live_drive.proofs.MadeEvents.{on_then, on_breaks, may_write, ok_map, err_map}
 use Rattle.live_drive.proofs.driving.make_round.Goals as goal
 
-pub make_auto-requires-clause-is_open : goal.make_auto-requires-clause-is_open
-make_auto-requires-clause-is_open g c = sink_open c.in_ok-make_keys.ensures.on c.requires.is_open
-
-pub make_auto-requires-clause-count : goal.make_auto-requires-clause-count
-make_auto-requires-clause-count g c = sink_count c.in_ok-make_keys.ensures.on c.requires.count
+pub make_auto-requires-clause-sink : goal.make_auto-requires-clause-sink
+make_auto-requires-clause-sink g c = may_write c.in_ok-make_keys.ensures.on c.requires.sink
 
 pub returns-in_err-make_auto-clause-broke : goal.returns-in_err-make_auto-clause-broke
 returns-in_err-make_auto-clause-broke g c = on_err c.from_residual-in_err-make_auto.result _ (on_breaks c.in_ok-make_keys.ensures.on c.in_err-make_auto.ensures.broke)
 
-pub show_often-requires-clause-is_open : goal.show_often-requires-clause-is_open
-show_often-requires-clause-is_open g c = sink_open (on_then c.in_ok-make_keys.ensures.on c.in_ok-make_auto.ensures.on) c.requires.is_open
-
-pub show_often-requires-clause-count : goal.show_often-requires-clause-count
-show_often-requires-clause-count g c = sink_count (on_then c.in_ok-make_keys.ensures.on c.in_ok-make_auto.ensures.on) c.requires.count
+pub show_often-requires-clause-sink : goal.show_often-requires-clause-sink
+show_often-requires-clause-sink g c = may_write (on_then c.in_ok-make_keys.ensures.on c.in_ok-make_auto.ensures.on) c.requires.sink
 
 pub returns-clause-on : goal.returns-clause-on
 returns-clause-on g c = ok_map c.show_often.result _ _ (λ on. on_then (on_then c.in_ok-make_keys.ensures.on c.in_ok-make_auto.ensures.on) on) c.show_often.ensures.on

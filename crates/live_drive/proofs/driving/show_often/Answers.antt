@@ -8,7 +8,7 @@ returns-in_err-show_console-clause-broke g c = on_err c.from_residual.result _ (
 
 pub returns-in_err-show_console-clause-way : goal.returns-in_err-show_console-clause-way
 returns-in_err-show_console-clause-way g c =
-    let way = c.requires.way in
+    let way = c.requires.on.way in
     record {
       keys = way.keys;
       few = way.few;
@@ -23,7 +23,7 @@ returns-in_ok-show_console-clause-on g c = c.in_ok-show_console.ensures.on (even
 
 pub returns-in_ok-show_console-clause-way : goal.returns-in_ok-show_console-clause-way
 returns-in_ok-show_console-clause-way g c =
-    let way = c.requires.way in
+    let way = c.requires.on.way in
     record {
       keys = way.keys;
       few = way.few;

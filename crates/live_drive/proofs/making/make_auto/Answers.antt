@@ -5,23 +5,23 @@ use Rattle.live_drive.proofs.MadeEvents.{on_to, breaks_to, ok_map, err_map, may_
 use Rattle.live_drive.proofs.making.make_auto.Goals as goal
 
 pub make-requires-clause-may : goal.make-requires-clause-may
-make-requires-clause-may g c = may_step c.args.live.now c.requires.way c.requires.room (omega arith)
+make-requires-clause-may g c = may_step c.args.live.now c.requires.on.way c.requires.on.room (omega arith)
 
 pub returns-clause-on : goal.returns-clause-on
 returns-clause-on g c =
-    let drawn = drawn_is _ c.args.live.now.script c.in-Some.event c.requires.way.drawn (sym c.in-Some.is ∙ c.next.ensures.event) in
+    let drawn = drawn_is _ c.args.live.now.script c.in-Some.event c.requires.on.way.drawn (sym c.in-Some.is ∙ c.next.ensures.event) in
     let all = auto_made c.args.live.now.script c.next.new.self c.args.live.now.journal c.add_auto.new.self c.in-Some.event drawn c.next.ensures.rest (c.add_auto.ensures.events (harts_of c.args.live.now.script)) in
     ok_map c.make.result _ _ (λ on. on_to (on (events_made c.args.live.now)) all) c.make.ensures.on
 
 pub returns-clause-broke : goal.returns-clause-broke
 returns-clause-broke g c =
-    let drawn = drawn_is _ c.args.live.now.script c.in-Some.event c.requires.way.drawn (sym c.in-Some.is ∙ c.next.ensures.event) in
+    let drawn = drawn_is _ c.args.live.now.script c.in-Some.event c.requires.on.way.drawn (sym c.in-Some.is ∙ c.next.ensures.event) in
     let all = auto_made c.args.live.now.script c.next.new.self c.args.live.now.journal c.add_auto.new.self c.in-Some.event drawn c.next.ensures.rest (c.add_auto.ensures.events (harts_of c.args.live.now.script)) in
     err_map c.make.result _ _ (λ off. breaks_to (off (events_made c.args.live.now)) all) c.make.ensures.broke
 
 pub returns-clause-way : goal.returns-clause-way
 returns-clause-way g c =
-    let way = c.requires.way in
+    let way = c.requires.on.way in
     record {
       keys = c.add_auto.ensures.bytes ∙ way.keys;
       few = way.few;

@@ -2,14 +2,14 @@ use Rattle.std.proofs.Common.{◌≤◌, ◌^◌, ℕ, List, [], ◌∷◌, ◌+
 use Rattle.outside.proofs.SinkLemmas.{on_err}
 use Rattle.live_drive.specs.LiveRuns.{harts_of}
 use Rattle.live_drive.proofs.DrawnEvents.{drawn_same}
-use Rattle.live_drive.proofs.MadeEvents.{on_none, on_then, on_breaks, sink_open, sink_count, may_step, key_counted}
+use Rattle.live_drive.proofs.MadeEvents.{on_none, on_then, on_breaks, may_write, may_step, key_counted}
 use Rattle.live_drive.proofs.making.make_keys.Goals as goal
 
 pub keys-init : goal.keys-init
 keys-init g c = record {
   on = on_none _ _ _;
-  way = c.requires.way;
-  room = c.requires.room;
+  way = c.requires.on.way;
+  room = c.requires.on.room;
   line = c.requires.line;
   all = refl;
   script = refl;
@@ -18,11 +18,8 @@ keys-init g c = record {
   ended = λ ended. ended;
 }
 
-pub make_key-requires-clause-is_open : goal.make_key-requires-clause-is_open
-make_key-requires-clause-is_open g c = sink_open c.keys.invariant.on c.requires.is_open
-
-pub make_key-requires-clause-count : goal.make_key-requires-clause-count
-make_key-requires-clause-count g c = sink_count c.keys.invariant.on c.requires.count
+pub make_key-requires-clause-sink : goal.make_key-requires-clause-sink
+make_key-requires-clause-sink g c = may_write c.keys.invariant.on c.requires.sink
 
 pub make_key-requires-clause-may : goal.make_key-requires-clause-may
 make_key-requires-clause-may g c =

@@ -3,23 +3,17 @@ use Rattle.sv_types.specs.declared.event.Verdict.{Verdict}
 use Rattle.sv_types.specs.declared.event.Verdict.TheVariants.{Running}
 use Rattle.outside.proofs.SinkLemmas.{on_err}
 use Rattle.live_drive.specs.LiveRuns.{events_made}
-use Rattle.live_drive.proofs.MadeEvents.{on_then, on_breaks, sink_open, sink_count, on_ok, ok_map, err_map, cleared_state, cleared_counts, cleared_verdict}
+use Rattle.live_drive.proofs.MadeEvents.{on_then, on_breaks, may_write, on_ok, ok_map, err_map, cleared_state, cleared_counts, cleared_verdict}
 use Rattle.live_drive.proofs.live_run.LiveRun.drive.Goals as goal
 
-pub make_keys-requires-clause-is_open : goal.make_keys-requires-clause-is_open
-make_keys-requires-clause-is_open g c = sink_open c.in_ok-make_autos.ensures.on c.requires.is_open
-
-pub make_keys-requires-clause-count : goal.make_keys-requires-clause-count
-make_keys-requires-clause-count g c = sink_count c.in_ok-make_autos.ensures.on c.requires.count
+pub make_keys-requires-clause-sink : goal.make_keys-requires-clause-sink
+make_keys-requires-clause-sink g c = may_write c.in_ok-make_autos.ensures.on c.requires.sink
 
 pub returns-in_err-make_keys-clause-broke : goal.returns-in_err-make_keys-clause-broke
 returns-in_err-make_keys-clause-broke g c = on_err c.from_residual-in_err-make_keys.result _ (on_breaks c.in_ok-make_autos.ensures.on c.in_err-make_keys.ensures.broke)
 
-pub show_console-requires-clause-is_open : goal.show_console-requires-clause-is_open
-show_console-requires-clause-is_open g c = sink_open (on_then c.in_ok-make_autos.ensures.on c.in_ok-make_keys.ensures.on) c.requires.is_open
-
-pub show_console-requires-clause-count : goal.show_console-requires-clause-count
-show_console-requires-clause-count g c = sink_count (on_then c.in_ok-make_autos.ensures.on c.in_ok-make_keys.ensures.on) c.requires.count
+pub show_console-requires : goal.show_console-requires
+show_console-requires g c = record { sink = may_write (on_then c.in_ok-make_autos.ensures.on c.in_ok-make_keys.ensures.on) c.requires.sink }
 
 pub returns-clause-on : goal.returns-clause-on
 returns-clause-on g c =

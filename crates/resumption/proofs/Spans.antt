@@ -1,0 +1,89 @@
+-- Spans of pages, and the bytes of a page of a list that may end before.
+use Rattle.std.proofs.Common.{◌≡◌, ℕ, zero, suc, ◌+◌, ◌-◌, ◌*◌, ◌<◌, ◌≤◌, ◌⊎◌, inl, inr, List, [], ◌∷◌, take, drop, length, min, refl, sym, ◌∙◌, ap, subst, Bool, true, false, ◌&&◌, ◌||◌, arith, length-drop}
+use Rattle.std.specs.Prelude.{◌==◌, nat_le, nat_lt, slice_range}
+use Rattle.std.proofs.lemmas.Bool.{eqb-true, eq-eqb}
+use Rattle.std.proofs.lemmas.Bool.Decides.{nat_tests}
+use Rattle.processor.specs.Bytes.{page_size, page_bytes, part}
+use Rattle.sv_types.specs.ApprovedPages.{numbers_from}
+use Rattle.reference.specs.States.{has_number}
+
+-- a number of a span is between its ends
+pub in_numbers : (first count page : ℕ) → has_number (numbers_from first count) page ≡ (nat_le first page && nat_lt (page - first) count)
+in_numbers first zero page = by (nat_le first page) (nat_lt (page - first) 0) refl
+  where
+    by : (a b : Bool) → nat_lt (page - first) 0 ≡ b → false ≡ (a && b)
+    by true true e = absurd (grind (arith, nat_tests))
+    by true false e = refl
+    by false b e = refl
+in_numbers first (suc count) page =
+    ap (λ (b : Bool). first == page || b) (in_numbers (first + 1) count page)
+    ∙ by (first == page) (nat_le (first + 1) page) (nat_lt (page - (first + 1)) count) (nat_le first page) (nat_lt (page - first) (suc count)) refl refl refl refl refl
+  where
+    by : (s a b c d : Bool) → (first == page) ≡ s → nat_le (first + 1) page ≡ a → nat_lt (page - (first + 1)) count ≡ b → nat_le first page ≡ c → nat_lt (page - first) (suc count) ≡ d
+        → (s || (a && b)) ≡ (c && d)
+    by true a b true true e f g h i = refl
+    by true a b false d e f g h i = let same : first ≡ page = eqb-true first page e in absurd (grind (arith, nat_tests))
+    by true a b true false e f g h i = let same : first ≡ page = eqb-true first page e in absurd (grind (arith, nat_tests))
+    by false true true true true e f g h i = refl
+    by false true true false d e f g h i = absurd (grind (arith, nat_tests))
+    by false true true true false e f g h i = absurd (grind (arith, nat_tests))
+    by false true false true true e f g h i = absurd (grind (arith, nat_tests))
+    by false true false true false e f g h i = refl
+    by false true false false d e f g h i = refl
+    by false false b true true e f g h i = let apart : first ≡ page → ⊥ = λ same. let there : (first == page) ≡ true = eq-eqb first page same in cc in absurd (grind (arith, nat_tests, apart))
+    by false false b true false e f g h i = refl
+    by false false b false d e f g h i = refl
+
+-- ---- bytes of a page
+
+either_way : (a b : ℕ) → (a ≤ b) ⊎ (b < a)
+either_way zero b = inl (omega arith)
+either_way (suc a) zero = inr (omega arith)
+either_way (suc a) (suc b) = elim (either_way a b) [
+  | inl less ↦ inl (omega (arith, less))
+  | inr more ↦ inr (omega (arith, more))
+]
+
+take_short : (xs : List ℕ) (k : ℕ) → length xs ≤ k → take k xs ≡ xs
+take_short [] zero e = refl
+take_short [] (suc k) e = refl
+take_short (x ∷ xs) zero e = absurd (omega (arith, e))
+take_short (x ∷ xs) (suc k) e = ap (λ (rest : List ℕ). x ∷ rest) (take_short xs k (omega (arith, e)))
+
+take_same : (xs : List ℕ) (j k : ℕ) → length xs ≤ j → length xs ≤ k → take j xs ≡ take k xs
+take_same xs j k e f = take_short xs j e ∙ sym (take_short xs k f)
+
+clipped_by : (xs : List ℕ) (at n : ℕ) → (at + n ≤ length xs) ⊎ (length xs < at + n) → at ≤ length xs
+    → take (min (length xs) (at + n) - min (length xs) at) (drop (min (length xs) at) xs) ≡ part xs at n
+clipped_by xs at n (inl fits) inside =
+    let start : min (length xs) at ≡ at = omega (arith, inside) in
+    let size : min (length xs) (at + n) - at ≡ n = omega (arith, fits) in
+    rw (start, size) refl
+clipped_by xs at n (inr short) inside =
+    let start : min (length xs) at ≡ at = omega (arith, inside) in
+    let left : length (drop at xs) ≡ length xs - at = length-drop at xs in
+    rw start (take_same (drop at xs) (min (length xs) (at + n) - at) n (omega (arith, left, short)) (omega (arith, left, short)))
+
+drop_long : (xs : List ℕ) (k : ℕ) → length xs ≤ k → drop k xs ≡ []
+drop_long [] zero e = refl
+drop_long [] (suc k) e = refl
+drop_long (x ∷ xs) zero e = absurd (omega (arith, e))
+drop_long (x ∷ xs) (suc k) e = drop_long xs k (omega (arith, e))
+
+no_bytes : (xs : List ℕ) (at n j : ℕ) → length xs ≤ at → take j (drop (length xs) xs) ≡ part xs at n
+no_bytes xs at n j past =
+    let one : drop (length xs) xs ≡ [] = drop_long xs (length xs) (omega arith) in
+    let two : drop at xs ≡ [] = drop_long xs at past in
+    rw (one, two) (take_same [] j n (omega arith) (omega arith))
+
+-- the bytes from a place on, of which the list may have fewer
+clipped : (xs : List ℕ) (at n : ℕ) → (at ≤ length xs) ⊎ (length xs < at)
+    → take (min (length xs) (at + n) - min (length xs) at) (drop (min (length xs) at) xs) ≡ part xs at n
+clipped xs at n (inl inside) = clipped_by xs at n (either_way (at + n) (length xs)) inside
+clipped xs at n (inr past) =
+    let start : min (length xs) at ≡ length xs = omega (arith, past) in
+    rw start (no_bytes xs at n (min (length xs) (at + n) - length xs) (omega (arith, past)))
+
+pub page_clipped : (ram : List ℕ) (page : ℕ)
+    → slice_range ram (min (length ram) (page_size * page)) (min (length ram) (page_size * page + page_size)) ≡ page_bytes ram page
+page_clipped ram page = clipped ram (page_size * page) page_size (either_way (page_size * page) (length ram))

@@ -1,0 +1,112 @@
+// Whether a snapshot is of a machine under a policy: its harts and pages, the entries that harts are in, and its modules.
+
+ghost use Rattle.std.specs.Prelude.{◌≡◌, ◌+◌, ◌*◌, ◌≤◌, is_some, nat_le, option_map, slice_get};
+ghost use Rattle.std.specs.List.{list_all};
+ghost use Rattle.processor.specs.Bytes.{page_size, ram_base, ram_place};
+ghost use Rattle.sv_types.specs.Policies.{rules_of};
+ghost use Rattle.reference.specs.States.{binding_at, pages_in_rule};
+ghost use Rattle.snapshot_form.specs.Snapshots.{contents};
+ghost use Rattle.resumption.specs.Judgements.{fits, is_bound, is_loaded, is_of_policy, load_fits};
+
+use processor::{PAGE_BYTES, RAM_BASE};
+use saved_machine::{SavedHart, SavedLoad};
+use snapshot_form::Snapshot;
+use sv_types::{Policy, SavedModule};
+
+/// Whether harts, pages, entries and modules of a snapshot are those of a policy's machine, with each module's pages in RAM.
+#[tactic(auto, unfolding(crate::specs::Judgements::is_of_policy))]
+pub fn is_of_policy(snapshot: &Snapshot, policy: &Policy) -> bool
+    ensures { result ≡ is_of_policy (rules_of policy.now) (contents snapshot.now) }
+{
+    let machine = &snapshot.machine;
+    machine.harts.len() as u64 == u64::from(policy.harts)
+        && machine.protection.len() as u64 == u64::from(policy.ram_pages)
+        && are_bound(policy, &machine.harts)
+        && all_fit(policy, &machine.modules)
+        && load_fits(policy, &machine.modules, &machine.loading)
+}
+
+// ---- harts
+
+fn are_bound(policy: &Policy, harts: &[SavedHart]) -> bool
+    ensures { result ≡ list_all (λ h. is_bound (rules_of policy.now) h.entry) harts.now }
+{
+    harts.iter().all(|hart| is_bound(policy, hart.entry))
+}
+
+// The entry that a hart is in is bound.
+fn is_bound(policy: &Policy, entry: Option<u8>) -> bool
+    ensures { result ≡ is_bound (rules_of policy.now) entry }
+{
+    match entry {
+        None => true,
+        Some(place) => has_binding(policy, usize::from(place)),
+    }
+}
+
+#[tactic(auto, unfolding(reference::specs::States::binding_at))]
+fn has_binding(policy: &Policy, place: usize) -> bool
+    ensures { result ≡ is_some (binding_at (rules_of policy.now) place) }
+{
+    let Some(_) = policy.entries.get(place) else {
+        return false;
+    };
+    policy.bound.get(place).is_some()
+}
+
+// ---- modules
+
+fn all_fit(policy: &Policy, modules: &[SavedModule]) -> bool
+    ensures { result ≡ list_all (fits (rules_of policy.now)) modules.now }
+{
+    modules.iter().all(|about| fits(policy, about))
+}
+
+// The number of a module's pages, 0 where the policy has no such module.
+fn pages_of(policy: &Policy, id: u64) -> u32
+    ensures { result ≡ pages_in_rule (slice_get (rules_of policy.now).modules id) }
+{
+    match policy.modules.get(id as usize) {
+        Some(rule) => rule.pages,
+        None => 0,
+    }
+}
+
+// So many pages from an address on end in RAM.
+fn ends_in_ram(gpa: u64, pages: u32, ram_pages: u32) -> bool
+    requires { ram_base ≤ gpa }
+    ensures { result ≡ nat_le (ram_place gpa + page_size * pages) (page_size * ram_pages) }
+{
+    let place = u128::from(gpa - RAM_BASE);
+    let page = u128::from(PAGE_BYTES);
+    place + page * u128::from(pages) <= page * u128::from(ram_pages)
+}
+
+// A module of the policy, whose pages lie in RAM.
+fn fits(policy: &Policy, about: &SavedModule) -> bool
+    ensures { result ≡ fits (rules_of policy.now) about.now }
+{
+    about.id < policy.modules.len() as u64
+        && about.gpa >= RAM_BASE
+        && ends_in_ram(about.gpa, pages_of(policy, about.id), policy.ram_pages)
+}
+
+fn is_loaded(modules: &[SavedModule], id: u64) -> bool
+    ensures { result ≡ is_loaded modules.now id }
+{
+    modules.iter().any(|about| about.id == id)
+}
+
+// The module of the load under way isn't loaded, and no more pages are left than it has.
+fn load_fits(policy: &Policy, modules: &[SavedModule], loading: &Option<SavedLoad>) -> bool
+    ensures { result ≡ load_fits (rules_of policy.now) modules.now loading.now }
+{
+    match loading {
+        None => true,
+        Some(load) => {
+            fits(policy, &load.module)
+                && !is_loaded(modules, load.module.id)
+                && load.left <= pages_of(policy, load.module.id)
+        }
+    }
+}
