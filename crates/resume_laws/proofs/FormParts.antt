@@ -1,29 +1,15 @@
 -- What a snapshot's form gives: the ranges of its parts.
-use Rattle.std.proofs.Common.{◌≡◌, ℕ, zero, suc, ◌+◌, ◌-◌, ◌*◌, ◌%◌, ◌^◌, ◌<◌, ◌≤◌, List, [], ◌∷◌, ◌++◌, length, min, refl, sym, ◌∙◌, ap, subst, Bool, true, false, not, ◌&&◌, ◌||◌, arith, slice_get, length-append, eqb, drop}
-use Rattle.std.specs.Prelude.{Option, Some, None, option_map, is_some, if◌then◌else◌, ◌==◌, nat_lt, nat_le}
+use Rattle.std.proofs.Common.{◌≡◌, ℕ, ◌+◌, ◌-◌, ◌*◌, ◌^◌, ◌<◌, ◌≤◌, List, [], ◌∷◌, ◌++◌, length, refl, sym, subst, true, arith, slice_get, length-append}
+use Rattle.std.specs.Prelude.{Some, nat_lt, nat_le}
 use Rattle.std.proofs.lemmas.Bool.{eqb-true}
 use Rattle.std.proofs.lemmas.Bool.Decides.{nat_tests}
-use Rattle.processor.specs.Bytes.{page_size, ram_base, ram_place}
-use Rattle.processor.specs.Registers.{legal_status, legal_interrupts, legal_tvec, legal_counteren, legal_epc, legal_satp}
-use Rattle.processor.specs.declared.mode.Mode.{Mode}
-use Rattle.processor.specs.declared.mode.Mode.TheVariants.{Kernel, User}
-use Rattle.sv_types.specs.Console.{most_queued}
-use Rattle.sv_types.specs.Policies.{harts_within, modules_count_within}
-use Rattle.sv_types.specs.declared.block.BlockState.{BlockState}
-use Rattle.sv_types.specs.declared.block.BlockStatus.{BlockStatus}
-use Rattle.sv_types.specs.declared.block.BlockCommand.{BlockCommand}
-use Rattle.sv_types.specs.declared.event.Note.{Note}
-use Rattle.sv_types.specs.declared.event.Rule.TheVariants.{Entry, Write}
-use Rattle.sv_types.specs.declared.event.Verdict.{Verdict}
-use Rattle.sv_types.specs.declared.event.Verdict.TheVariants.{Running, Shutdown, Stopped}
-use Rattle.sv_types.specs.declared.saved.SavedModule.{SavedModule}
-use Rattle.saved_machine.specs.declared.harts.SavedHart.{SavedHart}
-use Rattle.saved_machine.specs.declared.whole.SavedLoad.{SavedLoad}
+use Rattle.processor.specs.Bytes.{page_size}
+use Rattle.sv_types.specs.Policies.{harts_within}
 use Rattle.snapshot_form.specs.DeviceForms.{console, port, block_in, disk, devices}
-use Rattle.snapshot_form.specs.Forms.{Form, number, is_word, within, and_then, ◌⨾◌, made, always, plain, has_all, listed, counted, measured}
-use Rattle.snapshot_form.specs.HartForms.{flag, hart, harts}
-use Rattle.snapshot_form.specs.JournalForms.{JournalParts, counts, notes, verdict, journal}
-use Rattle.snapshot_form.specs.PageForms.{Pages, protections, text, pages, Gate, modules, loading, gate}
+use Rattle.snapshot_form.specs.Forms.{is_word}
+use Rattle.snapshot_form.specs.HartForms.{flag, harts}
+use Rattle.snapshot_form.specs.JournalForms.{counts, notes, verdict, journal}
+use Rattle.snapshot_form.specs.PageForms.{protections, text, pages, modules, loading, gate}
 use Rattle.snapshot_form.specs.Snapshots.{Contents, beginning, events_made, hart_count, magic, header, body, whole_header, whole_body, snapshot}
 use Rattle.snapshot_form.proofs.FormLaws.{first_true, second_true}
 

@@ -1,26 +1,24 @@
 -- The harts in which a machine goes on, with the load under way, the notes, the verdict and the clock.
-use Rattle.std.proofs.Common.{◌≡◌, ℕ, zero, suc, ◌+◌, ◌-◌, ◌*◌, ◌%◌, ◌^◌, ◌<◌, ◌≤◌, List, [], ◌∷◌, ◌++◌, length, map, min, drop, replicate, refl, sym, ◌∙◌, ap, subst, Bool, true, false, not, ◌&&◌, ◌||◌, arith, slice_get, length-append}
-use Rattle.std.specs.Prelude.{Option, Some, None, option_map, is_some, if◌then◌else◌, ◌==◌, nat_lt, nat_le, slice_index}
+use Rattle.std.proofs.Common.{◌≡◌, ℕ, zero, suc, ◌+◌, ◌-◌, ◌*◌, ◌%◌, ◌^◌, ◌<◌, ◌≤◌, List, [], ◌∷◌, ◌++◌, length, map, min, drop, replicate, refl, ◌∙◌, ap, subst, Bool, true, false, not, ◌&&◌, ◌||◌, arith, slice_get, length-append}
+use Rattle.std.specs.Prelude.{Option, Some, None, option_map, is_some, ◌==◌, nat_lt, nat_le, slice_index}
 use Rattle.std.specs.List.{list_all}
 use Rattle.std.proofs.lemmas.Bool.{eqb-true}
-use Rattle.std.proofs.lemmas.Bool.Decides.{nat_tests}
 use Rattle.processor.specs.Bytes.{page_size, ram_base, ram_place}
-use Rattle.processor.specs.Registers.{legal_status, legal_interrupts, legal_tvec, legal_counteren, legal_epc, legal_satp, IsLegalSupervisor}
+use Rattle.processor.specs.Registers.{legal_status, legal_interrupts, legal_tvec, legal_counteren, legal_epc, legal_satp}
 use Rattle.processor.specs.declared.mode.Mode.{Mode}
 use Rattle.processor.specs.declared.mode.Mode.TheVariants.{Kernel, User}
-use Rattle.sv_types.specs.Clock.{Clock, latest, timer_of}
+use Rattle.sv_types.specs.Clock.{latest}
 use Rattle.sv_types.specs.Policies.{Rules}
 use Rattle.sv_types.specs.declared.event.Note.{Note}
 use Rattle.sv_types.specs.declared.event.Note.TheVariants.{Demote, Denied, Load, Unload, Retire}
 use Rattle.sv_types.specs.declared.event.Rule.TheVariants.{Entry, Write}
 use Rattle.sv_types.specs.declared.event.Verdict.{Verdict}
 use Rattle.sv_types.specs.declared.event.Verdict.TheVariants.{Running, Shutdown, Stopped}
-use Rattle.sv_types.specs.declared.saved.SavedModule.{SavedModule}
-use Rattle.reference.specs.Soundness.{IsSoundEntry, IsSoundHart, IsStill}
+use Rattle.reference.specs.Soundness.{IsSoundEntry, IsSoundHart}
 use Rattle.reference.specs.States.{Hart, Binding, binding_at}
 use Rattle.saved_machine.specs.declared.harts.SavedHart.{SavedHart}
 use Rattle.saved_machine.specs.declared.whole.SavedLoad.{SavedLoad}
-use Rattle.snapshot_form.specs.Forms.{Form, number, is_word, has_all}
+use Rattle.snapshot_form.specs.Forms.{is_word, has_all}
 use Rattle.snapshot_form.specs.HartForms.{is_user, flag, mode, place, place_number, is_ram_address, is_reservable, reservation, aligned, legal, side, trap_status, status, registers, begins_with_0, hart, harts}
 use Rattle.snapshot_form.specs.JournalForms.{hart_number, demote, load_note, unload, retire, answer, note_behind, note, notes, stopped_entry, stopped_write, verdict_behind, verdict}
 use Rattle.snapshot_form.specs.PageForms.{may_load, module_within, is_above, load, load_behind, loading}

@@ -1,14 +1,13 @@
 -- The pages of the state in which a machine goes on: whose they are, and that they hold what they should.
-use Rattle.std.proofs.Common.{◌≡◌, ℕ, zero, suc, ◌+◌, ◌-◌, ◌*◌, ◌/◌, ◌%◌, ◌<◌, ◌≤◌, ◌⊎◌, inl, inr, List, [], ◌∷◌, ◌++◌, length, map, filter, replicate, refl, sym, ◌∙◌, ap, subst, Bool, true, false, not, ◌&&◌, ◌||◌, arith, slice_get}
+use Rattle.std.proofs.Common.{◌≡◌, ℕ, zero, suc, ◌+◌, ◌*◌, ◌/◌, ◌%◌, ◌<◌, ◌≤◌, ◌⊎◌, inl, inr, List, [], ◌∷◌, ◌++◌, length, refl, sym, ◌∙◌, ap, subst, Bool, true, false, ◌&&◌, ◌||◌, arith, slice_get}
 use Rattle.std.specs.Prelude.{Option, Some, None, option_map, is_some, if◌then◌else◌, ◌==◌, nat_lt, nat_le}
 use Rattle.std.specs.List.{list_all}
 use Rattle.std.proofs.lemmas.Bool.{eqb-true}
-use Rattle.std.proofs.lemmas.Bool.Decides.{nat_tests}
 use Rattle.processor.specs.Bytes.{page_size, page_bytes, page_of, ram_base, ram_place}
-use Rattle.sv_types.specs.ApprovedPages.{ApprovedPage, approved_bytes, approved_pages, numbers_from}
-use Rattle.sv_types.specs.Policies.{Rules, modules_count_within}
+use Rattle.sv_types.specs.ApprovedPages.{approved_pages}
+use Rattle.sv_types.specs.Policies.{Rules}
 use Rattle.sv_types.specs.declared.protection.Protection.{Protection}
-use Rattle.sv_types.specs.declared.protection.Protection.TheVariants.{Free, Held, Approved}
+use Rattle.sv_types.specs.declared.protection.Protection.TheVariants.{Approved}
 use Rattle.sv_types.specs.declared.saved.SavedModule.{SavedModule}
 use Rattle.reference.specs.Origins.{AllAbove, Ascends}
 use Rattle.reference.specs.Soundness.{KeepsText}
@@ -18,12 +17,12 @@ use Rattle.snapshot_form.specs.HartForms.{aligned}
 use Rattle.snapshot_form.specs.PageForms.{is_above, last_page, text_page, text, module_within, last_id, next_module, modules}
 use Rattle.snapshot_form.specs.declared.whole.TextPage.{TextPage}
 use Rattle.snapshot_form.proofs.FormLaws.{first_true, second_true}
-use Rattle.resumption.specs.Judgements.{page_numbers, loaded_pages, fits, taken}
+use Rattle.resumption.specs.Judgements.{page_numbers, loaded_pages, fits}
 use Rattle.resume_laws.specs.Keepable.{AreAligned, AscendFrom}
 use Rattle.resume_laws.proofs.FormParts.{below_is, most_is, last_of}
 use Rattle.resume_laws.proofs.KeepableParts.{some_is}
 use Rattle.resume_laws.proofs.TakenPages.{Taking, AllBelow, taken_in_two, length_taken, apart}
-use Rattle.run_laws.proofs.Lookups.{not_true, both, is_there, approved_alone, numbers_bounds, found_id}
+use Rattle.run_laws.proofs.Lookups.{approved_alone, numbers_bounds}
 
 -- ---- text
 

@@ -1,14 +1,11 @@
 -- The state in which a machine goes on from a snapshot that isn't refused is sound.
-use Rattle.std.proofs.Common.{◌≡◌, ℕ, zero, suc, ◌+◌, ◌*◌, ◌%◌, ◌<◌, ◌≤◌, ◌⊎◌, inl, inr, List, [], ◌∷◌, ◌++◌, length, map, filter, replicate, refl, sym, ◌∙◌, ap, subst, Bool, true, false, cond, not, ◌&&◌, ◌||◌, arith, slice_get}
-use Rattle.std.specs.Prelude.{Option, Some, None, option_map, is_some, if◌then◌else◌, ◌==◌, nat_lt, nat_le, IsTrue}
+use Rattle.std.proofs.Common.{◌≡◌, ℕ, zero, suc, ◌*◌, ◌%◌, ◌<◌, ◌≤◌, inl, inr, List, [], ◌∷◌, length, map, replicate, refl, sym, ◌∙◌, ap, subst, Bool, true, false, not, ◌&&◌, ◌||◌, slice_get}
+use Rattle.std.specs.Prelude.{Option, Some, None, option_map, if◌then◌else◌, ◌==◌, nat_lt, nat_le, IsTrue}
 use Rattle.std.specs.List.{list_all}
-use Rattle.std.specs.Str.{bytes_eq}
 use Rattle.std.proofs.lemmas.Bool.{eqb-true}
-use Rattle.std.proofs.lemmas.Bool.Decides.{nat_tests}
 use Rattle.std.proofs.lemmas.Slice.Eq.{bytes_eq-Decides}
-use Rattle.processor.specs.Bytes.{page_size, page_bytes, ram_base, ram_place}
+use Rattle.processor.specs.Bytes.{page_size, page_bytes}
 use Rattle.sv_types.specs.ApprovedPages.{approved_pages}
-use Rattle.sv_types.specs.BlockNumbers.{command_of, command_number, status_number}
 use Rattle.sv_types.specs.Console.{most_queued}
 use Rattle.sv_types.specs.Measure.{page_digest, joined_digests}
 use Rattle.sv_types.specs.Policies.{Rules, rules_within, harts_within}
@@ -21,31 +18,31 @@ use Rattle.sv_types.specs.declared.protection.Protection.TheVariants.{Free, Held
 use Rattle.sv_types.specs.declared.saved.SavedModule.{SavedModule}
 use Rattle.reference.specs.BlockDisk.{beat_size, is_busy, is_under_way}
 use Rattle.reference.specs.Loads.{is_good}
-use Rattle.reference.specs.Origins.{IsPageOf, IsOwned, IsMeasured, OwnsPages, is_init, is_kernel_text, ownership}
-use Rattle.reference.specs.Soundness.{IsSound, IsSoundHart, IsSoundDisk, IsSoundLoad, HoldsModule}
+use Rattle.reference.specs.Origins.{IsOwned, IsMeasured, OwnsPages, is_kernel_text, ownership}
+use Rattle.reference.specs.Soundness.{IsSound, IsSoundDisk, IsSoundLoad}
 use Rattle.reference.specs.Start.{AreWords}
-use Rattle.reference.specs.States.{State, Hart, Loading, has_number, is_approved_in, find_module, module_pages, pages_in_rule}
+use Rattle.reference.specs.States.{has_number, is_approved_in, find_module, pages_in_rule}
 use Rattle.saved_machine.specs.SavedStates.{disk_of}
 use Rattle.saved_machine.specs.declared.harts.SavedHart.{SavedHart}
 use Rattle.saved_machine.specs.declared.whole.SavedLoad.{SavedLoad}
-use Rattle.snapshot_form.specs.DeviceForms.{console, sectors, transfer, standing, goes_with, block, port, status_parts}
-use Rattle.snapshot_form.specs.Forms.{number, is_word}
+use Rattle.snapshot_form.specs.DeviceForms.{console, sectors, transfer, standing, block, port}
+use Rattle.snapshot_form.specs.Forms.{is_word}
 use Rattle.snapshot_form.specs.PageForms.{loading}
 use Rattle.snapshot_form.specs.Snapshots.{Contents, snapshot}
 use Rattle.snapshot_form.specs.declared.whole.TextPage.{TextPage}
 use Rattle.snapshot_form.proofs.FormLaws.{first_true, second_true}
-use Rattle.resumption.specs.Judgements.{page_numbers, is_retired, text_left, loaded_pages, load_pages, approved_of, is_bound, fits, is_loaded, load_fits, is_of_policy, taken, then_held, guard_due, are_same, is_due, is_guarded_right, joins, is_there, has_text, has_modules, resume_refusal}
+use Rattle.resumption.specs.Judgements.{page_numbers, is_retired, text_left, loaded_pages, load_pages, approved_of, is_bound, fits, is_loaded, load_fits, is_of_policy, taken, then_held, guard_due, is_due, is_guarded_right, joins, is_there, has_text, has_modules, resume_refusal}
 use Rattle.resumption.specs.ResumedStates.{resumed_hart, resumed_load, resumed_state, timers_of}
 use Rattle.resumption.specs.declared.refusal.ResumeRefusal.{ResumeRefusal}
 use Rattle.resumption.specs.declared.refusal.ResumeRefusal.TheVariants.{OtherPolicy, OtherPages, OtherKernel, OtherText, OtherModule}
-use Rattle.resume_laws.specs.Keepable.{ram_size, AreKeepable, IsKeepableJournal, IsKeepableClock, IsKeepable}
+use Rattle.resume_laws.specs.Keepable.{AreKeepable, IsKeepableJournal, IsKeepableClock, IsKeepable}
 use Rattle.resume_laws.specs.Resumed.{KeepsDigests}
-use Rattle.resume_laws.specs.ResumedSound.{IsResumable, ResumedSoundLaw}
+use Rattle.resume_laws.specs.ResumedSound.{ResumedSoundLaw}
 use Rattle.resume_laws.proofs.FormParts.{HasParts, parts_of, most_is}
 use Rattle.resume_laws.proofs.ResumedHarts.{harts_sound, harts_kept, length_resumed, LoadParts, load_parts_of, load_kept, journal_kept, clock_kept}
-use Rattle.resume_laws.proofs.ResumedPages.{text_ascends, text_inside, ModuleParts, modules_parts, found_all, found_begins, Fits, fits_is, place_aligned, module_inside, in_first, in_second, in_one, both_below, loaded_inside, among_loaded, IsIn, of_module, one_module, approved_is, keeps_text}
+use Rattle.resume_laws.proofs.ResumedPages.{text_ascends, text_inside, ModuleParts, modules_parts, found_all, found_begins, Fits, fits_is, place_aligned, in_first, in_second, in_one, both_below, loaded_inside, among_loaded, of_module, one_module, approved_is, keeps_text}
 use Rattle.resume_laws.proofs.TakenPages.{Taking, AllBelow, taken_in_two, length_taken, apart, found_later}
-use Rattle.run_laws.proofs.Lookups.{not_true, both, not_false, none_there, all_found, number_filtered, and_first, and_second, and_both}
+use Rattle.run_laws.proofs.Lookups.{not_true, not_false, all_found, number_filtered}
 
 -- ---- the judgements, one by one
 

@@ -1,10 +1,10 @@
 -- What was saved of a state leads back to it.
-use Rattle.std.proofs.Common.{◌≡◌, ℕ, zero, suc, ◌+◌, ◌-◌, ◌*◌, ◌^◌, ◌<◌, ◌≤◌, ◌⊎◌, inl, inr, List, [], ◌∷◌, ◌++◌, length, map, drop, replicate, refl, sym, ◌∙◌, ap, subst, Bool, true, false, not, ◌&&◌, arith}
+use Rattle.std.proofs.Common.{◌≡◌, ℕ, zero, suc, ◌+◌, ◌-◌, ◌*◌, ◌^◌, ◌<◌, ◌≤◌, inl, inr, List, [], ◌∷◌, ◌++◌, length, map, drop, replicate, refl, sym, ◌∙◌, ap, subst, Bool, true, false, not, ◌&&◌, arith}
 use Rattle.std.specs.Prelude.{Option, Some, None, option_map, is_some, if◌then◌else◌, ◌==◌, slice_index, nat_le, IsTrue}
 use Rattle.std.proofs.lemmas.List.{append-nil}
 use Rattle.processor.specs.Bits.{flag}
-use Rattle.processor.specs.Bytes.{page_bytes, ram_base, ram_place}
-use Rattle.sv_types.specs.ApprovedPages.{ApprovedPage, approved_bytes, approved_pages}
+use Rattle.processor.specs.Bytes.{page_bytes, ram_place}
+use Rattle.sv_types.specs.ApprovedPages.{approved_bytes, approved_pages}
 use Rattle.sv_types.specs.Clock.{Clock, latest, timer_of}
 use Rattle.sv_types.specs.Policies.{Rules, rules_within, format_within, harts_within, ram_pages_within, lists_within, init_within, modules_count_within, modules_within}
 use Rattle.sv_types.specs.declared.port.PortState.{PortState}
@@ -12,9 +12,8 @@ use Rattle.sv_types.specs.declared.protection.Protection.{Protection}
 use Rattle.reference.specs.Origins.{IsOwned, is_kernel_text, ownership}
 use Rattle.reference.specs.Soundness.{IsSound, IsSoundLoad}
 use Rattle.reference.specs.States.{State, Hart, Loading, has_number, is_approved_in}
-use Rattle.saved_machine.specs.SavedStates.{IsSaved, disk_of, gpa_at, saved_hart, saved_harts, saved_load, saved_protections}
+use Rattle.saved_machine.specs.SavedStates.{IsSaved, disk_of, gpa_at, saved_hart, saved_harts, saved_load}
 use Rattle.saved_machine.specs.declared.harts.SavedHart.{SavedHart}
-use Rattle.saved_machine.specs.declared.whole.SavedLoad.{SavedLoad}
 use Rattle.snapshot_form.specs.Snapshots.{Contents, contents}
 use Rattle.snapshot_form.specs.declared.whole.Snapshot.{Snapshot}
 use Rattle.snapshot_form.specs.declared.whole.TextPage.{TextPage}
@@ -23,11 +22,10 @@ use Rattle.resumption.specs.Judgements.{page_numbers, is_retired, text_left, loa
 use Rattle.resumption.specs.ResumedStates.{resumed_hart, resumed_load, resumed_state, timers_of}
 use Rattle.resume_laws.specs.Continues.{Alike}
 use Rattle.resume_laws.specs.Keepable.{IsKeepable, IsKeepableClock}
-use Rattle.resume_laws.specs.Resumed.{KeepsDigests}
 use Rattle.resume_laws.specs.SavedResumes.{SavedResumesLaw}
 use Rattle.resume_laws.proofs.FormParts.{most_is}
 use Rattle.resume_laws.proofs.ResumedPages.{in_first, in_second, in_one, among_loaded, of_module}
-use Rattle.run_laws.proofs.Lookups.{not_true, both, all_found, approved_alone, number_filtered}
+use Rattle.run_laws.proofs.Lookups.{all_found, approved_alone, number_filtered}
 
 -- ---- harts
 

@@ -1,10 +1,9 @@
 -- Pages that were taken one after the other: which protection they have, and that each was free.
-use Rattle.std.proofs.Common.{◌≡◌, ℕ, zero, suc, ◌+◌, ◌<◌, List, [], ◌∷◌, ◌++◌, length, refl, sym, ◌∙◌, ap, subst, Bool, true, false, ◌||◌, arith, slice_get, slice_set}
-use Rattle.std.specs.Prelude.{Option, Some, None, if◌then◌else◌, ◌==◌}
+use Rattle.std.proofs.Common.{◌≡◌, ℕ, zero, suc, ◌<◌, List, [], ◌∷◌, ◌++◌, length, refl, sym, ◌∙◌, ap, subst, Bool, true, false, ◌||◌, arith, slice_set}
+use Rattle.std.specs.Prelude.{Some, None, if◌then◌else◌, ◌==◌}
 use Rattle.std.proofs.lemmas.Bool.{eqb-true}
 use Rattle.sv_types.specs.declared.protection.Protection.{Protection}
-use Rattle.sv_types.specs.declared.protection.Protection.TheVariants.{Free, Held, Approved}
-use Rattle.reference.specs.Protections.{is_free, or_free, protection_at}
+use Rattle.reference.specs.Protections.{is_free, protection_at}
 use Rattle.reference.specs.States.{has_number}
 use Rattle.resumption.specs.Judgements.{taken}
 use Rattle.run_laws.proofs.Lookups.{both, same_number}

@@ -1,6 +1,6 @@
 -- Whether a machine can go on from a snapshot under a policy. Each judgement is one question; the first that is answered no
 -- refuses. This project's own.
-use Rattle.std.specs.Prelude.{ℕ, ◌+◌, ◌*◌, ◌-◌, List, [], ◌∷◌, ◌++◌, length, map, filter, replicate, Bool, true, false, not, ◌&&◌, ◌||◌, Option, Some, None, slice_get, slice_set, is_some, nat_lt, nat_le, ◌==◌, if◌then◌else◌}
+use Rattle.std.specs.Prelude.{ℕ, ◌+◌, ◌*◌, List, [], ◌∷◌, ◌++◌, length, map, filter, replicate, Bool, true, false, not, ◌&&◌, ◌||◌, Option, Some, None, slice_get, slice_set, is_some, nat_lt, nat_le, ◌==◌, if◌then◌else◌}
 use Rattle.std.specs.List.{list_all, list_any}
 use Rattle.std.specs.Str.{bytes_eq}
 use Rattle.processor.specs.Bytes.{page_size, page_bytes, ram_base, ram_place}
@@ -12,7 +12,7 @@ use Rattle.sv_types.specs.declared.saved.SavedModule.{SavedModule}
 use Rattle.reference.specs.Loads.{is_good}
 use Rattle.reference.specs.Origins.{is_init}
 use Rattle.reference.specs.Protections.{is_free, protection_at}
-use Rattle.reference.specs.States.{binding_at, find_module, module_pages, pages_in_rule}
+use Rattle.reference.specs.States.{binding_at, module_pages, pages_in_rule}
 use Rattle.saved_machine.specs.declared.harts.SavedHart.{SavedHart}
 use Rattle.saved_machine.specs.declared.whole.SavedLoad.{SavedLoad}
 use Rattle.snapshot_form.specs.Snapshots.{Contents}
