@@ -1,11 +1,12 @@
 // Accesses to device registers.
 
-ghost use Rattle.std.specs.Prelude.{◌≡◌, ◌%◌, ◌<◌, length, []};
+ghost use Rattle.std.specs.Prelude.{◌≡◌, ◌%◌, ◌<◌, length};
 ghost use Rattle.processor.specs.declared.exit.ExitCause.{ExitCause};
 ghost use Rattle.reference.specs.Counting.{MayCount};
 ghost use Rattle.reference.specs.Devices.{device_load, device_store};
 ghost use Rattle.machine_model.specs.HostHarts.{host_device_load, host_device_store};
 ghost use Rattle.machine_model.specs.Machine.{Machine};
+ghost use Rattle.page_guard.specs.Sides.{mode_of};
 ghost use Rattle.hart_answers.specs.Hosts.{host_at};
 ghost use Rattle.access_answers.specs.Accessed.{with_devices};
 
@@ -51,7 +52,7 @@ pub fn device_load<D: DiskPort>(
     requires aligned { seat.old.hart.core.pc % 4 ≡ 0 }
     requires counts { MayCount journal.old.counts }
     requires register { load.rd < 32 }
-    ensures machine { (m : Machine) → m.rules.entries ≡ entries.now → m.rules.bound ≡ [] → with_devices m which (host_at seat.new) devices.new journal.new ≡ host_device_load (with_devices m which (host_at seat.old) devices.old journal.old) which (host_at seat.old) seat.old.side load.rd load.address load.width load.signed (device_load devices.old load.gpa load.width) }
+    ensures machine { (m : Machine) → m.rules.entries ≡ entries.now.entries → m.rules.bound ≡ entries.now.bound → with_devices m which (host_at seat.new) devices.new journal.new ≡ host_device_load (with_devices m which (host_at seat.old) devices.old journal.old) which (host_at seat.old) (mode_of seat.old.side) load.rd load.address load.width load.signed (device_load devices.old load.gpa load.width) }
 {
     match devices.load(load.gpa, load.width) {
         Some(value) => {
@@ -80,7 +81,7 @@ pub fn device_store<D: DiskPort>(
     requires aligned { seat.old.hart.core.pc % 4 ≡ 0 }
     requires counts { MayCount journal.old.counts }
     requires room { length journal.old.printed < 4096 }
-    ensures machine { (m : Machine) → m.rules.entries ≡ entries.now → m.rules.bound ≡ [] → with_devices m which (host_at seat.new) devices.new journal.new ≡ host_device_store (with_devices m which (host_at seat.old) devices.old journal.old) which (host_at seat.old) seat.old.side store.address (device_store devices.old journal.old store.gpa store.width store.value) }
+    ensures machine { (m : Machine) → m.rules.entries ≡ entries.now.entries → m.rules.bound ≡ entries.now.bound → with_devices m which (host_at seat.new) devices.new journal.new ≡ host_device_store (with_devices m which (host_at seat.old) devices.old journal.old) which (host_at seat.old) (mode_of seat.old.side) store.address (device_store devices.old journal.old store.gpa store.width store.value) }
 {
     if devices.store(journal, store.gpa, store.width, store.value) {
         pass(&mut seat.hart);

@@ -77,7 +77,7 @@ pub fn give<D: DiskPort>(
     ensures number { length seats.new ≡ length seats.old }
 {
     let Answer { reply, beside } = *answer;
-    reply_at(seats, which, reply);
+    reply_at(seats, guard, which, reply);
     change_harts(seats, guard, beside);
     change_devices(which, devices, beside);
     journal.record(which, beside);

@@ -131,7 +131,7 @@ fn is_started(seats: &[Seat], hart: u64) -> Option<bool>
 #[tactic(auto, unfolding(reference::specs::Calls::start_other))]
 fn start_other(seats: &[Seat], entries: &Entries, asked: &Asked) -> Answer
     requires few { length seats.now ≤ most_harts }
-    ensures answer { (f : Facts) → f.rules.entries ≡ entries.now → result ≡ start_other f asked.now (slice_get (started_of seats.now) asked.now.a0) }
+    ensures answer { (f : Facts) → f.rules.entries ≡ entries.now.entries → result ≡ start_other f asked.now (slice_get (started_of seats.now) asked.now.a0) }
     ensures starts { StartsOneOf (length seats.now) result.beside }
 {
     match is_started(seats, asked.a0) {
@@ -166,7 +166,7 @@ fn status_of_hart(seats: &[Seat], asked: &Asked) -> Reply
 #[tactic(auto, unfolding(reference::specs::Calls::hart_call))]
 fn hart_call(seats: &[Seat], entries: &Entries, asked: &Asked) -> Answer
     requires few { length seats.now ≤ most_harts }
-    ensures answer { (f : Facts) → f.rules.entries ≡ entries.now → f.started ≡ started_of seats.now → result ≡ hart_call f asked.now }
+    ensures answer { (f : Facts) → f.rules.entries ≡ entries.now.entries → f.started ≡ started_of seats.now → result ≡ hart_call f asked.now }
     ensures starts { StartsOneOf (length seats.now) result.beside }
 {
     match asked.function {
@@ -207,7 +207,7 @@ fn reset_call(asked: &Asked) -> Answer
 pub fn answer_of(seats: &[Seat], entries: &Entries, input: &[u8], asked: &Asked) -> Answer
     requires few { length seats.now ≤ most_harts }
     requires others { is_about_modules asked.now ≡ false }
-    ensures answer { (f : Facts) → f.rules.entries ≡ entries.now → f.started ≡ started_of seats.now → f.input ≡ input.now → result ≡ answer_of f asked.now }
+    ensures answer { (f : Facts) → f.rules.entries ≡ entries.now.entries → f.started ≡ started_of seats.now → f.input ≡ input.now → result ≡ answer_of f asked.now }
     ensures starts { StartsOneOf (length seats.now) result.beside }
 {
     let harts = seats.len() as u64;

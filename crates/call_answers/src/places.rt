@@ -1,11 +1,10 @@
 // One hart of all changed in its place.
 
 ghost use Rattle.std.specs.Prelude.{◌≡◌, ◌<◌, length};
-ghost use Rattle.processor.specs.declared.mode.Mode.{Mode as Privilege};
 ghost use Rattle.machine_model.specs.HostHarts.{host_started};
 ghost use Rattle.machine_model.specs.HostCalls.{host_replied};
 ghost use Rattle.machine_model.specs.Machine.{update};
-ghost use Rattle.hart_answers.specs.Hosts.{host_of, hosts_of};
+ghost use Rattle.hart_answers.specs.Hosts.{host_at, hosts_of};
 
 use hart::{A0, Hart};
 use hart_answers::{Seat, answer, set, start, stay, stop};
@@ -14,26 +13,26 @@ use reference::Reply;
 
 // What becomes of the hart that called.
 #[tactic(auto, unfolding(machine_model::specs::HostCalls::host_replied))]
-fn reply_to(hart: &mut Hart, reply: Reply)
-    ensures { (mode : Privilege) → host_of hart.new mode ≡ host_replied reply (host_of hart.old mode) }
+fn reply_to(seat: &mut Seat, guard: &Guard, reply: Reply)
+    ensures { host_at seat.new ≡ host_replied reply (host_at seat.old) }
 {
     match reply {
-        Reply::Gives { a0 } => set(hart, A0, a0),
-        Reply::Replies { a0, a1 } => answer(hart, a0, a1),
-        Reply::Stays => stay(hart),
-        Reply::Stops => stop(hart),
+        Reply::Gives { a0 } => set(&mut seat.hart, A0, a0),
+        Reply::Replies { a0, a1 } => answer(&mut seat.hart, a0, a1),
+        Reply::Stays => stay(&mut seat.hart),
+        Reply::Stops => stop(&mut seat.hart, &mut seat.side, guard),
     }
 }
 
 /// The hart that called gets its reply.
 #[tactic(auto, using(crate::proofs::Changed::seat_changed))]
-pub fn reply_at(seats: &mut [Seat], which: u8, reply: Reply)
+pub fn reply_at(seats: &mut [Seat], guard: &Guard, which: u8, reply: Reply)
     requires there { which < length seats.old }
     ensures hosts { hosts_of seats.new ≡ update (hosts_of seats.old) which (host_replied reply) }
     ensures number { length seats.new ≡ length seats.old }
 {
     let seat = &mut seats[usize::from(which)];
-    reply_to(&mut seat.hart, reply);
+    reply_to(seat, guard, reply);
 }
 
 /// The hart begins in kernel mode at an address, with its number and a value.

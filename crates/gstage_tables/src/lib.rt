@@ -2,10 +2,10 @@
 //! page.
 #![tactic(auto)]
 
-ghost use Rattle.std.specs.Prelude.{◌≡◌, ℕ, ◌+◌, ◌*◌, ◌/◌, ◌%◌, ◌<◌, ◌≤◌, ◌^◌, ◌≢◌, ◌==◌, ◌&&◌, length, replicate, slice_set, slice_index_or, IsSome, Some, true};
+ghost use Rattle.std.specs.Prelude.{◌≡◌, ℕ, ◌+◌, ◌*◌, ◌/◌, ◌%◌, ◌<◌, ◌≤◌, ◌^◌, ◌≢◌, ◌==◌, ◌&&◌, length, replicate, slice_set, slice_index_or, Some, true};
 ghost use Rattle.processor.specs.Bytes.{page_size, word};
 ghost use Rattle.processor.specs.Regions.{most_ram_pages};
-ghost use Rattle.sv_types.specs.Views.{AreViews, sight_of, view_hgatp, view_permits, protect, all_free};
+ghost use Rattle.sv_types.specs.Views.{AreViews, view_hgatp, view_permits, protect, all_free};
 ghost use Rattle.processor.specs.declared.access.Access.TheVariants.{Fetch};
 ghost use Rattle.sv_types.specs.declared.protection.Protection.{Protection as Kind};
 ghost use Rattle.gstage_tables.specs.Blocks.{is_free, lies_in_ram, is_whole_by, recounted};
@@ -177,10 +177,9 @@ impl Trees {
         self.counts[block as usize] = count;
     }
 
-    /// The `hgatp` value of a view's root, of one that there is. Its VMID is 1 for the kernel view, 2 for the user view, and
-    /// 3 + i for that of entry i.
+    /// The `hgatp` value of a view's root. Its VMID is 1 for the kernel view, 2 for the user view, and 3 + i for that of entry i.
+    /// There is such a root for each entry that is bound.
     pub fn root(&self, view: View) -> u64
-        requires { IsSome (sight_of self.now.bound view) }
         ensures { result ≡ view_hgatp view }
     {
         match view {

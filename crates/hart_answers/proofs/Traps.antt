@@ -1,33 +1,74 @@
--- Where no entry is bound, no hart is in one.
-use Rattle.std.proofs.Common.{◌≡◌, ℕ, Bool, List, [], ◌∷◌, refl, ap, ◌∙◌}
-use Rattle.std.specs.Prelude.{None}
+-- Traps, returns, demotions and stops, by the side that the hart was on.
+use Rattle.std.proofs.Common.{◌≡◌, ℕ, Bool, false, refl}
+use Rattle.std.specs.Prelude.{Option, Some, None}
 use Rattle.sv_types.specs.Policies.{Rules}
-use Rattle.processor.specs.Traps.{trap_target}
+use Rattle.sv_types.specs.declared.view.View.{View}
+use Rattle.processor.specs.Traps.{trap_target, mode_at_return}
 use Rattle.processor.specs.declared.mode.Mode.{Mode}
 use Rattle.processor.specs.declared.mode.Mode.TheVariants.{Kernel, User}
-use Rattle.reference.specs.States.{place_of_entry}
-use Rattle.reference.specs.Trapping.{entry_at_trap}
+use Rattle.reference.specs.Trapping.{entry_in}
+use Rattle.hart.specs.Cores.{core_of}
 use Rattle.hart.specs.declared.hart.Hart.{Hart}
-use Rattle.machine_model.specs.HostHarts.{host_entered, host_at_trap}
-use Rattle.machine_model.specs.StandsFor.{hregs_in}
+use Rattle.machine_model.specs.HostHarts.{host_entered, host_at_trap, host_at_return, host_stopped, host_outside}
+use Rattle.machine_model.specs.Machine.{HostHart}
+use Rattle.machine_model.specs.StandsFor.{hregs_in, kernel_view}
+use Rattle.page_guard.specs.Sides.{mode_of, entry_of, registers_of, view_at_trap, view_at_return, view_outside}
 use Rattle.hart_answers.specs.Hosts.{host_of}
+use Rattle.hart_answers.specs.Trapped.{in_handler, back_from_handler}
 
-pub mode_same : (mode : Mode) → (hregs_in mode None).mode ≡ mode
-mode_same Kernel = refl
-mode_same User = refl
+-- the registers of a side have its mode
+pub mode_same : (view : View) → (registers_of view).mode ≡ mode_of view
+mode_same View.Kernel = refl
+mode_same View.User = refl
+mode_same (View.Entry i) = refl
 
-nothing_bound : (entries : List ℕ) (target : ℕ) → place_of_entry entries [] target ≡ None
-unfolding place_of_entry
-nothing_bound [] target = refl
-nothing_bound (entry ∷ entries) target = refl
+-- a hart in kernel mode, by its entry
+in_kernel : (hart : Hart) (entry : Option ℕ)
+    → host_of hart (kernel_view entry) ≡ record { core = core_of hart.core (hregs_in Kernel entry); started = hart.started; entry = entry }
+in_kernel hart None = refl
+in_kernel hart (Some i) = refl
 
-no_entry : (rules : Rules) → rules.bound ≡ [] → (mode : Mode) (target : ℕ) → entry_at_trap rules mode None target ≡ None
-no_entry rules none Kernel target = refl
-no_entry rules none User target = ap (λ bound. place_of_entry rules.entries bound target) none ∙ nothing_bound rules.entries target
-
-pub at_trap : (rules : Rules) → rules.bound ≡ [] → (interrupt : Bool) (cause tval : ℕ) (hart : Hart) (from : Mode)
-    → host_at_trap rules interrupt cause tval (host_of hart from) ≡ host_entered (host_of hart from) None interrupt cause tval
+-- on the side of its trap
+pub at_trap : (rules : Rules) (interrupt : Bool) (cause tval : ℕ) (hart : Hart) (view : View)
+    → host_of (in_handler hart (mode_of view) interrupt cause tval) (view_at_trap rules view (trap_target hart.core.csrs.vstvec interrupt cause))
+    ≡ host_at_trap rules interrupt cause tval (host_of hart view)
 unfolding host_at_trap
-at_trap rules none interrupt cause tval hart from =
-    ap (λ entry. host_entered (host_of hart from) entry interrupt cause tval)
-    (no_entry rules none (hregs_in from None).mode (trap_target hart.core.csrs.vstvec interrupt cause))
+at_trap rules interrupt cause tval hart View.Kernel = refl
+at_trap rules interrupt cause tval hart View.User = in_kernel (in_handler hart User interrupt cause tval) _
+at_trap rules interrupt cause tval hart (View.Entry i) = refl
+
+-- ---- the return
+
+to_mode : (hart : Hart) (view : View) (to : Mode) → mode_of view ≡ Kernel
+    → host_of hart (view_at_return to view) ≡ record { core = core_of hart.core (hregs_in to (entry_in to (entry_of view))); started = hart.started; entry = entry_in to (entry_of view) }
+to_mode hart View.Kernel Kernel kernel = refl
+to_mode hart View.User Kernel kernel = cc
+to_mode hart (View.Entry i) Kernel kernel = refl
+to_mode hart view User kernel = refl
+
+pub at_return : (hart : Hart) (view : View) → mode_of view ≡ Kernel
+    → host_of (back_from_handler hart) (view_at_return (mode_at_return hart.core.csrs.vsstatus) view) ≡ host_at_return (host_of hart view)
+unfolding host_at_return
+at_return hart view kernel = to_mode (back_from_handler hart) view (mode_at_return hart.core.csrs.vsstatus) kernel
+
+pub mode_after : (view : View) (to : Mode) → mode_of view ≡ Kernel → mode_of (view_at_return to view) ≡ to
+mode_after view Kernel kernel = kernel
+mode_after view User kernel = refl
+
+-- ---- out of an entry
+
+pub left_entry : (hart : Hart) (view : View) → host_of hart (view_outside view) ≡ host_outside (host_of hart view)
+unfolding host_outside
+left_entry hart View.Kernel = refl
+left_entry hart View.User = refl
+left_entry hart (View.Entry i) = refl
+
+-- a hart that is stopped
+abbrev pub stopped : Hart → Hart
+stopped hart = record hart { core = record hart.core { reservation = None }; started = false }
+
+pub at_stop : (hart : Hart) (view : View) → host_of (stopped hart) (view_outside view) ≡ host_stopped (host_of hart view)
+unfolding host_stopped
+at_stop hart View.Kernel = refl
+at_stop hart View.User = refl
+at_stop hart (View.Entry i) = refl

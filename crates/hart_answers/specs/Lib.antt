@@ -1,3 +1,4 @@
 pub mod Asking
 pub mod Hosts
 pub mod Seats
+pub mod Trapped

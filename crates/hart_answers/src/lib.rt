@@ -8,7 +8,7 @@ mod seats;
 mod tests;
 
 pub use answers::{
-    Trap, answer, demote, pass, return_from_trap, set, start, stay, stop, take_trap,
+    Trap, answer, demote, pass, return_from_trap, send_again, set, start, stay, stop, take_trap,
 };
 pub use asked::Asked;
 pub use seats::{ALL_HARTS, Seat, forget, interrupt};

@@ -24,7 +24,7 @@ fn a_hart_through_all_answers(rt: HostRuntime) -> Result<(), Fail> {
     assert_eq!(rt; mem.table_bytes(), size);
     assert_eq!(rt; mem.ram_pages(), 16);
     let guard = Guard::new(rt.alloc(), &mut mem)?;
-    let entries = Entries::new(rt.alloc(), &[0x8000_0104])?;
+    let entries = Entries::new(rt.alloc(), &[0x8000_0104], &[])?;
     let mut side = Side::at_boot(&guard);
     let mut hart = Hart::at_boot();
     start(&mut hart, &mut side, &guard, 1, 0x8000_0000, 7);
@@ -67,7 +67,7 @@ fn a_hart_through_all_answers(rt: HostRuntime) -> Result<(), Fail> {
     assert!(rt; side.mode() == Mode::Kernel);
     return_from_trap(&mut hart, &mut side, &guard);
     assert_eq!(rt; (side.mode(), hart.core.pc), (Mode::User, 0x8000_000C));
-    stop(&mut hart);
+    stop(&mut hart, &mut side, &guard);
     assert!(rt; !hart.started);
     Ok(())
 }

@@ -9,10 +9,9 @@ use Rattle.machine_model.specs.Machine.{Machine, HostHart}
 use Rattle.hart_answers.proofs.Hosts.{hosts_length}
 use Rattle.hart_answers.specs.Hosts.{hosts_of}
 use Rattle.hart_answers.specs.declared.seats.Seat.{Seat}
-use Rattle.machine.proofs.Hosts.{host_there, none_entered}
+use Rattle.machine.proofs.Hosts.{host_there}
 use Rattle.machine.specs.Attempts.{hart_in}
 use Rattle.machine.specs.Parts.{machine_of_parts}
-use Rattle.machine.specs.Turns.{AreOutside}
 use Rattle.machine.specs.declared.parts.Parts.TheInside.{Inside}
 
 pub registers_there : (seats : List Seat) (h : ℕ) (d : Seat) → h < length seats → d ≡ slice_index_or seats h d
@@ -32,7 +31,3 @@ answered_there p h d ask answer now is same below asks made =
     let here : h < length p.seats.items = subst (λ (n : ℕ). h < n) (harts_number p now same) below in
     subst (λ (m : Machine). answer ≡ answer_of (host_facts m) (asked_by (hart_in m.harts h).core.registers)) same
     (made ∙ ap (λ (x : Asked). answer_of (host_facts (machine_of_parts p)) x) (asks ∙ sym (registers_there p.seats.items h d here is)))
-
--- no side is in an entry
-pub none_inside : (p : Inside) (now : Machine) → machine_of_parts p ≡ now → AreOutside now
-none_inside p now same = subst AreOutside same (none_entered p.seats.items)

@@ -24,11 +24,11 @@ core_put seats h d new next below same =
     sym (hosts_set seats h new) ∙ ap (slice_set (hosts_of seats) h) same ∙ sym (hosts_updated seats h d (with_core (next old)))
     ∙ ap (λ (host : HostHart). update (hosts_of seats) h (with_core (next host))) (sym (host_there seats h d below))
 
--- no side is in an entry
-pub none_entered : (seats : List Seat) (h : ℕ) → (hart_in (hosts_of seats) h).entry ≡ None
-none_entered [] h = refl
-none_entered (x ∷ seats) zero = refl
-none_entered (x ∷ seats) (suc h) = none_entered seats h
+-- where none of them is in an entry, nor is the hart at a place
+pub none_entered : (harts : List HostHart) (h : ℕ) → ((host : HostHart) → slice_get harts h ≡ Some host → host.entry ≡ None) → (hart_in harts h).entry ≡ None
+none_entered [] h each = refl
+none_entered (x ∷ harts) zero each = each x refl
+none_entered (x ∷ harts) (suc h) each = none_entered harts h each
 
 -- ---- caches
 

@@ -15,7 +15,11 @@ use Rattle.sv_types.specs.declared.saved.SavedModule.{SavedModule}
 use Rattle.processor.specs.declared.access.Access.TheVariants as Access
 use Rattle.processor.specs.declared.interrupt.Interrupt.{Interrupt}
 use Rattle.processor.specs.declared.lines.Lines.{Lines}
-use Rattle.processor.specs.declared.mode.Mode.TheVariants.{Kernel}
+use Rattle.processor.specs.declared.hregs.HRegs.{HRegs}
+use Rattle.processor.specs.declared.mode.Mode.{Mode}
+use Rattle.processor.specs.declared.mode.Mode.TheVariants.{Kernel, User}
+use Rattle.sv_types.specs.Views.{IsRoot, OfKernel, OfUser}
+use Rattle.sv_types.specs.declared.view.View.{View}
 use Rattle.sv_types.specs.declared.protection.Protection.{Protection}
 use Rattle.processor_laws.proofs.HardwareWrites.{interrupt_writes, fetch_writes}
 use Rattle.reference.specs.Counting.{counted, count_turn, count_retired, count_trap}
@@ -24,16 +28,18 @@ use Rattle.reference.specs.Run.{step}
 use Rattle.reference.specs.States.{State}
 use Rattle.machine_model.specs.HardwareEvent.{attempted, left_by}
 use Rattle.machine_model.specs.Machine.{Machine, HostHart, HostLoad, raised}
-use Rattle.machine_model.specs.StandsFor.{StandsFor}
+use Rattle.machine_model.specs.StandsFor.{StandsFor, hregs_in}
 use Rattle.machine_model.specs.Steps.{IsStep, IsTurn, StepsUnder}
 use Rattle.answer_laws.proofs.TurnsServed.{step_law}
-use Rattle.standing_laws.proofs.Standings.{hart_in_may_attempt, in_order}
+use Rattle.standing_laws.proofs.Standings.{hart_in_may_attempt, in_order, no_entry}
 use Rattle.standing_laws.proofs.Loads.{loaded_approved, loading_held}
 use Rattle.standing_laws.specs.Laws.{HoldsItsPages}
 use Rattle.module_answers.specs.Conditions.{IsHeld}
+use Rattle.machine.proofs.Hosts.{none_entered}
+use Rattle.machine.proofs.ImageStarting.{unbound_within}
 use Rattle.machine.proofs.Turns.{turn_attempts}
 use Rattle.machine.specs.Attempts.{hart_in, nobody}
-use Rattle.machine.specs.Turns.{Attempts, IsGuarded, MayAttempt}
+use Rattle.machine.specs.Turns.{AreOutside, Attempts, IsGuarded, MayAttempt}
 
 -- ---- modules
 
@@ -55,6 +61,10 @@ guarded m r stands =
     }
 
 -- ---- attempts
+
+-- no hart is in an entry, where the policy binds none
+pub all_outside : (m : Machine) (r : State) → StandsFor m r → AreOutside m
+all_outside m r stands = λ h. none_entered m.harts h (λ host e. no_entry m r h host stands (unbound_within m.rules (in_order m r stands).within) e)
 
 started_below : (harts : List HostHart) (h : ℕ) → (hart_in harts h).started ≡ true → h < length harts
 started_below [] h e = absurd (cc)
@@ -97,12 +107,21 @@ size_by m r h (Outcome.Exit exit) stands on makes e =
     (subst (λ (o : Outcome). OnlyWrites m.region (attempted m h (hart_in m.harts h)).region o) (sym e)
     (attempt_writes m.region (hart_in m.harts h).core (lines_at m.devices h)))
 
+-- the registers of a hart in no entry are those of the kernel's view or of the user's
+root_of : (mode : Mode) (regs : HRegs) (entry : Option ℕ) → regs ≡ hregs_in mode entry → entry ≡ None → IsRoot [] regs.hgatp
+root_of Kernel regs None same none = record { view = View.Kernel; sight = OfKernel; there = refl; same = ap (λ (r : HRegs). r.hgatp) same }
+root_of User regs None same none = record { view = View.User; sight = OfUser; there = refl; same = ap (λ (r : HRegs). r.hgatp) same }
+root_of mode regs (Some i) same none = absurd (cc)
+
 pub may_attempt : (m : Machine) (r : State) (h : ℕ) → StandsFor m r → m.journal.verdict ≡ Running → MayAttempt m h
 may_attempt m r h stands on makes =
     let hart = hart_in_may_attempt m r h nobody stands (started_below m.harts h makes.started) in
     record {
       started = makes.started;
       aligned = hart.aligned;
+      keeps = hart.keeps;
+      stage = hart.stage;
+      root = root_of (hart_in m.harts h).core.hregs.mode (hart_in m.harts h).core.hregs (hart_in m.harts h).entry hart.registers makes.outside;
       apart = hart.apart;
       ram = size_by m r h (attempted m h (hart_in m.harts h)).outcome stands on makes refl;
     }

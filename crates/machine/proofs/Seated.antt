@@ -14,17 +14,18 @@ use Rattle.machine_model.specs.StandsFor.{hregs_in}
 use Rattle.machine_model.specs.Steps.{WithTables}
 use Rattle.machine_model.specs.declared.exits.ExitAnswer.{ExitAnswer}
 use Rattle.page_guard.specs.Guarded.{IsTheirs}
+use Rattle.page_guard.specs.Sides.{entry_of, mode_of}
 use Rattle.hart_answers.proofs.Hosts.{hosts_length, hosts_set, hosts_same}
 use Rattle.hart_answers.specs.Hosts.{host_at, hosts_of}
 use Rattle.hart_answers.specs.declared.seats.Seat.{Seat}
 use Rattle.access_answers.specs.Accessed.{with_devices}
 use Rattle.trap_answers.specs.Answered.{with_hart}
 use Rattle.trap_answers.specs.Possible.{IsPossible}
-use Rattle.machine.proofs.Hosts.{host_there, none_entered, started_there}
+use Rattle.machine.proofs.Hosts.{host_there, started_there}
 use Rattle.machine.proofs.Turns.{stays}
 use Rattle.machine.specs.Attempts.{hart_in}
 use Rattle.machine.specs.Parts.{machine_of_parts}
-use Rattle.machine.specs.Turns.{Attempts, HasPagesOf}
+use Rattle.machine.specs.Turns.{AreOutside, Attempts, HasPagesOf}
 use Rattle.machine.specs.declared.parts.Parts.TheInside.{Inside}
 
 pub same_mode : (mode : Mode) (entry : Option ℕ) → (hregs_in mode entry).mode ≡ mode
@@ -48,24 +49,24 @@ module _ (p : Inside) (h : ℕ) (old : Seat) (is : old ≡ slice_index_or p.seat
   below_there now same below = subst (λ (m : Machine). h < length m.harts) same (subst (λ (n : ℕ). h < n) (sym (hosts_length p.seats.items)) below)
 
   -- it makes an attempt, outside of every entry
-  pub attempts_there : (now : Machine) → whole ≡ now → h < length p.seats.items → old.hart.started ≡ true → is_loading now.loading h ≡ false → Attempts now h
-  attempts_there now same below started free = record {
+  pub attempts_there : (now : Machine) → whole ≡ now → h < length p.seats.items → old.hart.started ≡ true → is_loading now.loading h ≡ false → AreOutside now → Attempts now h
+  attempts_there now same below started free outside = record {
     started = subst (λ (m : Machine). (hart_in m.harts h).started ≡ true) same (started_there p.seats.items h old true below is started);
     free = free;
-    outside = subst (λ (m : Machine). (hart_in m.harts h).entry ≡ None) same (none_entered p.seats.items h);
+    outside = outside h;
   }
 
   -- its mode is its side
-  sided : h < length (hosts_of p.seats.items) → old.side ≡ (hart_in (hosts_of p.seats.items) h).core.hregs.mode
-  sided below = sym (same_mode old.side None) ∙ ap (λ (host : HostHart). host.core.hregs.mode) (mine below)
+  sided : h < length (hosts_of p.seats.items) → (mode_of old.side) ≡ (hart_in (hosts_of p.seats.items) h).core.hregs.mode
+  sided below = sym (same_mode (mode_of old.side) (entry_of old.side)) ∙ ap (λ (host : HostHart). host.core.hregs.mode) (mine below)
 
-  pub side_there : (now : Machine) → whole ≡ now → h < length now.harts → old.side ≡ (hart_in now.harts h).core.hregs.mode
+  pub side_there : (now : Machine) → whole ≡ now → h < length now.harts → (mode_of old.side) ≡ (hart_in now.harts h).core.hregs.mode
   side_there now same below =
-      subst (λ (m : Machine). old.side ≡ (hart_in m.harts h).core.hregs.mode) same (sided (subst (λ (m : Machine). h < length m.harts) (sym same) below))
+      subst (λ (m : Machine). (mode_of old.side) ≡ (hart_in m.harts h).core.hregs.mode) same (sided (subst (λ (m : Machine). h < length m.harts) (sym same) below))
 
   -- what its exit is answered
   pub seen_there : (exit : Exit) (answer : ExitAnswer) (now : Machine) → whole ≡ now → h < length now.harts
-      → answer ≡ exit_answer (host_seen p.mem.ram (rules_of p.policy) (host_at old) old.side exit) exit
+      → answer ≡ exit_answer (host_seen p.mem.ram (rules_of p.policy) (host_at old) (mode_of old.side) exit) exit
       → answer ≡ exit_answer (host_seen now.region.ram now.rules (hart_in now.harts h) (hart_in now.harts h).core.hregs.mode exit) exit
   seen_there exit answer now same below made =
       let here = subst (λ (m : Machine). h < length m.harts) (sym same) below in
@@ -74,28 +75,28 @@ module _ (p : Inside) (h : ℕ) (old : Seat) (is : old ≡ slice_index_or p.seat
       ∙ ap (λ (mode : Mode). exit_answer (host_seen p.mem.ram (rules_of p.policy) (host_at old) mode exit) exit) (sided here)
       ∙ ap (λ (host : HostHart). exit_answer (host_seen p.mem.ram (rules_of p.policy) host (hart_in whole.harts h).core.hregs.mode exit) exit) (mine here))
 
-  pub possible_there : (answer : ExitAnswer) (now : Machine) → whole ≡ now → h < length now.harts → IsPossible old.side answer
+  pub possible_there : (answer : ExitAnswer) (now : Machine) → whole ≡ now → h < length now.harts → IsPossible (mode_of old.side) answer
       → IsPossible (hart_in now.harts h).core.hregs.mode answer
   possible_there answer now same below = subst (λ (mode : Mode). IsPossible mode answer) (side_there now same below)
 
   -- what an answer on the hart makes of the machine, whose tables stay
   behind : (f : Machine → HostHart → Mode → Machine) (after now : Machine) → whole ≡ now → h < length now.harts
       → IsTheirs p.mem p.guard → length p.guard ≡ p.policy.ram_pages → p.policy.bound.items ≡ []
-      → HasPagesOf whole after → after ≡ f (with_hart whole h (host_at old) p.journal) (host_at old) old.side
+      → HasPagesOf whole after → after ≡ f (with_hart whole h (host_at old) p.journal) (host_at old) (mode_of old.side)
       → WithTables now (f now (hart_in now.harts h) (hart_in now.harts h).core.hregs.mode) after
   behind f after now same below theirs pages unbound has made =
       let here = subst (λ (m : Machine). h < length m.harts) (sym same) below in
       subst (λ (m : Machine). WithTables m (f m (hart_in m.harts h) (hart_in m.harts h).core.hregs.mode) after) same
       (stays whole (f whole (hart_in whole.harts h) (hart_in whole.harts h).core.hregs.mode) after has
       (made
-      ∙ ap (λ (m : Machine). f m (host_at old) old.side) put_back
+      ∙ ap (λ (m : Machine). f m (host_at old) (mode_of old.side)) put_back
       ∙ ap (f whole (host_at old)) (sided here)
       ∙ ap (λ (host : HostHart). f whole host (hart_in whole.harts h).core.hregs.mode) (mine here))
       theirs pages unbound)
 
   pub answers : (f : Machine → HostHart → Mode → Machine) (new : Seat) (devices : Devices) (journal : Journal) (now : Machine) → whole ≡ now
       → h < length now.harts → IsTheirs p.mem p.guard → length p.guard ≡ p.policy.ram_pages → p.policy.bound.items ≡ []
-      → with_devices whole h (host_at new) devices journal ≡ f (with_hart whole h (host_at old) p.journal) (host_at old) old.side
+      → with_devices whole h (host_at new) devices journal ≡ f (with_hart whole h (host_at old) p.journal) (host_at old) (mode_of old.side)
       → WithTables now (f now (hart_in now.harts h) (hart_in now.harts h).core.hregs.mode)
       (record whole { harts = hosts_of (slice_set p.seats.items h new); devices = devices; journal = journal })
   answers f new devices journal now same below theirs pages unbound made =
@@ -106,7 +107,7 @@ module _ (p : Inside) (h : ℕ) (old : Seat) (is : old ≡ slice_index_or p.seat
   -- an answer that leaves the hart as it is
   pub journal_answers : (f : Machine → HostHart → Mode → Machine) (journal : Journal) (now : Machine) → whole ≡ now
       → h < length now.harts → IsTheirs p.mem p.guard → length p.guard ≡ p.policy.ram_pages → p.policy.bound.items ≡ []
-      → with_hart whole h (host_at old) journal ≡ f (with_hart whole h (host_at old) p.journal) (host_at old) old.side
+      → with_hart whole h (host_at old) journal ≡ f (with_hart whole h (host_at old) p.journal) (host_at old) (mode_of old.side)
       → WithTables now (f now (hart_in now.harts h) (hart_in now.harts h).core.hregs.mode) (record whole { journal = journal })
   journal_answers f journal now same below theirs pages unbound made =
       behind f (record whole { journal = journal }) now same below theirs pages unbound (record { region = refl; protections = refl })

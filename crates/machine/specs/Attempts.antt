@@ -1,8 +1,8 @@
 -- What an attempt of a hart asks for, and the caches of second-stage walks. This project's own.
-use Rattle.std.specs.Prelude.{◌≡◌, ◌%◌, ℕ, zero, suc, true, false, List}
+use Rattle.std.specs.Prelude.{◌≡◌, ◌/◌, ◌%◌, ◌^◌, ℕ, zero, suc, true, false, List}
 use Rattle.std.specs.Prelude.{[], ◌∷◌, length, Option, replicate, Some, None, slice_get, slice_index_or}
 use Rattle.processor.specs.CachedWalks.{CacheAgrees, no_lines}
-use Rattle.sv_types.specs.Views.{UnderViews}
+use Rattle.sv_types.specs.Views.{IsRoot, UnderViews}
 use Rattle.processor.specs.HardwareAttempt.{attempt}
 use Rattle.processor.specs.HypervisorRegisters.{registers_at_boot}
 use Rattle.processor.specs.Regions.{Region}
@@ -10,6 +10,7 @@ use Rattle.processor.specs.SecondStage.{WalksApart}
 use Rattle.processor.specs.declared.cached.CacheLine.{CacheLine}
 use Rattle.processor.specs.declared.lines.Lines.{Lines}
 use Rattle.processor.specs.declared.mode.Mode.TheVariants.{Kernel}
+use Rattle.hart.specs.Conditions.{KeepsMode}
 use Rattle.machine_model.specs.Machine.{HostHart}
 use Rattle.machine_model.specs.StandsFor.{hregs_in}
 
@@ -30,10 +31,13 @@ nobody = record {
 abbrev pub hart_in : List HostHart → ℕ → HostHart
 hart_in harts h = slice_index_or harts h nobody
 
--- a hart may make an attempt, which writes no byte behind RAM
+-- a hart may make an attempt under one of the roots, which writes no byte behind RAM
 pub record IsReady (region : Region) (host : HostHart) (lines : Lines) : Type 0 where
   pub started : host.started ≡ true
   pub aligned : host.core.pc % 4 ≡ 0
+  pub keeps : KeepsMode host.core.hregs
+  pub stage : host.core.hregs.hgatp / 2 ^ 60 ≡ 8
+  pub root : IsRoot [] host.core.hregs.hgatp
   pub apart : WalksApart region host.core.hregs.hgatp
   pub ram : length (attempt region host.core lines).region.ram ≡ length region.ram
 

@@ -28,7 +28,8 @@ machine_of_parts p = record {
 
 -- the parts go with one another
 pub record IsJoined (p : Inside) : Type 0 where
-  pub entries : p.entries ≡ p.policy.entries.items
+  pub entries : p.policy.entries.items ≡ p.entries.entries
+  pub bound : p.policy.bound.items ≡ p.entries.bound
   pub unbound : p.policy.bound.items ≡ []
   pub few : length p.seats.items ≤ 4
   pub caches : length p.caches.items ≡ length p.seats.items

@@ -13,6 +13,7 @@ use host_mem::HostMem;
 use processor::Outcome;
 
 // An attempt of a hart on its side, with its cache.
+#[tactic(auto, using(view_laws::proofs::CachesUnderViews::filled_under_view))]
 #[inline(always)]
 fn attempt_in_seat<W: Wires>(
     cpu: &mut Cpu,

@@ -10,7 +10,7 @@ ghost use Rattle.machine_model.specs.HostExits.{host_exit, host_exit_answered};
 ghost use Rattle.machine_model.specs.HostHarts.{host_seen};
 ghost use Rattle.machine_model.specs.Served.{exit_answer};
 ghost use Rattle.machine_model.specs.Steps.{WithTables};
-ghost use Rattle.machine_model.specs.declared.exits.ExitAnswer.TheVariants.{Traps, Returns, Demotes, StopsAtWrite, LoadsDevice, StoresDevice};
+ghost use Rattle.machine_model.specs.declared.exits.ExitAnswer.TheVariants.{Traps, Returns, Demotes, LeavesEntry, StopsAtWrite, LoadsDevice, StoresDevice};
 ghost use Rattle.processor.specs.declared.mode.Mode.TheVariants.{Kernel};
 ghost use Rattle.call_answers.specs.Known.{StartsOneOf};
 ghost use Rattle.trap_answers.specs.Possible.{IsPossible};
@@ -26,7 +26,9 @@ use machine_model::ExitAnswer;
 use module_answers::{give_pages, module_answer};
 use processor::Exit;
 use reference::Answer;
-use trap_answers::{exit_answer, guest_demotion, guest_return, guest_trap, stop_at_write};
+use trap_answers::{
+    exit_answer, guest_demotion, guest_return, guest_trap, leave_entry, stop_at_write,
+};
 
 impl Parts {
     // What an exit of a hart is answered.
@@ -36,8 +38,7 @@ impl Parts {
         ensures answer { result ≡ exit_answer (host_seen self.now.region.ram self.now.rules (hart_in self.now.harts which) (hart_in self.now.harts which).core.hregs.mode exit.now) exit.now }
         ensures possible { IsPossible (hart_in self.now.harts which).core.hregs.mode result }
     {
-        let seat = &self.seats[which as usize];
-        exit_answer(&self.mem, &seat.hart, seat.side.mode(), exit)
+        exit_answer(&self.mem, &self.seats[which as usize], &self.entries, exit)
     }
 
     // A hart traps.
@@ -79,6 +80,16 @@ impl Parts {
     {
         let seat = &mut self.seats[which as usize];
         guest_demotion(which, seat, &self.guard, &mut self.journal, gpa);
+    }
+
+    // It leaves its entry.
+    #[tactic(auto, using(hart_answers::proofs::Hosts::hosts_length))]
+    fn leave_entry(&mut self, which: u8)
+        requires there { which < length self.old.harts }
+        ensures { WithTables self.old (answered_exit self.old which LeavesEntry) self.new }
+    {
+        let seat = &mut self.seats[which as usize];
+        leave_entry(seat, &self.guard);
     }
 
     // It stops the machine by a store into a protected page.
@@ -196,7 +207,7 @@ impl Parts {
             ExitAnswer::Traps { cause, tval } => self.guest_trap(which, Trap { cause, tval }),
             ExitAnswer::Returns => self.guest_return(which),
             ExitAnswer::Demotes { gpa } => self.guest_demotion(which, gpa),
-            ExitAnswer::LeavesEntry => unreachable!(),
+            ExitAnswer::LeavesEntry => self.leave_entry(which),
             ExitAnswer::StopsAtWrite { gpa } => self.stop_at_write(which, gpa),
             ExitAnswer::LoadsDevice {
                 rd,

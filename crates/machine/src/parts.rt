@@ -132,6 +132,7 @@ impl Parts {
         requires count { self.old.attempts < 2 ^ 64 - 1 }
         requires may { MayServe self.old }
         requires ready { MayAttempt self.old which }
+        requires outside { AreOutside self.old }
         ensures { TurnServed self.old which (slice_get self.old.harts which) self.new }
     {
         if which as usize >= self.seats.len() {
@@ -156,6 +157,7 @@ impl Parts {
         requires count { self.old.attempts < 2 ^ 64 - 1 }
         requires may { MayServe self.old }
         requires ready { MayAttempt self.old which }
+        requires outside { AreOutside self.old }
         ensures { IsTurn self.old which self.new }
     {
         self.journal.count_turn();
@@ -212,8 +214,8 @@ impl Parts {
         requires attempts { self.old.attempts < 2 ^ 64 - 1 }
         requires guarded { IsGuarded self.old }
         requires ready { self.old.journal.verdict ≡ Running → (h : ℕ) → MayAttempt self.old h }
+        requires outside { AreOutside self.old }
         ensures step { IsStep self.old event self.new }
-        ensures outside { AreOutside self.old }
     {
         if self.journal.verdict() != Verdict::Running {
             return;

@@ -113,7 +113,7 @@ fn saved_hart(seat: &Seat, timer: u64, tables: usize) -> SavedHart
         sip: csrs.hvip >> 1,
         satp: csrs.vsatp,
         reservation: saved_reservation(hart.core.reservation, tables),
-        entry: None,
+        entry: seat.side.entry(),
         timer,
     }
 }

@@ -57,7 +57,7 @@ impl Parts {
         requires unbound { policy.bound.items ≡ [] }
         ensures { IfOk result (λ p. p ≡ machine_at_boot (rules_of policy) mem entry guard (port_disk port)) }
     {
-        let entries = Entries::new(alloc, &policy.entries)?;
+        let entries = Entries::new(alloc, &policy.entries, &policy.bound)?;
         let seats = seats_at_boot(alloc, &guard, policy.harts, entry)?;
         let caches = empty_caches(alloc, policy.harts)?;
         let journal = Journal::new(alloc)?;

@@ -1,3 +1,4 @@
+pub mod Places
 pub mod Sets
 pub mod Spans
 pub mod Stays

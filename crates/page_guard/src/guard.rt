@@ -1,8 +1,8 @@
 // The guard of pages.
 
-ghost use Rattle.std.specs.Prelude.{◌≡◌, ◌+◌, ◌*◌, ◌/◌, ◌<◌, ◌≤◌, length, map, replicate, slice_set, slice_get, Some, None, IfOk, OnOk, IfErr, OnErr, IsSome, []};
+ghost use Rattle.std.specs.Prelude.{◌≡◌, ◌+◌, ◌*◌, ◌/◌, ◌<◌, ◌≤◌, length, map, replicate, slice_set, slice_get, Some, None, IfOk, OnOk, IfErr, OnErr};
 ghost use Rattle.processor.specs.Bytes.{page_size};
-ghost use Rattle.sv_types.specs.Views.{view_hgatp, sight_of};
+ghost use Rattle.sv_types.specs.Views.{view_hgatp};
 ghost use Rattle.sv_types.specs.declared.protection.Protection.TheVariants.{Free, Held, Approved};
 ghost use Rattle.gstage_tables.specs.Layout.{table_size};
 ghost use Rattle.reference.specs.Protections.{with_pages};
@@ -101,9 +101,8 @@ impl Guard {
         &self.dma
     }
 
-    /// The `hgatp` value of a view's root, of one that there is.
+    /// The `hgatp` value of a view's root.
     pub fn root(&self, view: View) -> u64
-        requires { IsSome (sight_of [] view) }
         ensures { result ≡ view_hgatp view }
     {
         self.trees.root(view)

@@ -1,10 +1,13 @@
 // The side of a hart: whose view it runs under, and what is delegated to it.
 
-ghost use Rattle.std.specs.Prelude.{◌≡◌, true, false, None, OnOk, OnErr, IfErr};
+ghost use Rattle.std.specs.Prelude.{◌≡◌, true, false, None, Some, OnOk, OnErr, IfErr};
 ghost use Rattle.sv_types.specs.Policies.{Rules};
+ghost use Rattle.sv_types.specs.declared.view.View.{View as Root};
 ghost use Rattle.processor.specs.declared.mode.Mode.TheVariants.{Kernel, User};
+ghost use Rattle.reference.specs.States.{place_of_entry};
 ghost use Rattle.reference.specs.Trapping.{may_enter};
-ghost use Rattle.machine_model.specs.StandsFor.{hregs_in};
+ghost use Rattle.machine_model.specs.StandsFor.{hregs_in, kernel_view};
+ghost use Rattle.page_guard.specs.Sides.{mode_of, entry_of, registers_of, view_at_trap, view_outside};
 
 use crate::entries::Entries;
 use crate::guard::Guard;
@@ -15,27 +18,32 @@ use sv_types::View;
 /// The exceptions that go straight to the kernel: all but ECALL from VS mode and what the hypervisor handles.
 const DELEGATED_EXCEPTIONS: u64 = 0xB1FF;
 
+/// Those of a hart in an entry: its fetch page faults don't, since they may mean that it is to leave the entry.
+const ENTRY_EXCEPTIONS: u64 = 0xA1FF;
+
 /// The interrupts that go straight to the kernel: VS software, timer and external.
 const DELEGATED_INTERRUPTS: u64 = 0x444;
 
-/// The side of a hart, which owns its hypervisor registers: they are those of its mode, and can't be others. A hart comes to
-/// the kernel's side at boot, at its start, and by a permitted entry. Contracts see the mode.
+/// The side of a hart, which owns its hypervisor registers: they are those of the view that it looks through, and can't be
+/// others. A hart comes to the kernel's side at boot, at its start, and by a permitted entry; where that entry is bound, to the
+/// entry's view. Contracts see the view.
 #[derive(Drop)]
 pub struct Side {
+    view: View,
     regs: HRegs,
 }
 
 impl Model for Side {
-    ghost use Rattle.processor.specs.declared.mode.Mode.{Mode as Privilege};
+    ghost use Rattle.sv_types.specs.declared.view.View.{View as Seen};
 
-    ghost Value = { Privilege };
+    ghost Value = { Seen };
 
-    ghost use Rattle.std.specs.Prelude.{◌≡◌, None};
-    ghost use Rattle.machine_model.specs.StandsFor.{hregs_in};
+    ghost use Rattle.std.specs.Prelude.{◌≡◌};
+    ghost use Rattle.page_guard.specs.Sides.{registers_of};
 
-    ghost view = { λ s. s.regs.mode };
+    ghost view = { λ s. s.view };
 
-    ghost invariant = { λ s. s.regs ≡ hregs_in s.regs.mode None };
+    ghost invariant = { λ s. s.regs ≡ registers_of s.view };
 }
 
 /// The target of a trap from user mode that isn't a permitted entry.
@@ -47,10 +55,18 @@ pub struct Forbidden {
 impl Side {
     /// The side of a hart at boot and at its start: the kernel's.
     pub fn at_boot(guard: &Guard) -> Side
-        ensures { result ≡ Kernel }
+        ensures { result ≡ Root.Kernel }
+    {
+        Side::through(guard, View::Kernel)
+    }
+
+    // The side of a hart that looks through a view.
+    fn through(guard: &Guard, view: View) -> Side
+        ensures { result ≡ view }
     {
         Side {
-            regs: in_kernel(guard),
+            view,
+            regs: registers(guard, view),
         }
     }
 
@@ -67,31 +83,45 @@ impl Side {
 
     /// The mode that a hart on this side is in.
     pub fn mode(&self) -> Mode
-        ensures { result ≡ self.now }
+        ensures { result ≡ mode_of self.now }
     {
-        self.regs.mode
+        match self.view {
+            View::Kernel | View::Entry(_) => Mode::Kernel,
+            View::User => Mode::User,
+        }
+    }
+
+    /// The entry that a hart on this side is in, by its place in the list of entries.
+    pub fn entry(&self) -> Option<u8>
+        ensures { result ≡ entry_of self.now }
+    {
+        match self.view {
+            View::Kernel | View::User => None,
+            View::Entry(place) => Some(place),
+        }
     }
 
     /// The hypervisor registers of a hart on this side.
     pub fn registers(&self) -> &HRegs
-        ensures { result.now ≡ hregs_in self.now None }
+        ensures { result.now ≡ registers_of self.now }
     {
         &self.regs
     }
 
-    /// Enters the kernel: from kernel mode at any target, from user mode at a permitted one alone.
+    /// Enters the kernel: from kernel mode at any target, from user mode at a permitted one alone. From user mode the hart comes to
+    /// the target's entry, where that is bound, and in kernel mode it stays in its own.
     pub fn enter(&mut self, guard: &Guard, entries: &Entries, target: u64) -> Result<(), Forbidden>
-        ensures permitted { (rules : Rules) → rules.entries ≡ entries.now → OnOk result (may_enter rules self.old target ≡ true) }
-        ensures forbidden { (rules : Rules) → rules.entries ≡ entries.now → OnErr result (may_enter rules self.old target ≡ false) }
-        ensures entered { OnOk result (self.new ≡ Kernel) }
+        ensures permitted { (rules : Rules) → rules.entries ≡ entries.now.entries → OnOk result (may_enter rules (mode_of self.old) target ≡ true) }
+        ensures forbidden { (rules : Rules) → rules.entries ≡ entries.now.entries → OnErr result (may_enter rules (mode_of self.old) target ≡ false) }
+        ensures entered { (rules : Rules) → rules.entries ≡ entries.now.entries → rules.bound ≡ entries.now.bound → OnOk result (self.new ≡ view_at_trap rules self.old target) }
         ensures kept { OnErr result (self.new ≡ self.old) }
         ensures target { IfErr result (λ forbidden. forbidden.target ≡ target) }
     {
-        match self.regs.mode {
-            Mode::Kernel => Ok(()),
-            Mode::User => {
+        match self.view {
+            View::Kernel | View::Entry(_) => Ok(()),
+            View::User => {
                 if entries.permits(target) {
-                    self.regs = in_kernel(guard);
+                    *self = Side::through(guard, entered(entries, target));
                     Ok(())
                 } else {
                     Err(Forbidden { target })
@@ -100,11 +130,41 @@ impl Side {
         }
     }
 
+    /// Leaves the entry, for all that kernel mode sees.
+    pub fn widen(&mut self, guard: &Guard)
+        ensures { self.new ≡ view_outside self.old }
+    {
+        match self.view {
+            View::Kernel | View::User => {}
+            View::Entry(_) => *self = Side::at_boot(guard),
+        }
+    }
+
     /// Leaves kernel mode, by a return from a trap, or since it fetched from a page that isn't approved.
     pub fn leave(&mut self, guard: &Guard)
-        ensures { self.new ≡ User }
+        ensures { self.new ≡ Root.User }
     {
-        self.regs = in_user(guard);
+        *self = Side::through(guard, View::User);
+    }
+}
+
+// What a hart sees that came from user mode to a permitted target.
+fn entered(entries: &Entries, target: u64) -> View
+    ensures { result ≡ kernel_view (place_of_entry entries.now.entries entries.now.bound target) }
+{
+    match entries.place(target) {
+        Some(place) => View::Entry(place),
+        None => View::Kernel,
+    }
+}
+
+fn registers(guard: &Guard, view: View) -> HRegs
+    ensures { result ≡ registers_of view }
+{
+    match view {
+        View::Kernel => in_kernel(guard),
+        View::User => in_user(guard),
+        View::Entry(place) => in_entry(guard, place),
     }
 }
 
@@ -116,6 +176,19 @@ fn in_kernel(guard: &Guard) -> HRegs
         mode: Mode::Kernel,
         hgatp: guard.root(View::Kernel),
         hedeleg: DELEGATED_EXCEPTIONS,
+        hideleg: DELEGATED_INTERRUPTS,
+        vtsr: true,
+    }
+}
+
+// In an entry it runs under the entry's view, and the hypervisor sees its fetch page faults.
+fn in_entry(guard: &Guard, place: u8) -> HRegs
+    ensures { result ≡ hregs_in Kernel (Some place) }
+{
+    HRegs {
+        mode: Mode::Kernel,
+        hgatp: guard.root(View::Entry(place)),
+        hedeleg: ENTRY_EXCEPTIONS,
         hideleg: DELEGATED_INTERRUPTS,
         vtsr: true,
     }

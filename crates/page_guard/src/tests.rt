@@ -7,9 +7,25 @@ use sv_types::{Protection, Span};
 
 #[test]
 fn entries_of_a_list(rt: HostRuntime) -> Result<(), Fail> {
-    let entries = Entries::new(rt.alloc(), &[0x8000_0000, 0x8000_0104])?;
+    let entries = Entries::new(rt.alloc(), &[0x8000_0000, 0x8000_0104], &[])?;
     assert!(rt; entries.permits(0x8000_0104));
     assert!(rt; !entries.permits(0x8000_0108));
+    assert_eq!(rt; entries.place(0x8000_0104), None);
+    Ok(())
+}
+
+#[test]
+fn entries_that_are_bound(rt: HostRuntime) -> Result<(), Fail> {
+    let list = [0x1000, 0x2104];
+    let entries = Entries::new(rt.alloc(), &list, &[0x8000_0000, 0x8000_3104])?;
+    assert_eq!(rt;
+        (entries.place(0x2104), entries.place(0x2108)),
+        (Some(1), None)
+    );
+    assert_eq!(rt;
+        (entries.address(1), entries.address(2)),
+        (Some(0x2104), None)
+    );
     Ok(())
 }
 

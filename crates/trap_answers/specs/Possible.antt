@@ -1,13 +1,12 @@
--- What an exit of a hart that is in no entry may be answered. This project's own.
-use Rattle.std.specs.Prelude.{◌≡◌, ◌<◌, false, true}
+-- What an exit of a hart may be answered. This project's own.
+use Rattle.std.specs.Prelude.{◌≡◌, ◌<◌, true}
 use Rattle.processor.specs.declared.mode.Mode.{Mode}
 use Rattle.processor.specs.declared.mode.Mode.TheVariants.{Kernel}
 use Rattle.machine_model.specs.declared.exits.ExitAnswer.{ExitAnswer}
-use Rattle.machine_model.specs.declared.exits.ExitAnswer.TheVariants.{Returns, LeavesEntry, LoadsDevice}
+use Rattle.machine_model.specs.declared.exits.ExitAnswer.TheVariants.{Returns, LoadsDevice}
 
--- only the kernel returns, no entry is left, and a load names a register
+-- only the kernel returns, and a load names a register
 abbrev pub IsPossible : Mode → ExitAnswer → Type 0
 IsPossible mode Returns = mode ≡ Kernel
-IsPossible mode LeavesEntry = true ≡ false
 IsPossible mode (LoadsDevice rd address width signed gpa) = rd < 32
 IsPossible mode _ = true ≡ true

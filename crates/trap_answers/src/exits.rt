@@ -1,26 +1,77 @@
 // What an exit of a hart is answered.
 
-ghost use Rattle.std.specs.Prelude.{◌≡◌, ◌%◌};
+ghost use Rattle.std.specs.Prelude.{◌≡◌, ◌%◌, Option, option_map};
 ghost use Rattle.sv_types.specs.Policies.{Rules};
+ghost use Rattle.reference.specs.States.{Binding};
+ghost use Rattle.reference.specs.Turn.{bound_entry};
 ghost use Rattle.machine_model.specs.HostHarts.{host_seen};
-ghost use Rattle.machine_model.specs.Served.{exit_answer};
-ghost use Rattle.hart_answers.specs.Hosts.{host_of};
+ghost use Rattle.machine_model.specs.Served.{exit_answer, plain_answer};
+ghost use Rattle.page_guard.specs.Sides.{mode_of, entry_of};
+ghost use Rattle.hart_answers.specs.Hosts.{host_at};
 ghost use Rattle.trap_answers.specs.Possible.{IsPossible};
+ghost use Rattle.trap_answers.specs.Seen.{answer_at, seen_on};
 
 use crate::accesses::{load_answer, write_answer};
-use crate::fetches::{fetch_answer, raises, virtual_answer};
+use crate::fetches::{entry_answer, fetch_answer, is_fetch, raises, virtual_answer};
 use crate::instructions::transformed;
 use hart::Hart;
+use hart_answers::Seat;
 use host_mem::HostMem;
 use machine_model::ExitAnswer;
+use page_guard::{Entries, Side};
 use processor::{Cause, Exit, ExitCause, Mode};
 
-/// The answer to an exit of a hart that is in no entry: the guest takes its interrupts, and those exceptions that have no
-/// answer of their own.
-#[tactic(auto, unfolding(machine_model::specs::Served::exit_answer, machine_model::specs::Served::answer_in, machine_model::specs::Served::plain_answer, reference::specs::Turn::bound_entry))]
-pub fn exit_answer(mem: &HostMem, hart: &Hart, mode: Mode, exit: &Exit) -> ExitAnswer
+/// The answer to an exit. In an entry a refused fetch is the end of the hart's stay there; else the guest takes its interrupts,
+/// and those exceptions that have no answer of their own.
+pub fn exit_answer(mem: &HostMem, seat: &Seat, entries: &Entries, exit: &Exit) -> ExitAnswer
+    requires aligned { seat.now.hart.core.pc % 4 ≡ 0 }
+    ensures answer { (rules : Rules) → rules.entries ≡ entries.now.entries → rules.bound ≡ entries.now.bound → result ≡ exit_answer (host_seen mem.now.ram rules (host_at seat.now) (mode_of seat.now.side) exit.now) exit.now }
+    ensures possible { IsPossible (mode_of seat.now.side) result }
+{
+    let address = entry_address(&seat.side, entries);
+    answer_at(mem, &seat.hart, seat.side.mode(), address, exit)
+}
+
+// The address of the entry that a hart on a side is in.
+fn entry_address(side: &Side, entries: &Entries) -> Option<u64>
+    ensures { (rules : Rules) → rules.entries ≡ entries.now.entries → rules.bound ≡ entries.now.bound → result ≡ option_map (λ (entry : Binding). entry.va) (bound_entry rules (entry_of side.now)) }
+{
+    match side.entry() {
+        Some(place) => entries.address(place),
+        None => None,
+    }
+}
+
+// The answer to an exit of a hart that is in an entry with an address, or in none.
+#[tactic(auto, unfolding(crate::specs::Seen::answer_at))]
+fn answer_at(
+    mem: &HostMem,
+    hart: &Hart,
+    mode: Mode,
+    address: Option<u64>,
+    exit: &Exit,
+) -> ExitAnswer
     requires aligned { hart.now.core.pc % 4 ≡ 0 }
-    ensures answer { (rules : Rules) → result ≡ exit_answer (host_seen mem.now.ram rules (host_of hart.now mode) mode exit.now) exit.now }
+    ensures answer { (entry : Option Binding) → result ≡ answer_at (seen_on mem.now.ram hart.now mode entry exit.now) exit.now address }
+    ensures possible { IsPossible mode result }
+{
+    match address {
+        Some(va) => {
+            if is_fetch(exit.cause) {
+                entry_answer(mem, hart, va, exit)
+            } else {
+                plain_answer(mem, hart, mode, exit)
+            }
+        }
+        None => plain_answer(mem, hart, mode, exit),
+    }
+}
+
+// The answer to an exit outside of an entry, or of one that is no fetch's.
+#[tactic(auto, unfolding(machine_model::specs::Served::plain_answer))]
+fn plain_answer(mem: &HostMem, hart: &Hart, mode: Mode, exit: &Exit) -> ExitAnswer
+    requires aligned { hart.now.core.pc % 4 ≡ 0 }
+    ensures answer { (entry : Option Binding) → result ≡ plain_answer (seen_on mem.now.ram hart.now mode entry exit.now) exit.now }
     ensures possible { IsPossible mode result }
 {
     match exit.cause {

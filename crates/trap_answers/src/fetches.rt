@@ -1,10 +1,14 @@
 // Refused fetches, and instructions that the hardware leaves to SecVisor.
 
-ghost use Rattle.std.specs.Prelude.{◌≡◌};
-ghost use Rattle.machine_model.specs.Served.{raises, is_sret_word, fetch_answer, virtual_answer};
+ghost use Rattle.std.specs.Prelude.{◌≡◌, ◌||◌, Option};
+ghost use Rattle.processor.specs.declared.mode.Mode.{Mode as Privilege};
+ghost use Rattle.reference.specs.States.{Binding};
+ghost use Rattle.machine_model.specs.Served.{raises, is_sret_word, is_fetch_fault, is_guest_fetch_fault, fetch_answer, entry_answer, exit_ram_gpa, virtual_answer};
 ghost use Rattle.trap_answers.specs.Possible.{IsPossible};
+ghost use Rattle.trap_answers.specs.Seen.{seen_on};
 
 use crate::addresses::{gpa_in_ram, is_implicit};
+use hart::Hart;
 use host_mem::HostMem;
 use machine_model::ExitAnswer;
 use processor::{Cause, Exit, ExitCause, Mode};
@@ -34,6 +38,48 @@ pub(crate) fn fetch_answer(mem: &HostMem, mode: Mode, exit: &Exit) -> ExitAnswer
     match gpa_in_ram(mem, exit, 4) {
         Some(gpa) => ExitAnswer::Demotes { gpa },
         None => raises(Cause::InstrAccess, exit.stval),
+    }
+}
+
+/// A fetch was refused, in one stage or the other.
+pub(crate) fn is_fetch(cause: ExitCause) -> bool
+    ensures { result ≡ (is_fetch_fault cause || is_guest_fetch_fault cause) }
+{
+    matches!(
+        cause,
+        ExitCause::Exception(Cause::InstrPage | Cause::GuestFetch)
+    )
+}
+
+// The address in RAM that a refused fetch led to, 0 where it led to none.
+#[tactic(auto, unfolding(machine_model::specs::Served::exit_ram_gpa))]
+fn exit_ram_gpa(mem: &HostMem, exit: &Exit) -> u64
+    ensures { result ≡ exit_ram_gpa mem.now.ram exit.now }
+{
+    if exit.cause == ExitCause::Exception(Cause::InstrPage) {
+        return 0;
+    }
+    if is_implicit(exit) {
+        return 0;
+    }
+    match gpa_in_ram(mem, exit, 4) {
+        Some(gpa) => gpa,
+        None => 0,
+    }
+}
+
+/// A refused fetch in an entry: at the entry's address the hart is demoted, and at any other it leaves the entry, and attempts
+/// the same turn again.
+#[tactic(auto, unfolding(machine_model::specs::Served::entry_answer))]
+pub(crate) fn entry_answer(mem: &HostMem, hart: &Hart, va: u64, exit: &Exit) -> ExitAnswer
+    ensures answer { (mode : Privilege) (entry : Option Binding) → result ≡ entry_answer (seen_on mem.now.ram hart.now mode entry exit.now) va exit.now }
+    ensures possible { (mode : Privilege) → IsPossible mode result }
+{
+    if hart.core.pc == va {
+        let gpa = exit_ram_gpa(mem, exit);
+        ExitAnswer::Demotes { gpa }
+    } else {
+        ExitAnswer::LeavesEntry
     }
 }
 

@@ -12,4 +12,4 @@ mod tests;
 mod traps;
 
 pub use exits::exit_answer;
-pub use traps::{guest_demotion, guest_return, guest_trap, stop_at_write};
+pub use traps::{guest_demotion, guest_return, guest_trap, leave_entry, stop_at_write};

@@ -43,7 +43,7 @@ fn demoted_and_then_stopped(rt: HostRuntime) -> Result<(), Fail> {
     assert_eq!(rt; mem.table_bytes(), size);
     assert_eq!(rt; mem.ram_pages(), 16);
     let guard = Guard::new(rt.alloc(), &mut mem)?;
-    let entries = Entries::new(rt.alloc(), &[0x8000_0104])?;
+    let entries = Entries::new(rt.alloc(), &[0x8000_0104], &[])?;
     let mut seat = Seat {
         hart: Hart::at_boot(),
         side: Side::at_boot(&guard),
@@ -51,14 +51,14 @@ fn demoted_and_then_stopped(rt: HostRuntime) -> Result<(), Fail> {
     start(&mut seat.hart, &mut seat.side, &guard, 0, PC, 0);
     let mut notes = Journal::new(rt.alloc())?;
     assert!(rt; seat.hart.core.pc.is_multiple_of(4));
-    let fetch = exit_answer(&mem, &seat.hart, seat.side.mode(), &FETCH);
+    let fetch = exit_answer(&mem, &seat, &entries, &FETCH);
     assert_eq!(rt; fetch, ExitAnswer::Demotes { gpa: PC });
     guest_demotion(0, &mut seat, &guard, &mut notes, PC);
     assert_eq!(rt; notes.notes().first(), Some(&DEMOTED));
     assert_eq!(rt; seat.side.mode(), Mode::User);
     let mut stop = Journal::new(rt.alloc())?;
     assert!(rt; seat.hart.core.pc.is_multiple_of(4));
-    let illegal = exit_answer(&mem, &seat.hart, seat.side.mode(), &ILLEGAL);
+    let illegal = exit_answer(&mem, &seat, &entries, &ILLEGAL);
     let trap = Trap {
         cause: ExitCause::Exception(Cause::Illegal),
         tval: 0,

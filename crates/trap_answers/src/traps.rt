@@ -1,15 +1,17 @@
 // What an answer does to a hart: the guest's trap, its return from one, and the end of its stay in kernel mode.
 
-ghost use Rattle.std.specs.Prelude.{◌≡◌, ◌%◌, ℕ, []};
+ghost use Rattle.std.specs.Prelude.{◌≡◌, ◌%◌, ℕ};
 ghost use Rattle.processor.specs.Traps.{is_interrupt, guest_number};
 ghost use Rattle.processor.specs.declared.mode.Mode.TheVariants.{Kernel};
-ghost use Rattle.machine_model.specs.HostHarts.{host_trap, host_return, host_demote, host_write_stopped};
+ghost use Rattle.machine_model.specs.HostHarts.{host_trap, host_return, host_demote, host_outside, host_write_stopped, with_host};
 ghost use Rattle.machine_model.specs.Machine.{Machine};
 ghost use Rattle.reference.specs.Counting.{MayCount};
+ghost use Rattle.reference.specs.States.{Journal as Records};
+ghost use Rattle.page_guard.specs.Sides.{mode_of};
 ghost use Rattle.hart_answers.specs.Hosts.{host_at};
 ghost use Rattle.trap_answers.specs.Answered.{with_hart};
 
-use hart_answers::{Seat, Trap, demote, return_from_trap, take_trap};
+use hart_answers::{Seat, Trap, demote, return_from_trap, send_again, take_trap};
 use journal_records::Journal;
 use page_guard::{Entries, Guard};
 use sv_types::Rule;
@@ -25,7 +27,7 @@ pub fn guest_trap(
 )
     requires aligned { seat.old.hart.core.pc % 4 ≡ 0 }
     requires counts { MayCount journal.old.counts }
-    ensures machine { (m : Machine) → m.rules.entries ≡ entries.now → m.rules.bound ≡ [] → with_hart m which (host_at seat.new) journal.new ≡ host_trap (with_hart m which (host_at seat.old) journal.old) which (host_at seat.old) seat.old.side (is_interrupt trap.cause) (guest_number trap.cause) trap.tval }
+    ensures machine { (m : Machine) → m.rules.entries ≡ entries.now.entries → m.rules.bound ≡ entries.now.bound → with_hart m which (host_at seat.new) journal.new ≡ host_trap (with_hart m which (host_at seat.old) journal.old) which (host_at seat.old) (mode_of seat.old.side) (is_interrupt trap.cause) (guest_number trap.cause) trap.tval }
 {
     let from = seat.side.mode();
     match take_trap(&mut seat.hart, &mut seat.side, guard, entries, trap) {
@@ -42,7 +44,7 @@ pub fn guest_trap(
 /// The guest's return from its trap.
 #[tactic(auto, using(crate::proofs::Places::update_there))]
 pub fn guest_return(seat: &mut Seat, guard: &Guard, journal: &mut Journal)
-    requires kernel { seat.old.side ≡ Kernel }
+    requires kernel { mode_of seat.old.side ≡ Kernel }
     requires counts { MayCount journal.old.counts }
     ensures machine { (m : Machine) (h : ℕ) → with_hart m h (host_at seat.new) journal.new ≡ host_return (with_hart m h (host_at seat.old) journal.old) h (host_at seat.old) }
 {
@@ -58,6 +60,14 @@ pub fn guest_demotion(which: u8, seat: &mut Seat, guard: &Guard, journal: &mut J
 {
     journal.demote(which, seat.hart.core.pc, gpa);
     demote(&mut seat.hart, &mut seat.side, guard);
+}
+
+/// The entry is left, and nothing else changes, so that the hart attempts the same turn again.
+#[tactic(auto, using(crate::proofs::Places::update_there))]
+pub fn leave_entry(seat: &mut Seat, guard: &Guard)
+    ensures machine { (m : Machine) (h : ℕ) (journal : Records) → with_hart m h (host_at seat.new) journal ≡ with_host (with_hart m h (host_at seat.old) journal) h host_outside }
+{
+    send_again(&mut seat.side, guard);
 }
 
 /// The machine stops, since a hart was to write a protected page.

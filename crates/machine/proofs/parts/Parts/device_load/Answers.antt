@@ -1,4 +1,3 @@
-use Rattle.std.proofs.Common.{sym}
 use Rattle.machine_model.specs.HostExits.{host_exit_answered}
 use Rattle.machine_model.specs.declared.exits.ExitAnswer.TheVariants.{LoadsDevice}
 use Rattle.machine.proofs.Seated.{answers}
@@ -12,4 +11,4 @@ returns c =
     (λ m host mode. host_exit_answered m c.args.which host mode (LoadsDevice c.args.load.rd c.args.load.address c.args.load.width c.args.load.signed c.args.load.gpa))
     c.device_load.new.seat c.device_load.new.devices c.device_load.new.journal c.args.self.now c.self.view_is c.requires.hart.there c.self.invariant.theirs
     c.self.invariant.pages c.self.invariant.unbound
-    (c.device_load.ensures.machine (machine_of_parts c.self.inside) (sym c.self.invariant.entries) c.self.invariant.unbound)
+    (c.device_load.ensures.machine (machine_of_parts c.self.inside) c.self.invariant.entries c.self.invariant.bound)

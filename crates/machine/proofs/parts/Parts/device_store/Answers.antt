@@ -1,4 +1,3 @@
-use Rattle.std.proofs.Common.{sym}
 use Rattle.machine_model.specs.HostExits.{host_exit_answered}
 use Rattle.machine_model.specs.declared.exits.ExitAnswer.TheVariants.{StoresDevice}
 use Rattle.machine.proofs.Seated.{answers}
@@ -12,4 +11,4 @@ returns c =
     (λ m host mode. host_exit_answered m c.args.which host mode (StoresDevice c.args.store.address c.args.store.gpa c.args.store.width c.args.store.value))
     c.device_store.new.seat c.device_store.new.devices c.device_store.new.journal c.args.self.now c.self.view_is c.requires.hart.there c.self.invariant.theirs
     c.self.invariant.pages c.self.invariant.unbound
-    (c.device_store.ensures.machine (machine_of_parts c.self.inside) (sym c.self.invariant.entries) c.self.invariant.unbound)
+    (c.device_store.ensures.machine (machine_of_parts c.self.inside) c.self.invariant.entries c.self.invariant.bound)

@@ -30,6 +30,7 @@ invariant_of-self c =
     let number = ap (λ (xs : List Seat). length xs) seats ∙ c.give.ensures.number ∙ ap (λ (xs : List Seat). length xs) c.deref_mut.ensures.value in
     record {
       entries = c.self.invariant.entries;
+      bound = c.self.invariant.bound;
       unbound = c.self.invariant.unbound;
       few = subst (λ (n : ℕ). n ≤ 4) (sym number) c.self.invariant.few;
       caches = ap (λ (xs : List Lines). length xs) same ∙ c.fence.ensures.number ∙ ap (λ (xs : List Lines). length xs) c.deref_mut-2.ensures.value

@@ -7,12 +7,12 @@ use Rattle.machine.proofs.parts.Parts.serve_turn.Goals as goal
 
 pub attempt-outcome-requires-clause-ready : goal.attempt-outcome-requires-clause-ready
 attempt-outcome-requires-clause-ready c =
-    c.requires.ready (attempts_there c.self.inside c.args.which c.index.result.now c.index.ensures c.args.self.now c.self.view_is (search rules) c.if-not-index.false (search rules))
+    c.requires.ready (attempts_there c.self.inside c.args.which c.index.result.now c.index.ensures c.args.self.now c.self.view_is (search rules) c.if-not-index.false (search rules) c.requires.outside)
 
 pub returns : goal.returns
 returns c =
     let inside : c.args.which < length c.self.inside.seats.items = search rules in
-    let at = attempts_there c.self.inside c.args.which c.index.result.now c.index.ensures c.args.self.now c.self.view_is inside c.if-not-index.false (search rules) in
+    let at = attempts_there c.self.inside c.args.which c.index.result.now c.index.ensures c.args.self.now c.self.view_is inside c.if-not-index.false (search rules) c.requires.outside in
     turn_attempts c.args.self.now c.finish.new.self c.args.which c.attempt-outcome.result
     (below_there c.self.inside c.args.which c.index.result.now c.index.ensures c.args.self.now c.self.view_is inside)
     at.started at.free at.outside c.attempt-outcome.ensures.outcome

@@ -1,0 +1,14 @@
+use Rattle.machine_model.specs.HostExits.{host_exit_answered}
+use Rattle.machine_model.specs.declared.exits.ExitAnswer.TheVariants.{LeavesEntry}
+use Rattle.machine.proofs.Seated.{answers}
+use Rattle.machine.specs.Parts.{machine_of_parts}
+use Rattle.machine.proofs.parts.Parts.leave_entry.Goals as goal
+
+pub returns : goal.returns
+unfolding host_exit_answered
+returns c =
+    answers c.self.inside c.args.which c.index_mut-seat.result.now c.index_mut-seat.ensures.value
+    (λ m host mode. host_exit_answered m c.args.which host mode LeavesEntry)
+    c.leave_entry.new.seat c.self.inside.devices c.self.inside.journal c.args.self.now c.self.view_is c.requires.there c.self.invariant.theirs
+    c.self.invariant.pages c.self.invariant.unbound
+    (c.leave_entry.ensures.machine (machine_of_parts c.self.inside) c.args.which c.self.inside.journal)
