@@ -69,7 +69,7 @@ impl Gate {
     {
         let mut loaded = Vec::with_capacity(alloc, MOST_MODULES)?;
         loaded.extend_from_slice(modules)?;
-        let room = Vec::with_capacity(alloc, MOST_MODULE_PAGES)?;
+        let room = Vec::with_capacity(alloc, MOST_MODULE_PAGES as usize)?;
         Ok(Gate {
             loaded,
             room: Some(room),

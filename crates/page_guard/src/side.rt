@@ -70,17 +70,6 @@ impl Side {
         }
     }
 
-    /// The side of a hart in a mode, as it stood.
-    pub fn in_mode(guard: &Guard, mode: Mode) -> Side
-        ensures { result ≡ mode }
-    {
-        let regs = match mode {
-            Mode::Kernel => in_kernel(guard),
-            Mode::User => in_user(guard),
-        };
-        Side { regs }
-    }
-
     /// The mode that a hart on this side is in.
     pub fn mode(&self) -> Mode
         ensures { result ≡ mode_of self.now }

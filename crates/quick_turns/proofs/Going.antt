@@ -1,0 +1,126 @@
+-- One turn, and a row of turns with one more.
+use Rattle.std.proofs.Common.{◌≡◌, ℕ, zero, ◌+◌, ◌/◌, ◌%◌, ◌^◌, ◌<◌, ◌≤◌, List, length, refl, sym, ◌∙◌, ap, subst, add-one, arith, inl, inr, false}
+use Rattle.std.specs.Prelude.{Option, None}
+use Rattle.std.proofs.lemmas.Bool.Decides.{eqb_tells}
+use Rattle.processor.specs.HypervisorRegisters.{HypervisorRegisters}
+use Rattle.processor.specs.SecondStage.{WalksApart}
+use Rattle.processor.specs.CachedWalks.{CacheAgrees, FilledUnder}
+use Rattle.processor.specs.Hardware.{Core}
+use Rattle.processor.specs.HardwareAttempt.{attempt, after_pending, after_fetch, after_word}
+use Rattle.processor.specs.HypervisorRegisters.{pending}
+use Rattle.processor.specs.Regions.{Region, host_word, write_host, IsHostPlace}
+use Rattle.processor.specs.declared.cached.CacheLine.{CacheLine}
+use Rattle.processor.specs.declared.hregs.HRegs.{HRegs}
+use Rattle.processor.specs.declared.lines.Lines.{Lines}
+use Rattle.gstage_cache.proofs.WritesAndWalks.{write_behind}
+use Rattle.gstage_cache.specs.Fills.{nothing_filled, filled_further}
+use Rattle.hart.specs.Cores.{core_of}
+use Rattle.hart.specs.Conditions.{MayAttempt, Walked}
+use Rattle.hart.specs.declared.hart.Core.{Core as Kept}
+use Rattle.quick_turns.specs.Quick.{Leads, GoesOn}
+use Rattle.quick_turns.proofs.Kept.{apart_kept, write_size}
+use Rattle.quick_turns.proofs.Windows.{leads_core, leads_kept, no_window}
+use Rattle.quick_turns.specs.declared.window.Window.{Window}
+use Rattle.quick_turns.specs.Rows.{Carries, RetiresThrough}
+
+-- where no interrupt is taken, and the pc lies in a window's page
+pub attempt_at : (r : Region) (core : Core) (lines : Lines) (page host : ℕ) → pending core.hregs core.csrs lines ≡ None → core.pc < 2 ^ 64 → core.pc / 4096 ≡ page
+    → Leads r core page host → attempt r core lines ≡ after_word r core lines (host_word r (host + core.pc % 4096) 4)
+unfolding attempt after_pending after_fetch
+attempt_at r core lines page host none small at leads = rw (none, leads.fetches core.pc small at) refl
+
+pub goes_nowhere : (r : Region) (core : Kept) (regs : HRegs) (lines : List (Option CacheLine)) → MayAttempt r core regs lines → core.reservation ≡ None
+    → GoesOn r r core core regs lines lines
+goes_nowhere r core regs lines ready free =
+    record { ready = ready; csrs = refl; free = free; tables = refl; ram = refl; filled = nothing_filled r.tables regs.hgatp lines }
+
+pub goes_further : (a b c : Region) (first second third : Kept) (regs : HRegs) (x y z : List (Option CacheLine)) → GoesOn a b first second regs x y
+    → GoesOn b c second third regs y z → GoesOn a c first third regs x z
+goes_further a b c first second third regs x y z so_far more = record {
+  ready = more.ready;
+  csrs = more.csrs ∙ so_far.csrs;
+  free = more.free;
+  tables = more.tables ∙ so_far.tables;
+  ram = more.ram ∙ so_far.ram;
+  filled = filled_further a.tables regs.hgatp x y z so_far.filled (subst (λ (t : List ℕ). FilledUnder t regs.hgatp y z) so_far.tables more.filled);
+}
+
+-- what the clause on turns says of a row
+abbrev pub Row : ℕ → Region → Core → Region → Core → Type 0
+Row n r core after next = (lines : Lines) → pending core.hregs core.csrs lines ≡ None → RetiresThrough n r core lines after next
+
+pub row_starts : (r : Region) (core : Core) → Row zero r core r core
+row_starts r core = λ lines none. (refl, refl)
+
+pub row_more : (n : ℕ) (r mid after : Region) (core before next : Core) → before.csrs ≡ core.csrs → before.hregs ≡ core.hregs → Row n r core mid before
+    → ((lines : Lines) → pending before.hregs before.csrs lines ≡ None → Carries (attempt mid before lines) after next) → Row (n + 1) r core after next
+row_more n r mid after core before next csrs hregs row one = λ lines none.
+    let still : pending before.hregs before.csrs lines ≡ None = rw (csrs, hregs) none in
+    subst (λ (k : ℕ). RetiresThrough k r core lines after next) (sym (add-one n)) (mid, (before, (row lines none, one lines still)))
+
+pub row_stays : (n : ℕ) (r mid after : Region) (core before next : Core) → before.csrs ≡ core.csrs → before.hregs ≡ core.hregs → Row n r core mid before
+    → ((lines : Lines) → pending before.hregs before.csrs lines ≡ None → (after ≡ mid) × (next ≡ before)) → Row n r core after next
+row_stays n r mid after core before next csrs hregs row same = λ lines none.
+    let still : pending before.hregs before.csrs lines ≡ None = rw (csrs, hregs) none in
+    let both = same lines still in
+    subst (λ (x : Region). RetiresThrough n r core lines x next) (sym both.0)
+    (subst (λ (x : Core). RetiresThrough n r core lines mid x) (sym both.1) (row lines none))
+
+-- behind walks
+pub goes_behind : (r after : Region) (core next : Kept) (regs : HRegs) (x y z : List (Option CacheLine)) → Walked r.tables regs.hgatp x y
+    → GoesOn r after core next regs y z → GoesOn r after core next regs x z
+goes_behind r after core next regs x y z walked on = record {
+  ready = on.ready;
+  csrs = on.csrs;
+  free = on.free;
+  tables = on.tables;
+  ram = on.ram;
+  filled = filled_further r.tables regs.hgatp x y z walked.filled on.filled;
+}
+
+-- ---- windows behind a turn
+
+-- some wires
+abbrev pub low : Lines
+low = record { time = 0; external = false; timer = false }
+
+pub stayed_leads : (r after : Region) (core next : Kept) (regs : HRegs) (page host : ℕ) → after ≡ r → next.csrs ≡ core.csrs → Leads r (core_of core regs) page host
+    → Leads after (core_of next regs) page host
+stayed_leads r after core next regs page host same csrs leads =
+    subst (λ (x : Region). Leads x (core_of next regs) page host) (sym same) (leads_core r (core_of core regs) (core_of next regs) page host csrs refl leads)
+
+pub stored_leads : (r after : Region) (core next : Kept) (regs : HRegs) (x y : List (Option CacheLine)) (here there : Window) → GoesOn r after core next regs x y
+    → WalksApart r regs.hgatp → Leads r (core_of core regs) here.page here.host → (next.csrs.vsatp / 2 ^ 60 ≡ 0 → there ≡ here)
+    → ((next.csrs.vsatp / 2 ^ 60 ≡ 0 → ⊥) → there ≡ record { page = 18446744073709551615; host = 0 }) → Leads after (core_of next regs) there.page there.host
+stored_leads r after core next regs x y here there on apart leads bare paged = elim (eqb_tells (next.csrs.vsatp / 2 ^ 60) 0) [
+  | inl same ↦
+      let was : core.csrs.vsatp / 2 ^ 60 ≡ 0 = ap (λ (c : HypervisorRegisters). c.vsatp / 2 ^ 60) (sym on.csrs) ∙ same.1 in
+      subst (λ (w : Window). Leads after (core_of next regs) w.page w.host) (sym (bare same.1))
+      (leads_core after (core_of core regs) (core_of next regs) here.page here.host on.csrs refl
+      (leads_kept r after (core_of core regs) here.page here.host was on.tables on.ram apart leads))
+  | inr other ↦ subst (λ (w : Window). Leads after (core_of next regs) w.page w.host) (sym (paged other.1)) (no_window after (core_of next regs) 0)
+]
+
+next_aligned : (pc : ℕ) → pc % 4 ≡ 0 → (pc + 4) % 18446744073709551616 % 4 ≡ 0
+next_aligned pc aligned = omega arith
+
+-- a store to RAM
+pub store_goes : (r after : Region) (core next : Kept) (regs : HRegs) (lines held : List (Option CacheLine)) (at n value : ℕ) → MayAttempt r core regs lines
+    → core.reservation ≡ None → Walked r.tables regs.hgatp lines held → length r.tables ≤ at → IsHostPlace r at n → after ≡ write_host r at n value
+    → next ≡ record core { pc = (core.pc + 4) % 18446744073709551616 } → GoesOn r after core next regs lines held
+store_goes r after core next regs lines held at n value ready free walked behind place same moved =
+    rw (same, moved) (record {
+      ready = record {
+        step = record { aligned = next_aligned core.pc ready.step.aligned; mode = ready.step.mode };
+        walk = record {
+          second = ready.walk.second;
+          apart = apart_kept r (write_host r at n value) regs.hgatp (write_behind r at n value behind) (write_size r at n value behind place) ready.walk.apart;
+          agrees = subst (λ (t : List ℕ). CacheAgrees t held) (sym (write_behind r at n value behind)) walked.agrees;
+        };
+      };
+      csrs = refl;
+      free = free;
+      tables = write_behind r at n value behind;
+      ram = write_size r at n value behind place;
+      filled = walked.filled;
+    })

@@ -1,0 +1,3 @@
+pub mod Windows
+pub mod Kept
+pub mod Going

@@ -1,0 +1,207 @@
+-- The addresses of a page are fetched from one page of host memory.
+use Rattle.std.proofs.Common.{◌≡◌, ℕ, zero, suc, ◌+◌, ◌-◌, ◌*◌, ◌/◌, ◌%◌, ◌^◌, ◌<◌, ◌≤◌, inl, inr, List, [], ◌∷◌, length, refl, sym, ◌∙◌, ap, arith, lit≤, Bool, true, false, ◌&&◌}
+use Rattle.std.specs.Prelude.{Option, Some, None, Result, Ok, Err, if◌then◌else◌, ◌==◌}
+use Rattle.processor.specs.Hardware.{Core}
+use Rattle.processor.specs.Bits.{bit}
+use Rattle.processor.specs.HypervisorRegisters.{HypervisorRegisters}
+use Rattle.processor.specs.declared.hregs.HRegs.{HRegs}
+use Rattle.processor.specs.HardwareMemory.{settings_at, place_or_exception, translated}
+use Rattle.processor.specs.Regions.{Region, IsRegion, IsHostPlace}
+use Rattle.processor.specs.Translation.{walk, is_pointer, is_leaf, entry_page, leaf_address, at_leaf, at_entry, root_of, is_canonical, sv39_indices, permits_access, first_stage, Settings, Destination, At, PageFault, Unreadable}
+use Rattle.processor.specs.SecondStage.{walk_guest, address_at, entry_in_region, entry_through, guest_destination, place_through, after_first_stage, two_stages, WalksApart}
+use Rattle.processor.specs.declared.access.Access.{Access}
+use Rattle.processor.specs.declared.access.Access.TheVariants.{Fetch}
+use Rattle.processor.specs.declared.mode.Mode.{Mode}
+use Rattle.processor.specs.declared.translation.Fault.{Fault}
+use Rattle.processor.specs.declared.translation.Place.{Place}
+use Rattle.gstage_cache.proofs.Walks.{moved, page_moves, answer_near, answer_is}
+use Rattle.quick_turns.specs.Quick.{Leads}
+use Rattle.quick_turns.proofs.Kept.{walks_kept}
+
+-- what a first stage goes by, of the registers alone
+abbrev settings_by : HypervisorRegisters → Settings
+settings_by csrs = record { satp = csrs.vsatp; sum = bit csrs.vsstatus 18; mxr = bit csrs.vsstatus 19 }
+
+-- ---- the first stage
+
+leaf_moves : (below e a b : ℕ) → below < 3 → a / 4096 ≡ b / 4096
+    → leaf_address below e b ≡ leaf_address below e a - leaf_address below e a % 4096 + b % 4096
+leaf_moves zero e a b few same = omega arith
+leaf_moves (suc zero) e a b few same = omega arith
+leaf_moves (suc (suc zero)) e a b few same = omega arith
+leaf_moves (suc (suc (suc n))) e a b few same = absurd (omega arith)
+
+choose_moves : (c : Bool) (place : ℕ) (x y v w : Destination) → v ≡ moved place x → w ≡ moved place y → (if c then v else w) ≡ moved place (if c then x else y)
+choose_moves true place x y v w h k = h
+choose_moves false place x y v w h k = k
+
+entry_moves : (grants : ℕ → Bool) (below at a b : ℕ) (deeper other : ℕ → Destination) (entry : Option ℕ) → below < 3 → a / 4096 ≡ b / 4096
+    → ((e : ℕ) → other (entry_page e) ≡ moved (b % 4096) (deeper (entry_page e)))
+    → at_entry grants below at other b entry ≡ moved (b % 4096) (at_entry grants below at deeper a entry)
+entry_moves grants below at a b deeper other None few same deep = refl
+entry_moves grants below at a b deeper other (Some e) few same deep =
+    choose_moves (is_pointer e) (b % 4096) (deeper (entry_page e)) (at_leaf grants below e a) (other (entry_page e)) (at_leaf grants below e b) (deep e)
+    (choose_moves (is_leaf below e && grants e) (b % 4096) (At (leaf_address below e a)) PageFault (At (leaf_address below e b)) PageFault
+    (ap At (leaf_moves below e a b few same)) refl)
+
+walk_moves : (read : ℕ → Option ℕ) (grants : ℕ → Bool) (indices : List ℕ) (table a b : ℕ) → length indices ≤ 3 → a / 4096 ≡ b / 4096
+    → walk read grants indices table b ≡ moved (b % 4096) (walk read grants indices table a)
+unfolding walk
+walk_moves read grants [] table a b few same = refl
+walk_moves read grants (index ∷ indices) table a b few same =
+    entry_moves grants (length indices) (table + 8 * index) a b (λ next. walk read grants indices next a) (λ next. walk read grants indices next b)
+    (read (table + 8 * index)) (omega arith) same (λ e. walk_moves read grants indices (entry_page e) a b (omega arith) same)
+
+same_indices : (a b : ℕ) → a / 4096 ≡ b / 4096 → sv39_indices b ≡ sv39_indices a
+same_indices a b same =
+    let high : b / 2 ^ 30 ≡ a / 2 ^ 30 = omega arith in
+    let middle : b / 2 ^ 21 ≡ a / 2 ^ 21 = omega arith in
+    let low : b / 2 ^ 12 ≡ a / 2 ^ 12 = omega arith in
+    rw (high, middle, low) refl
+
+same_canonical : (a b : ℕ) → a / 4096 ≡ b / 4096 → is_canonical b ≡ is_canonical a
+same_canonical a b same = let high : b / 2 ^ 38 ≡ a / 2 ^ 38 = omega arith in rw high refl
+
+bare_moves : (a b : ℕ) → a / 4096 ≡ b / 4096 → b ≡ a - a % 4096 + b % 4096
+bare_moves a b same = omega arith
+
+stage_moves : (read : ℕ → Option ℕ) (s : Settings) (mode : Mode) (a b : ℕ) (access : Access) → a / 4096 ≡ b / 4096
+    → first_stage read s mode b access ≡ moved (b % 4096) (first_stage read s mode a access)
+unfolding first_stage
+stage_moves read s mode a b access same =
+    let grants : ℕ → Bool = permits_access s mode access in
+    let walked : walk read grants (sv39_indices b) (root_of s.satp) b ≡ moved (b % 4096) (walk read grants (sv39_indices a) (root_of s.satp) a) =
+    ap (λ (indices : List ℕ). walk read grants indices (root_of s.satp) b) (same_indices a b same)
+    ∙ walk_moves read grants (sv39_indices a) (root_of s.satp) a b (lit≤ tt) same in
+    choose_moves (s.satp / 2 ^ 60 == 0) (b % 4096) (At a) (if is_canonical a then walk read grants (sv39_indices a) (root_of s.satp) a else PageFault)
+    (At b) (if is_canonical b then walk read grants (sv39_indices b) (root_of s.satp) b else PageFault) (ap At (bare_moves a b same))
+    (ap (λ (c : Bool). if c then walk read grants (sv39_indices b) (root_of s.satp) b else PageFault) (same_canonical a b same)
+    ∙ choose_moves (is_canonical a) (b % 4096) (walk read grants (sv39_indices a) (root_of s.satp) a) PageFault
+    (walk read grants (sv39_indices b) (root_of s.satp) b) PageFault walked refl)
+
+-- ---- the second stage
+
+address_moves : (d : Destination) (place x : ℕ) → address_at d ≡ Some x → address_at (moved place d) ≡ Some (x - x % 4096 + place)
+address_moves (At found) place x e = let same : found ≡ x = cc in rw same refl
+address_moves PageFault place x e = absurd (cc)
+address_moves (Unreadable entry) place x e = absurd (cc)
+
+near_too : (a b : ℕ) → a / 4096 ≡ b / 4096 → a < 2 ^ 41 → b < 2 ^ 41
+near_too a b same near = omega arith
+
+guest_moves : (r : Region) (hgatp a b x : ℕ) (access : Access) → a / 4096 ≡ b / 4096 → walk_guest r hgatp a access ≡ Some x
+    → walk_guest r hgatp b access ≡ Some (x - x % 4096 + b % 4096)
+guest_moves r hgatp a b x access same e =
+    let near : a < 2 ^ 41 = answer_near r hgatp a x access e in
+    answer_is r hgatp b access (near_too a b same near)
+    ∙ ap address_at (page_moves (entry_in_region r) hgatp a b access same)
+    ∙ address_moves (guest_destination (entry_in_region r) hgatp a access) (b % 4096) x (sym (answer_is r hgatp a access near) ∙ e)
+
+-- ---- both
+
+place_is : (gpa : ℕ) (o : Option ℕ) (place : Place) → place_through gpa o ≡ Ok place → o ≡ Some place.hpa
+place_is gpa None place e = absurd (cc)
+place_is gpa (Some hpa) place e = let same : record { gpa = gpa; hpa = hpa } ≡ place = cc in rw (← same) refl
+
+same_page : (x b : ℕ) → x / 4096 ≡ (x - x % 4096 + b % 4096) / 4096
+same_page x b = omega arith
+
+same_place : (x b : ℕ) → (x - x % 4096 + b % 4096) % 4096 ≡ b % 4096
+same_place x b = omega arith
+
+behind_moves : (r : Region) (hgatp b : ℕ) (access : Access) (d : Destination) (place : Place) → after_first_stage r hgatp access d ≡ Ok place
+    → (there : Place) × ((after_first_stage r hgatp access (moved (b % 4096) d) ≡ Ok there) × (there.hpa ≡ place.hpa - place.hpa % 4096 + b % 4096))
+unfolding after_first_stage
+behind_moves r hgatp b access (At gpa) place e =
+    let to : ℕ = gpa - gpa % 4096 + b % 4096 in
+    let hpa : ℕ = place.hpa - place.hpa % 4096 + to % 4096 in
+    let walked : walk_guest r hgatp to access ≡ Some hpa =
+    guest_moves r hgatp gpa to place.hpa access (same_page gpa b) (place_is gpa (walk_guest r hgatp gpa access) place e) in
+    (record { gpa = to; hpa = hpa }, (ap (place_through to) walked, ap (λ (n : ℕ). place.hpa - place.hpa % 4096 + n) (same_place gpa b)))
+behind_moves r hgatp b access PageFault place e = absurd (cc)
+behind_moves r hgatp b access (Unreadable entry) place e = absurd (cc)
+
+stages_move : (r : Region) (hgatp a b : ℕ) (s : Settings) (mode : Mode) (access : Access) (place : Place) → a / 4096 ≡ b / 4096
+    → two_stages r hgatp s mode a access ≡ Ok place
+    → (there : Place) × ((two_stages r hgatp s mode b access ≡ Ok there) × (there.hpa ≡ place.hpa - place.hpa % 4096 + b % 4096))
+unfolding two_stages
+stages_move r hgatp a b s mode access place same e =
+    let found = behind_moves r hgatp b access (first_stage (entry_through r hgatp) s mode a access) place e in
+    (found.0, (ap (after_first_stage r hgatp access) (stage_moves (entry_through r hgatp) s mode a b access same) ∙ found.1.0, found.1.1))
+
+ok_place : (access : Access) (va htinst hpa : ℕ) (p : Result Place Fault) → place_or_exception access va htinst p ≡ Ok hpa
+    → (place : Place) × ((p ≡ Ok place) × (place.hpa ≡ hpa))
+ok_place access va htinst hpa (Ok place) e = (place, (refl, cc))
+ok_place access va htinst hpa (Err fault) e = absurd (cc)
+
+-- another address of the page leads to the same page
+pub translated_moves : (r : Region) (core : Core) (access : Access) (a b hpa htinst : ℕ) → a / 4096 ≡ b / 4096 → translated r core access a htinst ≡ Ok hpa
+    → translated r core access b htinst ≡ Ok (hpa - hpa % 4096 + b % 4096)
+unfolding translated
+translated_moves r core access a b hpa htinst same e =
+    let from = ok_place access a htinst hpa (two_stages r core.hregs.hgatp (settings_at core) core.hregs.mode a access) e in
+    let to = stages_move r core.hregs.hgatp a b (settings_at core) core.hregs.mode access from.0 same from.1.0 in
+    ap (place_or_exception access b htinst) to.1.0 ∙ ap Ok (to.1.1 ∙ ap (λ (x : ℕ). x - x % 4096 + b % 4096) from.1.1)
+
+-- ---- windows
+
+word_aligned : (host va : ℕ) → va % 4 ≡ 0 → (host - host % 4096 + va % 4096) % 4 ≡ 0
+word_aligned host va aligned = omega arith
+
+word_inside : (hpa va tables ram : ℕ) → tables % 4096 ≡ 0 → ram % 4096 ≡ 0 → hpa + 1 ≤ tables + ram → va % 4 ≡ 0 → hpa - hpa % 4096 + va % 4096 + 4 ≤ tables + ram
+word_inside hpa va tables ram t r inside aligned = omega arith
+
+-- the page of an address that an instruction is fetched at
+pub leads_from : (r : Region) (core : Core) (pc hpa : ℕ) → IsRegion r → IsHostPlace r hpa 1 → translated r core Fetch pc 0 ≡ Ok hpa
+    → Leads r core (pc / 4096) (hpa - hpa % 4096)
+leads_from r core pc hpa region place e = record {
+  fetches = λ va small page. translated_moves r core Fetch pc va hpa 0 (sym page) e;
+  places = λ va small page aligned. record {
+    width = inr (inr (inl refl));
+    aligned = word_aligned hpa va aligned;
+    inside = word_inside hpa va (length r.tables) (length r.ram) region.tables region.ram place.inside aligned;
+  };
+}
+
+bare_kept : (r after : Region) (hgatp va : ℕ) (s : Settings) (mode : Mode) (access : Access) → s.satp / 2 ^ 60 ≡ 0 → after.tables ≡ r.tables → WalksApart r hgatp
+    → two_stages after hgatp s mode va access ≡ two_stages r hgatp s mode va access
+unfolding two_stages first_stage after_first_stage
+bare_kept r after hgatp va s mode access bare same apart = rw bare (ap (place_through va) (walks_kept r after hgatp va access same apart))
+
+bare_translated : (r after : Region) (core : Core) (va : ℕ) → core.csrs.vsatp / 2 ^ 60 ≡ 0 → after.tables ≡ r.tables → WalksApart r core.hregs.hgatp
+    → translated after core Fetch va 0 ≡ translated r core Fetch va 0
+unfolding translated
+bare_translated r after core va bare same apart =
+    ap (place_or_exception Fetch va 0) (bare_kept r after core.hregs.hgatp va (settings_at core) core.hregs.mode Fetch bare same apart)
+
+-- without a first stage a window outlives a store
+pub leads_kept : (r after : Region) (core : Core) (page host : ℕ) → core.csrs.vsatp / 2 ^ 60 ≡ 0 → after.tables ≡ r.tables → length after.ram ≡ length r.ram
+    → WalksApart r core.hregs.hgatp → Leads r core page host → Leads after core page host
+leads_kept r after core page host bare same size apart leads = record {
+  fetches = λ va small at. bare_translated r after core va bare same apart ∙ leads.fetches va small at;
+  places = λ va small at aligned.
+      let old = leads.places va small at aligned in
+      let inside = old.inside in
+      let tables : length after.tables ≡ length r.tables = ap (λ (t : List ℕ). length t) same in
+      record { width = old.width; aligned = old.aligned; inside = omega (arith, inside, tables, size) };
+}
+
+-- no page of an address has this number
+pub no_window : (r : Region) (core : Core) (host : ℕ) → Leads r core 18446744073709551615 host
+no_window r core host = record {
+  fetches = λ va small at. absurd (omega arith);
+  places = λ va small at aligned. absurd (omega arith);
+}
+
+core_translated : (r : Region) (core next : Core) (va : ℕ) → next.csrs ≡ core.csrs → next.hregs ≡ core.hregs
+    → translated r next Fetch va 0 ≡ translated r core Fetch va 0
+unfolding translated
+core_translated r core next va csrs hregs =
+    ap (λ (c : HypervisorRegisters). place_or_exception Fetch va 0 (two_stages r next.hregs.hgatp (settings_by c) next.hregs.mode va Fetch)) csrs
+    ∙ ap (λ (h : HRegs). place_or_exception Fetch va 0 (two_stages r h.hgatp (settings_at core) h.mode va Fetch)) hregs
+
+-- a window goes by the registers of translation alone
+pub leads_core : (r : Region) (core next : Core) (page host : ℕ) → next.csrs ≡ core.csrs → next.hregs ≡ core.hregs → Leads r core page host → Leads r next page host
+leads_core r core next page host csrs hregs leads =
+    let same : (va : ℕ) → translated r next Fetch va 0 ≡ translated r core Fetch va 0 = λ va. core_translated r core next va csrs hregs in
+    record { fetches = λ va small at. same va ∙ leads.fetches va small at; places = leads.places }

@@ -1,0 +1,42 @@
+-- Turns that are made by a shorter way, and what they keep. This project's own.
+use Rattle.std.specs.Prelude.{◌≡◌, ℕ, ◌+◌, ◌<◌, ◌/◌, ◌%◌, ◌^◌, Bool, true, false, List, length, Option, None, Ok}
+use Rattle.processor.specs.Bytes.{page_size}
+use Rattle.processor.specs.CachedWalks.{FilledUnder}
+use Rattle.processor.specs.Hardware.{Core, Attempted}
+use Rattle.processor.specs.HardwareMemory.{translated}
+use Rattle.processor.specs.Regions.{Region, IsHostPlace}
+use Rattle.processor.specs.declared.access.Access.TheVariants.{Fetch}
+use Rattle.processor.specs.declared.cached.CacheLine.{CacheLine}
+use Rattle.processor.specs.declared.hregs.HRegs.{HRegs}
+use Rattle.hart.specs.Conditions.{MayAttempt}
+use Rattle.hart.specs.declared.hart.Core.{Core as Kept}
+use Rattle.quick_turns.specs.Rows.{Carries}
+use Rattle.quick_turns.specs.declared.tried.Tried.{Tried}
+use Rattle.quick_turns.specs.declared.tried.Tried.TheVariants.{Stopped, Retired, Stored}
+
+-- instructions at the addresses of a page are fetched at the same places of a page of host memory
+pub record Leads (r : Region) (core : Core) (page host : ℕ) : Type 0 where
+  pub fetches : (va : ℕ) → va < 2 ^ 64 → va / page_size ≡ page → translated r core Fetch va 0 ≡ Ok (host + va % page_size)
+  pub places : (va : ℕ) → va < 2 ^ 64 → va / page_size ≡ page → va % 4 ≡ 0 → IsHostPlace r (host + va % page_size) 4
+
+-- what became of a turn: it wasn't made and left all as it was, or its attempt carried out the instruction. Only a store
+-- changes the region
+abbrev pub Comes : Tried → Attempted → (before after : Region) → (core next : Core) → Type 0
+Comes Stopped a before after core next = (after ≡ before) × (next ≡ core)
+Comes Retired a before after core next = (after ≡ before) × Carries a after next
+Comes Stored a before after core next = Carries a after next
+
+-- the same of a turn that is made, or isn't
+abbrev pub Made : Bool → Attempted → (before after : Region) → (core next : Core) → Type 0
+Made false a before after core next = (after ≡ before) × (next ≡ core)
+Made true a before after core next = Carries a after next
+
+-- a hart may go on: it stands at an instruction, in the same mode, with the same registers of traps and of translation and no
+-- reservation; the tables and RAM's size stay, and the cache was filled by walks alone
+pub record GoesOn (before after : Region) (core next : Kept) (regs : HRegs) (lines held : List (Option CacheLine)) : Type 0 where
+  pub ready : MayAttempt after next regs held
+  pub csrs : next.csrs ≡ core.csrs
+  pub free : next.reservation ≡ None
+  pub tables : after.tables ≡ before.tables
+  pub ram : length after.ram ≡ length before.ram
+  pub filled : FilledUnder before.tables regs.hgatp lines held

@@ -1,0 +1,13 @@
+//! Turns of a hart in a row that only compute, load and store, made by a shorter way than an attempt each: the page that
+//! instructions are fetched from is looked up once.
+#![tactic(auto)]
+
+mod memory;
+mod requests;
+mod row;
+mod tried;
+mod window;
+mod words;
+
+pub use row::quick_turns;
+pub use words::Words;

@@ -1,0 +1,84 @@
+// Turns in a row.
+
+ghost use Rattle.std.specs.Prelude.{◌≡◌, ◌≤◌, None, List, Option};
+ghost use Rattle.processor.specs.HardwareAttempt.{attempt};
+ghost use Rattle.processor.specs.HypervisorRegisters.{pending};
+ghost use Rattle.processor.specs.declared.lines.Lines.{Lines};
+ghost use Rattle.hart.specs.Cores.{core_of};
+ghost use Rattle.hart.specs.Conditions.{MayAttempt};
+ghost use Rattle.quick_turns.specs.Quick.{GoesOn, Leads, Made};
+ghost use Rattle.quick_turns.specs.Rows.{RetiresThrough};
+
+use crate::requests::carry_out;
+use crate::tried::Tried;
+use crate::window::{Window, at_pc};
+use crate::words::Words;
+use gstage_cache::Cache;
+use hart::Core;
+use host_mem::HostMem;
+use processor::HRegs;
+
+// A turn and the window behind it, none where it wasn't made.
+#[inline(always)]
+fn turn(
+    words: &mut Words,
+    core: &mut Core,
+    regs: &HRegs,
+    cache: &mut Cache,
+    mem: &mut HostMem,
+    window: &mut Window,
+) -> bool
+    requires ready { MayAttempt mem.old core.old regs.now cache.old }
+    requires free { core.old.reservation ≡ None }
+    requires leads { Leads mem.old (core_of core.old regs.now) window.old.page window.old.host }
+    ensures made { (lines : Lines) → pending regs.now core.old.csrs lines ≡ None → Made result (attempt mem.old (core_of core.old regs.now) lines) mem.old mem.new (core_of core.old regs.now) (core_of core.new regs.now) }
+    ensures on { GoesOn mem.old mem.new core.old core.new regs.now cache.old cache.new }
+    ensures leads { Leads mem.new (core_of core.new regs.now) window.new.page window.new.host }
+{
+    let Some(here) = at_pc(core, regs, cache, mem, *window) else {
+        return false;
+    };
+    let word = here.word(core, regs, mem);
+    match carry_out(core, regs, cache, mem, words.decoded(core.pc, word)) {
+        Tried::Stopped => false,
+        Tried::Retired => {
+            *window = here;
+            true
+        }
+        Tried::Stored => {
+            *window = here.behind_store(core);
+            true
+        }
+    }
+}
+
+/// Up to `most` turns of a hart in a row, each of whose attempts carries out its instruction. Answers how many were made:
+/// what isn't a plain computation, load or store, or is refused, or misaligned, stops the row before its turn.
+///
+/// The hart has no reservation. No other hart's is looked at. That no interrupt is taken at the start is what the
+/// clause on turns asks; none comes up on the way, since no register changes that decides it.
+#[inline(never)]
+pub fn quick_turns(
+    words: &mut Words,
+    core: &mut Core,
+    regs: &HRegs,
+    cache: &mut Cache,
+    mem: &mut HostMem,
+    most: u64,
+) -> u64
+    requires ready { MayAttempt mem.old core.old regs.now cache.old }
+    requires free { core.old.reservation ≡ None }
+    ensures retires { (lines : Lines) → pending regs.now core.old.csrs lines ≡ None → RetiresThrough result mem.old (core_of core.old regs.now) lines mem.new (core_of core.new regs.now) }
+    ensures most { result ≤ most }
+    ensures on { GoesOn mem.old mem.new core.old core.new regs.now cache.old cache.new }
+{
+    let mut window = Window::none();
+    let mut made = 0;
+    'turns: while made < most {
+        if !turn(words, core, regs, cache, mem, &mut window) {
+            return made;
+        }
+        made += 1;
+    }
+    made
+}

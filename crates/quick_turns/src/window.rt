@@ -1,0 +1,100 @@
+// The page that instructions are fetched from.
+
+ghost use Rattle.std.specs.Prelude.{◌≡◌, ◌/◌, ◌%◌, ◌+◌, ◌^◌, IfSome};
+ghost use Rattle.processor.specs.Bytes.{page_size};
+ghost use Rattle.processor.specs.Regions.{host_word};
+ghost use Rattle.processor.specs.SecondStage.{WalksApart};
+ghost use Rattle.hart.specs.Cores.{core_of};
+ghost use Rattle.hart.specs.Conditions.{MayWalk, Walked};
+ghost use Rattle.quick_turns.specs.Quick.{Leads};
+
+use crate::memory::place;
+use gstage_cache::Cache;
+use hart::Core;
+use host_mem::HostMem;
+use processor::{Access, HRegs, PAGE_BYTES};
+
+/// A page of virtual addresses, and the host place of its first byte, from where its instructions are fetched.
+#[derive(Clone, Copy, Drop)]
+pub(crate) struct Window {
+    pub(crate) page: u64,
+    pub(crate) host: u64,
+}
+
+impl Window {
+    /// That of no page: no address has a page of this number.
+    pub(crate) fn none() -> Window
+        ensures { result ≡ record { page = 18446744073709551615; host = 0 } }
+    {
+        Window {
+            page: u64::MAX,
+            host: 0,
+        }
+    }
+
+    /// What a store leaves of a window: with a first stage, whose tables lie in RAM, nothing.
+    #[tactic(auto, using(crate::proofs::Windows::no_window, crate::proofs::Windows::leads_kept))]
+    #[inline(always)]
+    pub(crate) fn behind_store(self, core: &Core) -> Window
+        ensures bare { core.now.csrs.vsatp / 2 ^ 60 ≡ 0 → result ≡ self }
+        ensures paged { (core.now.csrs.vsatp / 2 ^ 60 ≡ 0 → ⊥) → result ≡ record { page = 18446744073709551615; host = 0 } }
+    {
+        if core.csrs.vsatp >> 60 == 0 {
+            self
+        } else {
+            Window::none()
+        }
+    }
+
+    /// The word of the instruction at the pc, which lies in the window's page.
+    #[inline(always)]
+    pub(crate) fn word(self, core: &Core, regs: &HRegs, mem: &HostMem) -> u32
+        requires page { core.now.pc / page_size ≡ self.page }
+        requires aligned { core.now.pc % 4 ≡ 0 }
+        requires leads { Leads mem.now (core_of core.now regs.now) self.page self.host }
+        ensures { result ≡ host_word mem.now (self.host + core.now.pc % page_size) 4 }
+    {
+        let _table_bytes = mem.table_bytes();
+        mem.read((self.host + core.pc % PAGE_BYTES) as usize, 4) as u32
+    }
+}
+
+/// The window of the pc's page: the one that stands there, or the one that translation gives. None where the fetch is
+/// refused.
+#[inline(always)]
+pub(crate) fn at_pc(
+    core: &Core,
+    regs: &HRegs,
+    cache: &mut Cache,
+    mem: &HostMem,
+    window: Window,
+) -> Option<Window>
+    requires ready { MayWalk mem.now regs.now cache.old }
+    requires leads { Leads mem.now (core_of core.now regs.now) window.page window.host }
+    ensures page { IfSome result (λ at. core.now.pc / page_size ≡ at.page) }
+    ensures leads { IfSome result (λ at. Leads mem.now (core_of core.now regs.now) at.page at.host) }
+    ensures walked { Walked mem.now.tables regs.now.hgatp cache.old cache.new }
+{
+    if core.pc / PAGE_BYTES == window.page {
+        Some(window)
+    } else {
+        found(core, regs, cache, mem)
+    }
+}
+
+// The window of the pc's page by translation.
+fn found(core: &Core, regs: &HRegs, cache: &mut Cache, mem: &HostMem) -> Option<Window>
+    requires ready { MayWalk mem.now regs.now cache.old }
+    ensures page { IfSome result (λ at. core.now.pc / page_size ≡ at.page) }
+    ensures leads { IfSome result (λ at. Leads mem.now (core_of core.now regs.now) at.page at.host) }
+    ensures walked { Walked mem.now.tables regs.now.hgatp cache.old cache.new }
+{
+    let _table_bytes = mem.table_bytes();
+    match place(core, regs, cache, mem, core.pc, Access::Fetch) {
+        Some(hpa) => Some(Window {
+            page: core.pc / PAGE_BYTES,
+            host: hpa - hpa % PAGE_BYTES,
+        }),
+        None => None,
+    }
+}

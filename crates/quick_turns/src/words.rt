@@ -1,0 +1,66 @@
+// The instructions of words that were decoded.
+
+ghost use Rattle.std.specs.Prelude.{◌≡◌, IfOk, IsTrue, length};
+ghost use Rattle.std.specs.Option.{ForSome};
+ghost use Rattle.processor.specs.Encoding.{fits};
+ghost use Rattle.processor.specs.Instructions.{instruction_of};
+
+use processor::Instr;
+use rv64_decode::decode;
+use std::alloc::{AllocError, Global};
+
+/// The places for words: one for each place of an instruction modulo 64 KiB.
+const PLACES: usize = 16384;
+
+/// A word and its instruction, none where no row of the instruction table has the word.
+#[derive(Clone, Copy, Drop)]
+pub(crate) struct Decoded {
+    pub(crate) word: u32,
+    pub(crate) instr: Option<Instr>,
+    ghost decodes: { instr ≡ instruction_of word },
+    ghost fields: { ForSome instr (λ i. IsTrue (fits i)) },
+}
+
+impl Decoded {
+    #[inline(never)]
+    fn of(word: u32) -> Decoded
+        ensures { result.word ≡ word }
+    {
+        let instr = decode(word);
+        Decoded { word, instr }
+    }
+}
+
+/// Words that were decoded, each kept where its place leads until another one comes there. Contracts see nothing of it.
+#[derive(Drop)]
+pub struct Words {
+    places: Vec<Decoded>,
+    ghost size: { length places.items ≡ 16384 },
+}
+
+impl Words {
+    /// No word was decoded. Want of memory is the one refusal.
+    pub fn new(alloc: Global) -> Result<Words, AllocError> {
+        let places = zero_words(alloc, PLACES)?;
+        Ok(Words { places })
+    }
+
+    /// A word with its instruction, by where the word was fetched.
+    #[inline(always)]
+    pub(crate) fn decoded(&mut self, pc: u64, word: u32) -> &Decoded
+        ensures { result.now.word ≡ word }
+    {
+        let place = (pc / 4) as usize % PLACES;
+        if self.places[place].word != word {
+            self.places[place] = Decoded::of(word);
+        }
+        &self.places[place]
+    }
+}
+
+// So many places that hold the word 0.
+fn zero_words(alloc: Global, count: usize) -> Result<Vec<Decoded>, AllocError>
+    ensures { IfOk result (λ words. length words.items ≡ count) }
+{
+    vec![in alloc; Decoded::of(0); count]
+}

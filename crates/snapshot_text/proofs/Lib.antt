@@ -1,0 +1,2 @@
+pub mod LineLists
+pub mod PageLists

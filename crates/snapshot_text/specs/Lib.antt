@@ -1,0 +1,5 @@
+pub mod Lines
+pub mod HartTexts
+pub mod PageTexts
+pub mod DeviceTexts
+pub mod SnapshotTexts
