@@ -13,3 +13,4 @@ pub mod Stepped
 pub mod Repeated
 pub mod Kept
 pub mod Addressed
+pub mod Rows

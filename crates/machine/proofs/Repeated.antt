@@ -90,3 +90,18 @@ pub repeats_once : (n : ℕ) (m after : Machine) (e : Event) → n ≡ 1 → Rep
 repeats_once n m after e one repeats =
     let those : Repeats (suc zero) m e after = subst (λ (k : ℕ). Repeats k m e after) one repeats in
     subst (λ (x : Machine). Makes x e after) those.1.0 those.1.1.1
+
+-- behind some that printed nothing, more of them
+pub repeats_on : (n k : ℕ) (m mid after : Machine) (e : Event) → Repeats n m e mid → IsQuiet m mid → Repeats k mid e after → Repeats (n + k) m e after
+repeats_on n zero m mid after e those quiet same =
+    let sum : n ≡ n + 0 = omega arith in
+    subst (λ (i : ℕ). Repeats i m e after) sum (subst (λ (x : Machine). Repeats n m e x) (sym same) those)
+repeats_on n (suc k) m mid after e those quiet (before, (more, (still, makes))) =
+    let rest : Repeats (suc (n + k)) m e after = (before, (repeats_on n k m mid before e those quiet more, (still ∙ quiet, makes))) in
+    let sum : suc (n + k) ≡ n + suc k = omega arith in
+    subst (λ (i : ℕ). Repeats i m e after) sum rest
+
+pub counts_on : (made more : ℕ) (old now new : Counts) → ((n : ℕ) → CountsAtMost n old → CountsAtMost (n + made) now) → ((n : ℕ) → CountsAtMost n now → CountsAtMost (n + more) new) →
+    (n : ℕ) → CountsAtMost n old → CountsAtMost (n + (made + more)) new
+counts_on made more old now new so_far then n counts =
+    let sum : n + made + more ≡ n + (made + more) = omega arith in subst (λ (k : ℕ). CountsAtMost k new) sum (then (n + made) (so_far n counts))

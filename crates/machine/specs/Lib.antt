@@ -6,3 +6,4 @@ pub mod Machines
 pub mod Parts
 pub mod Repeats
 pub mod Turns
+pub mod Rows

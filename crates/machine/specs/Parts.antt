@@ -1,5 +1,5 @@
 -- The machine from its parts, and what is true of them. This project's own.
-use Rattle.std.specs.Prelude.{◌≡◌, ◌≤◌, [], map, length}
+use Rattle.std.specs.Prelude.{◌≡◌, ◌+◌, ◌≤◌, [], map, length}
 use Rattle.sv_types.specs.Policies.{rules_of}
 use Rattle.reference.specs.Protections.{is_free}
 use Rattle.machine_model.specs.Machine.{Machine}
@@ -23,7 +23,7 @@ machine_of_parts p = record {
   devices = p.devices;
   journal = p.journal;
   cleared = p.cleared;
-  attempts = p.cpu;
+  attempts = p.row_attempts + p.cpu;
 }
 
 -- the parts go with one another

@@ -10,6 +10,7 @@ mod image_start;
 mod machine;
 mod machine_start;
 mod parts;
+mod row_turns;
 mod saved;
 mod start;
 #[cfg(test)]

@@ -8,7 +8,7 @@ ghost use Rattle.reference.specs.States.{State};
 ghost use Rattle.machine_model.specs.HardwareEvent.{IsEvent};
 ghost use Rattle.machine_model.specs.Reaches.{Cleared};
 ghost use Rattle.machine_model.specs.StandsFor.{StandsFor};
-ghost use Rattle.machine.specs.Repeats.{Makes, Repeats};
+ghost use Rattle.machine.specs.Repeats.{IsQuiet, Makes, Repeats};
 
 use crate::parts::Parts;
 use std::marker::Model;
@@ -59,13 +59,49 @@ impl Machine {
         let printed = self.printed().len();
         let mut made = 0;
         'events: while made < count {
-            self.make(event);
-            made += 1;
+            made += self.round(event, count - made);
             if self.printed().len() != printed || self.verdict() != Verdict::Running {
                 return made;
             }
         }
         made
+    }
+
+    // A row, and one event behind it where some are left.
+    #[inline(always)]
+    fn round(&mut self, event: Event, most: u64) -> u64
+        requires asked { 0 < most }
+        requires room { length self.old.journal.printed < 4096 }
+        requires counts { CountsAtMost (2 ^ 64 - 1 - most) self.old.journal.counts }
+        ensures chain { Repeats result self.old event self.new }
+        ensures counts { (n : ℕ) → CountsAtMost n self.old.journal.counts → CountsAtMost (n + result) self.new.journal.counts }
+        ensures some { 0 < result }
+        ensures most { result ≤ most }
+    {
+        let made = self.row(event, most);
+        if made == most {
+            return made;
+        }
+        self.make(event);
+        made + 1
+    }
+
+    // Turns that only carry out instructions, by a shorter way. For a single turn that way is longer.
+    #[inline(always)]
+    fn row(&mut self, event: Event, most: u64) -> u64
+        requires counts { CountsAtMost (2 ^ 64 - 1 - most) self.old.journal.counts }
+        ensures chain { Repeats result self.old event self.new }
+        ensures quiet { IsQuiet self.old self.new }
+        ensures counts { (n : ℕ) → CountsAtMost n self.old.journal.counts → CountsAtMost (n + result) self.new.journal.counts }
+        ensures most { result ≤ most }
+    {
+        let Event::Turn(which) = event else {
+            return 0;
+        };
+        if most < 2 || !self.parts.may_row(which) {
+            return 0;
+        }
+        self.parts.row(which, most)
     }
 
     // One event, by the only caller of the parts' own step.
@@ -127,7 +163,8 @@ impl Machine {
     pub fn attempts(&self) -> u64
         ensures { result ≡ self.now.attempts }
     {
-        self.parts.cpu.count()
+        let _counts = self.parts.counts();
+        self.parts.row_attempts + self.parts.cpu.count()
     }
 }
 

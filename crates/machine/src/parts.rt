@@ -29,6 +29,7 @@ use journal_records::Journal;
 use module_answers::{Modules, load_turn};
 use page_guard::{Entries, Guard};
 use processor::{Mode, Outcome, ram_place};
+use quick_turns::Words;
 use std::marker::Model;
 use sv_types::{Counts, Event, Policy, Verdict};
 
@@ -44,6 +45,9 @@ pub(crate) struct Parts {
     pub(crate) devices: Devices<Port>,
     pub(crate) journal: Journal,
     pub(crate) cpu: Cpu,
+    pub(crate) words: Words,
+    // The attempts of turns that were made in rows.
+    pub(crate) row_attempts: u64,
     // How many printed bytes were taken away.
     pub(crate) cleared: u64,
 }
@@ -104,7 +108,7 @@ impl Parts {
 
     // A load of a hart is under way.
     #[tactic(auto, unfolding(machine_model::specs::HardwareEvent::is_loading))]
-    fn is_loading(&self, which: u8) -> bool
+    pub(crate) fn is_loading(&self, which: u8) -> bool
         ensures { result ≡ is_loading self.now.loading which }
     {
         match &self.modules.loading {
@@ -265,6 +269,8 @@ impl Parts {
             devices: _,
             journal: _,
             cpu: _,
+            words: _,
+            row_attempts: _,
             cleared: _,
         } = self;
         modules.end(&mut guard, &mut mem);

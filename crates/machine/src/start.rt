@@ -29,6 +29,7 @@ use module_answers::Modules;
 use page_guard::{Entries, Guard, Side};
 use page_measure::{Silent, measure};
 use processor::{PAGE_SIZE, RAM_BASE};
+use quick_turns::Words;
 use std::alloc::{AllocError, Global};
 use std::thread::Threads;
 use sv_types::{Digest, Policy, Span};
@@ -62,6 +63,7 @@ impl Parts {
         let caches = empty_caches(alloc, policy.harts)?;
         let journal = Journal::new(alloc)?;
         let cpu = Cpu::new(alloc)?;
+        let words = Words::new(alloc)?;
         let modules = Modules::new(alloc)?;
         Ok(Parts {
             policy,
@@ -74,6 +76,8 @@ impl Parts {
             devices: Devices::new(port),
             journal,
             cpu,
+            words,
+            row_attempts: 0,
             cleared: 0,
         })
     }

@@ -1,28 +1,32 @@
 use Rattle.std.proofs.Common.{◌+◌, ◌-◌, rules, arith}
-use Rattle.machine.proofs.Repeated.{counts_more, counts_within, repeats_more, repeats_stand}
+use Rattle.machine.proofs.Repeated.{counts_on, counts_within, repeats_on, repeats_stand}
 use Rattle.machine.proofs.machine.Machine.repeat.Goals as goal
 
-pub make-requires-clause-counts : goal.make-requires-clause-counts
-make-requires-clause-counts c =
-    counts_within (18446744073709551615 - c.args.count + c.events.made) 18446744073709551614 c.events.self.journal.counts
+pub round-made-requires-clause-counts : goal.round-made-requires-clause-counts
+round-made-requires-clause-counts c =
+    counts_within (18446744073709551615 - c.args.count + c.events.made) (18446744073709551615 - (c.args.count - c.events.made)) c.events.self.journal.counts
     (omega (arith, c.events-test.true, c.ranges.count.fits))
     (c.events.invariant.counts (18446744073709551615 - c.args.count) c.requires.counts)
 
 pub returns-then-printed-clause-stands : goal.returns-then-printed-clause-stands
 returns-then-printed-clause-stands c =
-    repeats_stand (c.events.made + 1) c.args.self.now c.make.new.self c.args.event
-    (repeats_more c.events.made c.args.self.now c.events.self c.make.new.self c.args.event c.events.invariant.chain c.events.invariant.quiet c.make.ensures.makes)
+    repeats_stand (c.events.made + c.round-made.result) c.args.self.now c.round-made.new.self c.args.event
+    (repeats_on c.events.made c.round-made.result c.args.self.now c.events.self c.round-made.new.self c.args.event c.events.invariant.chain c.events.invariant.quiet c.round-made.ensures.chain)
+
+pub returns-then-printed-clause-chain : goal.returns-then-printed-clause-chain
+returns-then-printed-clause-chain c =
+    repeats_on c.events.made c.round-made.result c.args.self.now c.events.self c.round-made.new.self c.args.event c.events.invariant.chain c.events.invariant.quiet c.round-made.ensures.chain
 
 pub returns-then-printed-clause-counts : goal.returns-then-printed-clause-counts
 returns-then-printed-clause-counts c =
-    counts_more c.events.made c.args.self.now.journal.counts c.events.self.journal.counts c.make.new.self.journal.counts c.events.invariant.counts c.make.ensures.counts
+    counts_on c.events.made c.round-made.result c.args.self.now.journal.counts c.events.self.journal.counts c.round-made.new.self.journal.counts c.events.invariant.counts c.round-made.ensures.counts
 
 pub events-preserved : goal.events-preserved
 events-preserved c = record {
-  chain = repeats_more c.events.made c.args.self.now c.events.self c.make.new.self c.args.event c.events.invariant.chain c.events.invariant.quiet c.make.ensures.makes;
+  chain = repeats_on c.events.made c.round-made.result c.args.self.now c.events.self c.round-made.new.self c.args.event c.events.invariant.chain c.events.invariant.quiet c.round-made.ensures.chain;
   quiet = search rules;
-  few = omega (arith, c.events-test.true);
-  counts = counts_more c.events.made c.args.self.now.journal.counts c.events.self.journal.counts c.make.new.self.journal.counts c.events.invariant.counts c.make.ensures.counts;
+  few = omega (arith, c.events-test.true, c.round-made.ensures.most);
+  counts = counts_on c.events.made c.round-made.result c.args.self.now.journal.counts c.events.self.journal.counts c.round-made.new.self.journal.counts c.events.invariant.counts c.round-made.ensures.counts;
 }
 
 pub returns-clause-stands : goal.returns-clause-stands

@@ -1,0 +1,308 @@
+-- A row of turns is as many events, one after another.
+use Rattle.std.proofs.Common.{◌≡◌, ℕ, zero, suc, ◌+◌, ◌<◌, ◌≤◌, List, [], ◌∷◌, length, map, refl, sym, ◌∙◌, ap, subst, arith, Bool, true, false, add-one, ◌⊎◌, inl, inr}
+use Rattle.std.specs.Prelude.{Option, Some, None, is_some, slice_index_or, slice_set}
+use Rattle.std.proofs.lemmas.Bool.Decides.{eqb_tells}
+use Rattle.processor.specs.HypervisorRegisters.{pending}
+use Rattle.processor.specs.declared.lines.Lines.{Lines}
+use Rattle.processor_laws.proofs.ByteLemmas.{lt_or_le}
+use Rattle.hart_answers.proofs.Hosts.{hosts_length}
+use Rattle.hart_answers.specs.Hosts.{host_at, hosts_of}
+use Rattle.hart_answers.specs.declared.seats.Seat.{Seat}
+use Rattle.machine.proofs.Hosts.{core_put, host_there}
+use Rattle.processor.specs.Hardware.{Core, Attempted}
+use Rattle.processor.specs.HardwareAttempt.{attempt}
+use Rattle.processor.specs.Regions.{Region}
+use Rattle.processor.specs.Requests.{after_write}
+use Rattle.processor.specs.declared.outcome.Outcome.{Outcome}
+use Rattle.sv_types.specs.declared.event.Counts.{Counts}
+use Rattle.sv_types.specs.declared.event.Event.{Event}
+use Rattle.sv_types.specs.declared.event.Event.TheVariants.{Turn}
+use Rattle.sv_types.specs.declared.event.Verdict.{Verdict}
+use Rattle.sv_types.specs.declared.event.Verdict.TheVariants.{Running}
+use Rattle.reference.specs.Counting.{counted, count_turn, count_retired, CountsAtMost}
+use Rattle.reference.specs.Devices.{lines_at}
+use Rattle.reference.specs.Run.{step}
+use Rattle.reference.specs.States.{State, Journal}
+use Rattle.machine_model.specs.HardwareEvent.{attempted, left_by}
+use Rattle.machine_model.specs.Machine.{Machine, HostHart, raised, update, with_core, forgets, all_forget}
+use Rattle.machine_model.specs.StandsFor.{StandsFor}
+use Rattle.machine_model.specs.Steps.{IsStep, IsTurn, StepsUnder}
+use Rattle.quick_turns.specs.Rows.{IsRetired, Carries, RetiresThrough}
+use Rattle.machine.proofs.Addressed.{step_addressed}
+use Rattle.machine.proofs.Repeated.{step_counts, counts_more}
+use Rattle.machine.proofs.Stepped.{Bounded, step_bounded, step_happens, step_stands}
+use Rattle.machine.proofs.Turns.{turn_attempts}
+use Rattle.machine.specs.Attempts.{hart_in, nobody}
+use Rattle.machine.specs.Machines.{HaveAddresses}
+use Rattle.machine.specs.Repeats.{IsQuiet, Makes, Repeats}
+use Rattle.machine.specs.Rows.{AreFree, counted_row, after_row, MayRow, MakesRow}
+use Rattle.machine.specs.Turns.{AreOutside, Finished}
+
+-- ---- one hart among all
+
+there_updated : (harts : List HostHart) (h : ℕ) (core : Core) → h < length harts → hart_in (update harts h (with_core core)) h ≡ with_core core (hart_in harts h)
+unfolding update
+there_updated [] h core below = absurd (omega arith)
+there_updated (x ∷ harts) zero core below = refl
+there_updated (x ∷ harts) (suc h) core below = there_updated harts h core (omega arith)
+
+still_there : (harts : List HostHart) (h k : ℕ) (core : Core) → h < length harts → h < length (update harts k (with_core core))
+unfolding update
+still_there [] h k core below = below
+still_there (x ∷ harts) h zero core below = below
+still_there (x ∷ harts) zero (suc k) core below = omega arith
+still_there (x ∷ harts) (suc h) (suc k) core below = let rest = still_there harts h k core (omega arith) in omega (arith, rest)
+
+updated_twice : (harts : List HostHart) (h : ℕ) (first second : Core) → update (update harts h (with_core first)) h (with_core second) ≡ update harts h (with_core second)
+unfolding update
+updated_twice [] h first second = refl
+updated_twice (x ∷ harts) zero first second = refl
+updated_twice (x ∷ harts) (suc h) first second = ap (λ (rest : List HostHart). x ∷ rest) (updated_twice harts h first second)
+
+updated_same : (harts : List HostHart) (h : ℕ) → update harts h (with_core (hart_in harts h).core) ≡ harts
+unfolding update
+updated_same [] h = refl
+updated_same (x ∷ harts) zero = refl
+updated_same (x ∷ harts) (suc h) = ap (λ (rest : List HostHart). x ∷ rest) (updated_same harts h)
+
+still_outside : (harts : List HostHart) (h k : ℕ) (core : Core) → (hart_in (update harts k (with_core core)) h).entry ≡ (hart_in harts h).entry
+unfolding update
+still_outside [] h k core = refl
+still_outside (x ∷ harts) zero zero core = refl
+still_outside (x ∷ harts) zero (suc k) core = refl
+still_outside (x ∷ harts) (suc h) zero core = refl
+still_outside (x ∷ harts) (suc h) (suc k) core = still_outside harts h k core
+
+-- the hart itself, and each of the others
+first_free : (harts : List HostHart) (x : HostHart) (core : Core) → core.reservation ≡ None → AreFree (x ∷ harts) → AreFree (with_core core x ∷ harts)
+first_free harts x core none free zero = none
+first_free harts x core none free (suc h) = free (suc h)
+
+other_free : (harts : List HostHart) (x : HostHart) (k : ℕ) (core : Core) → AreFree (update harts k (with_core core)) → AreFree (x ∷ harts)
+    → AreFree (x ∷ update harts k (with_core core))
+other_free harts x k core rest free zero = free zero
+other_free harts x k core rest free (suc h) = rest h
+
+still_free : (harts : List HostHart) (k : ℕ) (core : Core) → core.reservation ≡ None → AreFree harts → AreFree (update harts k (with_core core))
+unfolding update
+still_free [] k core none free = free
+still_free (x ∷ harts) zero core none free = first_free harts x core none free
+still_free (x ∷ harts) (suc k) core none free = other_free harts x k core (still_free harts k core none (λ i. free (suc i))) free
+
+-- ---- no reservation is forgotten
+
+forgets_none : (hpa width : ℕ) (x : HostHart) → x.core.reservation ≡ None → forgets hpa width x ≡ x
+unfolding after_write
+forgets_none hpa width x none =
+    ap (λ (o : Option ℕ). record x { core = record x.core { reservation = after_write hpa width o } }) none
+    ∙ ap (λ (o : Option ℕ). record x { core = record x.core { reservation = o } }) (sym none)
+
+map_none : (hpa width : ℕ) (harts : List HostHart) → AreFree harts → map (forgets hpa width) harts ≡ harts
+map_none hpa width [] free = refl
+map_none hpa width (x ∷ harts) free = rw (forgets_none hpa width x (free zero), map_none hpa width harts (λ h. free (suc h))) refl
+
+forgets_nothing : (o : Outcome) (harts : List HostHart) → AreFree harts → all_forget o harts ≡ harts
+unfolding all_forget
+forgets_nothing (Outcome.Retired (Some wrote)) harts free = map_none wrote.hpa wrote.width harts free
+forgets_nothing (Outcome.Retired None) harts free = refl
+forgets_nothing Outcome.GuestTrap harts free = refl
+forgets_nothing (Outcome.Exit exit) harts free = refl
+
+-- ---- what is counted
+
+pub row_verdict : (n : ℕ) (j : Journal) → (counted_row n j).verdict ≡ j.verdict
+row_verdict zero j = refl
+row_verdict (suc n) j = row_verdict n j
+
+pub row_printed : (n : ℕ) (j : Journal) → (counted_row n j).printed ≡ j.printed
+row_printed zero j = refl
+row_printed (suc n) j = row_printed n j
+
+pub row_turns : (n : ℕ) (j : Journal) → (counted_row n j).counts.turns ≡ j.counts.turns + n
+row_turns zero j = omega arith
+row_turns (suc n) j = let before = row_turns n j in omega (arith, before)
+
+pub row_retired : (n : ℕ) (j : Journal) → (counted_row n j).counts.retired ≡ j.counts.retired + n
+row_retired zero j = omega arith
+row_retired (suc n) j = let before = row_retired n j in omega (arith, before)
+
+-- ---- one turn more
+
+finished : (o : Outcome) (m after : Machine) (h : ℕ) → IsRetired o → after ≡ record m { journal = counted count_retired m.journal } → Finished o m h after
+finished (Outcome.Retired wrote) m after h retired same = same
+finished Outcome.GuestTrap m after h retired same = absurd retired
+finished (Outcome.Exit exit) m after h retired same = absurd retired
+
+built : (m : Machine) (region other : Region) (harts others : List HostHart) (j : Journal) (n k : ℕ) → region ≡ other → harts ≡ others → n ≡ k
+    → record m { region = region; harts = harts; journal = j; attempts = n } ≡ record m { region = other; harts = others; journal = j; attempts = k }
+built m region other harts others j n k e f g = rw (e, f, g) refl
+
+module _ (m : Machine) (h n : ℕ) (mid : Region) (before : Core) (region : Region) (core : Core) (may : MayRow m h)
+    (carries : Carries (attempt mid before (lines_at m.devices h)) region core) where
+  abbrev now : Machine
+  now = after_row m h n mid before
+
+  abbrev host : HostHart
+  host = hart_in now.harts h
+
+  host_is : host ≡ with_core before (hart_in m.harts h)
+  host_is = there_updated m.harts h before may.below
+
+  core_is : host.core ≡ before
+  core_is = ap (λ (x : HostHart). x.core) host_is
+
+  made : Attempted
+  made = attempted (raised now count_turn) h host
+
+  made_is : made ≡ attempt mid before (lines_at m.devices h)
+  unfolding made attempt
+  made_is = ap (λ (c : Core). attempt mid c (lines_at m.devices h)) core_is
+
+  harts_are : all_forget made.outcome (update now.harts h (with_core made.core)) ≡ update m.harts h (with_core core)
+  harts_are =
+      ap (λ (c : Core). all_forget made.outcome (update now.harts h (with_core c))) (ap (λ (a : Attempted). a.core) made_is ∙ sym carries.core)
+      ∙ ap (all_forget made.outcome) (updated_twice m.harts h before core)
+      ∙ forgets_nothing made.outcome (update m.harts h (with_core core)) (still_free m.harts h core carries.free may.free)
+
+  left : after_row m h (suc n) region core ≡ record (left_by (raised now count_turn) h host) { journal = counted count_retired (raised now count_turn).journal }
+  unfolding attempt made
+  left =
+      built m region made.region (update m.harts h (with_core core)) (all_forget made.outcome (update now.harts h (with_core made.core)))
+      (counted_row (suc n) m.journal) (m.attempts + suc n) (m.attempts + n + 1)
+      (carries.region ∙ sym (ap (λ (a : Attempted). a.region) made_is)) (sym harts_are) (omega arith)
+
+  turned : IsTurn now h (after_row m h (suc n) region core)
+  unfolding attempt made
+  turned =
+      turn_attempts (raised now count_turn) (after_row m h (suc n) region core) h made.outcome
+      (still_there m.harts h h before may.below)
+      (ap (λ (x : HostHart). x.started) host_is ∙ may.attempts.started)
+      may.attempts.free
+      (ap (λ (x : HostHart). x.entry) host_is ∙ may.attempts.outside)
+      refl
+      (finished made.outcome (left_by (raised now count_turn) h host) (after_row m h (suc n) region core) h
+      (subst (λ (a : Attempted). IsRetired a.outcome) (sym made_is) carries.retired) left)
+
+  pub steps : IsStep now (Turn h) (after_row m h (suc n) region core)
+  unfolding IsStep
+  steps = subst (λ (v : Verdict). StepsUnder v now (Turn h) (after_row m h (suc n) region core)) (sym (row_verdict n m.journal ∙ may.running)) turned
+
+-- ---- the row
+
+-- the machine behind so many turns, with all that is known of it
+pub record Rowed (n : ℕ) (m : Machine) (h : ℕ) (after : Machine) : Type 0 where
+  pub chain : Repeats n m (Turn h) after
+  pub quiet : IsQuiet m after
+  pub state : State
+  pub stands : StandsFor after state
+  pub addresses : HaveAddresses state.harts
+  pub bounded : Bounded after
+  pub counts : (k : ℕ) → CountsAtMost k m.journal.counts → CountsAtMost (k + n) after.journal.counts
+
+no_turn : (m : Machine) (h : ℕ) (r : State) (region : Region) (core : Core) → region ≡ m.region → core ≡ (hart_in m.harts h).core → StandsFor m r → HaveAddresses r.harts → Bounded m
+    → Rowed zero m h (after_row m h zero region core)
+no_turn m h r region core e f stands addresses bounded =
+    let harts : update m.harts h (with_core core) ≡ m.harts = ap (λ (c : Core). update m.harts h (with_core c)) f ∙ updated_same m.harts h in
+    let same : after_row m h zero region core ≡ m = built m region m.region (update m.harts h (with_core core)) m.harts m.journal (m.attempts + 0) m.attempts e harts (omega arith) in
+    subst (λ (x : Machine). Rowed zero m h x) (sym same) (record {
+      chain = refl;
+      quiet = refl;
+      state = r;
+      stands = stands;
+      addresses = addresses;
+      bounded = bounded;
+      counts = λ k counts. subst (λ (i : ℕ). CountsAtMost i m.journal.counts) (omega arith) counts;
+    })
+
+one_turn : (m : Machine) (h n : ℕ) (mid : Region) (before : Core) (region : Region) (core : Core) → MayRow m h → AreOutside m
+    → Carries (attempt mid before (lines_at m.devices h)) region core → Rowed n m h (after_row m h n mid before) → Rowed (suc n) m h (after_row m h (suc n) region core)
+one_turn m h n mid before region core may outside carries row =
+    let now : Machine = after_row m h n mid before in
+    let after : Machine = after_row m h (suc n) region core in
+    let is : IsStep now (Turn h) after = steps m h n mid before region core may carries in
+    let behind : StandsFor after (step row.state (Turn h)) = step_stands now after (Turn h) is row.state row.stands in
+    record {
+      chain = (now, (row.chain, (row.quiet, record { stands = step_stands now after (Turn h) is; event = step_happens now after row.state (Turn h) row.stands is })));
+      quiet = ap (λ (xs : List ℕ). length xs) (row_printed (suc n) m.journal);
+      state = step row.state (Turn h);
+      stands = behind;
+      addresses = step_addressed row.state (Turn h) row.stands.unseen_is_right.region.most row.addresses;
+      bounded = step_bounded now after row.state (Turn h) row.stands is (λ k. still_outside m.harts k h before ∙ outside k) row.bounded;
+      counts = λ k counts.
+          subst (λ (i : ℕ). CountsAtMost i after.journal.counts) (omega arith)
+          (step_counts (k + n) now after row.state (Turn h) row.stands behind (row.counts k counts));
+    }
+
+pub rowed : (n : ℕ) (m : Machine) (h : ℕ) (r : State) (region : Region) (core : Core) → MayRow m h → AreOutside m → StandsFor m r → HaveAddresses r.harts → Bounded m
+    → RetiresThrough n m.region (hart_in m.harts h).core (lines_at m.devices h) region core → Rowed n m h (after_row m h n region core)
+rowed zero m h r region core may outside stands addresses bounded row = no_turn m h r region core row.0 row.1 stands addresses bounded
+rowed (suc n) m h r region core may outside stands addresses bounded (mid, (before, (row, carries))) =
+    one_turn m h n mid before region core may outside carries (rowed n m h r mid before may outside stands addresses bounded row)
+
+pub makes_rowed : (n : ℕ) (m after : Machine) (h : ℕ) (r : State) → MayRow m h → AreOutside m → StandsFor m r → HaveAddresses r.harts → Bounded m
+    → MakesRow n m h after → Rowed n m h after
+makes_rowed n m after h r may outside stands addresses bounded makes =
+    subst (λ (x : Machine). Rowed n m h x) (sym makes.same) (rowed n m h r makes.region makes.core may outside stands addresses bounded makes.retires)
+
+-- ---- one count more
+
+pub counted_more : (n : ℕ) (j after : Journal) → after ≡ counted_row n j → counted count_retired (counted count_turn after) ≡ counted_row (n + 1) j
+counted_more n j after same =
+    ap (λ (x : Journal). counted count_retired (counted count_turn x)) same ∙ ap (λ (k : ℕ). counted_row k j) (sym (add-one n))
+
+-- ---- seats
+
+pub seat_there : (seats : List Seat) (h : ℕ) (new : Seat) → h < length seats → hart_in (hosts_of (slice_set seats h new)) h ≡ host_at new
+seat_there [] h new below = absurd (omega arith)
+seat_there (x ∷ seats) zero new below = refl
+seat_there (x ∷ seats) (suc h) new below = seat_there seats h new (omega arith)
+
+-- what the clause on turns says
+abbrev pub Retire : ℕ → Region → Core → Region → Core → Type 0
+Retire n r core after next = (lines : Lines) → pending core.hregs core.csrs lines ≡ None → RetiresThrough n r core lines after next
+
+pub row_there : (seats : List Seat) (h n : ℕ) (d new : Seat) (r after : Region) → h < length seats
+    → Retire n r (host_at (slice_index_or seats h d)).core after (host_at new).core
+    → Retire n r (hart_in (hosts_of seats) h).core after (hart_in (hosts_of (slice_set seats h new)) h).core
+row_there seats h n d new r after below row =
+    subst (λ (x : HostHart). Retire n r x.core after (hart_in (hosts_of (slice_set seats h new)) h).core) (sym (host_there seats h d below))
+    (subst (λ (x : HostHart). Retire n r (host_at (slice_index_or seats h d)).core after x.core) (sym (seat_there seats h new below)) row)
+
+pub harts_there : (seats : List Seat) (h : ℕ) (d new : Seat) → h < length seats → host_at new ≡ with_core (host_at new).core (host_at (slice_index_or seats h d))
+    → hosts_of (slice_set seats h new) ≡ update (hosts_of seats) h (with_core (hart_in (hosts_of (slice_set seats h new)) h).core)
+harts_there seats h d new below same =
+    core_put seats h d new (λ _. (host_at new).core) below same
+    ∙ ap (λ (x : HostHart). update (hosts_of seats) h (with_core x.core)) (sym (seat_there seats h new below))
+
+-- ---- reservations
+
+none_by : (o : Option ℕ) → is_some o ≡ false → o ≡ None
+none_by None e = refl
+none_by (Some x) e = absurd (cc)
+
+nobody_past : (harts : List HostHart) (h : ℕ) → length harts ≤ h → (hart_in harts h).core.reservation ≡ None
+nobody_past [] h past = refl
+nobody_past (x ∷ harts) zero past = absurd (omega arith)
+nobody_past (x ∷ harts) (suc h) past = nobody_past harts h (omega arith)
+
+-- those of the first harts
+abbrev pub FirstFree : List Seat → ℕ → Type 0
+FirstFree seats n = (h : ℕ) → h < n → (hart_in (hosts_of seats) h).core.reservation ≡ None
+
+pub none_first : (seats : List Seat) → FirstFree seats 0
+none_first seats = λ h below. absurd (omega arith)
+
+pub one_more_free : (seats : List Seat) (n : ℕ) (d : Seat) → n < length seats → is_some (slice_index_or seats n d).hart.core.reservation ≡ false → FirstFree seats n
+    → FirstFree seats (n + 1)
+one_more_free seats n d below free so_far = λ h under. elim (eqb_tells h n) [
+  | inl same ↦
+      subst (λ (k : ℕ). (hart_in (hosts_of seats) k).core.reservation ≡ None) (sym same.1)
+      (ap (λ (x : HostHart). x.core.reservation) (host_there seats n d below) ∙ none_by (slice_index_or seats n d).hart.core.reservation free)
+  | inr other ↦ so_far h (let apart = other.1 in omega (arith, apart))
+]
+
+pub all_free : (seats : List Seat) (n : ℕ) → length seats ≤ n → FirstFree seats n → AreFree (hosts_of seats)
+all_free seats n past first = λ h. elim (lt_or_le h n) [
+  | inl below ↦ first h below
+  | inr behind ↦ nobody_past (hosts_of seats) h (let same = hosts_length seats in omega (arith, same))
+]

@@ -1,0 +1,57 @@
+-- Turns of one hart in a row, each of which carries out an instruction: what they make of the machine. This project's own.
+use Rattle.std.specs.Prelude.{◌≡◌, ℕ, zero, suc, ◌+◌, ◌/◌, ◌%◌, ◌^◌, ◌<◌, List, [], length, None}
+use Rattle.processor.specs.Hardware.{Core}
+use Rattle.processor.specs.HypervisorRegisters.{pending}
+use Rattle.processor.specs.Regions.{Region}
+use Rattle.processor.specs.SecondStage.{WalksApart}
+use Rattle.sv_types.specs.Views.{IsRoot}
+use Rattle.hart.specs.Conditions.{KeepsMode}
+use Rattle.sv_types.specs.declared.event.Verdict.TheVariants.{Running}
+use Rattle.reference.specs.Counting.{counted, count_turn, count_retired}
+use Rattle.reference.specs.Devices.{lines_at}
+use Rattle.reference.specs.States.{Journal}
+use Rattle.machine_model.specs.Machine.{Machine, HostHart, update, with_core}
+use Rattle.quick_turns.specs.Rows.{RetiresThrough}
+use Rattle.machine.specs.Attempts.{hart_in}
+use Rattle.machine.specs.Turns.{Attempts}
+
+-- no hart has a reservation
+abbrev pub AreFree : List HostHart → Type 0
+AreFree harts = (h : ℕ) → (hart_in harts h).core.reservation ≡ None
+
+-- a hart stands at an instruction, and its walks under one of the roots lead to RAM
+pub record MayWalk (region : Region) (host : HostHart) : Type 0 where
+  pub aligned : host.core.pc % 4 ≡ 0
+  pub keeps : KeepsMode host.core.hregs
+  pub stage : host.core.hregs.hgatp / 2 ^ 60 ≡ 8
+  pub root : IsRoot [] host.core.hregs.hgatp
+  pub apart : WalksApart region host.core.hregs.hgatp
+
+-- so many turns counted, each with its instruction
+abbrev pub counted_row : ℕ → Journal → Journal
+counted_row zero j = j
+counted_row (suc n) j = counted count_retired (counted count_turn (counted_row n j))
+
+-- the machine whose hart h has made so many turns, which left this region and this core
+abbrev pub after_row : Machine → ℕ → ℕ → Region → Core → Machine
+after_row m h n region core = record m {
+  region = region;
+  harts = update m.harts h (with_core core);
+  journal = counted_row n m.journal;
+  attempts = m.attempts + n;
+}
+
+-- hart h makes attempts in its turns, takes no interrupt, and no write meets a reservation
+pub record MayRow (m : Machine) (h : ℕ) : Type 0 where
+  pub running : m.journal.verdict ≡ Running
+  pub below : h < length m.harts
+  pub attempts : Attempts m h
+  pub free : AreFree m.harts
+  pub quiet : pending (hart_in m.harts h).core.hregs (hart_in m.harts h).core.csrs (lines_at m.devices h) ≡ None
+
+-- so many turns of hart h were made
+pub record MakesRow (n : ℕ) (m : Machine) (h : ℕ) (after : Machine) : Type 0 where
+  pub region : Region
+  pub core : Core
+  pub retires : RetiresThrough n m.region (hart_in m.harts h).core (lines_at m.devices h) region core
+  pub same : after ≡ after_row m h n region core

@@ -1,0 +1,158 @@
+// Turns of one hart in a row, each of which carries out an instruction.
+
+ghost use Rattle.std.specs.Prelude.{◌≡◌, ◌+◌, ◌-◌, ◌<◌, ◌≤◌, ◌^◌, true, false, length, None};
+ghost use Rattle.processor.specs.HypervisorRegisters.{pending};
+ghost use Rattle.processor.specs.declared.lines.Lines.{Lines};
+ghost use Rattle.reference.specs.Counting.{CountsAtMost};
+ghost use Rattle.reference.specs.Devices.{lines_at};
+ghost use Rattle.machine_model.specs.Machine.{with_core, update};
+ghost use Rattle.hart_answers.specs.Hosts.{host_at, hosts_of};
+ghost use Rattle.quick_turns.specs.Rows.{RetiresThrough};
+ghost use Rattle.machine.specs.Attempts.{hart_in, IsReady, IsUsable, AreUsable};
+ghost use Rattle.machine.specs.Rows.{AreFree, MayWalk, counted_row, MayRow, MakesRow};
+ghost use Rattle.machine.specs.Turns.{AreOutside};
+
+use crate::parts::Parts;
+use gstage_cache::Cache;
+use hart_answers::Seat;
+use host_mem::HostMem;
+use journal_records::Journal;
+use quick_turns::{Words, quick_turns};
+use sv_types::Verdict;
+use trap_entry::pending;
+
+// Turns of a hart on its side, with its cache.
+#[tactic(auto, using(view_laws::proofs::CachesUnderViews::filled_under_view))]
+#[inline(always)]
+fn row_in_seat(
+    words: &mut Words,
+    seat: &mut Seat,
+    cache: &mut Cache,
+    mem: &mut HostMem,
+    most: u64,
+) -> u64
+    requires walks { MayWalk mem.old (host_at seat.old) }
+    requires free { (host_at seat.old).core.reservation ≡ None }
+    requires usable { IsUsable mem.old.tables cache.old }
+    ensures retires { (lines : Lines) → pending (host_at seat.old).core.hregs (host_at seat.old).core.csrs lines ≡ None → RetiresThrough result mem.old (host_at seat.old).core lines mem.new (host_at seat.new).core }
+    ensures host { host_at seat.new ≡ with_core (host_at seat.new).core (host_at seat.old) }
+    ensures most { result ≤ most }
+    ensures tables { mem.new.tables ≡ mem.old.tables }
+    ensures ram { length mem.new.ram ≡ length mem.old.ram }
+    ensures usable { IsUsable mem.new.tables cache.new }
+{
+    let regs = seat.side.registers();
+    quick_turns(words, &mut seat.hart.core, regs, cache, mem, most)
+}
+
+// Turns of a hart among all harts, each with its cache.
+#[inline(always)]
+fn row(
+    words: &mut Words,
+    seats: &mut [Seat],
+    caches: &mut [Cache],
+    which: u8,
+    mem: &mut HostMem,
+    most: u64,
+) -> u64
+    requires there { which < length seats.old }
+    requires number { length caches.old ≡ length seats.old }
+    requires walks { MayWalk mem.old (hart_in (hosts_of seats.old) which) }
+    requires free { AreFree (hosts_of seats.old) }
+    requires usable { AreUsable mem.old.tables caches.old }
+    ensures retires { (lines : Lines) → pending (hart_in (hosts_of seats.old) which).core.hregs (hart_in (hosts_of seats.old) which).core.csrs lines ≡ None → RetiresThrough result mem.old (hart_in (hosts_of seats.old) which).core lines mem.new (hart_in (hosts_of seats.new) which).core }
+    ensures harts { hosts_of seats.new ≡ update (hosts_of seats.old) which (with_core (hart_in (hosts_of seats.new) which).core) }
+    ensures most { result ≤ most }
+    ensures seats { length seats.new ≡ length seats.old }
+    ensures caches { length caches.new ≡ length caches.old }
+    ensures tables { mem.new.tables ≡ mem.old.tables }
+    ensures ram { length mem.new.ram ≡ length mem.old.ram }
+    ensures usable { AreUsable mem.new.tables caches.new }
+{
+    let seat = &mut seats[which as usize];
+    let cache = &mut caches[which as usize];
+    row_in_seat(words, seat, cache, mem, most)
+}
+
+// No hart has a reservation.
+fn are_free(seats: &[Seat]) -> bool
+    ensures { result ≡ true → AreFree (hosts_of seats.now) }
+{
+    let mut seen = 0;
+    'seats: while seen < seats.len() {
+        if seats[seen].hart.core.reservation.is_some() {
+            return false;
+        }
+        seen += 1;
+    }
+    true
+}
+
+// So many turns counted, each with its instruction.
+fn count_row(journal: &mut Journal, made: u64)
+    requires turns { journal.old.counts.turns + made < 2 ^ 64 }
+    requires retired { journal.old.counts.retired + made < 2 ^ 64 }
+    ensures { journal.new ≡ counted_row made journal.old }
+{
+    let mut counted = 0;
+    'turns: while counted < made {
+        journal.count_turn();
+        journal.count_retired();
+        counted += 1;
+    }
+}
+
+impl Parts {
+    // An interrupt is due for a hart.
+    fn is_interrupted(&self, which: u8) -> bool
+        requires there { which < length self.now.harts }
+        ensures { result ≡ false → pending (hart_in self.now.harts which).core.hregs (hart_in self.now.harts which).core.csrs (lines_at self.now.devices which) ≡ None }
+    {
+        let seat = &self.seats[which as usize];
+        pending(
+            &seat.hart.core.csrs,
+            seat.side.registers(),
+            &self.devices.lines(which),
+        )
+        .is_some()
+    }
+
+    /// A hart makes attempts in its turns, no interrupt is due, and no write of it meets a reservation.
+    pub(crate) fn may_row(&self, which: u8) -> bool
+        requires outside { AreOutside self.now }
+        ensures { result ≡ true → MayRow self.now which }
+    {
+        if self.journal.verdict() != Verdict::Running {
+            return false;
+        }
+        if which as usize >= self.seats.len() {
+            return false;
+        }
+        if !self.seats[which as usize].hart.started || self.is_loading(which) {
+            return false;
+        }
+        are_free(&self.seats) && !self.is_interrupted(which)
+    }
+
+    /// Up to so many turns of a hart, each of which carries out an instruction. Answers how many.
+    pub(crate) fn row(&mut self, which: u8, most: u64) -> u64
+        requires may { MayRow self.old which }
+        requires ready { IsReady self.old.region (hart_in self.old.harts which) (lines_at self.old.devices which) }
+        requires counts { CountsAtMost (2 ^ 64 - 1 - most) self.old.journal.counts }
+        requires attempts { self.old.attempts + most < 2 ^ 64 }
+        ensures makes { MakesRow result self.old which self.new }
+        ensures most { result ≤ most }
+    {
+        let made = row(
+            &mut self.words,
+            &mut self.seats,
+            &mut self.caches,
+            which,
+            &mut self.mem,
+            most,
+        );
+        count_row(&mut self.journal, made);
+        self.row_attempts += made;
+        made
+    }
+}
