@@ -9,13 +9,13 @@ returns g c = λ start new.
     c.run-end.ensures.keys c.run-end.ensures.others c.run-end.ensures.autos c.run-end.ensures.end c.run-end.ensures.harts c.report-result.ensures
 
 pub run-end-requires-clause-on : goal.run-end-requires-clause-on
-run-end-requires-clause-on g c = record {
+run-end-requires-clause-on g c κs within = record {
   way = c.requires.fresh.way;
   room = let none = ap (λ (bytes : List ℕ). length bytes) c.requires.fresh.console in omega arith;
 }
 
 pub run-end-requires-clause-few : goal.run-end-requires-clause-few
-run-end-requires-clause-few g c = record {
+run-end-requires-clause-few g c κs within = record {
   events = c.requires.fresh.events;
   autos = let none = c.requires.fresh.autos in omega arith;
 }
