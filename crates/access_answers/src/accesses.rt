@@ -2,6 +2,7 @@
 
 ghost use Rattle.std.specs.Prelude.{◌≡◌, ◌%◌, ◌<◌, length};
 ghost use Rattle.processor.specs.declared.exit.ExitCause.{ExitCause};
+ghost use Rattle.sv_types.specs.Limits.{most_printed};
 ghost use Rattle.reference.specs.Counting.{MayCount};
 ghost use Rattle.reference.specs.Devices.{device_load, device_store};
 ghost use Rattle.machine_model.specs.HostHarts.{host_device_load, host_device_store};
@@ -80,7 +81,7 @@ pub fn device_store<D: DiskPort>(
 )
     requires aligned { seat.old.hart.core.pc % 4 ≡ 0 }
     requires counts { MayCount journal.old.counts }
-    requires room { length journal.old.printed < 4096 }
+    requires room { length journal.old.printed < most_printed }
     ensures machine { (m : Machine) → m.rules.entries ≡ entries.now.entries → m.rules.bound ≡ entries.now.bound → with_devices m which (host_at seat.new) devices.new journal.new ≡ host_device_store (with_devices m which (host_at seat.old) devices.old journal.old) which (host_at seat.old) (mode_of seat.old.side) store.address (device_store devices.old journal.old store.gpa store.width store.value) }
 {
     if devices.store(journal, store.gpa, store.width, store.value) {

@@ -91,7 +91,7 @@ fn registers(rt: HostRuntime) -> Result<(), Fail> {
     let mut mem = HostMem::new(rt.alloc(), size, 16)?;
     assert_eq!(rt; mem.table_bytes(), size);
     assert_eq!(rt; mem.ram_pages(), 16);
-    let guard = Guard::new(rt.alloc(), &mut mem)?;
+    let guard = Guard::new(rt.alloc(), &mut mem, &[])?;
     let entries = Entries::new(rt.alloc(), &[], &[])?;
     let mut seat = Seat {
         hart: Hart::at_boot(),

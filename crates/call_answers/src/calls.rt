@@ -1,7 +1,7 @@
 // What an answer does: to the hart that called, to other harts, to devices and to the journal.
 
 ghost use Rattle.std.specs.Prelude.{◌≡◌, ◌<◌, ◌≤◌, length};
-ghost use Rattle.sv_types.specs.Limits.{most_harts};
+ghost use Rattle.sv_types.specs.Limits.{most_harts, most_printed};
 ghost use Rattle.reference.specs.Answers.{devices_beside, journal_beside};
 ghost use Rattle.reference.specs.Counting.{MayCount};
 ghost use Rattle.machine_model.specs.HostCalls.{host_replied, hosts_beside};
@@ -68,7 +68,7 @@ pub fn give<D: DiskPort>(
 )
     requires there { which < length seats.old }
     requires few { length seats.old ≤ most_harts }
-    requires room { length journal.old.printed < 4096 }
+    requires room { length journal.old.printed < most_printed }
     requires counts { MayCount journal.old.counts }
     requires starts { StartsOneOf (length seats.old) answer.now.beside }
     ensures hosts { hosts_of seats.new ≡ hosts_beside answer.now.beside (update (hosts_of seats.old) which (host_replied answer.now.reply)) }

@@ -107,7 +107,7 @@ fn calls_one_after_another(rt: HostRuntime) -> Result<(), Fail> {
     let mut mem = HostMem::new(rt.alloc(), size, 16)?;
     assert_eq!(rt; mem.table_bytes(), size);
     assert_eq!(rt; mem.ram_pages(), 16);
-    let guard = Guard::new(rt.alloc(), &mut mem)?;
+    let guard = Guard::new(rt.alloc(), &mut mem, &[])?;
     let entries = Entries::new(rt.alloc(), &[ENTRY], &[])?;
     let disk = vec![in rt.alloc(); 0u8; 512]?;
     let mut devices = Devices::new(Block::new(disk));

@@ -1,5 +1,6 @@
 -- A run and its console, while it goes on.
 use Rattle.std.specs.Prelude.{◌≡◌, ◌≤◌, ℕ, List, ◌++◌, length, Bool, false, ◌||◌, ◌==◌, ◌-◌, IsTrue, Option, Some, None, slice_get}
+use Rattle.sv_types.specs.Limits.{most_printed}
 use Rattle.sv_types.specs.declared.event.Event.{Event}
 use Rattle.reference.specs.States.{State}
 use Rattle.reference.specs.Run.{run}
@@ -16,7 +17,7 @@ is_line_feed (Some byte) = byte == 10
 
 -- They are written where 4,096 of them stand, or where the last of them is a line feed.
 abbrev pub is_due : List ℕ → Bool
-is_due printed = length printed == 4096 || is_line_feed (slice_get printed (length printed - 1))
+is_due printed = length printed == most_printed || is_line_feed (slice_get printed (length printed - 1))
 
 -- ---- the run so far
 
@@ -47,7 +48,7 @@ pub record RunBroke (first : Machine) (start : State) (events : List Event) (mac
   pub cleared : List ℕ
   pub stands : Stands machine cleared (run start done)
   pub chain : ReachesFrom first start done machine
-  pub room : length machine.journal.printed ≤ 4096
+  pub room : length machine.journal.printed ≤ most_printed
   pub due : IsTrue (is_due machine.journal.printed)
   pub broke : BreaksOff (after_taking old cleared) new machine.journal.printed
 

@@ -1,5 +1,6 @@
 // A machine's run, with its console.
 ghost use Rattle.std.specs.Prelude.{◌≡◌, ◌<◌, ◌≤◌, ◌-◌, ◌^◌, [], length, IsTrue, IsFalse, OnOk, OnErr};
+ghost use Rattle.sv_types.specs.Limits.{most_printed};
 ghost use Rattle.reference.specs.Counting.{CountsAtMost};
 ghost use Rattle.sv_types.specs.Schedule.{first_events};
 ghost use Rattle.machine_model.specs.Reaches.{Cleared};
@@ -8,10 +9,10 @@ ghost use Rattle.console_run.specs.Standing.{HasState};
 ghost use Rattle.console_run.specs.Console.{is_due, Flushed, HasTaken, HasRunFromStart, RunBrokeFromStart};
 
 use crate::drawing::Drawing;
-use machine::{Machine, PRINTED_ROOM};
+use machine::Machine;
 use outside::{Failed, Sink, write_all};
 use script::Script;
-use sv_types::Verdict;
+use sv_types::{MOST_PRINTED, Verdict};
 
 /// Whether the console's bytes are to be written now: the last of them is a line feed, or 4,096 of them stand.
 fn is_due(printed: &[u8]) -> bool
@@ -19,7 +20,7 @@ fn is_due(printed: &[u8]) -> bool
 {
     match printed.last() {
         None => false,
-        Some(&last) => last == b'\n' || printed.len() == PRINTED_ROOM,
+        Some(&last) => last == b'\n' || printed.len() == MOST_PRINTED,
     }
 }
 
@@ -27,10 +28,10 @@ fn is_due(printed: &[u8]) -> bool
 #[tactic(auto, using(crate::proofs::Standing::flushed_all, crate::proofs::Standing::flushed_none, crate::proofs::Standing::cleared_none))]
 pub fn flush_due<O: Sink>(machine: &mut Machine, out: &mut O) -> Result<(), Failed>
     requires sink { MayWrite (O.state out.old) }
-    requires room { length machine.old.journal.printed ≤ 4096 }
+    requires room { length machine.old.journal.printed ≤ most_printed }
     ensures flushed { OnOk result (Flushed machine.old machine.new (O.state out.old) (O.state out.new)) }
     ensures cleared { Cleared machine.old machine.new }
-    ensures room { OnOk result (length machine.new.journal.printed < 4096) }
+    ensures room { OnOk result (length machine.new.journal.printed < most_printed) }
     ensures rest { OnOk result (IsFalse (is_due machine.new.journal.printed)) }
     ensures machine { OnErr result (machine.new ≡ machine.old) }
     ensures due { OnErr result (IsTrue (is_due machine.old.journal.printed)) }
@@ -58,7 +59,7 @@ pub fn run<O: Sink>(
     requires console { machine.old.journal.printed ≡ [] }
     ensures all { OnOk result (HasRunFromStart machine.old (first_events events script) machine.new (O.state out.old) (O.state out.new)) }
     ensures taken { OnOk result (HasTaken (O.state out.old) (O.state out.new)) }
-    ensures room { OnOk result (length machine.new.journal.printed < 4096) }
+    ensures room { OnOk result (length machine.new.journal.printed < most_printed) }
     ensures rest { OnOk result (IsFalse (is_due machine.new.journal.printed)) }
     ensures some { OnErr result (RunBrokeFromStart machine.old (first_events events script) machine.new (O.state out.old) (O.state out.new)) }
 {

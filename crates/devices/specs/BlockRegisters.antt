@@ -4,7 +4,7 @@ use Rattle.processor.specs.Bytes.{in_ram}
 use Rattle.sv_types.specs.declared.block.BlockStatus.{BlockStatus}
 use Rattle.reference.specs.States.{BlockDevice}
 use Rattle.reference.specs.Start.{block_at_boot}
-use Rattle.reference.specs.BlockDisk.{BlockRegister, Sector, Address, Count, Command, Status, beat_size, sector_size, is_busy, beats_done, beat_gpa, BlockBeat, transfer_ended, block_to_memory, block_to_disk}
+use Rattle.reference.specs.BlockDisk.{BlockRegister, block_width, Sector, Address, Count, Command, Status, beat_size, sector_size, is_busy, beats_done, beat_gpa, BlockBeat, transfer_ended, block_to_memory, block_to_disk}
 use Rattle.reference.specs.Move.{OutsideRam}
 use Rattle.devices.specs.declared.block.registers.Register.{Register}
 
@@ -16,11 +16,7 @@ register_named Register.Command = Command
 register_named Register.Status = Status
 
 abbrev pub width_of : Register → ℕ
-width_of Register.Sector = 8
-width_of Register.Address = 8
-width_of Register.Count = 4
-width_of Register.Command = 4
-width_of Register.Status = 4
+width_of register = block_width (register_named register)
 
 -- a transfer under way begins at a multiple of a beat's bytes, has beats left, and lies on the disk
 pub record IsSound (d : BlockDevice) : Type 0 where

@@ -2,7 +2,7 @@
 
 ghost use Rattle.std.specs.Prelude.{◌≡◌, ◌+◌, ◌%◌, ◌^◌, ◌<◌, ◌≤◌, Some, length, true, false};
 ghost use Rattle.processor.specs.Bytes.{overwrite};
-ghost use Rattle.reference.specs.BlockDisk.{is_busy, can_begin, block_ended, block_told, block_value, block_stored, block_after_beat, beat_gpa, beat_place, beat_size, beats_done, is_under_way};
+ghost use Rattle.reference.specs.BlockDisk.{is_busy, can_begin, block_ended, block_told, block_value, block_stored, block_after_beat, beat_gpa, beat_place, beat_size, beats_done, is_under_way, sector_size};
 ghost use Rattle.reference.specs.Disk.{is_writable};
 ghost use Rattle.reference.specs.States.{BlockDisk};
 ghost use Rattle.sv_types.specs.declared.block.BlockCommand.TheVariants.{DiskToMemory, MemoryToDisk};
@@ -42,9 +42,9 @@ impl Model for Block {
 }
 
 impl Block {
-    /// An idle device with a disk, in whole sectors of 512 bytes.
+    /// An idle device with a disk, in whole sectors.
     pub fn new(disk: Vec<u8>) -> Block
-        requires sectors { length disk.items % 512 ≡ 0 }
+        requires sectors { length disk.items % sector_size ≡ 0 }
         ensures { result ≡ idle_disk disk.items }
     {
         Block {

@@ -1,5 +1,6 @@
 // Accesses to the devices, and the events that reach them.
 ghost use Rattle.std.specs.Prelude.{◌≡◌, ◌<◌, length, slice_get, is_some, option_map};
+ghost use Rattle.sv_types.specs.Limits.{most_printed, most_harts};
 ghost use Rattle.sv_types.specs.Clock.{after_tick, timer_of, with_timer};
 ghost use Rattle.sv_types.specs.Console.{has_room, after_key, without_first};
 ghost use Rattle.reference.specs.Devices.{DeviceLoad, device_load, device_store, lines_at, external_line};
@@ -7,7 +8,7 @@ ghost use Rattle.reference.specs.Disk.{is_writable, disk_bytes, disk_beat};
 ghost use Rattle.dma_guard.specs.Transfers.{told, after_move};
 ghost use Rattle.devices.specs.Bus.{devices_at_boot, devices_loaded, devices_stored, journal_stored};
 
-use crate::clock::Clock;
+use crate::clock::{Clock, HARTS};
 use crate::console::Console;
 use crate::ports::{Place, place_at};
 use dma_guard::{Beaten, DiskPort, DmaGuard};
@@ -45,7 +46,7 @@ impl<D: DiskPort> Devices<D> {
     }
 
     /// The devices at a time with the timers of four harts, and a disk's device as it stands. No input waits.
-    pub fn from_values(disk: D, time: u64, timers: [u64; 4]) -> Devices<D>
+    pub fn from_values(disk: D, time: u64, timers: [u64; HARTS]) -> Devices<D>
         ensures { result ≡ record (devices_at_boot (D.state disk)) { clock = record { time = time; timers = timers } } }
     {
         Devices {
@@ -72,7 +73,7 @@ impl<D: DiskPort> Devices<D> {
     /// console's byte is printed in the journal.
     #[tactic(auto, unfolding(reference::specs::Devices::device_store, reference::specs::Devices::port_store))]
     pub fn store(&mut self, journal: &mut Journal, gpa: u64, width: u8, value: u64) -> bool
-        requires room { length journal.old.printed < 4096 }
+        requires room { length journal.old.printed < most_printed }
         ensures found { result ≡ is_some (device_store self.old journal.old gpa width value) }
         ensures devices { self.new ≡ devices_stored self.old (device_store self.old journal.old gpa width value) }
         ensures journal { journal.new ≡ journal_stored journal.old (device_store self.old journal.old gpa width value) }
@@ -101,7 +102,7 @@ impl<D: DiskPort> Devices<D> {
     /// The wires of a hart.
     #[tactic(auto, unfolding(reference::specs::Devices::lines_at))]
     pub fn lines(&self, hart: u8) -> Lines
-        requires is_hart { hart < 4 }
+        requires is_hart { hart < most_harts }
         ensures { result ≡ lines_at self.now hart }
     {
         Lines {
@@ -145,7 +146,7 @@ impl<D: DiskPort> Devices<D> {
 
     /// Sets a hart's timer. 2^64 - 1 means never.
     pub fn set_timer(&mut self, hart: u8, at: u64)
-        requires is_hart { hart < 4 }
+        requires is_hart { hart < most_harts }
         ensures { self.new ≡ record self.old { clock = with_timer self.old.clock hart at } }
     {
         self.clock.set(hart, at);
@@ -174,7 +175,7 @@ impl<D: DiskPort> Devices<D> {
 
     /// A hart's timer. 2^64 - 1 means never.
     pub fn timer(&self, hart: u8) -> u64
-        requires is_hart { hart < 4 }
+        requires is_hart { hart < most_harts }
         ensures { result ≡ timer_of self.now.clock hart }
     {
         self.clock.at(hart)

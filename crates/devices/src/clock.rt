@@ -1,13 +1,14 @@
 // Time, and when it interrupts each hart.
 
 ghost use Rattle.std.specs.Prelude.{◌≡◌, ◌<◌};
+ghost use Rattle.sv_types.specs.Limits.{most_harts};
 ghost use Rattle.sv_types.specs.Clock.{latest, clock_at_boot, after_tick, timer_of, with_timer, is_due};
 
 use std::marker::Model;
 use sv_types::MOST_HARTS;
 
 /// How many harts have a timer.
-const HARTS: usize = MOST_HARTS as usize;
+pub(crate) const HARTS: usize = MOST_HARTS as usize;
 
 /// A timer that never is due.
 const NEVER: u64 = u64::MAX;
@@ -61,7 +62,7 @@ impl Clock {
 
     /// Sets a hart's timer. 2^64 - 1 means never.
     pub fn set(&mut self, hart: u8, at: u64)
-        requires is_hart { hart < 4 }
+        requires is_hart { hart < most_harts }
         ensures { self.new ≡ with_timer self.old hart at }
     {
         self.timers[usize::from(hart)] = at;
@@ -69,7 +70,7 @@ impl Clock {
 
     /// A hart's timer.
     pub fn at(&self, hart: u8) -> u64
-        requires is_hart { hart < 4 }
+        requires is_hart { hart < most_harts }
         ensures { result ≡ timer_of self.now hart }
     {
         self.timers[usize::from(hart)]
@@ -77,7 +78,7 @@ impl Clock {
 
     /// Whether a hart's timer is set and time has reached it.
     pub fn due(&self, hart: u8) -> bool
-        requires is_hart { hart < 4 }
+        requires is_hart { hart < most_harts }
         ensures { result ≡ is_due self.now hart }
     {
         let timer = self.at(hart);

@@ -2,6 +2,7 @@
 #![tactic(auto)]
 
 ghost use Rattle.std.specs.Prelude.{◌≡◌, ◌%◌, length};
+ghost use Rattle.reference.specs.BlockDisk.{sector_size};
 ghost use Rattle.reference.specs.Disk.{disk_bytes};
 ghost use Rattle.reference.specs.Start.{block_disk, virtio_disk};
 ghost use Rattle.saved_machine.specs.SavedStates.{disk_of};
@@ -23,17 +24,17 @@ pub enum Port {
 }
 
 impl Port {
-    /// A disk in whole sectors of 512 bytes, behind an idle block device.
+    /// A disk in whole sectors, behind an idle block device.
     pub fn block(disk: Vec<u8>) -> Port
-        requires sectors { length disk.items % 512 ≡ 0 }
+        requires sectors { length disk.items % sector_size ≡ 0 }
         ensures { port_disk result ≡ block_disk disk.items }
     {
         Port::Block(Block::new(disk))
     }
 
-    /// A disk in whole sectors of 512 bytes, behind a virtio block device after its reset.
+    /// A disk in whole sectors, behind a virtio block device after its reset.
     pub fn virtio(disk: Vec<u8>) -> Port
-        requires sectors { length disk.items % 512 ≡ 0 }
+        requires sectors { length disk.items % sector_size ≡ 0 }
         ensures { port_disk result ≡ virtio_disk disk.items }
     {
         Port::Virtio(Virtio::new(disk))

@@ -3,6 +3,7 @@
 ghost use Rattle.std.specs.Prelude.{◌≡◌, ℕ, ◌≤◌, ◌<◌, ◌&&◌, ◌++◌, nat_le, nat_lt, map, Some, length, replicate, slice_index, if◌then◌else◌, IfOk, OnOk};
 ghost use Rattle.sv_types.specs.Kernel.{is_text_of, filled_part, text_page, text_page_in, text_of};
 ghost use Rattle.processor.specs.Regions.{most_ram_pages};
+ghost use Rattle.processor.specs.Bytes.{page_size};
 ghost use Rattle.elf64_load.specs.Images.{segment_of, segments_of, text_owner};
 
 use elf64_sections::push_zeros;
@@ -112,7 +113,7 @@ fn text_owners(alloc: Global, segments: &[Segment]) -> Result<Vec<usize>, AllocE
 fn filled_part<'a>(page: usize, segment: &Segment<'a>) -> &'a [u8]
     requires { page ≤ most_ram_pages }
     ensures part { result.now ≡ filled_part page (segment_of segment.now) }
-    ensures short { length result.now ≤ 4096 }
+    ensures short { length result.now ≤ page_size }
 {
     let place = ram_place(segment.gpa);
     let start = (PAGE_BYTES * (page as u64).saturating_sub(place / PAGE_BYTES)) as usize;

@@ -4,6 +4,7 @@ ghost use Rattle.std.specs.Prelude.{◌≡◌, ℕ, ◌+◌, ◌*◌, ◌/◌, �
 ghost use Rattle.std.specs.Option.{ok_or};
 ghost use Rattle.processor.specs.SecondStage.{walk_guest, WalksApart};
 ghost use Rattle.processor.specs.CachedWalks.{line_permits, no_lines, LineAgrees, CacheAgrees, FilledUnder};
+ghost use Rattle.processor.specs.Bytes.{page_size};
 ghost use Rattle.gstage_cache.specs.Lookup.{line_for, is_held, place_by, place_held, line_of_mapping, IsKept};
 ghost use Rattle.gstage_cache.specs.Fills.{nothing_filled, filled_further};
 
@@ -47,7 +48,7 @@ impl Cache {
 
     /// Whether the translation of an address under an `hgatp` value is held.
     pub fn holds(&self, hgatp: u64, gpa: u64) -> bool
-        ensures { result ≡ is_held (line_for self.now hgatp (gpa / 4096)) }
+        ensures { result ≡ is_held (line_for self.now hgatp (gpa / page_size)) }
     {
         self.line(hgatp, gpa / PAGE_BYTES).is_some()
     }
@@ -78,7 +79,7 @@ impl Cache {
     #[inline(always)]
     pub fn held_place(&self, mem: &HostMem, hgatp: u64, gpa: u64, access: Access) -> Option<u64>
         requires agrees { CacheAgrees mem.now.tables self.now }
-        ensures held { result ≡ place_held (line_for self.now hgatp (gpa / 4096)) gpa access }
+        ensures held { result ≡ place_held (line_for self.now hgatp (gpa / page_size)) gpa access }
         ensures walk { IfSome result (λ hpa. walk_guest mem.now hgatp gpa access ≡ Some hpa) }
     {
         match self.line(hgatp, gpa / PAGE_BYTES) {
@@ -104,7 +105,7 @@ impl Cache {
         ensures value { result ≡ ok_or (walk_guest mem.now hgatp gpa access) (record { gpa = gpa }) }
         ensures agrees { CacheAgrees mem.now.tables self.new }
         ensures filled { FilledUnder mem.now.tables hgatp self.old self.new }
-        ensures held { IfOk result (λ _. is_held (line_for self.new hgatp (gpa / 4096)) ≡ true) }
+        ensures held { IfOk result (λ _. is_held (line_for self.new hgatp (gpa / page_size)) ≡ true) }
     {
         self.walk_on::<Brand>(mem, hgatp, gpa, access, Blank::new(1))
     }
@@ -127,7 +128,7 @@ impl Cache {
         ensures value { result ≡ ok_or (walk_guest mem.now hgatp gpa access) (record { gpa = gpa }) }
         ensures agrees { CacheAgrees mem.now.tables self.new }
         ensures filled { FilledUnder mem.now.tables hgatp self.old self.new }
-        ensures held { IfOk result (λ _. is_held (line_for self.new hgatp (gpa / 4096)) ≡ true) }
+        ensures held { IfOk result (λ _. is_held (line_for self.new hgatp (gpa / page_size)) ≡ true) }
     {
         let mut steps = Steps::<L>::new(blank);
         self.walk_counted(mem, hgatp, gpa, access, &mut steps)
@@ -148,8 +149,8 @@ impl Cache {
         ensures value { result ≡ ok_or (walk_guest mem.now hgatp gpa access) (record { gpa = gpa }) }
         ensures agrees { CacheAgrees mem.now.tables self.new }
         ensures filled { FilledUnder mem.now.tables hgatp self.old self.new }
-        ensures held { IfOk result (λ _. is_held (line_for self.new hgatp (gpa / 4096)) ≡ true) }
-        ensures none { is_held (line_for self.old hgatp (gpa / 4096)) ≡ true → steps.new ≡ steps.old }
+        ensures held { IfOk result (λ _. is_held (line_for self.new hgatp (gpa / page_size)) ≡ true) }
+        ensures none { is_held (line_for self.old hgatp (gpa / page_size)) ≡ true → steps.new ≡ steps.old }
         ensures steps { steps.new ≤ steps.old + 3 }
     {
         match self.line(hgatp, gpa / PAGE_BYTES) {
@@ -173,7 +174,7 @@ impl Cache {
         ensures value { result ≡ ok_or (walk_guest mem.now hgatp gpa access) (record { gpa = gpa }) }
         ensures agrees { CacheAgrees mem.now.tables self.new }
         ensures filled { FilledUnder mem.now.tables hgatp self.old self.new }
-        ensures held { IfOk result (λ _. is_held (line_for self.new hgatp (gpa / 4096)) ≡ true) }
+        ensures held { IfOk result (λ _. is_held (line_for self.new hgatp (gpa / page_size)) ≡ true) }
         ensures steps { steps.new ≤ steps.old + 3 }
     {
         let Some(mapping) = find_mapping(mem, hgatp, gpa, steps) else {
@@ -234,7 +235,7 @@ fn permits(line: &CacheLine, access: Access) -> bool
 
 // Where a line of the address's page leads an access, if it permits it.
 fn place_by(mem: &HostMem, line: &CacheLine, gpa: u64, access: Access) -> Option<u64>
-    requires page { line.now.page ≡ gpa / 4096 }
+    requires page { line.now.page ≡ gpa / page_size }
     requires agrees { LineAgrees mem.now.tables line.now }
     ensures held { result ≡ place_by line.now gpa access }
     ensures walk { result ≡ walk_guest mem.now line.now.hgatp gpa access }
@@ -248,7 +249,7 @@ fn place_by(mem: &HostMem, line: &CacheLine, gpa: u64, access: Access) -> Option
 
 // What a line of the address's page answers.
 fn hit(mem: &HostMem, line: &CacheLine, gpa: u64, access: Access) -> Result<u64, GuestFault>
-    requires page { line.now.page ≡ gpa / 4096 }
+    requires page { line.now.page ≡ gpa / page_size }
     requires agrees { LineAgrees mem.now.tables line.now }
     ensures { result ≡ ok_or (walk_guest mem.now line.now.hgatp gpa access) (record { gpa = gpa }) }
 {

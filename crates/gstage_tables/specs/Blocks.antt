@@ -1,8 +1,16 @@
--- Blocks of RAM of 2 MiB, each of 512 pages: what one level-0 table maps, or one level-1 leaf.
+-- Blocks of RAM of 2 MiB: what one level-0 table maps, or one level-1 leaf.
 -- RISC-V Privileged manual, "Sv39: Page-Based 39-bit Virtual-Memory System": megapages.
 use Rattle.std.specs.Prelude.{◌≡◌, ℕ, zero, suc, ◌+◌, ◌-◌, ◌*◌, ◌≤◌, min, Bool, true, false, ◌&&◌, ◌==◌, if◌then◌else◌, nat_le, List, slice_index_or}
 use Rattle.sv_types.specs.declared.protection.Protection.{Protection}
 use Rattle.sv_types.specs.declared.protection.Protection.TheVariants.{Free, Held, Approved}
+
+-- the words of a table, each an entry of 8 bytes
+abbrev pub table_words : ℕ
+table_words = 512
+
+-- the pages of a block: one for each word of a level-0 table
+abbrev pub block_pages : ℕ
+block_pages = table_words
 
 abbrev pub is_free : Protection → Bool
 is_free Free = true
@@ -20,11 +28,11 @@ taken_among protections first (suc count) = taken_among protections first count 
 
 -- how many pages of a block are taken
 unfoldable pub taken_pages : (ℕ → Protection) → (block : ℕ) → ℕ
-taken_pages protections block = taken_among protections (512 * block) 512
+taken_pages protections block = taken_among protections (block_pages * block) block_pages
 
 -- a block lies in RAM with all its pages
 abbrev pub lies_in_ram : (ram_pages block : ℕ) → Bool
-lies_in_ram ram_pages block = nat_le (512 * block + 512) ram_pages
+lies_in_ram ram_pages block = nat_le (block_pages * block + block_pages) ram_pages
 
 -- a block that one leaf maps: it lies in RAM, and none of its pages is taken
 abbrev pub is_whole : (ram_pages : ℕ) → (ℕ → Protection) → (block : ℕ) → Bool
@@ -45,4 +53,4 @@ recounted count false false = count
 
 -- the counts of taken pages are right for each block that lies in RAM
 pub record CountsTaken (counts : List ℕ) (ram_pages : ℕ) (protections : ℕ → Protection) : Type 0 where
-  pub each : (block : ℕ) → 512 * block + 512 ≤ ram_pages → slice_index_or counts block 0 ≡ taken_pages protections block
+  pub each : (block : ℕ) → block_pages * block + block_pages ≤ ram_pages → slice_index_or counts block 0 ≡ taken_pages protections block

@@ -9,17 +9,18 @@ use Rattle.processor.specs.Regions.{most_ram_pages}
 use Rattle.processor.specs.Translation.{is_leaf}
 use Rattle.sv_types.specs.Views.{Sight, OfKernel, OfUser, OfEntry, view_permits}
 use Rattle.processor.specs.declared.access.Access.TheVariants.{Fetch, Store}
+use Rattle.sv_types.specs.Limits.{most_entries}
 use Rattle.sv_types.specs.declared.protection.Protection.{Protection}
 use Rattle.sv_types.specs.declared.protection.Protection.TheVariants.{Free}
 use Rattle.sv_types.specs.declared.view.View.{View}
 use Rattle.sv_types.specs.declared.view.View.TheVariants.{Kernel, User, Entry}
-use Rattle.gstage_tables.specs.Blocks.{is_whole, taken_pages, CountsTaken}
+use Rattle.gstage_tables.specs.Blocks.{is_whole, taken_pages, CountsTaken, table_words, block_pages}
 
 -- ---- the trees
 
 -- the most entries that are bound to a page
 abbrev pub most_bound : ℕ
-most_bound = 64
+most_bound = most_entries
 
 -- what contracts see of trees: the pages of RAM, the page that each entry is bound to, and how many pages of each block are
 -- taken
@@ -45,17 +46,28 @@ sight_in bound tree =
 
 -- ---- where the tables lie, in pages of the table part
 
+-- the last page of a block, as they are counted from 0
+abbrev pub last_in_block : ℕ
+last_in_block = 511
+
 -- the level-0 tables of one tree
 abbrev pub leaf_tables : ℕ → ℕ
-leaf_tables ram_pages = (ram_pages + 511) / 512
+leaf_tables ram_pages = (ram_pages + last_in_block) / block_pages
+
+-- the pages of a root, and its words
+abbrev pub root_pages : ℕ
+root_pages = 4
+
+abbrev pub root_words : ℕ
+root_words = root_pages * table_words
 
 -- the root of a tree
 abbrev pub root_table : (tree : ℕ) → ℕ
-root_table tree = 4 * tree
+root_table tree = root_pages * tree
 
 -- the level-1 table of a tree
 abbrev pub middle_table : (trees tree : ℕ) → ℕ
-middle_table trees tree = 4 * trees + tree
+middle_table trees tree = root_pages * trees + tree
 
 -- the first level-0 table of a tree, where each tree has so many
 abbrev pub leaf_table : (trees leaf_tables tree : ℕ) → ℕ
@@ -64,7 +76,8 @@ leaf_table trees leaf_tables tree = 5 * trees + tree * leaf_tables
 -- the pages of all tables, and of what lies behind them up to the next 2 MiB, so that a block of RAM lies at a multiple of
 -- its size
 abbrev pub table_pages : (ram_pages bound : ℕ) → ℕ
-table_pages ram_pages bound = 512 * ((leaf_table (tree_count bound) (leaf_tables ram_pages) (tree_count bound) + 511) / 512)
+table_pages ram_pages bound =
+    block_pages * ((leaf_table (tree_count bound) (leaf_tables ram_pages) (tree_count bound) + last_in_block) / block_pages)
 
 abbrev pub table_size : (ram_pages bound : ℕ) → ℕ
 table_size ram_pages bound = page_size * table_pages ram_pages bound
@@ -91,7 +104,7 @@ root_word trees tree i = if i == 2 then pointer (middle_table trees tree) else 0
 unfoldable pub middle_word : (trees leaf_tables table_pages : ℕ) → Sight → (tree i : ℕ) → (whole : Bool) → ℕ
 middle_word trees leaf_tables table_pages sight tree i whole =
     if nat_lt i leaf_tables
-    then (if whole then leaf sight (512 * i) Free (table_pages + 512 * i) else pointer (leaf_table trees leaf_tables tree + i))
+    then (if whole then leaf sight (block_pages * i) Free (table_pages + block_pages * i) else pointer (leaf_table trees leaf_tables tree + i))
     else 0
 
 -- the entry for page p of RAM, which lies behind the tables, and 0 past its end
@@ -106,20 +119,20 @@ pub record HoldsTrees (tables : List ℕ) (ram_pages : ℕ) (bound : List ℕ) (
   pub size : length tables ≡ table_size ram_pages (length bound)
   pub most : ram_pages ≤ most_ram_pages
   pub few : length bound ≤ most_bound
-  pub roots : (tree i : ℕ) → tree < tree_count (length bound) → i < 2048
-      → word tables (8 * (512 * root_table tree + i)) 8 ≡ root_word (tree_count (length bound)) tree i
-  pub middles : (tree i : ℕ) → tree < tree_count (length bound) → i < 512
-      → word tables (8 * (512 * middle_table (tree_count (length bound)) tree + i)) 8
+  pub roots : (tree i : ℕ) → tree < tree_count (length bound) → i < root_words
+      → word tables (8 * (table_words * root_table tree + i)) 8 ≡ root_word (tree_count (length bound)) tree i
+  pub middles : (tree i : ℕ) → tree < tree_count (length bound) → i < table_words
+      → word tables (8 * (table_words * middle_table (tree_count (length bound)) tree + i)) 8
       ≡ middle_word (tree_count (length bound)) (leaf_tables ram_pages) (table_pages ram_pages (length bound)) (sight_in bound tree) tree i
       (is_whole ram_pages protections i)
-  pub leaves : (tree p : ℕ) → tree < tree_count (length bound) → p < 512 * leaf_tables ram_pages
-      → word tables (8 * (512 * leaf_table (tree_count (length bound)) (leaf_tables ram_pages) tree + p)) 8
+  pub leaves : (tree p : ℕ) → tree < tree_count (length bound) → p < block_pages * leaf_tables ram_pages
+      → word tables (8 * (table_words * leaf_table (tree_count (length bound)) (leaf_tables ram_pages) tree + p)) 8
       ≡ leaf_word ram_pages (table_pages ram_pages (length bound)) (sight_in bound tree) protections p
 
 -- each block that lies in RAM is one leaf of level 1 in each tree exactly where all its pages are free
 pub record MapsBlocks (tables : List ℕ) (ram_pages : ℕ) (bound : List ℕ) (protections : ℕ → Protection) : Type 0 where
-  pub each : (tree block : ℕ) → tree < tree_count (length bound) → 512 * block + 512 ≤ ram_pages
-      → is_leaf 1 (word tables (8 * (512 * middle_table (tree_count (length bound)) tree + block)) 8) ≡ (taken_pages protections block == 0)
+  pub each : (tree block : ℕ) → tree < tree_count (length bound) → block_pages * block + block_pages ≤ ram_pages
+      → is_leaf 1 (word tables (8 * (table_words * middle_table (tree_count (length bound)) tree + block)) 8) ≡ (taken_pages protections block == 0)
 
 -- the trees for these protections lie in the tables, and count the pages that are taken
 pub record AreDrawn (tables : List ℕ) (trees : Shape) (protections : ℕ → Protection) : Type 0 where

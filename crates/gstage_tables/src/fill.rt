@@ -2,10 +2,10 @@
 
 ghost use Rattle.std.specs.Prelude.{◌≡◌, ◌+◌, ◌*◌, ◌/◌, ◌%◌, ◌≤◌, length};
 ghost use Rattle.processor.specs.Bytes.{word, write_word};
-ghost use Rattle.gstage_tables.specs.Layout.{root_word};
+ghost use Rattle.gstage_tables.specs.Layout.{root_word, root_words};
 ghost use Rattle.gstage_tables.specs.Written.{Wrote};
 
-use crate::words::root_word;
+use crate::words::{ROOT_WORDS, root_word};
 use host_mem::{HostMem, Steps};
 use std::sync::ledger::Ledger;
 
@@ -42,9 +42,9 @@ pub(crate) fn fill_roots(mem: &mut HostMem, trees: u64)
     requires trees { trees ≤ 66 }
     requires size { 16384 * trees ≤ length mem.old.tables }
     ensures ram { mem.new.ram ≡ mem.old.ram }
-    ensures words { Wrote mem.old.tables mem.new.tables (2048 * trees) (λ k. k) (λ k. root_word trees (k / 2048) (k % 2048)) }
+    ensures words { Wrote mem.old.tables mem.new.tables (root_words * trees) (λ k. k) (λ k. root_word trees (k / root_words) (k % root_words)) }
 {
-    for k in 0..2048 * trees {
-        put(mem, k, root_word(trees, k / 2048, k % 2048));
+    for k in 0..ROOT_WORDS * trees {
+        put(mem, k, root_word(trees, k / ROOT_WORDS, k % ROOT_WORDS));
     }
 }

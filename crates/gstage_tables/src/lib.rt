@@ -8,26 +8,27 @@ ghost use Rattle.processor.specs.Regions.{most_ram_pages};
 ghost use Rattle.sv_types.specs.Views.{AreViews, view_hgatp, view_permits, protect, all_free};
 ghost use Rattle.processor.specs.declared.access.Access.TheVariants.{Fetch};
 ghost use Rattle.sv_types.specs.declared.protection.Protection.{Protection as Kind};
-ghost use Rattle.gstage_tables.specs.Blocks.{is_free, lies_in_ram, is_whole_by, recounted};
-ghost use Rattle.gstage_tables.specs.Layout.{most_bound, tree_count, sight_in, leaf_tables, middle_table, leaf_table, table_pages, table_size, leaf, middle_word, leaf_word, HoldsTrees, AreDrawn, MapsBlocks};
+ghost use Rattle.gstage_tables.specs.Blocks.{is_free, lies_in_ram, is_whole_by, recounted, table_words, block_pages};
+ghost use Rattle.gstage_tables.specs.Layout.{most_bound, tree_count, sight_in, leaf_tables, middle_table, leaf_table, table_pages, table_size, leaf, middle_word, leaf_word, HoldsTrees, AreDrawn, MapsBlocks, root_words};
 ghost use Rattle.gstage_tables.specs.Written.{Wrote};
 
 mod fill;
 mod words;
 
 use crate::fill::{entry_at, fill_roots, put, put_counted};
-use crate::words::{leaf_table, leaf_tables, mapping, pointer, up_to_blocks};
+use crate::words::{
+    BLOCK_PAGES, ROOT_PAGES, ROOT_WORDS, TABLE_WORDS, leaf_table, leaf_tables, mapping, pointer,
+    up_to_blocks,
+};
 use arrayvec::ArrayVec;
 use host_mem::{HostMem, Steps};
+use processor::PAGE_SIZE;
 use std::marker::{Brand, Model};
 use std::sync::ledger::{Blank, Ledger};
 use sv_types::{Protection, View};
 
-/// The pages of a block of 2 MiB, which one level-0 table maps, or one leaf of level 1.
-const BLOCK_PAGES: u64 = 512;
-
-/// The pages of a tree's root.
-const ROOT_PAGES: u64 = 4;
+/// The blocks of a gigabyte: one for each word of a level-1 table.
+const MOST_BLOCKS: usize = TABLE_WORDS as usize;
 
 /// The mode Sv39x4 of `hgatp`, whose VMID begins at bit 44, and the page of the root at bit 0.
 const SV39X4: u64 = 8 << 60;
@@ -47,7 +48,7 @@ const FIRST_ENTRY_HGATP: u64 = USER_HGATP + NEXT_TREE;
 pub struct Trees {
     ram_pages: u64,
     bound: ArrayVec<u32, 64>,
-    counts: [u16; 512],
+    counts: [u16; MOST_BLOCKS],
 }
 
 impl Model for Trees {
@@ -57,11 +58,12 @@ impl Model for Trees {
 
     ghost use Rattle.std.specs.Prelude.{◌≡◌, ◌≤◌, length};
     ghost use Rattle.processor.specs.Regions.{most_ram_pages};
+    ghost use Rattle.gstage_tables.specs.Blocks.{table_words};
     ghost use Rattle.gstage_tables.specs.Layout.{most_bound};
 
     ghost view = { λ t. record { ram_pages = t.ram_pages; bound = t.bound.items; counts = t.counts } };
 
-    ghost invariant = { λ t. (t.ram_pages ≤ most_ram_pages) × ((length t.bound.items ≤ most_bound) × (length t.counts ≡ 512)) };
+    ghost invariant = { λ t. (t.ram_pages ≤ most_ram_pages) × ((length t.bound.items ≤ most_bound) × (length t.counts ≡ table_words)) };
 }
 
 impl Trees {
@@ -73,7 +75,7 @@ impl Trees {
     {
         let trees = 2 + bound as u64;
         let tables = leaf_table(trees, leaf_tables(ram_pages as u64), trees);
-        4096 * up_to_blocks(tables) as usize
+        PAGE_SIZE * up_to_blocks(tables) as usize
     }
 
     /// Trees in which all pages are free, one for each entry beside those of the two modes: `bound` has the pages that the
@@ -101,7 +103,7 @@ impl Trees {
         requires few { length bound.now ≤ most_bound }
         ensures pages { result.ram_pages ≡ ram_pages }
         ensures bound { result.bound ≡ bound.now }
-        ensures counts { result.counts ≡ replicate 512 0 }
+        ensures counts { result.counts ≡ replicate table_words 0 }
     {
         let mut pages = ArrayVec::new();
         let Ok(()) = pages.try_extend_from_slice(bound) else {
@@ -200,7 +202,7 @@ impl Trees {
     // The level-0 tables of one tree.
     fn leaf_tables(&self) -> u64
         ensures value { result ≡ leaf_tables self.now.ram_pages }
-        ensures few { result ≤ 512 }
+        ensures few { result ≤ table_words }
     {
         leaf_tables(self.ram_pages)
     }
@@ -224,7 +226,7 @@ impl Trees {
 
     // Whether a block lies in RAM with all its pages.
     fn lies_in_ram(&self, block: u64) -> bool
-        requires { block < 512 }
+        requires { block < table_words }
         ensures { result ≡ lies_in_ram self.now.ram_pages block }
     {
         BLOCK_PAGES * block + BLOCK_PAGES <= self.ram_pages
@@ -232,7 +234,7 @@ impl Trees {
 
     // Whether one leaf maps a block, by the counts.
     fn is_whole(&self, block: u64) -> bool
-        requires { block < 512 }
+        requires { block < table_words }
         ensures { result ≡ is_whole_by self.now.counts self.now.ram_pages block }
     {
         self.is_whole_with(block, self.counts[block as usize])
@@ -240,7 +242,7 @@ impl Trees {
 
     // The same with another count.
     fn is_whole_with(&self, block: u64, count: u16) -> bool
-        requires { block < 512 }
+        requires { block < table_words }
         ensures { result ≡ (lies_in_ram self.now.ram_pages block && count == 0) }
     {
         self.lies_in_ram(block) && count == 0
@@ -249,8 +251,8 @@ impl Trees {
     // The block of a page of RAM.
     fn block_of(&self, page: u32) -> u64
         requires { page < self.now.ram_pages }
-        ensures value { result ≡ page / 512 }
-        ensures few { result < 512 }
+        ensures value { result ≡ page / block_pages }
+        ensures few { result < table_words }
         ensures counted { result < length self.now.counts }
     {
         // The trees' invariant bounds the pages, and is known once a field was read.
@@ -265,7 +267,7 @@ impl Trees {
         ensures { (old : ℕ → Kind) → HoldsTrees mem.now.tables self.now.ram_pages self.now.bound old → result ≡ is_free (old page) }
     {
         let page = page as u64;
-        let entry = entry_at(mem, 512 * self.leaf_table(0) + page);
+        let entry = entry_at(mem, TABLE_WORDS * self.leaf_table(0) + page);
         entry == self.leaf(0, page, Protection::Free)
     }
 
@@ -312,7 +314,7 @@ impl Trees {
     #[tactic(auto, unfolding(crate::specs::Layout::middle_word))]
     fn middle(&self, tree: u64, i: u64, whole: bool) -> u64
         requires tree { tree < tree_count (length self.now.bound) }
-        requires entry { i < 512 }
+        requires entry { i < table_words }
         ensures { result ≡ middle_word (tree_count (length self.now.bound)) (leaf_tables self.now.ram_pages) (table_pages self.now.ram_pages (length self.now.bound)) (sight_in self.now.bound tree) tree i whole }
     {
         if i < self.leaf_tables() {
@@ -330,18 +332,18 @@ impl Trees {
     fn fill_middles(&self, mem: &mut HostMem)
         requires size { length mem.old.tables ≡ table_size self.now.ram_pages (length self.now.bound) }
         ensures ram { mem.new.ram ≡ mem.old.ram }
-        ensures words { Wrote mem.old.tables mem.new.tables (512 * tree_count (length self.now.bound))
-            (λ k. 2048 * tree_count (length self.now.bound) + k)
+        ensures words { Wrote mem.old.tables mem.new.tables (table_words * tree_count (length self.now.bound))
+            (λ k. root_words * tree_count (length self.now.bound) + k)
             (λ k. middle_word (tree_count (length self.now.bound)) (leaf_tables self.now.ram_pages) (table_pages self.now.ram_pages (length self.now.bound))
-            (sight_in self.now.bound (k / 512)) (k / 512) (k % 512) (lies_in_ram self.now.ram_pages (k % 512))) }
+            (sight_in self.now.bound (k / table_words)) (k / table_words) (k % table_words) (lies_in_ram self.now.ram_pages (k % table_words))) }
     {
-        let first = 2048 * self.count();
-        for k in 0..512 * self.count() {
-            let block = k % 512;
+        let first = ROOT_WORDS * self.count();
+        for k in 0..TABLE_WORDS * self.count() {
+            let block = k % TABLE_WORDS;
             put(
                 mem,
                 first + k,
-                self.middle(k / 512, block, self.lies_in_ram(block)),
+                self.middle(k / TABLE_WORDS, block, self.lies_in_ram(block)),
             );
         }
     }
@@ -351,12 +353,12 @@ impl Trees {
         requires tree { tree < tree_count (length self.now.bound) }
         requires size { length mem.old.tables ≡ table_size self.now.ram_pages (length self.now.bound) }
         ensures ram { mem.new.ram ≡ mem.old.ram }
-        ensures words { Wrote mem.old.tables mem.new.tables (512 * leaf_tables self.now.ram_pages)
-            (λ p. 512 * leaf_table (tree_count (length self.now.bound)) (leaf_tables self.now.ram_pages) tree + p)
+        ensures words { Wrote mem.old.tables mem.new.tables (block_pages * leaf_tables self.now.ram_pages)
+            (λ p. table_words * leaf_table (tree_count (length self.now.bound)) (leaf_tables self.now.ram_pages) tree + p)
             (λ p. leaf_word self.now.ram_pages (table_pages self.now.ram_pages (length self.now.bound)) (sight_in self.now.bound tree) all_free p) }
     {
-        let first = 512 * self.leaf_table(tree);
-        for p in 0..512 * self.leaf_tables() {
+        let first = TABLE_WORDS * self.leaf_table(tree);
+        for p in 0..BLOCK_PAGES * self.leaf_tables() {
             put(mem, first + p, self.free_word(tree, p));
         }
     }
@@ -367,8 +369,8 @@ impl Trees {
         ensures ram { mem.new.ram ≡ mem.old.ram }
         ensures size { length mem.new.tables ≡ length mem.old.tables }
         ensures below { (k : ℕ) → k < 2560 * tree_count (length self.now.bound) → word mem.new.tables (8 * k) 8 ≡ word mem.old.tables (8 * k) 8 }
-        ensures leaves { (tree p : ℕ) → tree < tree_count (length self.now.bound) → p < 512 * leaf_tables self.now.ram_pages
-            → word mem.new.tables (8 * (512 * leaf_table (tree_count (length self.now.bound)) (leaf_tables self.now.ram_pages) tree + p)) 8
+        ensures leaves { (tree p : ℕ) → tree < tree_count (length self.now.bound) → p < block_pages * leaf_tables self.now.ram_pages
+            → word mem.new.tables (8 * (table_words * leaf_table (tree_count (length self.now.bound)) (leaf_tables self.now.ram_pages) tree + p)) 8
             ≡ leaf_word self.now.ram_pages (table_pages self.now.ram_pages (length self.now.bound)) (sight_in self.now.bound tree) all_free p }
     {
         for tree in 0..self.count() {
@@ -388,12 +390,12 @@ impl Trees {
         requires size { length mem.old.tables ≡ table_size self.now.ram_pages (length self.now.bound) }
         ensures ram { mem.new.ram ≡ mem.old.ram }
         ensures words { Wrote mem.old.tables mem.new.tables (tree_count (length self.now.bound))
-            (λ tree. 512 * leaf_table (tree_count (length self.now.bound)) (leaf_tables self.now.ram_pages) tree + page)
+            (λ tree. table_words * leaf_table (tree_count (length self.now.bound)) (leaf_tables self.now.ram_pages) tree + page)
             (λ tree. leaf (sight_in self.now.bound tree) page protection (table_pages self.now.ram_pages (length self.now.bound) + page)) }
         ensures cost { steps.new ≡ steps.old + tree_count (length self.now.bound) }
     {
         for tree in 0..self.count() {
-            let at = 512 * self.leaf_table(tree) + page as u64;
+            let at = TABLE_WORDS * self.leaf_table(tree) + page as u64;
             put_counted(mem, at, self.leaf(tree, page as u64, protection), steps);
         }
     }
@@ -406,20 +408,20 @@ impl Trees {
         whole: bool,
         steps: &mut Steps<L>,
     )
-        requires block { block < 512 }
+        requires block { block < table_words }
         requires size { length mem.old.tables ≡ table_size self.now.ram_pages (length self.now.bound) }
         ensures ram { mem.new.ram ≡ mem.old.ram }
         ensures words { Wrote mem.old.tables mem.new.tables (tree_count (length self.now.bound))
-            (λ tree. 512 * middle_table (tree_count (length self.now.bound)) tree + block)
+            (λ tree. table_words * middle_table (tree_count (length self.now.bound)) tree + block)
             (λ tree. middle_word (tree_count (length self.now.bound)) (leaf_tables self.now.ram_pages) (table_pages self.now.ram_pages (length self.now.bound))
             (sight_in self.now.bound tree) tree block whole) }
         ensures cost { steps.new ≡ steps.old + tree_count (length self.now.bound) }
     {
-        let first = 2048 * self.count() + block;
+        let first = ROOT_WORDS * self.count() + block;
         for tree in 0..self.count() {
             put_counted(
                 mem,
-                first + 512 * tree,
+                first + TABLE_WORDS * tree,
                 self.middle(tree, block, whole),
                 steps,
             );
@@ -435,12 +437,12 @@ impl Trees {
         after: bool,
         steps: &mut Steps<L>,
     )
-        requires block { block < 512 }
+        requires block { block < table_words }
         requires size { length mem.old.tables ≡ table_size self.now.ram_pages (length self.now.bound) }
         ensures ram { mem.new.ram ≡ mem.old.ram }
         ensures same { before ≡ after → mem.new ≡ mem.old }
         ensures words { before ≢ after → Wrote mem.old.tables mem.new.tables (tree_count (length self.now.bound))
-            (λ tree. 512 * middle_table (tree_count (length self.now.bound)) tree + block)
+            (λ tree. table_words * middle_table (tree_count (length self.now.bound)) tree + block)
             (λ tree. middle_word (tree_count (length self.now.bound)) (leaf_tables self.now.ram_pages) (table_pages self.now.ram_pages (length self.now.bound))
             (sight_in self.now.bound tree) tree block after) }
         ensures cost { steps.new ≤ steps.old + tree_count (length self.now.bound) }
@@ -468,8 +470,8 @@ fn is_free(protection: Protection) -> bool
     matches!(protection, Protection::Free)
 }
 
-fn none_taken() -> [u16; 512]
-    ensures { result ≡ replicate 512 0 }
+fn none_taken() -> [u16; MOST_BLOCKS]
+    ensures { result ≡ replicate table_words 0 }
 {
-    [0; 512]
+    [0; MOST_BLOCKS]
 }

@@ -2,25 +2,37 @@
 
 ghost use Rattle.std.specs.Prelude.{◌≡◌, ◌+◌, ◌*◌, ◌/◌, ◌<◌, ◌≤◌, ◌^◌};
 ghost use Rattle.processor.specs.Regions.{most_ram_pages};
-ghost use Rattle.gstage_tables.specs.Layout.{leaf_tables, leaf_table, pointer, flags, root_word};
+ghost use Rattle.gstage_tables.specs.Blocks.{table_words, block_pages};
+ghost use Rattle.gstage_tables.specs.Layout.{leaf_tables, leaf_table, pointer, flags, root_word, last_in_block};
 
 use bitflags::Flags;
 use processor::PteBits;
+
+/// The words of a table.
+pub(crate) const TABLE_WORDS: u64 = 512;
+
+/// The pages of a block of 2 MiB, which one level-0 table maps, or one leaf of level 1.
+pub(crate) const BLOCK_PAGES: u64 = TABLE_WORDS;
+
+/// The pages of a tree's root, and its words.
+pub(crate) const ROOT_PAGES: u64 = 4;
+
+pub(crate) const ROOT_WORDS: u64 = ROOT_PAGES * TABLE_WORDS;
 
 /// The level-0 tables of one tree.
 pub(crate) fn leaf_tables(ram_pages: u64) -> u64
     requires { ram_pages ≤ most_ram_pages }
     ensures value { result ≡ leaf_tables ram_pages }
-    ensures few { result ≤ 512 }
-    ensures covers { ram_pages ≤ 512 * result }
+    ensures few { result ≤ table_words }
+    ensures covers { ram_pages ≤ block_pages * result }
 {
-    ram_pages.div_ceil(512)
+    ram_pages.div_ceil(BLOCK_PAGES)
 }
 
 /// The first level-0 table of a tree, or where the last tree's end, in pages of the table part.
 pub(crate) fn leaf_table(trees: u64, tables: u64, tree: u64) -> u64
     requires trees { trees ≤ 66 }
-    requires tables { tables ≤ 512 }
+    requires tables { tables ≤ table_words }
     requires tree { tree ≤ trees }
     ensures value { result ≡ leaf_table trees tables tree }
     ensures few { result ≤ 34122 }
@@ -31,10 +43,10 @@ pub(crate) fn leaf_table(trees: u64, tables: u64, tree: u64) -> u64
 /// So many pages and those behind them up to a whole number of blocks.
 pub(crate) fn up_to_blocks(pages: u64) -> u64
     requires { pages ≤ 34122 }
-    ensures value { result ≡ 512 * ((pages + 511) / 512) }
+    ensures value { result ≡ block_pages * ((pages + last_in_block) / block_pages) }
     ensures few { result ≤ 34304 }
 {
-    512 * pages.div_ceil(512)
+    BLOCK_PAGES * pages.div_ceil(BLOCK_PAGES)
 }
 
 // The flags of a page that may be read.
@@ -90,5 +102,5 @@ pub(crate) fn root_word(trees: u64, tree: u64, i: u64) -> u64
     requires tree { tree < trees }
     ensures { result ≡ root_word trees tree i }
 {
-    if i == 2 { pointer(4 * trees + tree) } else { 0 }
+    if i == 2 { pointer(ROOT_PAGES * trees + tree) } else { 0 }
 }

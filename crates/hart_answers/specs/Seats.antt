@@ -1,6 +1,7 @@
 -- A seat behind a write, and behind an interrupt, and the first ones of a list changed. This project's own.
 use Rattle.std.specs.Prelude.{ℕ, zero, suc, ◌+◌, Bool, List, [], ◌∷◌, if◌then◌else◌}
 use Rattle.processor.specs.Requests.{after_write}
+use Rattle.processor.specs.HypervisorRegisters.{virtual_software_bit}
 use Rattle.hart_answers.specs.declared.seats.Seat.{Seat}
 
 abbrev pub forgotten : ℕ → ℕ → Seat → Seat
@@ -9,7 +10,7 @@ forgotten hpa width seat = record seat {
 }
 
 abbrev pub notified : Seat → Seat
-notified seat = record seat { hart = record seat.hart { core = record seat.hart.core { csrs = record seat.hart.core.csrs { hvip = 4 } } } }
+notified seat = record seat { hart = record seat.hart { core = record seat.hart.core { csrs = record seat.hart.core.csrs { hvip = virtual_software_bit } } } }
 
 -- of seats that are numbered from `at` on, the first n
 unfoldable pub first_changed : (ℕ → Seat → Seat) → (at n : ℕ) → List Seat → List Seat

@@ -1,6 +1,7 @@
 // All harts, each with the side that it is on.
 
 ghost use Rattle.std.specs.Prelude.{◌≡◌, length, map, if◌then◌else◌};
+ghost use Rattle.processor.specs.HypervisorRegisters.{virtual_software_bit};
 ghost use Rattle.reference.specs.Calls.{mask_names};
 ghost use Rattle.machine_model.specs.Machine.{forgets};
 ghost use Rattle.machine_model.specs.HardwareEvent.{interrupted_hosts};
@@ -60,7 +61,7 @@ fn notify(seat: &mut Seat, named: bool)
 }
 
 fn set_software(csrs: &mut Csrs)
-    ensures { csrs.new ≡ record csrs.old { hvip = 4 } }
+    ensures { csrs.new ≡ record csrs.old { hvip = virtual_software_bit } }
 {
     csrs.hvip = VIRTUAL_SOFTWARE;
 }

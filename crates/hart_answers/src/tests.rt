@@ -23,7 +23,7 @@ fn a_hart_through_all_answers(rt: HostRuntime) -> Result<(), Fail> {
     let mut mem = HostMem::new(rt.alloc(), size, 16)?;
     assert_eq!(rt; mem.table_bytes(), size);
     assert_eq!(rt; mem.ram_pages(), 16);
-    let guard = Guard::new(rt.alloc(), &mut mem)?;
+    let guard = Guard::new(rt.alloc(), &mut mem, &[])?;
     let entries = Entries::new(rt.alloc(), &[0x8000_0104], &[])?;
     let mut side = Side::at_boot(&guard);
     let mut hart = Hart::at_boot();
@@ -78,7 +78,7 @@ fn two_harts_behind_a_write_and_an_interrupt(rt: HostRuntime) -> Result<(), Fail
     let mut mem = HostMem::new(rt.alloc(), size, 16)?;
     assert_eq!(rt; mem.table_bytes(), size);
     assert_eq!(rt; mem.ram_pages(), 16);
-    let guard = Guard::new(rt.alloc(), &mut mem)?;
+    let guard = Guard::new(rt.alloc(), &mut mem, &[])?;
     let mut first = Hart::at_boot();
     first.core.reservation = Some(0x2000);
     let mut second = Hart::at_boot();

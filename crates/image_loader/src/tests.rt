@@ -199,7 +199,7 @@ fn pages_of_text_are_approved(rt: HostRuntime) -> Result<(), Fail> {
     let mut mem = HostMem::new(rt.alloc(), size, RAM_PAGES as usize)?;
     assert_eq!(rt; mem.table_bytes(), size);
     assert_eq!(rt; mem.ram_pages(), RAM_PAGES as usize);
-    let mut guard = Guard::new(rt.alloc(), &mut mem)?;
+    let mut guard = Guard::new(rt.alloc(), &mut mem, &[])?;
     approve_text(rt.alloc(), &mut guard, &mut mem, &image)?;
     assert_eq!(rt; guard.protection(0), Protection::Approved);
     assert_eq!(rt; guard.protection(1), Protection::Free);

@@ -23,10 +23,10 @@ pub fn approve_text(
     mem: &mut HostMem,
     image: &KernelImage,
 ) -> Result<(), AllocError>
-    requires free { guard.old ≡ replicate (length guard.old) Free }
+    requires free { guard.old.pages ≡ replicate (length guard.old.pages) Free }
     requires theirs { IsTheirs mem.old guard.old }
-    requires placed { ArePlaced (length guard.old) (segments_of image.now) }
-    ensures guard { OnOk result (guard.new ≡ with_each guard.old (text_pages (segments_of image.now)) Approved) }
+    requires placed { ArePlaced (length guard.old.pages) (segments_of image.now) }
+    ensures guard { OnOk result (guard.new.pages ≡ with_each guard.old.pages (text_pages (segments_of image.now)) Approved) }
     ensures kept { OnErr result ((guard.new ≡ guard.old) × (mem.new ≡ mem.old)) }
     ensures theirs { StaysTheirs mem.old mem.new guard.old guard.new }
 {
@@ -42,9 +42,9 @@ pub fn approve_text(
 
 // Approves a free page if it is text.
 fn approve_if(is_text: bool, guard: &mut Guard, mem: &mut HostMem, page: u32)
-    requires free { slice_get guard.old page ≡ Some Free }
+    requires free { slice_get guard.old.pages page ≡ Some Free }
     requires theirs { IsTheirs mem.old guard.old }
-    ensures guard { guard.new ≡ (if is_text then slice_set guard.old page Approved else guard.old) }
+    ensures guard { guard.new.pages ≡ (if is_text then slice_set guard.old.pages page Approved else guard.old.pages) }
     ensures theirs { StaysTheirs mem.old mem.new guard.old guard.new }
 {
     if is_text {
@@ -55,9 +55,9 @@ fn approve_if(is_text: bool, guard: &mut Guard, mem: &mut HostMem, page: u32)
 // Holds a free page and approves it.
 #[tactic(auto, using(crate::proofs::FreePages::one_set, crate::proofs::FreePages::none_taken))]
 fn approve_page(guard: &mut Guard, mem: &mut HostMem, page: u32)
-    requires free { slice_get guard.old page ≡ Some Free }
+    requires free { slice_get guard.old.pages page ≡ Some Free }
     requires theirs { IsTheirs mem.old guard.old }
-    ensures guard { guard.new ≡ slice_set guard.old page Approved }
+    ensures guard { guard.new.pages ≡ slice_set guard.old.pages page Approved }
     ensures theirs { StaysTheirs mem.old mem.new guard.old guard.new }
 {
     let span = Span {

@@ -1,6 +1,7 @@
 // Zeros to copy from.
 
 ghost use Rattle.std.specs.Prelude.{◌≡◌, ◌≤◌, replicate, IfOk};
+ghost use Rattle.processor.specs.Bytes.{page_size};
 
 use processor::PAGE_SIZE;
 use std::alloc::{AllocError, Global};
@@ -9,7 +10,7 @@ use std::alloc::{AllocError, Global};
 #[derive(Drop)]
 pub struct Zeros {
     bytes: Vec<u8>,
-    ghost zeros: { bytes.items ≡ replicate 4096 0 },
+    ghost zeros: { bytes.items ≡ replicate page_size 0 },
 }
 
 impl Zeros {
@@ -20,7 +21,7 @@ impl Zeros {
 
     /// So many of them.
     pub fn first(&self, count: usize) -> &[u8]
-        requires { count ≤ 4096 }
+        requires { count ≤ page_size }
         ensures { result.now ≡ replicate count 0 }
     {
         &self.bytes[..count]

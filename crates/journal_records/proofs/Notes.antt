@@ -1,6 +1,6 @@
 -- The first notes stay.
 use Rattle.std.proofs.Common.{◌≡◌, ℕ, zero, suc, ◌<◌, ◌≤◌, List, [], ◌∷◌, ◌++◌, length, take, refl, ap, arith}
-use Rattle.reference.specs.Counting.{most_notes}
+use Rattle.sv_types.specs.Limits.{most_notes}
 use Rattle.sv_types.specs.declared.event.Note.{Note}
 
 full : (n : ℕ) (notes rest : List Note) → length notes ≡ n → take n (notes ++ rest) ≡ notes

@@ -1,6 +1,6 @@
 -- A journal's fields as one record, and the room that they have. This project's own.
 use Rattle.std.specs.Prelude.{◌≤◌, length, vec_capacity}
-use Rattle.reference.specs.Counting.{most_notes}
+use Rattle.sv_types.specs.Limits.{most_printed, most_notes}
 use Rattle.reference.specs.States.{Journal}
 use Rattle.journal_records.specs.declared.journal.Journal.TheInside.{Inside}
 
@@ -9,6 +9,6 @@ journal_of j = record { printed = j.printed.items; notes = j.notes.items; counts
 
 -- notes and bytes are kept without taking memory
 pub record HasRoom (j : Inside) : Type 0 where
-  pub printed : 4096 ≤ vec_capacity j.printed
+  pub printed : most_printed ≤ vec_capacity j.printed
   pub notes : most_notes ≤ vec_capacity j.notes
   pub few : length j.notes.items ≤ most_notes

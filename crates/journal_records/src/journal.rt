@@ -1,21 +1,19 @@
 // What the machine records.
 
 ghost use Rattle.std.specs.Prelude.{◌≡◌, ◌<◌, ◌≤◌, ◌-◌, ◌^◌, [], length, IfOk};
+ghost use Rattle.sv_types.specs.Limits.{most_printed, most_notes};
 ghost use Rattle.sv_types.specs.Boot.{no_counts};
 ghost use Rattle.sv_types.specs.declared.event.Note.TheVariants.{Demote, Denied, Load, Unload, Retire};
 ghost use Rattle.sv_types.specs.declared.event.Verdict.TheVariants.{Running, Shutdown, Stopped};
 ghost use Rattle.sv_types.specs.declared.sbi.SbiCode.TheVariants.{Success};
-ghost use Rattle.reference.specs.Counting.{counted, count_turn, count_beat, count_key, count_tick, count_retired, count_trap, count_return, count_demote, count_denied, count_dropped, count_load, count_unload, MayCount, most_notes, noted, printed_low, machine_ended};
+ghost use Rattle.reference.specs.Counting.{counted, count_turn, count_beat, count_key, count_tick, count_retired, count_trap, count_return, count_demote, count_denied, count_dropped, count_load, count_unload, MayCount, noted, printed_low, machine_ended};
 ghost use Rattle.reference.specs.Answers.{count_answer, journal_beside};
 
 use processor::Mode;
 use reference::Beside;
 use std::alloc::{AllocError, Global};
 use std::marker::Model;
-use sv_types::{Counts, MOST_NOTES, Note, Rule, SbiCode, Verdict};
-
-/// The printed bytes for which there is room.
-pub const PRINTED_ROOM: usize = 4096;
+use sv_types::{Counts, MOST_NOTES, MOST_PRINTED, Note, Rule, SbiCode, Verdict};
 
 /// Printed bytes, the first 4,096 notes, counts and the verdict. Contracts see them.
 ///
@@ -45,7 +43,7 @@ impl Journal {
     pub fn new(alloc: Global) -> Result<Journal, AllocError>
         ensures { IfOk result (λ j. j ≡ record { printed = []; notes = []; counts = no_counts; verdict = Running }) }
     {
-        let printed = Vec::with_capacity(alloc, PRINTED_ROOM)?;
+        let printed = Vec::with_capacity(alloc, MOST_PRINTED)?;
         let notes = Vec::with_capacity(alloc, MOST_NOTES)?;
         Ok(Journal {
             printed,
@@ -65,7 +63,7 @@ impl Journal {
         requires few { length notes.now ≤ most_notes }
         ensures { IfOk result (λ j. j ≡ record { printed = []; notes = notes.now; counts = counts; verdict = verdict }) }
     {
-        let printed = Vec::with_capacity(alloc, PRINTED_ROOM)?;
+        let printed = Vec::with_capacity(alloc, MOST_PRINTED)?;
         let mut kept = Vec::with_capacity(alloc, MOST_NOTES)?;
         kept.extend_from_slice(notes)?;
         Ok(Journal {
@@ -113,7 +111,7 @@ impl Journal {
 
     /// Prints the low byte of a value.
     pub fn print(&mut self, value: u64)
-        requires { length self.old.printed < 4096 }
+        requires { length self.old.printed < most_printed }
         ensures { self.new ≡ printed_low value self.old }
     {
         self.printed.push_reserved((value % 256) as u8);
@@ -238,7 +236,7 @@ impl Journal {
     /// What is recorded of what happens beside the answer to a call of a hart's.
     #[tactic(auto, unfolding(reference::specs::Answers::journal_beside))]
     pub fn record(&mut self, hart: u8, beside: Beside)
-        requires room { length self.old.printed < 4096 }
+        requires room { length self.old.printed < most_printed }
         requires counts { MayCount self.old.counts }
         ensures { self.new ≡ journal_beside beside hart self.old }
     {

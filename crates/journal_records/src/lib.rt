@@ -5,4 +5,4 @@ mod journal;
 #[cfg(test)]
 mod tests;
 
-pub use journal::{Journal, PRINTED_ROOM};
+pub use journal::Journal;

@@ -1,5 +1,5 @@
 // The words of `live`.
-ghost use Rattle.std.specs.Prelude.{◌≡◌, map, string_bytes};
+ghost use Rattle.std.specs.Prelude.{map, string_bytes};
 ghost use Rattle.live_cli.specs.LiveWords.{live_judged, live_shape, live_named, live_split, IsLive};
 
 use live_keys::MOST_KEYS;

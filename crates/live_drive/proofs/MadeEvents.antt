@@ -1,5 +1,5 @@
 -- Events that are made one behind another, and what of the console is written.
-use Rattle.std.proofs.Common.{◌≡◌, ◌≤◌, ◌<◌, ◌+◌, ◌-◌, ◌^◌, ℕ, zero, suc, IsTrue, OnOk, OnErr, IsErr, Result, Ok, Err, true, false, List, [], ◌∷◌, ◌++◌, length, drop, refl, sym, ◌∙◌, ap, subst, arith, length-append}
+use Rattle.std.proofs.Common.{◌≡◌, ◌≤◌, ◌<◌, ◌+◌, ◌-◌, ◌^◌, ℕ, IsTrue, OnOk, OnErr, IsErr, Result, Ok, Err, true, false, List, [], ◌∷◌, ◌++◌, length, drop, sym, ◌∙◌, ap, subst, arith, length-append}
 use Rattle.std.proofs.lemmas.List.{length-drop}
 use Rattle.std.specs.Result.{is_err}
 use Rattle.sv_types.specs.declared.event.Event.{Event}
@@ -159,7 +159,7 @@ may_step l way room autos =
     let few = way.few in
     record {
       state = way.state;
-      counts = counts_within (count_of l.journal) 18446744073709551614 l.machine.journal.counts (omega arith) way.counts;
+      counts = counts_within (count_of l.journal) 9223372036854775806 l.machine.journal.counts (omega arith) way.counts;
       room = room;
     }
 

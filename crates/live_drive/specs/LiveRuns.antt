@@ -1,9 +1,11 @@
 -- A live run between two events: what it has made so far, and what holds of it.
 use Rattle.std.specs.Prelude.{◌≡◌, ◌<◌, ◌≤◌, ◌+◌, ◌-◌, ◌^◌, ℕ, List, length}
+use Rattle.sv_types.specs.Limits.{most_printed}
 use Rattle.sv_types.specs.declared.event.Event.{Event}
 use Rattle.sv_types.specs.Schedule.{Schedule, Listed, Rounds, Weave, Auto, random_at}
 use Rattle.reference.specs.Counting.{CountsAtMost}
 use Rattle.machine_model.specs.Machine.{Machine}
+use Rattle.machine.specs.Limits.{most_counts}
 use Rattle.live_keys.specs.Line.{most_keys}
 use Rattle.live_keys.specs.Journal.{events_of, key_bytes, HasRoom}
 use Rattle.live_keys.specs.declared.journal.Journal.{Journal}
@@ -41,13 +43,13 @@ pub record IsUnderWay (l : LiveRun) : Type 0 where
 -- an event may be made: it can be counted, and the console has room for a byte
 pub record MayStep (machine : Machine) : Type 0 where
   pub state : HasState machine
-  pub counts : CountsAtMost (2 ^ 64 - 2) machine.journal.counts
-  pub room : length machine.journal.printed < 4096
+  pub counts : CountsAtMost (most_counts - 1) machine.journal.counts
+  pub room : length machine.journal.printed < most_printed
 
 -- events may be made
 pub record MayGoOn (l : LiveRun) : Type 0 where
   pub way : IsUnderWay l
-  pub room : length l.machine.journal.printed < 4096
+  pub room : length l.machine.journal.printed < most_printed
 
 -- no more events of the script were made than are asked for, and these aren't too many
 pub record MakesFew (l : LiveRun) : Type 0 where

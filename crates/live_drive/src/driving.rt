@@ -1,5 +1,6 @@
 // The machine's loop. It runs on one thread; what another does is known only by the line.
-ghost use Rattle.std.specs.Prelude.{◌≡◌, ◌≢◌, ◌<◌, ◌≤◌, ◌+◌, ◌-◌, ◌^◌, ◌⊎◌, [], length, IsTrue, OnOk, OnErr};
+ghost use Rattle.std.specs.Prelude.{◌≡◌, ◌≢◌, ◌<◌, ◌≤◌, ◌+◌, ◌-◌, ◌^◌, ◌⊎◌, [], length, OnOk, OnErr};
+ghost use Rattle.sv_types.specs.Limits.{most_printed};
 ghost use Rattle.sv_types.specs.declared.event.Verdict.TheVariants.{Running};
 ghost use Rattle.live_keys.specs.Line.{TookAllOf};
 ghost use Rattle.live_drive.specs.LiveRuns.{harts_of, IsUnderWay, MakesFew, MayGoOn};
@@ -23,7 +24,7 @@ fn show_often<O: Sink>(live: &mut LiveRun, out: &mut O) -> Result<(), Failed>
     ensures on { OnOk result (WentOn live.old live.new (O.state out.old) (O.state out.new)) }
     ensures broke { OnErr result (BrokeOff live.old live.new (O.state out.old) (O.state out.new)) }
     ensures way { IsUnderWay live.new }
-    ensures room { OnOk result (length live.new.machine.journal.printed < 4096) }
+    ensures room { OnOk result (length live.new.machine.journal.printed < most_printed) }
     ensures taker { live.new.taker ≡ live.old.taker }
     ensures script { live.new.script ≡ live.old.script }
     ensures events { live.new.events ≡ live.old.events }
@@ -50,7 +51,7 @@ fn make_round<R: Wait, O: Sink, P: Pace>(
     ensures on { OnOk result (WentOn live.old live.new (O.state out.old) (O.state out.new)) }
     ensures broke { OnErr result (BrokeOff live.old live.new (O.state out.old) (O.state out.new)) }
     ensures way { IsUnderWay live.new }
-    ensures room { OnOk result (length live.new.machine.journal.printed < 4096) }
+    ensures room { OnOk result (length live.new.machine.journal.printed < most_printed) }
     ensures line { live.new.taker.line ≡ line.now }
     ensures all { live.new.taker.all ≡ live.old.taker.all }
     ensures harts { harts_of live.new.script ≡ harts_of live.old.script }
@@ -79,7 +80,7 @@ fn make_autos<R: Wait, O: Sink, P: Pace>(
     ensures on { OnOk result (WentOn live.old live.new (O.state out.old) (O.state out.new)) }
     ensures broke { OnErr result (BrokeOff live.old live.new (O.state out.old) (O.state out.new)) }
     ensures way { IsUnderWay live.new }
-    ensures room { OnOk result (length live.new.machine.journal.printed < 4096) }
+    ensures room { OnOk result (length live.new.machine.journal.printed < most_printed) }
     ensures line { live.new.taker.line ≡ line.now }
     ensures all { live.new.taker.all ≡ live.old.taker.all }
     ensures harts { harts_of live.new.script ≡ harts_of live.old.script }

@@ -1,5 +1,6 @@
 // Events that are made at once, each with its place in the journal, and the console.
-ghost use Rattle.std.specs.Prelude.{◌≡◌, ◌≢◌, ◌<◌, ◌≤◌, ◌+◌, ◌-◌, ◌^◌, ◌++◌, ◌∷◌, ℕ, List, [], length, vec_len, IsTrue, OnOk, OnErr};
+ghost use Rattle.std.specs.Prelude.{◌≡◌, ◌≢◌, ◌<◌, ◌≤◌, ◌+◌, ◌-◌, ◌^◌, ◌++◌, ◌∷◌, ℕ, List, [], length, vec_len, OnOk, OnErr};
+ghost use Rattle.sv_types.specs.Limits.{most_printed};
 ghost use Rattle.sv_types.specs.declared.event.Event.{Event as Made};
 ghost use Rattle.sv_types.specs.declared.event.Verdict.TheVariants.{Running};
 ghost use Rattle.reference.specs.Counting.{CountsAtMost};
@@ -38,7 +39,7 @@ fn make<O: Sink>(machine: &mut Machine, out: &mut O, event: Event) -> Result<(),
     requires may { MayStep machine.old }
     ensures on { OnOk result ((made : List Made) → GoesOn made (made ++ event ∷ []) machine.old machine.new (O.state out.old) (O.state out.new)) }
     ensures broke { OnErr result ((made : List Made) → Breaks made (made ++ event ∷ []) machine.old machine.new (O.state out.old) (O.state out.new)) }
-    ensures room { OnOk result (length machine.new.journal.printed < 4096) }
+    ensures room { OnOk result (length machine.new.journal.printed < most_printed) }
     ensures state { HasState machine.new }
     ensures counts { (n : ℕ) → CountsAtMost n machine.old.journal.counts → CountsAtMost (n + 1) machine.new.journal.counts }
     ensures ended { machine.old.journal.verdict ≢ Running → machine.new.journal.verdict ≢ Running }
@@ -63,7 +64,7 @@ fn make_key<O: Sink>(
     ensures keys { key_bytes journal.new ≡ key_bytes journal.old ++ byte ∷ [] }
     ensures places { HasRoom journal.new }
     ensures autos { journal.new.autos ≡ journal.old.autos }
-    ensures room { OnOk result (length machine.new.journal.printed < 4096) }
+    ensures room { OnOk result (length machine.new.journal.printed < most_printed) }
     ensures state { HasState machine.new }
     ensures counts { (n : ℕ) → CountsAtMost n machine.old.journal.counts → CountsAtMost (n + 1) machine.new.journal.counts }
     ensures ended { machine.old.journal.verdict ≢ Running → machine.new.journal.verdict ≢ Running }
@@ -86,7 +87,7 @@ pub fn make_keys<R: Wait, O: Sink>(
     ensures on { OnOk result (WentOn live.old live.new (O.state out.old) (O.state out.new)) }
     ensures broke { OnErr result (BrokeOff live.old live.new (O.state out.old) (O.state out.new)) }
     ensures way { IsUnderWay live.new }
-    ensures room { OnOk result (length live.new.machine.journal.printed < 4096) }
+    ensures room { OnOk result (length live.new.machine.journal.printed < most_printed) }
     ensures line { live.new.taker.line ≡ line.now }
     ensures all { live.new.taker.all ≡ live.old.taker.all }
     // A settled taker was given all that was sent.
@@ -110,7 +111,7 @@ pub fn make_auto<O: Sink>(live: &mut LiveRun, out: &mut O) -> Result<(), Failed>
     ensures on { OnOk result (WentOn live.old live.new (O.state out.old) (O.state out.new)) }
     ensures broke { OnErr result (BrokeOff live.old live.new (O.state out.old) (O.state out.new)) }
     ensures way { IsUnderWay live.new }
-    ensures room { OnOk result (length live.new.machine.journal.printed < 4096) }
+    ensures room { OnOk result (length live.new.machine.journal.printed < most_printed) }
     ensures taker { live.new.taker ≡ live.old.taker }
     ensures harts { harts_of live.new.script ≡ harts_of live.old.script }
     ensures events { live.new.events ≡ live.old.events }

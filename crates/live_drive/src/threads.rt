@@ -1,5 +1,6 @@
 // The two threads of a live run: one reads the keys, the other drives the machine.
-ghost use Rattle.std.specs.Prelude.{◌≡◌, ◌≢◌, ◌<◌, ◌≤◌, ◌-◌, ◌^◌, ◌⊎◌, [], Some, true, false, length, IsErr, IsTrue, OnOk, OnErr};
+ghost use Rattle.std.specs.Prelude.{◌≡◌, ◌≢◌, ◌<◌, ◌≤◌, ◌-◌, ◌^◌, ◌⊎◌, [], true, false, length, IsErr, OnOk, OnErr};
+ghost use Rattle.sv_types.specs.Limits.{most_printed};
 ghost use Rattle.sv_types.specs.declared.event.Verdict.TheVariants.{Running};
 ghost use Rattle.sv_types.specs.Schedule.{Schedule, first_events};
 ghost use Rattle.live_keys.specs.Feeding.{Feeds};
@@ -43,7 +44,7 @@ impl LiveRun {
         driven: Result<(), Failed>,
     ) -> Result<(), Failed>
         requires sink { OnOk driven (MayWrite (O.state out.old)) }
-        requires room { OnOk driven (length self.old.machine.journal.printed < 4096) }
+        requires room { OnOk driven (length self.old.machine.journal.printed < most_printed) }
         requires way { IsUnderWay self.old }
         requires few { MakesFew self.old }
         requires line { self.old.taker.line ≡ line.now }

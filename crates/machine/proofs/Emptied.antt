@@ -1,12 +1,11 @@
 -- The loop that empties caches.
 use Rattle.std.proofs.Common.{◌≡◌, ℕ, zero, suc, ◌+◌, ◌<◌, ◌≤◌, List, [], ◌∷◌, length, refl, ap, slice_set, arith, add-one, subst, sym, ◌∙◌, Bool, true, false}
 use Rattle.std.specs.Prelude.{Some, slice_get}
-use Rattle.processor.specs.CachedWalks.{no_lines}
+use Rattle.processor.specs.CachedWalks.{CacheAgrees, no_lines}
 use Rattle.processor.specs.Regions.{Region}
 use Rattle.gstage_cache.proofs.Lines.{none_agrees}
-use Rattle.view_laws.proofs.CachesUnderViews.{none_under_views}
 use Rattle.machine.proofs.Hosts.{Lines}
-use Rattle.machine.specs.Attempts.{first_emptied, IsUsable, AreUsable}
+use Rattle.machine.specs.Attempts.{first_emptied, AreUsable}
 
 pub none_emptied : (caches : List Lines) → first_emptied 0 caches ≡ caches
 unfolding first_emptied
@@ -28,16 +27,13 @@ emptied_number zero caches = refl
 emptied_number (suc n) [] = refl
 emptied_number (suc n) (x ∷ caches) = ap (λ k. suc k) (emptied_number n caches)
 
-none_usable : (tables : List ℕ) → IsUsable tables no_lines
-none_usable tables = record { agrees = none_agrees tables; views = none_under_views }
-
 there_usable : (tables : List ℕ) (n : ℕ) (caches : List Lines) (h : ℕ) (lines : Lines) → length caches ≤ n → slice_get (first_emptied n caches) h ≡ Some lines
-    → IsUsable tables lines
+    → CacheAgrees tables lines
 unfolding first_emptied
 there_usable tables zero [] h lines below e = absurd (cc)
 there_usable tables zero (x ∷ caches) h lines below e = absurd (omega arith)
 there_usable tables (suc n) [] h lines below e = absurd (cc)
-there_usable tables (suc n) (x ∷ caches) zero lines below e = let same : no_lines ≡ lines = cc in subst (IsUsable tables) same (none_usable tables)
+there_usable tables (suc n) (x ∷ caches) zero lines below e = let same : no_lines ≡ lines = cc in subst (CacheAgrees tables) same (none_agrees tables)
 there_usable tables (suc n) (x ∷ caches) (suc h) lines below e = there_usable tables n caches h lines (omega arith) e
 
 pub all_usable : (tables : List ℕ) (n : ℕ) (caches : List Lines) → length caches ≤ n → AreUsable tables (first_emptied n caches)

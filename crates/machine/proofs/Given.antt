@@ -16,7 +16,7 @@ use Rattle.machine_model.specs.HostExits.{served_load_turn, with_tables}
 use Rattle.machine_model.specs.Machine.{Machine, HostHart, update}
 use Rattle.machine_model.specs.StandsFor.{bound_pages}
 use Rattle.machine_model.specs.Steps.{WithTables}
-use Rattle.page_guard.specs.Guarded.{IsTheirs}
+use Rattle.page_guard.specs.Guarded.{Guarded, IsTheirs, StaysTheirs}
 use Rattle.hart_answers.specs.Hosts.{hosts_of}
 use Rattle.hart_answers.specs.declared.seats.Seat.{Seat}
 use Rattle.module_answers.specs.Parts.{loading_of, facts_in, with_modules}
@@ -31,7 +31,7 @@ module _ (p : Inside) where
 
   -- what happens beside is what a call or a load asks for, by the parts
   pub given_in : (beside : Beside) (now : Machine) → whole ≡ now → IsGiven (host_facts now) now.loading beside
-      → IsGiven (facts_in [] [] (rules_of p.policy) p.mem.ram p.guard p.modules) (loading_of p.modules) beside
+      → IsGiven (facts_in [] [] (rules_of p.policy) p.mem.ram p.guard.pages p.modules) (loading_of p.modules) beside
   given_in beside now same given = subst (λ (m : Machine). IsGiven (host_facts m) m.loading beside) (sym same) given
 
   -- the machine of the parts that an answer leaves
@@ -42,15 +42,15 @@ module _ (p : Inside) where
     journal = journal;
   }
 
-  pub gives : (h : ℕ) (a : Answer) (seats : List Seat) (devices : Devices) (journal : Journal) (mem : Region) (guard : List Protection) (modules : Modules) (now : Machine)
+  pub gives : (h : ℕ) (a : Answer) (seats : List Seat) (devices : Devices) (journal : Journal) (mem : Region) (guard : Guarded) (modules : Modules) (now : Machine)
       → whole ≡ now → hosts_of seats ≡ hosts_beside a.beside (update (hosts_of p.seats.items) h (host_replied a.reply))
       → devices ≡ devices_beside a.beside h p.devices → journal ≡ journal_beside a.beside h p.journal
-      → with_modules whole (rules_of p.policy) mem guard modules ≡ with_tables (host_pages_beside a.beside h whole) mem.tables
-      → IsTheirs p.mem p.guard → IsTheirs mem guard → length guard ≡ length p.guard → length p.guard ≡ p.policy.ram_pages → p.policy.bound.items ≡ []
-      → WithTables now (host_given now h a) (left_parts seats devices journal mem guard modules)
+      → with_modules whole (rules_of p.policy) mem guard.pages modules ≡ with_tables (host_pages_beside a.beside h whole) mem.tables
+      → IsTheirs p.mem p.guard → StaysTheirs p.mem mem p.guard guard → length p.guard.pages ≡ p.policy.ram_pages → p.guard.bound ≡ bound_pages (rules_of p.policy)
+      → WithTables now (host_given now h a) (left_parts seats devices journal mem guard.pages modules)
   unfolding host_given
-  gives h a seats devices journal mem guard modules now is harts device noted made before after size pages unbound =
-      let next : Machine = left_parts seats devices journal mem guard modules in
+  gives h a seats devices journal mem guard modules now is harts device noted made before after pages places =
+      let next : Machine = left_parts seats devices journal mem guard.pages modules in
       let same : next ≡ with_tables (host_given whole h a) mem.tables =
       ap (λ (m : Machine). record m { harts = hosts_of seats; devices = devices; journal = journal }) made
       ∙ ap (λ (x : List HostHart). with_tables (record (host_pages_beside a.beside h whole) { harts = x; devices = devices; journal = journal }) mem.tables) harts
@@ -60,21 +60,23 @@ module _ (p : Inside) where
       (record {
         tables = mem.tables;
         are = record {
-          size = after.trees.size ∙ ap (λ (pages : ℕ). table_size pages 0) size ∙ sym before.trees.size;
+          size = after.theirs.trees.size ∙ ap (λ (pages : ℕ). table_size pages (length guard.bound)) after.size
+              ∙ ap (λ (bound : List ℕ). table_size (length p.guard.pages) (length bound)) after.bound ∙ sym before.trees.size;
           views = subst (λ (g : List Protection). AreViews mem.tables whole.rules.ram_pages (bound_pages whole.rules) (protection_at g)) (ap (λ (m : Machine). m.protections) same)
-              (views_shown whole.rules mem guard after (size ∙ pages) unbound);
+              (views_shown whole.rules mem guard after.theirs (after.size ∙ pages) (after.bound ∙ places));
         };
         same = same;
       })
 
   -- a load that counts a page leaves the tables as they are
   pub counts : (f : Machine → Machine) (modules : Modules) (now : Machine) → whole ≡ now
-      → with_modules whole (rules_of p.policy) p.mem p.guard modules ≡ f whole
-      → IsTheirs p.mem p.guard → length p.guard ≡ p.policy.ram_pages → p.policy.bound.items ≡ []
-      → WithTables now (f now) (with_modules whole (rules_of p.policy) p.mem p.guard modules)
-  counts f modules now is made theirs pages unbound =
-      subst (λ (m : Machine). WithTables m (f m) (with_modules whole (rules_of p.policy) p.mem p.guard modules)) is
-      (stays whole (f whole) (with_modules whole (rules_of p.policy) p.mem p.guard modules) (record { region = refl; protections = refl }) made theirs pages unbound)
+      → with_modules whole (rules_of p.policy) p.mem p.guard.pages modules ≡ f whole
+      → IsTheirs p.mem p.guard → length p.guard.pages ≡ p.policy.ram_pages → p.guard.bound ≡ bound_pages (rules_of p.policy)
+      → WithTables now (f now) (with_modules whole (rules_of p.policy) p.mem p.guard.pages modules)
+  counts f modules now is made theirs pages places =
+      subst (λ (m : Machine). WithTables m (f m) (with_modules whole (rules_of p.policy) p.mem p.guard.pages modules)) is
+      (stays whole (f whole) (with_modules whole (rules_of p.policy) p.mem p.guard.pages modules) (record { region = refl; protections = refl }) made
+      (views_shown (rules_of p.policy) p.mem p.guard theirs pages places))
 
   -- a load that is decided
   pub decides : (h : ℕ) (answer : Answer) (modules : Modules) (after now : Machine) → whole ≡ now → modules ≡ p.modules

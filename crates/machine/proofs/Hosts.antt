@@ -1,6 +1,7 @@
 -- A hart, and a cache, among all.
 use Rattle.std.proofs.Common.{◌≡◌, ℕ, zero, suc, ◌<◌, ◌⊎◌, inl, inr, List, [], ◌∷◌, length, map, refl, ap, sym, ◌∙◌, arith, subst, slice_set, Bool}
 use Rattle.std.specs.Prelude.{Option, Some, None, slice_get, slice_index_or}
+use Rattle.processor.specs.CachedWalks.{CacheAgrees}
 use Rattle.processor.specs.Hardware.{Core}
 use Rattle.processor.specs.declared.cached.CacheLine.{CacheLine}
 use Rattle.processor.specs.declared.outcome.Outcome.{Outcome}
@@ -8,7 +9,7 @@ use Rattle.machine_model.specs.Machine.{HostHart, forgets, all_forget, update, w
 use Rattle.hart_answers.proofs.Hosts.{hosts_set, hosts_updated}
 use Rattle.hart_answers.specs.Hosts.{host_at, hosts_of}
 use Rattle.hart_answers.specs.declared.seats.Seat.{Seat}
-use Rattle.machine.specs.Attempts.{hart_in, IsUsable, AreUsable}
+use Rattle.machine.specs.Attempts.{hart_in, AreUsable}
 
 pub host_there : (seats : List Seat) (h : ℕ) (d : Seat) → h < length seats → hart_in (hosts_of seats) h ≡ host_at (slice_index_or seats h d)
 host_there [] h d below = absurd (omega arith)
@@ -24,12 +25,6 @@ core_put seats h d new next below same =
     sym (hosts_set seats h new) ∙ ap (slice_set (hosts_of seats) h) same ∙ sym (hosts_updated seats h d (with_core (next old)))
     ∙ ap (λ (host : HostHart). update (hosts_of seats) h (with_core (next host))) (sym (host_there seats h d below))
 
--- where none of them is in an entry, nor is the hart at a place
-pub none_entered : (harts : List HostHart) (h : ℕ) → ((host : HostHart) → slice_get harts h ≡ Some host → host.entry ≡ None) → (hart_in harts h).entry ≡ None
-none_entered [] h each = refl
-none_entered (x ∷ harts) zero each = each x refl
-none_entered (x ∷ harts) (suc h) each = none_entered harts h each
-
 -- ---- caches
 
 abbrev pub Lines : Type 0
@@ -41,7 +36,7 @@ there (x ∷ caches) zero d below = refl
 there (x ∷ caches) (suc h) d below = there caches h d (omega arith)
 
 pub usable_there : (tables : List ℕ) (caches : List Lines) (h : ℕ) (d : Lines) → AreUsable tables caches → h < length caches
-    → IsUsable tables (slice_index_or caches h d)
+    → CacheAgrees tables (slice_index_or caches h d)
 usable_there tables caches h d are below = are.each h (slice_index_or caches h d) (there caches h d below)
 
 either : (caches : List Lines) (h i : ℕ) (new lines : Lines) → slice_get (slice_set caches h new) i ≡ Some lines → (new ≡ lines) ⊎ (slice_get caches i ≡ Some lines)
@@ -51,12 +46,12 @@ either (x ∷ caches) zero (suc i) new lines e = inr e
 either (x ∷ caches) (suc h) zero new lines e = inr e
 either (x ∷ caches) (suc h) (suc i) new lines e = either caches h i new lines e
 
-pub usable_set : (tables after : List ℕ) (caches : List Lines) (h : ℕ) (new : Lines) → AreUsable tables caches → after ≡ tables → IsUsable after new
+pub usable_set : (tables after : List ℕ) (caches : List Lines) (h : ℕ) (new : Lines) → AreUsable tables caches → after ≡ tables → CacheAgrees after new
     → AreUsable after (slice_set caches h new)
 usable_set tables after caches h new are same is = record {
   each = λ i lines e. elim (either caches h i new lines e) [
-    | inl at ↦ subst (λ (l : Lines). IsUsable after l) at is
-    | inr old ↦ subst (λ (t : List ℕ). IsUsable t lines) (sym same) (are.each i lines old)
+    | inl at ↦ subst (λ (l : Lines). CacheAgrees after l) at is
+    | inr old ↦ subst (λ (t : List ℕ). CacheAgrees t lines) (sym same) (are.each i lines old)
   ];
 }
 

@@ -13,7 +13,7 @@ use Rattle.reference.specs.States.{Disk, has_number}
 use Rattle.sv_types.specs.ApprovedPages.{numbers_from}
 use Rattle.processor.specs.Bytes.{padded}
 use Rattle.sv_types.specs.Kernel.{LoadedSegment, filled_part, header_entry, is_text_of, segments_ram, text_page, text_page_in, text_of}
-use Rattle.sv_types.specs.Policies.{Rules, bound_within, rules_within}
+use Rattle.sv_types.specs.Policies.{Rules, rules_within}
 use Rattle.processor.specs.Regions.{Region, most_ram_pages}
 use Rattle.sv_types.specs.Views.{with_ram}
 use Rattle.sv_types.specs.declared.protection.Protection.{Protection}
@@ -74,22 +74,6 @@ harts_within rules within = grind (arith, nat_tests)
 
 pub pages_within : (rules : Rules) → IsTrue (rules_within rules) → rules.ram_pages ≤ most_ram_pages
 pages_within rules within = grind (arith, nat_tests)
-
-none_bound : (bound : List ℕ) → length bound ≡ 0 → bound ≡ []
-none_bound [] none = refl
-none_bound (x ∷ bound) none = absurd (omega (arith, none))
-
-chosen : (b x y : Bool) → b ≡ true → IsTrue (if b then x else y) → IsTrue x
-chosen true x y is holds = holds
-chosen false x y is holds = absurd (cc)
-
--- in format 1 no entry is bound
-pub unbound_within : (rules : Rules) → IsTrue (rules_within rules) → rules.bound ≡ []
-unbound_within rules within =
-    let format : (rules.format == 1) ≡ true = grind (arith, nat_tests) in
-    let bound : IsTrue (bound_within rules) = grind (arith, nat_tests) in
-    let none : IsTrue (length rules.bound == 0) = chosen (rules.format == 1) (length rules.bound == 0) _ format bound in
-    none_bound rules.bound (grind (arith, nat_tests))
 
 word_at : (entries : List ℕ) (entry : ℕ) → ((i : ℕ) → get_or entries i 0 < 2 ^ 64) → has_number entries entry ≡ true → entry < 2 ^ 64
 word_at [] entry fits there = absurd (cc there)

@@ -1,3 +1,4 @@
+pub mod BoundPages
 pub mod Starting
 pub mod ImageStarting
 pub mod NewFit

@@ -1,11 +1,11 @@
 -- What a machine that stands for a state may do.
-use Rattle.std.proofs.Common.{◌≡◌, ℕ, zero, suc, ◌<◌, List, [], ◌∷◌, length, refl, sym, ◌∙◌, ap, subst, arith, true, ◌*◌}
-use Rattle.std.specs.Prelude.{Option, Some, None, IfSome}
+use Rattle.std.proofs.Common.{◌≡◌, ℕ, zero, suc, ◌<◌, List, [], ◌∷◌, length, refl, sym, ◌∙◌, ap, subst, arith, true, false, ◌*◌, slice_get}
+use Rattle.std.specs.Prelude.{Option, Some, None, IfSome, option_map, ◌==◌}
 use Rattle.processor.specs.Hardware.{Core}
 use Rattle.processor.specs.HardwareAttempt.{attempt, after_pending, OnlyWrites}
 use Rattle.processor.specs.HardwareMemory.{translated}
-use Rattle.processor.specs.HypervisorRegisters.{pending}
-use Rattle.sv_types.specs.Policies.{Rules}
+use Rattle.processor.specs.HypervisorRegisters.{HypervisorRegisters, pending}
+use Rattle.sv_types.specs.Policies.{Rules, ModuleRule}
 use Rattle.processor.specs.Regions.{Region}
 use Rattle.sv_types.specs.declared.event.Event.TheVariants.{Turn}
 use Rattle.sv_types.specs.declared.event.Verdict.{Verdict}
@@ -15,31 +15,30 @@ use Rattle.sv_types.specs.declared.saved.SavedModule.{SavedModule}
 use Rattle.processor.specs.declared.access.Access.TheVariants as Access
 use Rattle.processor.specs.declared.interrupt.Interrupt.{Interrupt}
 use Rattle.processor.specs.declared.lines.Lines.{Lines}
-use Rattle.processor.specs.declared.hregs.HRegs.{HRegs}
-use Rattle.processor.specs.declared.mode.Mode.{Mode}
-use Rattle.processor.specs.declared.mode.Mode.TheVariants.{Kernel, User}
-use Rattle.sv_types.specs.Views.{IsRoot, OfKernel, OfUser}
-use Rattle.sv_types.specs.declared.view.View.{View}
+use Rattle.processor.specs.declared.exit.Exit.{Exit}
+use Rattle.processor.specs.declared.mode.Mode.TheVariants.{Kernel}
 use Rattle.sv_types.specs.declared.protection.Protection.{Protection}
 use Rattle.processor_laws.proofs.HardwareWrites.{interrupt_writes, fetch_writes}
 use Rattle.reference.specs.Counting.{counted, count_turn, count_retired, count_trap}
 use Rattle.reference.specs.Devices.{lines_at}
 use Rattle.reference.specs.Run.{step}
-use Rattle.reference.specs.States.{State}
-use Rattle.machine_model.specs.HardwareEvent.{attempted, left_by}
+use Rattle.reference.specs.States.{State, Hart, Loading}
+use Rattle.reference.specs.Turn.{leave_entry}
+use Rattle.machine_model.specs.HardwareEvent.{attempted, hart_again, is_loading, left_by, sent_again}
+use Rattle.machine_model.specs.HostHarts.{asks_again, host_outside}
 use Rattle.machine_model.specs.Machine.{Machine, HostHart, HostLoad, raised}
-use Rattle.machine_model.specs.StandsFor.{StandsFor, hregs_in}
+use Rattle.machine_model.specs.StandsFor.{StandsFor, Unseen, machine_of, host_hart, host_harts, load_kept, load_kept_by}
 use Rattle.machine_model.specs.Steps.{IsStep, IsTurn, StepsUnder}
-use Rattle.answer_laws.proofs.TurnsServed.{step_law}
-use Rattle.standing_laws.proofs.Standings.{hart_in_may_attempt, in_order, no_entry}
+use Rattle.answer_laws.specs.Laws.{IsQuiet, MakesAttempt}
+use Rattle.answer_laws.proofs.LawsHold.{asked_same, exit_turn}
+use Rattle.answer_laws.proofs.TurnsServed.{again_law, step_law}
+use Rattle.standing_laws.proofs.Standings.{hart_in_may_attempt, in_order}
 use Rattle.standing_laws.proofs.Loads.{loaded_approved, loading_held}
 use Rattle.standing_laws.specs.Laws.{HoldsItsPages}
 use Rattle.module_answers.specs.Conditions.{IsHeld}
-use Rattle.machine.proofs.Hosts.{none_entered}
-use Rattle.machine.proofs.ImageStarting.{unbound_within}
-use Rattle.machine.proofs.Turns.{turn_attempts}
+use Rattle.machine.proofs.Turns.{hart_there, left_below, quiet_served, turn_served}
 use Rattle.machine.specs.Attempts.{hart_in, nobody}
-use Rattle.machine.specs.Turns.{AreOutside, Attempts, IsGuarded, MayAttempt}
+use Rattle.machine.specs.Turns.{Attempts, Finished, IsGuarded, IsReadyAt, MayTurn, asked_of}
 
 -- ---- modules
 
@@ -60,16 +59,72 @@ guarded m r stands =
       };
     }
 
--- ---- attempts
-
--- no hart is in an entry, where the policy binds none
-pub all_outside : (m : Machine) (r : State) → StandsFor m r → AreOutside m
-all_outside m r stands = λ h. none_entered m.harts h (λ host e. no_entry m r h host stands (unbound_within m.rules (in_order m r stands).within) e)
+-- ---- harts
 
 started_below : (harts : List HostHart) (h : ℕ) → (hart_in harts h).started ≡ true → h < length harts
 started_below [] h e = absurd (cc)
 started_below (x ∷ harts) zero e = omega arith
 started_below (x ∷ harts) (suc h) e = let k = started_below harts h e in omega (arith, k)
+
+found_in : (harts : List HostHart) (h : ℕ) (host : HostHart) → slice_get harts h ≡ Some host → hart_in harts h ≡ host
+found_in [] h host e = absurd (cc)
+found_in (x ∷ harts) zero host e = cc
+found_in (x ∷ harts) (suc h) host e = found_in harts h host e
+
+-- the state's hart that a hart of the hardware is
+abbrev IsOf : Option Hart → HostHart → Type 0
+IsOf x host = (hart : Hart) × ((x ≡ Some hart) × (hart.started ≡ host.started))
+
+behind_at : (t : ℕ) (exits : List HypervisorRegisters) (harts : List Hart) (h : ℕ) (host : HostHart) → slice_get (host_harts t exits harts) h ≡ Some host
+    → IsOf (slice_get harts h) host
+unfolding host_harts
+behind_at t [] harts h host e = absurd (cc)
+behind_at t (x ∷ exits) [] h host e = absurd (cc)
+behind_at t (x ∷ exits) (y ∷ harts) zero host e = let same : host_hart t x y ≡ host = cc in (y, (refl, ap (λ (k : HostHart). k.started) same))
+behind_at t (x ∷ exits) (y ∷ harts) (suc h) host e = behind_at t exits harts h host e
+
+behind_of : (o : Unseen) (r : State) (h : ℕ) (host : HostHart) → slice_get (machine_of o r).harts h ≡ Some host → IsOf (slice_get r.harts h) host
+unfolding machine_of
+behind_of o r h host e = behind_at (length o.tables) o.exits r.harts h host e
+
+-- whose load is under way
+loading_of : (o : Unseen) (r : State) → (machine_of o r).loading ≡ option_map (load_kept r.rules r.ram) r.loading
+unfolding machine_of
+loading_of o r = refl
+
+load_of : (r : State) (load : Loading) (x : Option ModuleRule) → (load_kept_by r.rules r.ram load x).hart ≡ load.hart
+unfolding load_kept_by
+load_of r load None = refl
+load_of r load (Some rule) = refl
+
+not_its : (r : State) (h : ℕ) (x : Option Loading) → is_loading (option_map (load_kept r.rules r.ram) x) h ≡ false → (load : Loading) → x ≡ Some load → (load.hart == h) ≡ false
+not_its r h None off load e = absurd (cc)
+not_its r h (Some other) off load e =
+    let same : other ≡ load = cc in
+    subst (λ (l : Loading). (l.hart == h) ≡ false) same (ap (λ (n : ℕ). n == h) (sym (load_of r other (slice_get r.rules.modules other.about.id))) ∙ off)
+
+-- a hart that makes an attempt is the state's
+makes_attempt : (m : Machine) (r : State) (h : ℕ) → StandsFor m r → Attempts m h → (hart : Hart) × MakesAttempt m r h (hart_in m.harts h) hart
+makes_attempt m r h stands makes =
+    let there : slice_get m.harts h ≡ Some (hart_in m.harts h) = hart_there m.harts h (started_below m.harts h makes.started) in
+    let is : IsOf (slice_get r.harts h) (hart_in m.harts h) =
+    behind_of stands.unseen r h (hart_in m.harts h) (subst (λ (x : Machine). slice_get x.harts h ≡ Some (hart_in m.harts h)) stands.same there) in
+    let loading : m.loading ≡ option_map (load_kept r.rules r.ram) r.loading = ap (λ (x : Machine). x.loading) stands.same ∙ loading_of stands.unseen r in (
+      is.0,
+      record {
+        stands = stands;
+        host_is = there;
+        hart_is = is.1.0;
+        started = is.1.1 ∙ makes.started;
+        loads = not_its r h r.loading (ap (λ (x : Option HostLoad). is_loading x h) (sym loading) ∙ makes.free);
+      },
+    )
+
+running_of : (m : Machine) (r : State) → StandsFor m r → m.journal.verdict ≡ Running → r.journal.verdict ≡ Running
+unfolding machine_of
+running_of m r stands on = sym (ap (λ (x : Machine). x.journal.verdict) stands.same) ∙ on
+
+-- ---- attempts
 
 -- an attempt that gives an exit writes nothing
 pending_writes : (r : Region) (core : Core) (lines : Lines) (x : Option Interrupt) → OnlyWrites r (after_pending r core lines x).region (after_pending r core lines x).outcome
@@ -90,38 +145,73 @@ unfolding IsStep
 stepped m after r h stands on served =
     (step_law m after r (Turn h) stands (subst (λ (v : Verdict). StepsUnder v m (Turn h) after) (sym on) served)).0
 
+-- a turn of one attempt, without an exit
+quiet_turn : (m after : Machine) (h : ℕ) (o : Outcome) → Attempts m h → o ≡ (attempted m h (hart_in m.harts h)).outcome → IsQuiet o
+    → Finished o (left_by (raised m count_turn) h (hart_in m.harts h)) h after → IsTurn m h after
+quiet_turn m after h o makes e quiet served =
+    turn_served (raised m count_turn) after h (started_below m.harts h makes.started) makes.started makes.free
+    (quiet_served (raised m count_turn) after h (hart_in m.harts h) o e quiet served)
+
 size_by : (m : Machine) (r : State) (h : ℕ) (o : Outcome) → StandsFor m r → m.journal.verdict ≡ Running → Attempts m h
     → o ≡ (attempted m h (hart_in m.harts h)).outcome → length (attempted m h (hart_in m.harts h)).region.ram ≡ length m.region.ram
 size_by m r h (Outcome.Retired wrote) stands on makes e =
     let left = left_by (raised m count_turn) h (hart_in m.harts h) in
     let after : Machine = record left { journal = counted count_retired left.journal } in
     same_size m after r (step r (Turn h)) stands
-    (stepped m after r h stands on (turn_attempts (raised m count_turn) after h (Outcome.Retired wrote) (started_below m.harts h makes.started) makes.started makes.free makes.outside e refl)) refl
+    (stepped m after r h stands on (quiet_turn m after h (Outcome.Retired wrote) makes e tt refl)) refl
 size_by m r h Outcome.GuestTrap stands on makes e =
     let left = left_by (raised m count_turn) h (hart_in m.harts h) in
     let after : Machine = record left { journal = counted (count_trap Kernel) left.journal } in
     same_size m after r (step r (Turn h)) stands
-    (stepped m after r h stands on (turn_attempts (raised m count_turn) after h Outcome.GuestTrap (started_below m.harts h makes.started) makes.started makes.free makes.outside e refl)) refl
+    (stepped m after r h stands on (quiet_turn m after h Outcome.GuestTrap makes e tt refl)) refl
 size_by m r h (Outcome.Exit exit) stands on makes e =
     ap (λ (x : Region). length x.ram)
     (subst (λ (o : Outcome). OnlyWrites m.region (attempted m h (hart_in m.harts h)).region o) (sym e)
     (attempt_writes m.region (hart_in m.harts h).core (lines_at m.devices h)))
 
--- the registers of a hart in no entry are those of the kernel's view or of the user's
-root_of : (mode : Mode) (regs : HRegs) (entry : Option ℕ) → regs ≡ hregs_in mode entry → entry ≡ None → IsRoot [] regs.hgatp
-root_of Kernel regs None same none = record { view = View.Kernel; sight = OfKernel; there = refl; same = ap (λ (r : HRegs). r.hgatp) same }
-root_of User regs None same none = record { view = View.User; sight = OfUser; there = refl; same = ap (λ (r : HRegs). r.hgatp) same }
-root_of mode regs (Some i) same none = absurd (cc)
-
-pub may_attempt : (m : Machine) (r : State) (h : ℕ) → StandsFor m r → m.journal.verdict ≡ Running → MayAttempt m h
-may_attempt m r h stands on makes =
+pub ready_at : (m : Machine) (r : State) (h : ℕ) → StandsFor m r → m.journal.verdict ≡ Running → Attempts m h → IsReadyAt m h
+ready_at m r h stands on makes =
     let hart = hart_in_may_attempt m r h nobody stands (started_below m.harts h makes.started) in
     record {
       started = makes.started;
       aligned = hart.aligned;
       keeps = hart.keeps;
       stage = hart.stage;
-      root = root_of (hart_in m.harts h).core.hregs.mode (hart_in m.harts h).core.hregs (hart_in m.harts h).entry hart.registers makes.outside;
       apart = hart.apart;
       ram = size_by m r h (attempted m h (hart_in m.harts h)).outcome stands on makes refl;
     }
+
+-- ---- two attempts
+
+-- the answer to an exit goes by what the attempt leaves as it was
+asked_before : (m : Machine) (r : State) (h : ℕ) (exit : Exit) → StandsFor m r → Attempts m h → (attempted m h (hart_in m.harts h)).outcome ≡ Outcome.Exit exit
+    → asked_of (left_by m h (hart_in m.harts h)) h exit ≡ asked_of m h exit
+asked_before m r h exit stands makes e =
+    let k = makes_attempt m r h stands makes in
+    let left : Machine = left_by m h (hart_in m.harts h) in
+    let next : MakesAttempt left r h (hart_in left.harts h) k.0 = record {
+      stands = (exit_turn m r h (hart_in m.harts h) k.0 exit k.1 e).0;
+      host_is = hart_there left.harts h (left_below m h exit (started_below m.harts h makes.started) e);
+      hart_is = k.1.hart_is;
+      started = k.1.started;
+      loads = k.1.loads;
+    } in
+    asked_same left r h (hart_in left.harts h) k.0 exit next ∙ sym (asked_same m r h (hart_in m.harts h) k.0 exit k.1)
+
+-- the hart that has left its entry attempts again
+again_ready : (m : Machine) (r : State) (h : ℕ) → StandsFor m r → m.journal.verdict ≡ Running → Attempts m h
+    → asks_again m.region.ram m.rules (hart_in m.harts h) (attempted m h (hart_in m.harts h)).outcome ≡ true → IsReadyAt (sent_again m h (hart_in m.harts h)) h
+unfolding host_outside
+again_ready m r h stands on makes again =
+    let k = makes_attempt m r h stands makes in
+    let next = (again_law m r h (hart_in m.harts h) k.0 k.1 (running_of m r stands on) again).0 in
+    let sent : Machine = sent_again m h (hart_in m.harts h) in
+    let same : hart_in sent.harts h ≡ hart_again m h (hart_in m.harts h) = found_in sent.harts h (hart_again m h (hart_in m.harts h)) next.host_is in
+    ready_at sent (leave_entry r h k.0) h next.stands on (record { started = ap (λ (x : HostHart). x.started) same ∙ makes.started; free = makes.free })
+
+pub may_turn : (m : Machine) (r : State) (h : ℕ) → StandsFor m r → m.journal.verdict ≡ Running → MayTurn m h
+may_turn m r h stands on = λ makes. record {
+  first = ready_at m r h stands on makes;
+  asked = λ exit e. asked_before m r h exit stands makes e;
+  second = λ again. again_ready m r h stands on makes again;
+}

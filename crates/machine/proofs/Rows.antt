@@ -27,16 +27,17 @@ use Rattle.machine_model.specs.HardwareEvent.{attempted, left_by}
 use Rattle.machine_model.specs.Machine.{Machine, HostHart, raised, update, with_core, forgets, all_forget}
 use Rattle.machine_model.specs.StandsFor.{StandsFor}
 use Rattle.machine_model.specs.Steps.{IsStep, IsTurn, StepsUnder}
+use Rattle.answer_laws.specs.Laws.{IsQuiet as IsQuietOutcome}
 use Rattle.quick_turns.specs.Rows.{IsRetired, Carries, RetiresThrough}
 use Rattle.machine.proofs.Addressed.{step_addressed}
 use Rattle.machine.proofs.Repeated.{step_counts, counts_more}
 use Rattle.machine.proofs.Stepped.{Bounded, step_bounded, step_happens, step_stands}
-use Rattle.machine.proofs.Turns.{turn_attempts}
+use Rattle.machine.proofs.Turns.{quiet_served, turn_served}
 use Rattle.machine.specs.Attempts.{hart_in, nobody}
 use Rattle.machine.specs.Machines.{HaveAddresses}
 use Rattle.machine.specs.Repeats.{IsQuiet, Makes, Repeats}
 use Rattle.machine.specs.Rows.{AreFree, counted_row, after_row, MayRow, MakesRow}
-use Rattle.machine.specs.Turns.{AreOutside, Finished}
+use Rattle.machine.specs.Turns.{Finished}
 
 -- ---- one hart among all
 
@@ -64,14 +65,6 @@ unfolding update
 updated_same [] h = refl
 updated_same (x ∷ harts) zero = refl
 updated_same (x ∷ harts) (suc h) = ap (λ (rest : List HostHart). x ∷ rest) (updated_same harts h)
-
-still_outside : (harts : List HostHart) (h k : ℕ) (core : Core) → (hart_in (update harts k (with_core core)) h).entry ≡ (hart_in harts h).entry
-unfolding update
-still_outside [] h k core = refl
-still_outside (x ∷ harts) zero zero core = refl
-still_outside (x ∷ harts) zero (suc k) core = refl
-still_outside (x ∷ harts) (suc h) zero core = refl
-still_outside (x ∷ harts) (suc h) (suc k) core = still_outside harts h k core
 
 -- the hart itself, and each of the others
 first_free : (harts : List HostHart) (x : HostHart) (core : Core) → core.reservation ≡ None → AreFree (x ∷ harts) → AreFree (with_core core x ∷ harts)
@@ -133,6 +126,11 @@ finished (Outcome.Retired wrote) m after h retired same = same
 finished Outcome.GuestTrap m after h retired same = absurd retired
 finished (Outcome.Exit exit) m after h retired same = absurd retired
 
+is_quiet : (o : Outcome) → IsRetired o → IsQuietOutcome o
+is_quiet (Outcome.Retired wrote) retired = tt
+is_quiet Outcome.GuestTrap retired = absurd retired
+is_quiet (Outcome.Exit exit) retired = absurd retired
+
 built : (m : Machine) (region other : Region) (harts others : List HostHart) (j : Journal) (n k : ℕ) → region ≡ other → harts ≡ others → n ≡ k
     → record m { region = region; harts = harts; journal = j; attempts = n } ≡ record m { region = other; harts = others; journal = j; attempts = k }
 built m region other harts others j n k e f g = rw (e, f, g) refl
@@ -174,14 +172,13 @@ module _ (m : Machine) (h n : ℕ) (mid : Region) (before : Core) (region : Regi
   turned : IsTurn now h (after_row m h (suc n) region core)
   unfolding attempt made
   turned =
-      turn_attempts (raised now count_turn) (after_row m h (suc n) region core) h made.outcome
+      let retired : IsRetired made.outcome = subst (λ (a : Attempted). IsRetired a.outcome) (sym made_is) carries.retired in
+      turn_served (raised now count_turn) (after_row m h (suc n) region core) h
       (still_there m.harts h h before may.below)
       (ap (λ (x : HostHart). x.started) host_is ∙ may.attempts.started)
       may.attempts.free
-      (ap (λ (x : HostHart). x.entry) host_is ∙ may.attempts.outside)
-      refl
-      (finished made.outcome (left_by (raised now count_turn) h host) (after_row m h (suc n) region core) h
-      (subst (λ (a : Attempted). IsRetired a.outcome) (sym made_is) carries.retired) left)
+      (quiet_served (raised now count_turn) (after_row m h (suc n) region core) h host made.outcome refl (is_quiet made.outcome retired)
+      (finished made.outcome (left_by (raised now count_turn) h host) (after_row m h (suc n) region core) h retired left))
 
   pub steps : IsStep now (Turn h) (after_row m h (suc n) region core)
   unfolding IsStep
@@ -214,9 +211,9 @@ no_turn m h r region core e f stands addresses bounded =
       counts = λ k counts. subst (λ (i : ℕ). CountsAtMost i m.journal.counts) (omega arith) counts;
     })
 
-one_turn : (m : Machine) (h n : ℕ) (mid : Region) (before : Core) (region : Region) (core : Core) → MayRow m h → AreOutside m
+one_turn : (m : Machine) (h n : ℕ) (mid : Region) (before : Core) (region : Region) (core : Core) → MayRow m h
     → Carries (attempt mid before (lines_at m.devices h)) region core → Rowed n m h (after_row m h n mid before) → Rowed (suc n) m h (after_row m h (suc n) region core)
-one_turn m h n mid before region core may outside carries row =
+one_turn m h n mid before region core may carries row =
     let now : Machine = after_row m h n mid before in
     let after : Machine = after_row m h (suc n) region core in
     let is : IsStep now (Turn h) after = steps m h n mid before region core may carries in
@@ -227,22 +224,22 @@ one_turn m h n mid before region core may outside carries row =
       state = step row.state (Turn h);
       stands = behind;
       addresses = step_addressed row.state (Turn h) row.stands.unseen_is_right.region.most row.addresses;
-      bounded = step_bounded now after row.state (Turn h) row.stands is (λ k. still_outside m.harts k h before ∙ outside k) row.bounded;
+      bounded = step_bounded now after row.state (Turn h) row.stands is row.bounded;
       counts = λ k counts.
           subst (λ (i : ℕ). CountsAtMost i after.journal.counts) (omega arith)
           (step_counts (k + n) now after row.state (Turn h) row.stands behind (row.counts k counts));
     }
 
-pub rowed : (n : ℕ) (m : Machine) (h : ℕ) (r : State) (region : Region) (core : Core) → MayRow m h → AreOutside m → StandsFor m r → HaveAddresses r.harts → Bounded m
+pub rowed : (n : ℕ) (m : Machine) (h : ℕ) (r : State) (region : Region) (core : Core) → MayRow m h → StandsFor m r → HaveAddresses r.harts → Bounded m
     → RetiresThrough n m.region (hart_in m.harts h).core (lines_at m.devices h) region core → Rowed n m h (after_row m h n region core)
-rowed zero m h r region core may outside stands addresses bounded row = no_turn m h r region core row.0 row.1 stands addresses bounded
-rowed (suc n) m h r region core may outside stands addresses bounded (mid, (before, (row, carries))) =
-    one_turn m h n mid before region core may outside carries (rowed n m h r mid before may outside stands addresses bounded row)
+rowed zero m h r region core may stands addresses bounded row = no_turn m h r region core row.0 row.1 stands addresses bounded
+rowed (suc n) m h r region core may stands addresses bounded (mid, (before, (row, carries))) =
+    one_turn m h n mid before region core may carries (rowed n m h r mid before may stands addresses bounded row)
 
-pub makes_rowed : (n : ℕ) (m after : Machine) (h : ℕ) (r : State) → MayRow m h → AreOutside m → StandsFor m r → HaveAddresses r.harts → Bounded m
+pub makes_rowed : (n : ℕ) (m after : Machine) (h : ℕ) (r : State) → MayRow m h → StandsFor m r → HaveAddresses r.harts → Bounded m
     → MakesRow n m h after → Rowed n m h after
-makes_rowed n m after h r may outside stands addresses bounded makes =
-    subst (λ (x : Machine). Rowed n m h x) (sym makes.same) (rowed n m h r makes.region makes.core may outside stands addresses bounded makes.retires)
+makes_rowed n m after h r may stands addresses bounded makes =
+    subst (λ (x : Machine). Rowed n m h x) (sym makes.same) (rowed n m h r makes.region makes.core may stands addresses bounded makes.retires)
 
 -- ---- one count more
 

@@ -7,10 +7,10 @@ use Rattle.processor.specs.declared.mode.Mode.{Mode}
 use Rattle.processor.specs.declared.mode.Mode.TheVariants.{Kernel, User}
 use Rattle.reference.specs.States.{Devices, Journal}
 use Rattle.machine_model.specs.HardwareEvent.{is_loading}
-use Rattle.machine_model.specs.HostHarts.{host_seen}
+use Rattle.machine_model.specs.HostHarts.{host_outside, host_seen, with_host}
 use Rattle.machine_model.specs.Machine.{Machine, HostHart}
 use Rattle.machine_model.specs.Served.{exit_answer}
-use Rattle.machine_model.specs.StandsFor.{hregs_in}
+use Rattle.machine_model.specs.StandsFor.{hregs_in, bound_pages}
 use Rattle.machine_model.specs.Steps.{WithTables}
 use Rattle.machine_model.specs.declared.exits.ExitAnswer.{ExitAnswer}
 use Rattle.page_guard.specs.Guarded.{IsTheirs}
@@ -22,10 +22,10 @@ use Rattle.access_answers.specs.Accessed.{with_devices}
 use Rattle.trap_answers.specs.Answered.{with_hart}
 use Rattle.trap_answers.specs.Possible.{IsPossible}
 use Rattle.machine.proofs.Hosts.{host_there, started_there}
-use Rattle.machine.proofs.Turns.{stays}
+use Rattle.machine.proofs.Turns.{stays, views_shown}
 use Rattle.machine.specs.Attempts.{hart_in}
 use Rattle.machine.specs.Parts.{machine_of_parts}
-use Rattle.machine.specs.Turns.{AreOutside, Attempts, HasPagesOf}
+use Rattle.machine.specs.Turns.{Attempts, HasPagesOf, left_entry}
 use Rattle.machine.specs.declared.parts.Parts.TheInside.{Inside}
 
 pub same_mode : (mode : Mode) (entry : Option ℕ) → (hregs_in mode entry).mode ≡ mode
@@ -48,12 +48,11 @@ module _ (p : Inside) (h : ℕ) (old : Seat) (is : old ≡ slice_index_or p.seat
   pub below_there : (now : Machine) → whole ≡ now → h < length p.seats.items → h < length now.harts
   below_there now same below = subst (λ (m : Machine). h < length m.harts) same (subst (λ (n : ℕ). h < n) (sym (hosts_length p.seats.items)) below)
 
-  -- it makes an attempt, outside of every entry
-  pub attempts_there : (now : Machine) → whole ≡ now → h < length p.seats.items → old.hart.started ≡ true → is_loading now.loading h ≡ false → AreOutside now → Attempts now h
-  attempts_there now same below started free outside = record {
+  -- it makes an attempt
+  pub attempts_there : (now : Machine) → whole ≡ now → h < length p.seats.items → old.hart.started ≡ true → is_loading now.loading h ≡ false → Attempts now h
+  attempts_there now same below started free = record {
     started = subst (λ (m : Machine). (hart_in m.harts h).started ≡ true) same (started_there p.seats.items h old true below is started);
     free = free;
-    outside = outside h;
   }
 
   -- its mode is its side
@@ -81,10 +80,10 @@ module _ (p : Inside) (h : ℕ) (old : Seat) (is : old ≡ slice_index_or p.seat
 
   -- what an answer on the hart makes of the machine, whose tables stay
   behind : (f : Machine → HostHart → Mode → Machine) (after now : Machine) → whole ≡ now → h < length now.harts
-      → IsTheirs p.mem p.guard → length p.guard ≡ p.policy.ram_pages → p.policy.bound.items ≡ []
+      → IsTheirs p.mem p.guard → length p.guard.pages ≡ p.policy.ram_pages → p.guard.bound ≡ bound_pages (rules_of p.policy)
       → HasPagesOf whole after → after ≡ f (with_hart whole h (host_at old) p.journal) (host_at old) (mode_of old.side)
       → WithTables now (f now (hart_in now.harts h) (hart_in now.harts h).core.hregs.mode) after
-  behind f after now same below theirs pages unbound has made =
+  behind f after now same below theirs pages places has made =
       let here = subst (λ (m : Machine). h < length m.harts) (sym same) below in
       subst (λ (m : Machine). WithTables m (f m (hart_in m.harts h) (hart_in m.harts h).core.hregs.mode) after) same
       (stays whole (f whole (hart_in whole.harts h) (hart_in whole.harts h).core.hregs.mode) after has
@@ -92,23 +91,33 @@ module _ (p : Inside) (h : ℕ) (old : Seat) (is : old ≡ slice_index_or p.seat
       ∙ ap (λ (m : Machine). f m (host_at old) (mode_of old.side)) put_back
       ∙ ap (f whole (host_at old)) (sided here)
       ∙ ap (λ (host : HostHart). f whole host (hart_in whole.harts h).core.hregs.mode) (mine here))
-      theirs pages unbound)
+      (views_shown (rules_of p.policy) p.mem p.guard theirs pages places))
 
   pub answers : (f : Machine → HostHart → Mode → Machine) (new : Seat) (devices : Devices) (journal : Journal) (now : Machine) → whole ≡ now
-      → h < length now.harts → IsTheirs p.mem p.guard → length p.guard ≡ p.policy.ram_pages → p.policy.bound.items ≡ []
+      → h < length now.harts → IsTheirs p.mem p.guard → length p.guard.pages ≡ p.policy.ram_pages → p.guard.bound ≡ bound_pages (rules_of p.policy)
       → with_devices whole h (host_at new) devices journal ≡ f (with_hart whole h (host_at old) p.journal) (host_at old) (mode_of old.side)
       → WithTables now (f now (hart_in now.harts h) (hart_in now.harts h).core.hregs.mode)
       (record whole { harts = hosts_of (slice_set p.seats.items h new); devices = devices; journal = journal })
-  answers f new devices journal now same below theirs pages unbound made =
-      behind f (record whole { harts = hosts_of (slice_set p.seats.items h new); devices = devices; journal = journal }) now same below theirs pages unbound
+  answers f new devices journal now same below theirs pages places made =
+      behind f (record whole { harts = hosts_of (slice_set p.seats.items h new); devices = devices; journal = journal }) now same below theirs pages places
       (record { region = refl; protections = refl })
       (ap (λ (harts : List HostHart). record whole { harts = harts; devices = devices; journal = journal }) (sym (hosts_set p.seats.items h new)) ∙ made)
 
   -- an answer that leaves the hart as it is
   pub journal_answers : (f : Machine → HostHart → Mode → Machine) (journal : Journal) (now : Machine) → whole ≡ now
-      → h < length now.harts → IsTheirs p.mem p.guard → length p.guard ≡ p.policy.ram_pages → p.policy.bound.items ≡ []
+      → h < length now.harts → IsTheirs p.mem p.guard → length p.guard.pages ≡ p.policy.ram_pages → p.guard.bound ≡ bound_pages (rules_of p.policy)
       → with_hart whole h (host_at old) journal ≡ f (with_hart whole h (host_at old) p.journal) (host_at old) (mode_of old.side)
       → WithTables now (f now (hart_in now.harts h) (hart_in now.harts h).core.hregs.mode) (record whole { journal = journal })
-  journal_answers f journal now same below theirs pages unbound made =
-      behind f (record whole { journal = journal }) now same below theirs pages unbound (record { region = refl; protections = refl })
+  journal_answers f journal now same below theirs pages places made =
+      behind f (record whole { journal = journal }) now same below theirs pages places (record { region = refl; protections = refl })
       (ap (λ (m : Machine). record m { journal = journal }) (sym put_back) ∙ made)
+
+  -- the hart alone leaves its entry
+  pub leaves : (new : Seat) (now : Machine) → whole ≡ now
+      → with_hart whole h (host_at new) p.journal ≡ with_host (with_hart whole h (host_at old) p.journal) h host_outside
+      → record whole { harts = hosts_of (slice_set p.seats.items h new) } ≡ left_entry now h
+  leaves new now same made =
+      ap (λ (harts : List HostHart). record whole { harts = harts }) (sym (hosts_set p.seats.items h new))
+      ∙ made
+      ∙ ap (λ (m : Machine). with_host m h host_outside) put_back
+      ∙ ap (λ (m : Machine). left_entry m h) same

@@ -3,7 +3,6 @@ use Rattle.std.proofs.Common.{◌≡◌, ℕ, zero, suc, ◌+◌, ◌-◌, ◌�
 use Rattle.std.specs.Prelude.{find, is_some, Option, Some, None, IfSome, slice_get}
 use Rattle.std.proofs.lemmas.List.{drop-replicate, replicate_more}
 use Rattle.gstage_cache.proofs.Lines.{none_agrees}
-use Rattle.view_laws.proofs.CachesUnderViews.{none_under_views}
 use Rattle.page_guard.specs.Guarded.{first_taken}
 use Rattle.page_guard.proofs.Spans.{all_free_at}
 use Rattle.hart_answers.specs.Hosts.{host_at, hosts_of}
@@ -24,9 +23,9 @@ use Rattle.sv_types.specs.Views.{with_ram}
 use Rattle.sv_types.specs.declared.module.Span.{Span}
 use Rattle.sv_types.specs.declared.protection.Protection.{Protection}
 use Rattle.sv_types.specs.declared.protection.Protection.TheVariants.{Free}
-use Rattle.processor.specs.CachedWalks.{no_lines}
+use Rattle.processor.specs.CachedWalks.{CacheAgrees, no_lines}
 use Rattle.processor.specs.declared.cached.CacheLine.{CacheLine}
-use Rattle.machine.specs.Attempts.{IsUsable, AreUsable}
+use Rattle.machine.specs.Attempts.{AreUsable}
 
 -- ---- harts
 
@@ -63,8 +62,7 @@ length_replicated (suc n) = let k = length_replicated n in omega (arith, k)
 -- empty caches agree with any tables
 pub empty_usable : (tables : List ℕ) (n : ℕ) (caches : List (List (Option CacheLine))) → caches ≡ replicate n no_lines → AreUsable tables caches
 empty_usable tables n caches is = subst (λ (caches : List (List (Option CacheLine))). AreUsable tables caches) (sym is) (record {
-  each = λ h lines e. subst (λ (lines : List (Option CacheLine)). IsUsable tables lines) (of_empty n h lines e)
-      (record { agrees = none_agrees tables; views = none_under_views });
+  each = λ h lines e. subst (λ (lines : List (Option CacheLine)). CacheAgrees tables lines) (of_empty n h lines e) (none_agrees tables);
 })
 
 -- as many as harts

@@ -1,6 +1,6 @@
 -- A step of the machine: what it stands for, and how far its own counts move.
-use Rattle.std.proofs.Common.{◌≡◌, ℕ, zero, suc, ◌+◌, ◌≤◌, List, [], ◌∷◌, length, drop, refl, sym, ◌∙◌, ap, subst, arith, Bool, true, false}
-use Rattle.std.specs.Prelude.{Option, Some, None, IfSome, slice_get, if◌then◌else◌}
+use Rattle.std.proofs.Common.{◌≡◌, ℕ, ◌+◌, ◌*◌, ◌≤◌, List, length, drop, refl, sym, ◌∙◌, ap, subst, arith, Bool, true, false}
+use Rattle.std.specs.Prelude.{Option, Some, None, slice_get, if◌then◌else◌}
 use Rattle.std.proofs.lemmas.List.{length-drop}
 use Rattle.sv_types.specs.Console.{has_room}
 use Rattle.sv_types.specs.declared.event.Event.{Event}
@@ -15,7 +15,8 @@ use Rattle.reference.specs.Run.{step}
 use Rattle.reference.specs.States.{State, Journal}
 use Rattle.reference.specs.Turn.{turn}
 use Rattle.run_laws.proofs.Growth.{Gains}
-use Rattle.machine_model.specs.HardwareEvent.{IsEvent, HappensUnder, TurnOf, HartTurn, StartedTurn, OneOrTwo, AfterOutcome, attempted, is_loading}
+use Rattle.machine_model.specs.HardwareEvent.{IsEvent, HappensUnder, TurnOf, HartTurn, StartedTurn, OneOrTwo, AfterOutcome, attempted, hart_again, is_loading, sent_again}
+use Rattle.machine_model.specs.HostHarts.{asks_again}
 use Rattle.machine_model.specs.HostEvents.{event_served, beat_served, key_served, tick_served, after_host_move, with_host_disk}
 use Rattle.machine_model.specs.Machine.{Machine, HostHart, raised}
 use Rattle.machine_model.specs.StandsFor.{StandsFor, Unseen, IsRightFor, machine_of}
@@ -23,10 +24,8 @@ use Rattle.machine_model.specs.Steps.{IsStep, StepsUnder}
 use Rattle.answer_laws.proofs.LawsHold.{running}
 use Rattle.machine_model.specs.Reaches.{without_first_printed}
 use Rattle.answer_laws.proofs.RunsReach.{clear_law}
-use Rattle.answer_laws.proofs.TurnsServed.{once_outside, step_law}
+use Rattle.answer_laws.proofs.TurnsServed.{step_law}
 use Rattle.run_laws.proofs.StepsGrow.{turn_gains}
-use Rattle.machine.specs.Attempts.{hart_in}
-use Rattle.machine.specs.Turns.{AreOutside}
 
 -- ---- the two laws of a step
 
@@ -36,36 +35,36 @@ step_stands m after e steps r stands = (step_law m after r e stands steps).0
 pub step_happens : (m after : Machine) (r : State) (e : Event) → StandsFor m r → IsStep m e after → IsEvent m e after
 step_happens m after r e stands steps = (step_law m after r e stands steps).1
 
--- ---- attempts: one at most in a turn, since no hart is in an entry
+-- ---- attempts: two at most in a turn
 
 outcome_attempts : (m after : Machine) (h : ℕ) (host : HostHart) (o : Outcome) → AfterOutcome o m h (attempted m h host) after → after.attempts ≤ m.attempts + 1
 outcome_attempts m after h host (Outcome.Retired wrote) k = let same : after.attempts ≡ m.attempts + 1 = ap (λ (x : Machine). x.attempts) k.same in omega (arith, same)
 outcome_attempts m after h host Outcome.GuestTrap k = let same : after.attempts ≡ m.attempts + 1 = ap (λ (x : Machine). x.attempts) k.same in omega (arith, same)
 outcome_attempts m after h host (Outcome.Exit exit) k = let same : after.attempts ≡ m.attempts + 1 = ap (λ (x : Machine). x.attempts) k.same in omega (arith, same)
 
-started_attempts : (m after : Machine) (h : ℕ) (host : HostHart) (loads : Bool) → host.entry ≡ None → StartedTurn loads m h host after → after.attempts ≤ m.attempts + 1
-started_attempts m after h host true outside k = let same : after.attempts ≡ m.attempts = ap (λ (x : Machine). x.attempts) k.same in omega (arith, same)
-started_attempts m after h host false outside k =
-    outcome_attempts m after h host (attempted m h host).outcome
-    (subst (λ (again : Bool). OneOrTwo again m h host after) (once_outside m.region.ram m.rules host (attempted m h host).outcome outside) k)
+two_attempts : (m after : Machine) (h : ℕ) (host : HostHart) (again : Bool) → OneOrTwo again m h host after → after.attempts ≤ m.attempts + 2
+two_attempts m after h host false k = let one = outcome_attempts m after h host (attempted m h host).outcome k in omega (arith, one)
+two_attempts m after h host true k =
+    let one : after.attempts ≤ m.attempts + 1 + 1 =
+    outcome_attempts (sent_again m h host) after h (hart_again m h host) (attempted (sent_again m h host) h (hart_again m h host)).outcome k in
+    omega (arith, one)
 
-hart_attempts : (m after : Machine) (h : ℕ) (host : HostHart) (started : Bool) → host.entry ≡ None → HartTurn started m h host after → after.attempts ≤ m.attempts + 1
-hart_attempts m after h host true outside k = started_attempts m after h host (is_loading m.loading h) outside k
-hart_attempts m after h host false outside k = let same : after.attempts ≡ m.attempts = ap (λ (x : Machine). x.attempts) k.same in omega (arith, same)
+started_attempts : (m after : Machine) (h : ℕ) (host : HostHart) (loads : Bool) → StartedTurn loads m h host after → after.attempts ≤ m.attempts + 2
+started_attempts m after h host true k = let same : after.attempts ≡ m.attempts = ap (λ (x : Machine). x.attempts) k.same in omega (arith, same)
+started_attempts m after h host false k = two_attempts m after h host (asks_again m.region.ram m.rules host (attempted m h host).outcome) k
 
-turn_attempts : (m after : Machine) (h : ℕ) (x : Option HostHart) → IfSome x (λ host. host.entry ≡ None) → TurnOf m h x after → after.attempts ≤ m.attempts + 1
-turn_attempts m after h None outside k = let same : after.attempts ≡ m.attempts = ap (λ (x : Machine). x.attempts) k.same in omega (arith, same)
-turn_attempts m after h (Some host) outside k = hart_attempts m after h host host.started outside k
+hart_attempts : (m after : Machine) (h : ℕ) (host : HostHart) (started : Bool) → HartTurn started m h host after → after.attempts ≤ m.attempts + 2
+hart_attempts m after h host true k = started_attempts m after h host (is_loading m.loading h) k
+hart_attempts m after h host false k = let same : after.attempts ≡ m.attempts = ap (λ (x : Machine). x.attempts) k.same in omega (arith, same)
 
-found_outside : (harts : List HostHart) (h : ℕ) → (hart_in harts h).entry ≡ None → IfSome (slice_get harts h) (λ host. host.entry ≡ None)
-found_outside [] h outside = tt
-found_outside (x ∷ harts) zero outside = outside
-found_outside (x ∷ harts) (suc h) outside = found_outside harts h outside
+turn_attempts : (m after : Machine) (h : ℕ) (x : Option HostHart) → TurnOf m h x after → after.attempts ≤ m.attempts + 2
+turn_attempts m after h None k = let same : after.attempts ≡ m.attempts = ap (λ (x : Machine). x.attempts) k.same in omega (arith, same)
+turn_attempts m after h (Some host) k = hart_attempts m after h host host.started k
 
 -- ---- what the invariant says of two machines
 
 pub record Bounded (m : Machine) : Type 0 where
-  pub attempts : m.attempts ≤ m.journal.counts.turns
+  pub attempts : m.attempts ≤ 2 * m.journal.counts.turns
   pub printed : m.cleared + length m.journal.printed ≤ m.journal.counts.turns
 
 -- beats, keys and time leave these as they are
@@ -107,7 +106,7 @@ tick_leaves m n = record { attempts = refl; turns = refl; cleared = refl; printe
 
 left_bounded : (m after : Machine) → LeavesCounts m after → Bounded m → Bounded after
 left_bounded m after k b = record {
-  attempts = subst (λ (n : ℕ). n ≤ after.journal.counts.turns) (sym k.attempts) (subst (λ (n : ℕ). m.attempts ≤ n) (sym k.turns) b.attempts);
+  attempts = subst (λ (n : ℕ). n ≤ 2 * after.journal.counts.turns) (sym k.attempts) (subst (λ (n : ℕ). m.attempts ≤ 2 * n) (sym k.turns) b.attempts);
   printed = subst (λ (n : ℕ). n + length after.journal.printed ≤ after.journal.counts.turns) (sym k.cleared)
       (subst (λ (xs : List ℕ). m.cleared + length xs ≤ after.journal.counts.turns) (sym k.printed) (subst (λ (n : ℕ). m.cleared + length m.journal.printed ≤ n) (sym k.turns) b.printed));
 }
@@ -127,41 +126,41 @@ printed_of m r stands =
     subst (λ (x : Machine). x.cleared + length x.journal.printed ≡ length r.journal.printed) (sym stands.same) (printed_by stands.unseen r stands.unseen_is_right)
 
 turn_bounded : (m after : Machine) (r : State) (h : ℕ) → StandsFor m r → m.journal.verdict ≡ Running → StandsFor after (step r (Turn h)) → IsEvent m (Turn h) after
-    → AreOutside m → Bounded m → Bounded after
+    → Bounded m → Bounded after
 unfolding IsEvent machine_of
-turn_bounded m after r h stands on behind event outside b =
+turn_bounded m after r h stands on behind event b =
     let verdict : r.journal.verdict ≡ Running = sym (ap (λ (x : Machine). x.journal.verdict) stands.same) ∙ on in
     let next : StandsFor after (turn (count r count_turn) h) = subst (StandsFor after) (running r h verdict) behind in
     let gains : Gains (count r count_turn) (turn (count r count_turn) h) = turn_gains (count r count_turn) h in
     let turns : after.journal.counts.turns ≡ m.journal.counts.turns + 1 =
     counts_of after (turn (count r count_turn) h) next ∙ gains.rises.turns ∙ ap (λ (n : ℕ). n + 1) (sym (counts_of m r stands)) in
-    let one : after.attempts ≤ m.attempts + 1 = turn_attempts m after h (slice_get m.harts h) (found_outside m.harts h (outside h)) (subst (λ (v : Verdict). HappensUnder v m (Turn h) after) on event) in
+    let two : after.attempts ≤ m.attempts + 2 = turn_attempts m after h (slice_get m.harts h) (subst (λ (v : Verdict). HappensUnder v m (Turn h) after) on event) in
     let old = printed_of m r stands in
     let new = printed_of after (turn (count r count_turn) h) next in
     let more = gains.prints.console in
     let a = b.attempts in
     let p = b.printed in
-    record { attempts = omega (arith, turns, one, a); printed = omega (arith, turns, old, new, more, p) }
+    record { attempts = omega (arith, turns, two, a); printed = omega (arith, turns, old, new, more, p) }
 
 -- ---- each event
 
 bounded_by : (m after : Machine) (r : State) (e : Event) (v : Verdict) → m.journal.verdict ≡ v → StandsFor m r → StandsFor after (step r e) → IsEvent m e after
-    → StepsUnder v m e after → AreOutside m → Bounded m → Bounded after
+    → StepsUnder v m e after → Bounded m → Bounded after
 unfolding event_served
-bounded_by m after r (Turn h) Running on stands behind event steps outside b = turn_bounded m after r h stands on behind event outside b
-bounded_by m after r Beat Running on stands behind event steps outside b =
+bounded_by m after r (Turn h) Running on stands behind event steps b = turn_bounded m after r h stands on behind event b
+bounded_by m after r Beat Running on stands behind event steps b =
     subst Bounded (sym steps) (left_bounded (raised m count_beat) (beat_served (raised m count_beat)) (beat_leaves (raised m count_beat)) (record { attempts = b.attempts; printed = b.printed }))
-bounded_by m after r (Key byte) Running on stands behind event steps outside b =
+bounded_by m after r (Key byte) Running on stands behind event steps b =
     subst Bounded (sym steps) (left_bounded (raised m count_key) (key_served (raised m count_key) byte) (key_leaves (raised m count_key) byte) (record { attempts = b.attempts; printed = b.printed }))
-bounded_by m after r (Tick n) Running on stands behind event steps outside b =
+bounded_by m after r (Tick n) Running on stands behind event steps b =
     subst Bounded (sym steps) (left_bounded (raised m count_tick) (tick_served (raised m count_tick) n) (tick_leaves (raised m count_tick) n) (record { attempts = b.attempts; printed = b.printed }))
-bounded_by m after r e Shutdown on stands behind event steps outside b = subst Bounded (sym steps) b
-bounded_by m after r e (Stopped rule hart at) on stands behind event steps outside b = subst Bounded (sym steps) b
+bounded_by m after r e Shutdown on stands behind event steps b = subst Bounded (sym steps) b
+bounded_by m after r e (Stopped rule hart at) on stands behind event steps b = subst Bounded (sym steps) b
 
-pub step_bounded : (m after : Machine) (r : State) (e : Event) → StandsFor m r → IsStep m e after → AreOutside m → Bounded m → Bounded after
+pub step_bounded : (m after : Machine) (r : State) (e : Event) → StandsFor m r → IsStep m e after → Bounded m → Bounded after
 unfolding IsStep
-step_bounded m after r e stands steps outside b =
-    bounded_by m after r e m.journal.verdict refl stands (step_law m after r e stands steps).0 (step_law m after r e stands steps).1 steps outside b
+step_bounded m after r e stands steps b =
+    bounded_by m after r e m.journal.verdict refl stands (step_law m after r e stands steps).0 (step_law m after r e stands steps).1 steps b
 
 -- ---- printed bytes that are taken away
 

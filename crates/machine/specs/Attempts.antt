@@ -2,7 +2,6 @@
 use Rattle.std.specs.Prelude.{◌≡◌, ◌/◌, ◌%◌, ◌^◌, ℕ, zero, suc, true, false, List}
 use Rattle.std.specs.Prelude.{[], ◌∷◌, length, Option, replicate, Some, None, slice_get, slice_index_or}
 use Rattle.processor.specs.CachedWalks.{CacheAgrees, no_lines}
-use Rattle.sv_types.specs.Views.{IsRoot, UnderViews}
 use Rattle.processor.specs.HardwareAttempt.{attempt}
 use Rattle.processor.specs.HypervisorRegisters.{registers_at_boot}
 use Rattle.processor.specs.Regions.{Region}
@@ -31,23 +30,18 @@ nobody = record {
 abbrev pub hart_in : List HostHart → ℕ → HostHart
 hart_in harts h = slice_index_or harts h nobody
 
--- a hart may make an attempt under one of the roots, which writes no byte behind RAM
+-- a hart may make an attempt, whose walks lead to RAM and which writes no byte behind it
 pub record IsReady (region : Region) (host : HostHart) (lines : Lines) : Type 0 where
   pub started : host.started ≡ true
   pub aligned : host.core.pc % 4 ≡ 0
   pub keeps : KeepsMode host.core.hregs
   pub stage : host.core.hregs.hgatp / 2 ^ 60 ≡ 8
-  pub root : IsRoot [] host.core.hregs.hgatp
   pub apart : WalksApart region host.core.hregs.hgatp
   pub ram : length (attempt region host.core lines).region.ram ≡ length region.ram
 
--- a cache that agrees with the tables, all of whose lines are of the views
-pub record IsUsable (tables : List ℕ) (lines : List (Option CacheLine)) : Type 0 where
-  pub agrees : CacheAgrees tables lines
-  pub views : UnderViews [] lines
-
+-- each cache agrees with the tables
 pub record AreUsable (tables : List ℕ) (caches : List (List (Option CacheLine))) : Type 0 where
-  pub each : (h : ℕ) (lines : List (Option CacheLine)) → slice_get caches h ≡ Some lines → IsUsable tables lines
+  pub each : (h : ℕ) (lines : List (Option CacheLine)) → slice_get caches h ≡ Some lines → CacheAgrees tables lines
 
 -- the first n caches emptied
 unfoldable pub first_emptied : ℕ → List (List (Option CacheLine)) → List (List (Option CacheLine))

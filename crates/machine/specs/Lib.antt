@@ -2,6 +2,7 @@ pub mod Attempts
 pub mod Beats
 pub mod Boot
 pub mod Keeping
+pub mod Limits
 pub mod Machines
 pub mod Parts
 pub mod Repeats

@@ -1,5 +1,5 @@
 -- What is true of a machine between two events. This project's own.
-use Rattle.std.specs.Prelude.{◌+◌, ◌^◌, ◌<◌, ◌≤◌, ℕ, List, [], ◌∷◌, length, Option, Some, None}
+use Rattle.std.specs.Prelude.{◌+◌, ◌*◌, ◌^◌, ◌<◌, ◌≤◌, ℕ, List, [], ◌∷◌, length, Option, Some, None}
 use Rattle.reference.specs.States.{State, Hart}
 use Rattle.machine_model.specs.StandsFor.{StandsFor}
 use Rattle.saved_machine.specs.SavedStates.{gpa_at}
@@ -14,11 +14,11 @@ abbrev pub HaveAddresses : List Hart → Type 0
 HaveAddresses [] = Unit {0}
 HaveAddresses (hart ∷ harts) = HasAddress hart.reservation × HaveAddresses harts
 
--- it stands for a state of the reference machine whose reservations have addresses, and no more attempts were made and
--- bytes printed than turns
+-- it stands for a state of the reference machine whose reservations have addresses. There were two attempts a turn at most, and
+-- no more bytes printed than turns
 pub record IsFit (m : Inside) : Type 0 where
   pub state : State
   pub stands : StandsFor m.parts state
   pub addresses : HaveAddresses state.harts
-  pub attempts : m.parts.attempts ≤ m.parts.journal.counts.turns
+  pub attempts : m.parts.attempts ≤ 2 * m.parts.journal.counts.turns
   pub printed : m.parts.cleared + length m.parts.journal.printed ≤ m.parts.journal.counts.turns

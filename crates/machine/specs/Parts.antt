@@ -1,8 +1,10 @@
 -- The machine from its parts, and what is true of them. This project's own.
 use Rattle.std.specs.Prelude.{◌≡◌, ◌+◌, ◌≤◌, [], map, length}
+use Rattle.sv_types.specs.Limits.{most_harts}
 use Rattle.sv_types.specs.Policies.{rules_of}
 use Rattle.reference.specs.Protections.{is_free}
 use Rattle.machine_model.specs.Machine.{Machine}
+use Rattle.machine_model.specs.StandsFor.{bound_pages}
 use Rattle.page_guard.specs.Guarded.{IsTheirs}
 use Rattle.hart_answers.specs.Hosts.{hosts_of}
 use Rattle.module_answers.specs.Conditions.{AreJoined}
@@ -15,8 +17,8 @@ machine_of_parts p = record {
   rules = rules_of p.policy;
   region = p.mem;
   harts = hosts_of p.seats.items;
-  protections = p.guard;
-  dma = map is_free p.guard;
+  protections = p.guard.pages;
+  dma = map is_free p.guard.pages;
   loaded = p.modules.gate.loaded;
   loading = loading_of p.modules;
   retired = p.modules.gate.retired;
@@ -30,10 +32,10 @@ machine_of_parts p = record {
 pub record IsJoined (p : Inside) : Type 0 where
   pub entries : p.policy.entries.items ≡ p.entries.entries
   pub bound : p.policy.bound.items ≡ p.entries.bound
-  pub unbound : p.policy.bound.items ≡ []
-  pub few : length p.seats.items ≤ 4
+  pub places : p.guard.bound ≡ bound_pages (rules_of p.policy)
+  pub few : length p.seats.items ≤ most_harts
   pub caches : length p.caches.items ≡ length p.seats.items
   pub theirs : IsTheirs p.mem p.guard
   pub usable : AreUsable p.mem.tables p.caches.items
-  pub pages : length p.guard ≡ p.policy.ram_pages
+  pub pages : length p.guard.pages ≡ p.policy.ram_pages
   pub modules : AreJoined (rules_of p.policy) p.modules

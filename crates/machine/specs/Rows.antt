@@ -1,10 +1,9 @@
 -- Turns of one hart in a row, each of which carries out an instruction: what they make of the machine. This project's own.
-use Rattle.std.specs.Prelude.{◌≡◌, ℕ, zero, suc, ◌+◌, ◌/◌, ◌%◌, ◌^◌, ◌<◌, List, [], length, None}
+use Rattle.std.specs.Prelude.{◌≡◌, ℕ, zero, suc, ◌+◌, ◌/◌, ◌%◌, ◌^◌, ◌<◌, List, length, None}
 use Rattle.processor.specs.Hardware.{Core}
 use Rattle.processor.specs.HypervisorRegisters.{pending}
 use Rattle.processor.specs.Regions.{Region}
 use Rattle.processor.specs.SecondStage.{WalksApart}
-use Rattle.sv_types.specs.Views.{IsRoot}
 use Rattle.hart.specs.Conditions.{KeepsMode}
 use Rattle.sv_types.specs.declared.event.Verdict.TheVariants.{Running}
 use Rattle.reference.specs.Counting.{counted, count_turn, count_retired}
@@ -19,12 +18,11 @@ use Rattle.machine.specs.Turns.{Attempts}
 abbrev pub AreFree : List HostHart → Type 0
 AreFree harts = (h : ℕ) → (hart_in harts h).core.reservation ≡ None
 
--- a hart stands at an instruction, and its walks under one of the roots lead to RAM
-pub record MayWalk (region : Region) (host : HostHart) : Type 0 where
+-- a hart stands at an instruction, and its walks lead to RAM
+pub record WalksUnderRoot (region : Region) (host : HostHart) : Type 0 where
   pub aligned : host.core.pc % 4 ≡ 0
   pub keeps : KeepsMode host.core.hregs
   pub stage : host.core.hregs.hgatp / 2 ^ 60 ≡ 8
-  pub root : IsRoot [] host.core.hregs.hgatp
   pub apart : WalksApart region host.core.hregs.hgatp
 
 -- so many turns counted, each with its instruction

@@ -1,10 +1,11 @@
 // One attempt of a hart, and what its write takes from the others.
 
 ghost use Rattle.std.specs.Prelude.{◌≡◌, ◌+◌, ◌-◌, ◌<◌, ◌%◌, ◌^◌, length};
+ghost use Rattle.processor.specs.CachedWalks.{CacheAgrees};
 ghost use Rattle.processor.specs.HardwareAttempt.{attempt};
 ghost use Rattle.machine_model.specs.Machine.{with_core, update, all_forget};
 ghost use Rattle.hart_answers.specs.Hosts.{host_at, hosts_of};
-ghost use Rattle.machine.specs.Attempts.{hart_in, IsReady, IsUsable, AreUsable};
+ghost use Rattle.machine.specs.Attempts.{hart_in, IsReady, AreUsable};
 
 use gstage_cache::Cache;
 use hart::{Cpu, Wires};
@@ -13,7 +14,6 @@ use host_mem::HostMem;
 use processor::Outcome;
 
 // An attempt of a hart on its side, with its cache.
-#[tactic(auto, using(view_laws::proofs::CachesUnderViews::filled_under_view))]
 #[inline(always)]
 fn attempt_in_seat<W: Wires>(
     cpu: &mut Cpu,
@@ -24,7 +24,7 @@ fn attempt_in_seat<W: Wires>(
 ) -> Outcome
     requires count { cpu.old < 2 ^ 64 - 1 }
     requires ready { IsReady mem.old (host_at seat.old) (W.seen wires.now) }
-    requires usable { IsUsable mem.old.tables cache.old }
+    requires agrees { CacheAgrees mem.old.tables cache.old }
     ensures counted { cpu.new ≡ cpu.old + 1 }
     ensures host { host_at seat.new ≡ with_core (attempt mem.old (host_at seat.old).core (W.seen wires.now)).core (host_at seat.old) }
     ensures region { mem.new ≡ (attempt mem.old (host_at seat.old).core (W.seen wires.now)).region }
@@ -32,7 +32,7 @@ fn attempt_in_seat<W: Wires>(
     ensures aligned { seat.new.hart.core.pc % 4 ≡ 0 }
     ensures tables { mem.new.tables ≡ mem.old.tables }
     ensures ram { length mem.new.ram ≡ length mem.old.ram }
-    ensures usable { IsUsable mem.new.tables cache.new }
+    ensures agrees { CacheAgrees mem.new.tables cache.new }
 {
     let regs = seat.side.registers();
     cpu.attempt(&mut seat.hart.core, regs, cache, mem, wires)

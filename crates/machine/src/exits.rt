@@ -7,15 +7,15 @@ ghost use Rattle.reference.specs.ModuleCalls.{answer_of};
 ghost use Rattle.machine_model.specs.GivenAnswers.{IsGiven};
 ghost use Rattle.machine_model.specs.HostCalls.{host_facts, host_given, served_call};
 ghost use Rattle.machine_model.specs.HostExits.{host_exit, host_exit_answered};
-ghost use Rattle.machine_model.specs.HostHarts.{host_seen};
-ghost use Rattle.machine_model.specs.Served.{exit_answer};
+ghost use Rattle.machine_model.specs.Served.{is_again};
 ghost use Rattle.machine_model.specs.Steps.{WithTables};
 ghost use Rattle.machine_model.specs.declared.exits.ExitAnswer.TheVariants.{Traps, Returns, Demotes, LeavesEntry, StopsAtWrite, LoadsDevice, StoresDevice};
 ghost use Rattle.processor.specs.declared.mode.Mode.TheVariants.{Kernel};
+ghost use Rattle.sv_types.specs.Limits.{most_printed};
 ghost use Rattle.call_answers.specs.Known.{StartsOneOf};
 ghost use Rattle.trap_answers.specs.Possible.{IsPossible};
 ghost use Rattle.machine.specs.Attempts.{hart_in};
-ghost use Rattle.machine.specs.Turns.{IsGuarded, MayServe, MayTrap, answered_exit};
+ghost use Rattle.machine.specs.Turns.{IsGuarded, MayServe, MayTrap, answered_exit, asked_of, left_entry};
 
 use crate::caches::fence;
 use crate::parts::Parts;
@@ -30,12 +30,20 @@ use trap_answers::{
     exit_answer, guest_demotion, guest_return, guest_trap, leave_entry, stop_at_write,
 };
 
+/// The answer asks for a second attempt.
+#[tactic(auto, unfolding(machine_model::specs::Served::is_again))]
+pub(crate) fn is_again(answer: ExitAnswer) -> bool
+    ensures { result ≡ is_again answer }
+{
+    matches!(answer, ExitAnswer::LeavesEntry)
+}
+
 impl Parts {
     // What an exit of a hart is answered.
     #[tactic(auto, using(hart_answers::proofs::Hosts::hosts_length))]
-    fn exit_answer(&self, which: u8, exit: &Exit) -> ExitAnswer
+    pub(crate) fn exit_answer(&self, which: u8, exit: &Exit) -> ExitAnswer
         requires hart { MayTrap self.now.harts which }
-        ensures answer { result ≡ exit_answer (host_seen self.now.region.ram self.now.rules (hart_in self.now.harts which) (hart_in self.now.harts which).core.hregs.mode exit.now) exit.now }
+        ensures answer { result ≡ asked_of self.now which exit.now }
         ensures possible { IsPossible (hart_in self.now.harts which).core.hregs.mode result }
     {
         exit_answer(&self.mem, &self.seats[which as usize], &self.entries, exit)
@@ -84,9 +92,11 @@ impl Parts {
 
     // It leaves its entry.
     #[tactic(auto, using(hart_answers::proofs::Hosts::hosts_length))]
-    fn leave_entry(&mut self, which: u8)
+    pub(crate) fn leave_entry(&mut self, which: u8)
         requires there { which < length self.old.harts }
-        ensures { WithTables self.old (answered_exit self.old which LeavesEntry) self.new }
+        ensures left { self.new ≡ left_entry self.old which }
+        ensures number { length self.new.harts ≡ length self.old.harts }
+        ensures answer { WithTables self.old (answered_exit self.old which LeavesEntry) self.new }
     {
         let seat = &mut self.seats[which as usize];
         leave_entry(seat, &self.guard);
@@ -126,7 +136,7 @@ impl Parts {
     fn device_store(&mut self, which: u8, store: Store)
         requires hart { MayTrap self.old.harts which }
         requires counts { MayCount self.old.journal.counts }
-        requires room { length self.old.journal.printed < 4096 }
+        requires room { length self.old.journal.printed < most_printed }
         ensures { WithTables self.old (answered_exit self.old which (StoresDevice store.address store.gpa store.width store.value)) self.new }
     {
         let seat = &mut self.seats[which as usize];
@@ -197,7 +207,7 @@ impl Parts {
 
     // Does what an exit is answered.
     #[tactic(auto, unfolding(machine_model::specs::HostExits::host_exit_answered))]
-    fn carry_out(&mut self, which: u8, answer: ExitAnswer)
+    pub(crate) fn carry_out(&mut self, which: u8, answer: ExitAnswer)
         requires hart { MayTrap self.old.harts which }
         requires may { MayServe self.old }
         requires possible { IsPossible (hart_in self.old.harts which).core.hregs.mode answer }

@@ -6,7 +6,7 @@ ghost use Rattle.sv_types.specs.Kernel.{segments_ram};
 ghost use Rattle.sv_types.specs.Measure.{measure};
 ghost use Rattle.sv_types.specs.Policies.{rules_of, rules_within};
 ghost use Rattle.processor.specs.Regions.{most_ram_pages};
-ghost use Rattle.gstage_tables.specs.Layout.{table_size};
+ghost use Rattle.gstage_tables.specs.Layout.{most_bound, table_size};
 ghost use Rattle.page_guard.specs.Guarded.{IsTheirs};
 ghost use Rattle.elf64_load.specs.Images.{segments_of};
 ghost use Rattle.image_loader.specs.Placed.{ArePlaced};
@@ -14,6 +14,7 @@ ghost use Rattle.reference.specs.Start.{image_start, AreWords};
 ghost use Rattle.reference.specs.States.{has_number};
 ghost use Rattle.reference.specs.Soundness.{IsSoundDisk};
 ghost use Rattle.machine_model.specs.Reaches.{IsNew};
+ghost use Rattle.machine_model.specs.StandsFor.{bound_pages};
 ghost use Rattle.disk_port.specs.Ports.{port_disk};
 ghost use Rattle.standing_laws.specs.Starts.{image_machine, image_protections, journal_at_boot, IsGuarded};
 ghost use Rattle.machine.specs.Boot.{IsImageOf, image_text, RefusesImage};
@@ -27,6 +28,7 @@ use gstage_tables::Trees;
 use host_mem::HostMem;
 use image_loader::{approve_text, fill_ram};
 use page_guard::Guard;
+use processor::page_of;
 use std::alloc::{AllocError, Global};
 use std::thread::Threads;
 use sv_types::Policy;
@@ -99,42 +101,66 @@ fn assemble(
     ensures made { IfOk result (λ p. p ≡ image_machine p.region.tables (rules_of policy) image.now.entry (segments_of image.now) (port_disk port)) }
     ensures guarded { IfOk result IsGuarded }
 {
-    let mut mem = image_region(alloc, image, policy.ram_pages)?;
-    let guard = image_guard(alloc, &mut mem, image, policy.ram_pages)?;
+    let bound = bound_pages(alloc, &policy)?;
+    let mut mem = image_region(alloc, image, policy.ram_pages, bound.len())?;
+    let guard = image_guard(alloc, &mut mem, image, policy.ram_pages, &bound)?;
     let _tables = mem.table_bytes();
     Parts::at_boot(alloc, policy, mem, guard, port, image.entry)
 }
 
-// A region of so many pages of RAM with the image's segments, and room for its tables.
+// The page that each entry of a policy is bound to.
+#[tactic(auto, using(crate::proofs::BoundPages::page_fits))]
+fn bound_pages(alloc: Global, policy: &Policy) -> Result<Vec<u32>, AllocError>
+    requires within { IsTrue (rules_within (rules_of policy.now)) }
+    ensures pages { IfOk result (λ pages. pages.items ≡ bound_pages (rules_of policy.now)) }
+    ensures number { IfOk result (λ pages. length pages.items ≡ length policy.now.bound.items) }
+{
+    let mut pages = Vec::new(alloc);
+    'entries: for i in 0..policy.bound.len() {
+        pages.push(page_of(policy.bound[i]) as u32)?;
+    }
+    Ok(pages)
+}
+
+// A region of so many pages of RAM with the image's segments, and room for its tables, where so many entries are bound.
 #[tactic(auto, using(crate::proofs::Starting::tables_sized))]
-fn image_region(alloc: Global, image: &KernelImage, ram_pages: u32) -> Result<HostMem, AllocError>
+fn image_region(
+    alloc: Global,
+    image: &KernelImage,
+    ram_pages: u32,
+    bound: usize,
+) -> Result<HostMem, AllocError>
     requires few { ram_pages ≤ most_ram_pages }
+    requires bound { bound ≤ most_bound }
     requires placed { ArePlaced ram_pages (segments_of image.now) }
-    ensures tables { IfOk result (λ m. length m.tables ≡ table_size ram_pages 0) }
+    ensures tables { IfOk result (λ m. length m.tables ≡ table_size ram_pages bound) }
     ensures ram { IfOk result (λ m. m.ram ≡ segments_ram (segments_of image.now) ram_pages) }
     ensures size { IfOk result (λ m. length m.ram ≡ page_size * ram_pages) }
 {
-    let tables = Trees::table_bytes(ram_pages as usize, 0);
+    let tables = Trees::table_bytes(ram_pages as usize, bound);
     let mut mem = HostMem::new(alloc, tables, ram_pages as usize)?;
     fill_ram(alloc, &mut mem, image, ram_pages)?;
     Ok(mem)
 }
 
-// The pages of the image's text held and then approved, all others free.
+// The pages of the image's text held and then approved, all others free, where entries are bound to these pages.
 fn image_guard(
     alloc: Global,
     mem: &mut HostMem,
     image: &KernelImage,
     ram_pages: u32,
+    bound: &[u32],
 ) -> Result<Guard, AllocError>
     requires size { length mem.old.ram ≡ page_size * ram_pages }
-    requires tables { length mem.old.tables ≡ table_size ram_pages 0 }
+    requires few { length bound.now ≤ most_bound }
+    requires tables { length mem.old.tables ≡ table_size ram_pages (length bound.now) }
     requires placed { ArePlaced ram_pages (segments_of image.now) }
-    ensures guard { IfOk result (λ g. g ≡ image_protections ram_pages (segments_of image.now)) }
+    ensures guard { IfOk result (λ g. g.pages ≡ image_protections ram_pages (segments_of image.now)) }
+    ensures bound { IfOk result (λ g. g.bound ≡ bound.now) }
     ensures theirs { IfOk result (λ g. IsTheirs mem.new g) }
     ensures ram { mem.new.ram ≡ mem.old.ram }
 {
-    let mut guard = Guard::new(alloc, mem)?;
+    let mut guard = Guard::new(alloc, mem, bound)?;
     approve_text(alloc, &mut guard, mem, image)?;
     Ok(guard)
 }

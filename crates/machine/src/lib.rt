@@ -19,5 +19,4 @@ mod wires;
 
 pub use boot::BootRefusal;
 pub use devices::SECTOR_BYTES;
-pub use journal_records::PRINTED_ROOM;
 pub use machine::Machine;

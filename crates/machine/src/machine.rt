@@ -1,6 +1,7 @@
 // The machine.
 
-ghost use Rattle.std.specs.Prelude.{◌≡◌, ℕ, ◌+◌, ◌-◌, ◌<◌, ◌≤◌, ◌^◌, [], length, replicate};
+ghost use Rattle.std.specs.Prelude.{◌≡◌, ℕ, ◌+◌, ◌-◌, ◌<◌, ◌≤◌, [], length, replicate};
+ghost use Rattle.sv_types.specs.Limits.{most_printed};
 ghost use Rattle.reference.specs.Counting.{CountsAtMost};
 ghost use Rattle.reference.specs.Disk.{disk_bytes};
 ghost use Rattle.reference.specs.Run.{run, step};
@@ -8,6 +9,7 @@ ghost use Rattle.reference.specs.States.{State};
 ghost use Rattle.machine_model.specs.HardwareEvent.{IsEvent};
 ghost use Rattle.machine_model.specs.Reaches.{Cleared};
 ghost use Rattle.machine_model.specs.StandsFor.{StandsFor};
+ghost use Rattle.machine.specs.Limits.{most_counts};
 ghost use Rattle.machine.specs.Repeats.{IsQuiet, Makes, Repeats};
 
 use crate::parts::Parts;
@@ -35,8 +37,8 @@ impl Model for Machine {
 impl Machine {
     /// One event. The machine stands for the reference machine's state after it, and changes no more than the event may.
     pub fn step(&mut self, event: Event)
-        requires room { length self.old.journal.printed < 4096 }
-        requires counts { CountsAtMost (2 ^ 64 - 2) self.old.journal.counts }
+        requires room { length self.old.journal.printed < most_printed }
+        requires counts { CountsAtMost (most_counts - 1) self.old.journal.counts }
         ensures stands { (r : State) → StandsFor self.old r → StandsFor self.new (step r event) }
         ensures event { IsEvent self.old event self.new }
     {
@@ -48,8 +50,9 @@ impl Machine {
     #[inline(never)]
     pub fn repeat(&mut self, event: Event, count: u64) -> u64
         requires asked { 0 < count }
-        requires room { length self.old.journal.printed < 4096 }
-        requires counts { CountsAtMost (2 ^ 64 - 1 - count) self.old.journal.counts }
+        requires few { count ≤ most_counts }
+        requires room { length self.old.journal.printed < most_printed }
+        requires counts { CountsAtMost (most_counts - count) self.old.journal.counts }
         ensures stands { (r : State) → StandsFor self.old r → StandsFor self.new (run r (replicate result event)) }
         ensures chain { Repeats result self.old event self.new }
         ensures counts { (n : ℕ) → CountsAtMost n self.old.journal.counts → CountsAtMost (n + result) self.new.journal.counts }
@@ -71,8 +74,9 @@ impl Machine {
     #[inline(always)]
     fn round(&mut self, event: Event, most: u64) -> u64
         requires asked { 0 < most }
-        requires room { length self.old.journal.printed < 4096 }
-        requires counts { CountsAtMost (2 ^ 64 - 1 - most) self.old.journal.counts }
+        requires few { most ≤ most_counts }
+        requires room { length self.old.journal.printed < most_printed }
+        requires counts { CountsAtMost (most_counts - most) self.old.journal.counts }
         ensures chain { Repeats result self.old event self.new }
         ensures counts { (n : ℕ) → CountsAtMost n self.old.journal.counts → CountsAtMost (n + result) self.new.journal.counts }
         ensures some { 0 < result }
@@ -89,7 +93,8 @@ impl Machine {
     // Turns that only carry out instructions, by a shorter way. For a single turn that way is longer.
     #[inline(always)]
     fn row(&mut self, event: Event, most: u64) -> u64
-        requires counts { CountsAtMost (2 ^ 64 - 1 - most) self.old.journal.counts }
+        requires few { most ≤ most_counts }
+        requires counts { CountsAtMost (most_counts - most) self.old.journal.counts }
         ensures chain { Repeats result self.old event self.new }
         ensures quiet { IsQuiet self.old self.new }
         ensures counts { (n : ℕ) → CountsAtMost n self.old.journal.counts → CountsAtMost (n + result) self.new.journal.counts }
@@ -107,8 +112,8 @@ impl Machine {
     // One event, by the only caller of the parts' own step.
     #[inline(always)]
     fn make(&mut self, event: Event)
-        requires room { length self.old.journal.printed < 4096 }
-        requires counts { CountsAtMost (2 ^ 64 - 2) self.old.journal.counts }
+        requires room { length self.old.journal.printed < most_printed }
+        requires counts { CountsAtMost (most_counts - 1) self.old.journal.counts }
         ensures makes { Makes self.old event self.new }
         ensures counts { (n : ℕ) → CountsAtMost n self.old.journal.counts → CountsAtMost (n + 1) self.new.journal.counts }
     {

@@ -1,6 +1,9 @@
 // A machine before its first event.
 
 ghost use Rattle.std.specs.Prelude.{◌≡◌, ℕ, ◌≤◌, ◌%◌, List, length, true, IfOk, OnOk, IfErr, IsTrue};
+ghost use Rattle.processor.specs.Bytes.{page_size};
+ghost use Rattle.reference.specs.BlockDisk.{sector_size};
+ghost use Rattle.sv_types.specs.Boot.{most_flat_bytes};
 ghost use Rattle.sv_types.specs.Measure.{measure};
 ghost use Rattle.sv_types.specs.Policies.{rules_of, rules_within};
 ghost use Rattle.reference.specs.Start.{flat_start, image_start, boot_start, virtio_start};
@@ -30,8 +33,8 @@ impl Machine {
         pages: &[u8],
         wanted: Digest,
     ) -> Result<Machine, BootRefusal>
-        requires whole { length pages.now % 4096 ≡ 0 }
-        requires size { length pages.now ≤ 65536 }
+        requires whole { length pages.now % page_size ≡ 0 }
+        requires size { length pages.now ≤ most_flat_bytes }
         ensures new { IfOk result (λ m. IsNew m (flat_start pages.now wanted)) }
         ensures journal { IfOk result (λ m. m.journal ≡ journal_at_boot) }
         ensures measured { OnOk result (measure pages.now ≡ wanted) }
@@ -53,7 +56,7 @@ impl Machine {
     ) -> Result<Machine, BootRefusal>
         requires within { IsTrue (rules_within (rules_of policy)) }
         requires read { IsRead policy.ram_pages image.now }
-        requires sectors { length disk.items % 512 ≡ 0 }
+        requires sectors { length disk.items % sector_size ≡ 0 }
         ensures new { (file : List ℕ) → IsImageOf file policy.ram_pages image.now → IfOk result (λ m. IsNew m (boot_start (rules_of policy) file disk.items)) }
         ensures journal { IfOk result (λ m. m.journal ≡ journal_at_boot) }
         ensures measured { OnOk result (measure (image_text image.now) ≡ policy.kernel) }
@@ -73,7 +76,7 @@ impl Machine {
     ) -> Result<Machine, BootRefusal>
         requires within { IsTrue (rules_within (rules_of policy)) }
         requires read { IsRead policy.ram_pages image.now }
-        requires sectors { length disk.items % 512 ≡ 0 }
+        requires sectors { length disk.items % sector_size ≡ 0 }
         ensures new { (file : List ℕ) → IsImageOf file policy.ram_pages image.now → IfOk result (λ m. IsNew m (virtio_start (rules_of policy) file disk.items)) }
         ensures journal { IfOk result (λ m. m.journal ≡ journal_at_boot) }
         ensures measured { OnOk result (measure (image_text image.now) ≡ policy.kernel) }

@@ -1,21 +1,25 @@
 // The parts of the machine, and what an event does to them.
 
 ghost use Rattle.std.specs.Prelude.{◌≡◌, ℕ, ◌+◌, ◌-◌, ◌<◌, ◌%◌, ◌^◌, true, length, slice_get};
+ghost use Rattle.sv_types.specs.Limits.{most_printed};
 ghost use Rattle.reference.specs.Devices.{lines_at};
 ghost use Rattle.machine_model.specs.Machine.{after_attempt};
 ghost use Rattle.machine_model.specs.HardwareEvent.{attempted, is_loading};
+ghost use Rattle.machine_model.specs.Served.{is_again};
 ghost use Rattle.machine_model.specs.HostEvents.{event_served};
 ghost use Rattle.machine_model.specs.HostExits.{served_load_turn};
 ghost use Rattle.reference.specs.Counting.{CountsAtMost, MayCount};
 ghost use Rattle.sv_types.specs.declared.event.Event.TheVariants.{Beat, Key, Tick};
 ghost use Rattle.sv_types.specs.declared.event.Verdict.TheVariants.{Running};
 ghost use Rattle.machine_model.specs.Reaches.{without_first_printed};
-ghost use Rattle.machine_model.specs.Steps.{IsStep, IsTurn, TurnServed, WithTables};
+ghost use Rattle.machine_model.specs.Steps.{AttemptServed, IsStep, IsTurn, TurnServed, WithTables};
 ghost use Rattle.machine.specs.Attempts.{hart_in, IsReady};
-ghost use Rattle.machine.specs.Turns.{AreOutside, IsGuarded, MayAttempt, MayServe, MayTrap, Finished};
+ghost use Rattle.machine.specs.Limits.{most_counts};
+ghost use Rattle.machine.specs.Turns.{Concluded, ExitServed, Finished, IsGuarded, IsReadyAt, MayAttemptAgain, MayServe, MayTrap, MayTurn, asked_of, left_entry};
 
 use crate::attempts::attempt;
 use crate::beats::beat_disk;
+use crate::exits::is_again;
 use crate::wires::HartWires;
 use call_answers::law_starts;
 use devices::Devices;
@@ -28,7 +32,7 @@ use host_mem::HostMem;
 use journal_records::Journal;
 use module_answers::{Modules, load_turn};
 use page_guard::{Entries, Guard};
-use processor::{Mode, Outcome, ram_place};
+use processor::{Exit, Mode, Outcome, ram_place};
 use quick_turns::Words;
 use std::marker::Model;
 use sv_types::{Counts, Event, Policy, Verdict};
@@ -91,7 +95,7 @@ impl Parts {
         )
     }
 
-    // What follows an attempt.
+    // What follows the last attempt of a turn.
     #[inline(always)]
     #[tactic(auto, using(crate::proofs::Turns::served_there))]
     fn finish(&mut self, which: u8, outcome: Outcome)
@@ -103,6 +107,52 @@ impl Parts {
             Outcome::Retired { wrote: _ } => self.journal.count_retired(),
             Outcome::GuestTrap => self.journal.count_trap(Mode::Kernel),
             Outcome::Exit(exit) => self.serve_exit(which, exit),
+        }
+    }
+
+    // It leaves its entry, and makes the second attempt of its turn.
+    fn attempt_again(&mut self, which: u8)
+        requires there { which < length self.old.harts }
+        requires count { self.old.attempts < 2 ^ 64 - 1 }
+        requires may { MayServe self.old }
+        requires ready { IsReadyAt (left_entry self.old which) which }
+        ensures { AttemptServed (left_entry self.old which) which (hart_in (left_entry self.old which).harts which) self.new }
+    {
+        self.leave_entry(which);
+        let outcome = self.attempt(which);
+        self.finish(which, outcome);
+    }
+
+    // The answer to the exit of a first attempt, or a second attempt.
+    fn serve_first_exit(&mut self, which: u8, exit: Exit)
+        requires hart { MayTrap self.old.harts which }
+        requires count { self.old.attempts < 2 ^ 64 - 1 }
+        requires may { MayServe self.old }
+        requires again { is_again (asked_of self.old which exit) ≡ true → IsReadyAt (left_entry self.old which) which }
+        ensures { ExitServed (is_again (asked_of self.old which exit)) self.old which exit self.new }
+    {
+        let answer = self.exit_answer(which, &exit);
+        if is_again(answer) {
+            self.attempt_again(which);
+        } else {
+            self.carry_out(which, answer);
+        }
+    }
+
+    // What follows the first attempt of a turn.
+    #[inline(always)]
+    #[tactic(auto)]
+    fn conclude(&mut self, which: u8, outcome: Outcome)
+        requires hart { MayTrap self.old.harts which }
+        requires count { self.old.attempts < 2 ^ 64 - 1 }
+        requires may { MayServe self.old }
+        requires again { MayAttemptAgain outcome self.old which }
+        ensures { Concluded outcome self.old which self.new }
+    {
+        match outcome {
+            Outcome::Retired { wrote: _ } => self.journal.count_retired(),
+            Outcome::GuestTrap => self.journal.count_trap(Mode::Kernel),
+            Outcome::Exit(exit) => self.serve_first_exit(which, exit),
         }
     }
 
@@ -133,10 +183,9 @@ impl Parts {
     #[tactic(auto)]
     #[inline(always)]
     fn serve_turn(&mut self, which: u8)
-        requires count { self.old.attempts < 2 ^ 64 - 1 }
+        requires count { self.old.attempts < 2 ^ 64 - 2 }
         requires may { MayServe self.old }
-        requires ready { MayAttempt self.old which }
-        requires outside { AreOutside self.old }
+        requires ready { MayTurn self.old which }
         ensures { TurnServed self.old which (slice_get self.old.harts which) self.new }
     {
         if which as usize >= self.seats.len() {
@@ -150,7 +199,7 @@ impl Parts {
             return;
         }
         let outcome = self.attempt(which);
-        self.finish(which, outcome);
+        self.conclude(which, outcome);
     }
 
     /// A turn of a hart, which is counted.
@@ -158,10 +207,9 @@ impl Parts {
     #[inline(always)]
     pub(crate) fn turn(&mut self, which: u8)
         requires turns { self.old.journal.counts.turns < 2 ^ 64 - 1 }
-        requires count { self.old.attempts < 2 ^ 64 - 1 }
+        requires count { self.old.attempts < 2 ^ 64 - 2 }
         requires may { MayServe self.old }
-        requires ready { MayAttempt self.old which }
-        requires outside { AreOutside self.old }
+        requires ready { MayTurn self.old which }
         ensures { IsTurn self.old which self.new }
     {
         self.journal.count_turn();
@@ -213,12 +261,11 @@ impl Parts {
     #[tactic(auto, unfolding(machine_model::specs::Steps::IsStep))]
     #[inline(always)]
     pub(crate) fn step(&mut self, event: Event)
-        requires room { length self.old.journal.printed < 4096 }
-        requires counts { CountsAtMost (2 ^ 64 - 2) self.old.journal.counts }
-        requires attempts { self.old.attempts < 2 ^ 64 - 1 }
+        requires room { length self.old.journal.printed < most_printed }
+        requires counts { CountsAtMost (most_counts - 1) self.old.journal.counts }
+        requires attempts { self.old.attempts < 2 ^ 64 - 2 }
         requires guarded { IsGuarded self.old }
-        requires ready { self.old.journal.verdict ≡ Running → (h : ℕ) → MayAttempt self.old h }
-        requires outside { AreOutside self.old }
+        requires ready { self.old.journal.verdict ≡ Running → (h : ℕ) → MayTurn self.old h }
         ensures step { IsStep self.old event self.new }
     {
         if self.journal.verdict() != Verdict::Running {

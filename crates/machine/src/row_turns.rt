@@ -1,6 +1,7 @@
 // Turns of one hart in a row, each of which carries out an instruction.
 
 ghost use Rattle.std.specs.Prelude.{◌≡◌, ◌+◌, ◌-◌, ◌<◌, ◌≤◌, ◌^◌, true, false, length, None};
+ghost use Rattle.processor.specs.CachedWalks.{CacheAgrees};
 ghost use Rattle.processor.specs.HypervisorRegisters.{pending};
 ghost use Rattle.processor.specs.declared.lines.Lines.{Lines};
 ghost use Rattle.reference.specs.Counting.{CountsAtMost};
@@ -8,9 +9,9 @@ ghost use Rattle.reference.specs.Devices.{lines_at};
 ghost use Rattle.machine_model.specs.Machine.{with_core, update};
 ghost use Rattle.hart_answers.specs.Hosts.{host_at, hosts_of};
 ghost use Rattle.quick_turns.specs.Rows.{RetiresThrough};
-ghost use Rattle.machine.specs.Attempts.{hart_in, IsReady, IsUsable, AreUsable};
-ghost use Rattle.machine.specs.Rows.{AreFree, MayWalk, counted_row, MayRow, MakesRow};
-ghost use Rattle.machine.specs.Turns.{AreOutside};
+ghost use Rattle.machine.specs.Attempts.{hart_in, IsReady, AreUsable};
+ghost use Rattle.machine.specs.Limits.{most_counts};
+ghost use Rattle.machine.specs.Rows.{AreFree, WalksUnderRoot, counted_row, MayRow, MakesRow};
 
 use crate::parts::Parts;
 use gstage_cache::Cache;
@@ -22,7 +23,6 @@ use sv_types::Verdict;
 use trap_entry::pending;
 
 // Turns of a hart on its side, with its cache.
-#[tactic(auto, using(view_laws::proofs::CachesUnderViews::filled_under_view))]
 #[inline(always)]
 fn row_in_seat(
     words: &mut Words,
@@ -31,15 +31,15 @@ fn row_in_seat(
     mem: &mut HostMem,
     most: u64,
 ) -> u64
-    requires walks { MayWalk mem.old (host_at seat.old) }
+    requires walks { WalksUnderRoot mem.old (host_at seat.old) }
     requires free { (host_at seat.old).core.reservation ≡ None }
-    requires usable { IsUsable mem.old.tables cache.old }
+    requires agrees { CacheAgrees mem.old.tables cache.old }
     ensures retires { (lines : Lines) → pending (host_at seat.old).core.hregs (host_at seat.old).core.csrs lines ≡ None → RetiresThrough result mem.old (host_at seat.old).core lines mem.new (host_at seat.new).core }
     ensures host { host_at seat.new ≡ with_core (host_at seat.new).core (host_at seat.old) }
     ensures most { result ≤ most }
     ensures tables { mem.new.tables ≡ mem.old.tables }
     ensures ram { length mem.new.ram ≡ length mem.old.ram }
-    ensures usable { IsUsable mem.new.tables cache.new }
+    ensures agrees { CacheAgrees mem.new.tables cache.new }
 {
     let regs = seat.side.registers();
     quick_turns(words, &mut seat.hart.core, regs, cache, mem, most)
@@ -57,7 +57,7 @@ fn row(
 ) -> u64
     requires there { which < length seats.old }
     requires number { length caches.old ≡ length seats.old }
-    requires walks { MayWalk mem.old (hart_in (hosts_of seats.old) which) }
+    requires walks { WalksUnderRoot mem.old (hart_in (hosts_of seats.old) which) }
     requires free { AreFree (hosts_of seats.old) }
     requires usable { AreUsable mem.old.tables caches.old }
     ensures retires { (lines : Lines) → pending (hart_in (hosts_of seats.old) which).core.hregs (hart_in (hosts_of seats.old) which).core.csrs lines ≡ None → RetiresThrough result mem.old (hart_in (hosts_of seats.old) which).core lines mem.new (hart_in (hosts_of seats.new) which).core }
@@ -119,7 +119,6 @@ impl Parts {
 
     /// A hart makes attempts in its turns, no interrupt is due, and no write of it meets a reservation.
     pub(crate) fn may_row(&self, which: u8) -> bool
-        requires outside { AreOutside self.now }
         ensures { result ≡ true → MayRow self.now which }
     {
         if self.journal.verdict() != Verdict::Running {
@@ -138,7 +137,8 @@ impl Parts {
     pub(crate) fn row(&mut self, which: u8, most: u64) -> u64
         requires may { MayRow self.old which }
         requires ready { IsReady self.old.region (hart_in self.old.harts which) (lines_at self.old.devices which) }
-        requires counts { CountsAtMost (2 ^ 64 - 1 - most) self.old.journal.counts }
+        requires few { most ≤ most_counts }
+        requires counts { CountsAtMost (most_counts - most) self.old.journal.counts }
         requires attempts { self.old.attempts + most < 2 ^ 64 }
         ensures makes { MakesRow result self.old which self.new }
         ensures most { result ≤ most }

@@ -1,6 +1,7 @@
 // The whole machine as plain data.
 
 ghost use Rattle.std.specs.Prelude.{◌≡◌, ◌≤◌, length, IfOk, option_map};
+ghost use Rattle.sv_types.specs.Limits.{most_harts};
 ghost use Rattle.sv_types.specs.Clock.{timer_of};
 ghost use Rattle.reference.specs.States.{State};
 ghost use Rattle.machine_model.specs.StandsFor.{StandsFor};
@@ -79,7 +80,7 @@ fn saved_harts(
     devices: &Devices<Port>,
     tables: usize,
 ) -> Result<Vec<SavedHart>, AllocError>
-    requires few { length seats.now ≤ 4 }
+    requires few { length seats.now ≤ most_harts }
     requires addresses { AreKeepable tables (hosts_of seats.now) }
     ensures { IfOk result (λ harts. harts.items ≡ kept_harts tables devices.now.clock 0 (hosts_of seats.now)) }
 {

@@ -2,15 +2,17 @@
 
 ghost use Rattle.std.specs.Prelude.{◌≡◌, [], ◌≤◌, ◌*◌, ◌/◌, ◌%◌, ◌↔◌, length, replicate, true, false, IfOk, OnOk, IfErr, IsTrue};
 ghost use Rattle.processor.specs.Bytes.{page_size};
-ghost use Rattle.sv_types.specs.Boot.{flat_ram_pages};
+ghost use Rattle.sv_types.specs.Boot.{flat_ram_pages, most_flat_bytes};
 ghost use Rattle.processor.specs.CachedWalks.{no_lines};
+ghost use Rattle.sv_types.specs.Limits.{most_harts};
 ghost use Rattle.sv_types.specs.Measure.{measure};
 ghost use Rattle.sv_types.specs.Policies.{rules_of};
-ghost use Rattle.gstage_tables.specs.Layout.{table_size};
+ghost use Rattle.gstage_tables.specs.Layout.{most_bound, table_size};
 ghost use Rattle.page_guard.specs.Guarded.{IsTheirs};
 ghost use Rattle.hart_answers.specs.Hosts.{host_at, hosts_of};
 ghost use Rattle.reference.specs.Start.{flat_rules, flat_start};
 ghost use Rattle.machine_model.specs.Reaches.{IsNew};
+ghost use Rattle.machine_model.specs.StandsFor.{bound_pages};
 ghost use Rattle.standing_laws.specs.Starts.{host_at_boot, hosts_at_boot, machine_at_boot, first_approved, flat_ram, flat_machine, journal_at_boot, IsGuarded};
 ghost use Rattle.disk_port.specs.Ports.{port_disk};
 ghost use Rattle.machine.specs.Boot.{RefusesFlat};
@@ -32,10 +34,7 @@ use processor::{PAGE_SIZE, RAM_BASE};
 use quick_turns::Words;
 use std::alloc::{AllocError, Global};
 use std::thread::Threads;
-use sv_types::{Digest, Policy, Span};
-
-/// The pages of RAM of a machine of plain pages.
-const FLAT_PAGES: usize = 16;
+use sv_types::{Digest, FLAT_PAGES, Policy, Span};
 
 /// The permitted entries of a machine of plain pages.
 const FLAT_ENTRIES: [u64; 2] = [0x8000_0000, 0x8000_0100];
@@ -52,11 +51,13 @@ impl Parts {
         entry: u64,
     ) -> Result<Parts, AllocError>
         requires theirs { IsTheirs mem guard }
-        requires pages { length guard ≡ policy.ram_pages }
+        requires pages { length guard.pages ≡ policy.ram_pages }
+        requires places { guard.bound ≡ bound_pages (rules_of policy) }
+        requires along { length policy.bound.items ≤ length policy.entries.items }
+        requires few { length policy.bound.items ≤ most_bound }
         requires one { 1 ≤ policy.harts }
-        requires four { policy.harts ≤ 4 }
-        requires unbound { policy.bound.items ≡ [] }
-        ensures { IfOk result (λ p. p ≡ machine_at_boot (rules_of policy) mem entry guard (port_disk port)) }
+        requires four { policy.harts ≤ most_harts }
+        ensures { IfOk result (λ p. p ≡ machine_at_boot (rules_of policy) mem entry guard.pages (port_disk port)) }
     {
         let entries = Entries::new(alloc, &policy.entries, &policy.bound)?;
         let seats = seats_at_boot(alloc, &guard, policy.harts, entry)?;
@@ -92,8 +93,8 @@ impl Parts {
         pages: &[u8],
         wanted: Digest,
     ) -> Result<Parts, BootRefusal>
-        requires whole { length pages.now % 4096 ≡ 0 }
-        requires size { length pages.now ≤ 65536 }
+        requires whole { length pages.now % page_size ≡ 0 }
+        requires size { length pages.now ≤ most_flat_bytes }
         ensures start { IfOk result (λ p. p ≡ flat_machine p.region.tables pages.now wanted) }
         ensures new { IfOk result (λ p. IsNew p (flat_start pages.now wanted)) }
         ensures journal { IfOk result (λ p. p.journal ≡ journal_at_boot) }
@@ -166,7 +167,7 @@ pub(crate) fn judge_measure<R: Threads + Sync>(
     pages: &[u8],
     wanted: Digest,
 ) -> Result<(), BootRefusal>
-    requires { length pages.now % 4096 ≡ 0 }
+    requires { length pages.now % page_size ≡ 0 }
     ensures measured { OnOk result (measure pages.now ≡ wanted) }
     ensures refused { IfErr result (RefusesFlat pages.now wanted) }
 {
@@ -186,8 +187,8 @@ fn is_same(a: &Digest, b: &Digest) -> bool
 
 #[tactic(auto, using(crate::proofs::Starting::flat_made))]
 fn assemble(alloc: Global, pages: &[u8], wanted: Digest) -> Result<Parts, AllocError>
-    requires whole { length pages.now % 4096 ≡ 0 }
-    requires size { length pages.now ≤ 65536 }
+    requires whole { length pages.now % page_size ≡ 0 }
+    requires size { length pages.now ≤ most_flat_bytes }
     ensures start { IfOk result (λ p. p ≡ flat_machine p.region.tables pages.now wanted) }
     ensures guarded { IfOk result IsGuarded }
 {
@@ -218,7 +219,7 @@ fn flat_policy(alloc: Global, wanted: Digest) -> Result<Policy, AllocError>
 
 // A region of 16 pages of RAM with pages at their start, and room for its tables.
 fn flat_region(alloc: Global, pages: &[u8]) -> Result<HostMem, AllocError>
-    requires { length pages.now ≤ 65536 }
+    requires { length pages.now ≤ most_flat_bytes }
     ensures tables { IfOk result (λ m. length m.tables ≡ table_size flat_ram_pages 0) }
     ensures ram { IfOk result (λ m. m.ram ≡ flat_ram pages.now) }
 {
@@ -228,17 +229,18 @@ fn flat_region(alloc: Global, pages: &[u8]) -> Result<HostMem, AllocError>
     Ok(mem)
 }
 
-// So many pages at the start of RAM held and then approved, all others free.
+// So many pages at the start of RAM held and then approved, all others free. No entry is bound.
 #[tactic(auto, using(crate::proofs::Starting::none_taken))]
 fn approved_start(alloc: Global, mem: &mut HostMem, count: u32) -> Result<Guard, AllocError>
     requires ram { length mem.old.ram ≡ page_size * flat_ram_pages }
     requires tables { length mem.old.tables ≡ table_size flat_ram_pages 0 }
     requires few { count ≤ flat_ram_pages }
-    ensures guard { IfOk result (λ g. g ≡ first_approved count) }
+    ensures guard { IfOk result (λ g. g.pages ≡ first_approved count) }
+    ensures unbound { IfOk result (λ g. g.bound ≡ []) }
     ensures theirs { IfOk result (λ g. IsTheirs mem.new g) }
     ensures ram { mem.new.ram ≡ mem.old.ram }
 {
-    let mut guard = Guard::new(alloc, mem)?;
+    let mut guard = Guard::new(alloc, mem, &[])?;
     let span = Span { first: 0, count };
     let Ok(hold) = guard.hold(mem, span) else {
         unreachable!()

@@ -1,7 +1,8 @@
 // Plain pages that start, and that are refused, and a machine that is saved after some events.
 
-ghost use Rattle.std.specs.Prelude.{◌≡◌, ◌-◌, ◌^◌, length, IfOk, IsTrue};
+ghost use Rattle.std.specs.Prelude.{◌≡◌, ◌-◌, length, IfOk, IsTrue};
 ghost use Rattle.reference.specs.Counting.{CountsAtMost};
+ghost use Rattle.machine.specs.Limits.{most_counts};
 
 use super::{BootRefusal, Machine};
 use page_measure::{Silent, measure};
@@ -55,7 +56,7 @@ const EVENTS: [Event; 8] = [
 
 // Counts of a short run.
 fn are_few(counts: &Counts) -> bool
-    ensures { IsTrue result → CountsAtMost (2 ^ 64 - 2) counts.now }
+    ensures { IsTrue result → CountsAtMost (most_counts - 1) counts.now }
 {
     counts.turns < 100
         && counts.beats < 100

@@ -1,6 +1,7 @@
 // The wires of a hart.
 
 ghost use Rattle.std.specs.Prelude.{◌<◌};
+ghost use Rattle.sv_types.specs.Limits.{most_harts};
 ghost use Rattle.reference.specs.Devices.{lines_at};
 
 use devices::Devices;
@@ -13,7 +14,7 @@ use processor::Lines;
 pub(crate) struct HartWires<'a> {
     pub(crate) devices: &'a Devices<Port>,
     pub(crate) hart: u8,
-    ghost is_hart: { hart < 4 },
+    ghost is_hart: { hart < most_harts },
 }
 
 impl Wires for HartWires<'_> {

@@ -4,7 +4,7 @@ use Rattle.std.specs.Prelude.{◌≡◌, ℕ, ◌+◌, ◌≤◌, Bool, true, fa
 use Rattle.processor.specs.Bytes.{page_size, place_in_page, overwrite, ram_place, page_of, in_ram}
 use Rattle.processor.specs.Hardware.{Attempted}
 use Rattle.processor.specs.HardwareAttempt.{attempt}
-use Rattle.processor.specs.HypervisorRegisters.{HypervisorRegisters}
+use Rattle.processor.specs.HypervisorRegisters.{HypervisorRegisters, virtual_software_bit}
 use Rattle.sv_types.specs.declared.event.Counts.{Counts}
 use Rattle.sv_types.specs.declared.event.Event.{Event}
 use Rattle.sv_types.specs.declared.event.Event.TheVariants.{Turn, Beat, Key, Tick}
@@ -84,9 +84,9 @@ devices_answered old console disk timers = record { console = console; disk = di
 abbrev pub journal_answered : Journal → List ℕ → List Note → Counts → Verdict → Journal
 journal_answered old printed notes counts verdict = record { printed = old.printed ++ printed; notes = notes; counts = counts; verdict = verdict }
 
--- bit 2 of hvip is the guest's software interrupt
+-- the guest's software interrupt waits
 abbrev pub software_set : HostHart → HostHart
-software_set hart = record hart { core = record hart.core { csrs = record hart.core.csrs { hvip = 4 } } }
+software_set hart = record hart { core = record hart.core { csrs = record hart.core.csrs { hvip = virtual_software_bit } } }
 
 unfoldable pub interrupted_hosts : (ℕ → Bool) → ℕ → List HostHart → List HostHart
 interrupted_hosts named first [] = []

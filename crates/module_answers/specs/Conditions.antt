@@ -7,7 +7,7 @@ use Rattle.sv_types.specs.declared.protection.Protection.{Protection}
 use Rattle.sv_types.specs.declared.protection.Protection.TheVariants.{Held}
 use Rattle.reference.specs.States.{pages_in_rule, find_module}
 use Rattle.machine_model.specs.Machine.{HostLoad}
-use Rattle.page_guard.specs.Guarded.{IsInRam, AllAre, IsTheirs}
+use Rattle.page_guard.specs.Guarded.{Guarded, IsInRam, AllAre, IsTheirs}
 use Rattle.module_gate.specs.Gates.{load_span, module_span, AreApproved}
 use Rattle.module_answers.specs.Parts.{loading_of}
 use Rattle.module_answers.specs.declared.modules.Modules.{Modules}
@@ -44,6 +44,6 @@ pub record MayEnd (guard : List Protection) (loaded : List SavedModule) (u : Und
 
 -- RAM is guarded, so that a load that is under way finds its pages there
 pub record IsReadable (rules : Rules) (region : Region) (modules : Modules) : Type 0 where
-  pub guard : List Protection
+  pub guard : Guarded
   pub theirs : IsTheirs region guard
-  pub guarded : AreGuarded rules guard modules.gate.loaded (loading_of modules)
+  pub guarded : AreGuarded rules guard.pages modules.gate.loaded (loading_of modules)

@@ -73,7 +73,7 @@ fn load_call(
     asked: &Asked,
 ) -> Answer
     requires { IsTheirs mem.now guard.now }
-    ensures { (started : List Bool) (input : List ℕ) → result ≡ load_call (facts_in started input (rules_of policy.now) mem.now.ram guard.now modules.now) asked.now (slice_get (rules_of policy.now).modules asked.now.a0) }
+    ensures { (started : List Bool) (input : List ℕ) → result ≡ load_call (facts_in started input (rules_of policy.now) mem.now.ram guard.now.pages modules.now) asked.now (slice_get (rules_of policy.now).modules asked.now.a0) }
 {
     let about = module_asked(asked);
     let Some(rule) = rule_of(policy, about.id) else {
@@ -136,7 +136,7 @@ pub fn module_answer(
     asked: &Asked,
 ) -> Answer
     requires { IsTheirs mem.now guard.now }
-    ensures { (started : List Bool) (input : List ℕ) → result ≡ module_call (facts_in started input (rules_of policy.now) mem.now.ram guard.now modules.now) asked.now }
+    ensures { (started : List Bool) (input : List ℕ) → result ≡ module_call (facts_in started input (rules_of policy.now) mem.now.ram guard.now.pages modules.now) asked.now }
 {
     match asked.function {
         LOAD => load_call(policy, guard, mem, modules, asked),

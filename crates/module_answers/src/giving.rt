@@ -34,9 +34,9 @@ fn begin_load(
     requires known { IsSome (slice_get (rules_of policy.now).modules about.id) }
     requires none { modules.old.loading ≡ None }
     requires idle { modules.old.gate.loading ≡ false }
-    requires place { is_good_place mem.old.ram guard.old about (pages_in_rule (slice_get (rules_of policy.now).modules about.id)) ≡ true }
+    requires place { is_good_place mem.old.ram guard.old.pages about (pages_in_rule (slice_get (rules_of policy.now).modules about.id)) ≡ true }
     ensures modules { modules.new ≡ record { gate = record modules.old.gate { loading = true }; loading = Some (record { hart = which; load = begun about (pages_in_rule (slice_get (rules_of policy.now).modules about.id)) }) } }
-    ensures guard { guard.new ≡ with_span guard.old (load_span (begun about (pages_in_rule (slice_get (rules_of policy.now).modules about.id)))) Held }
+    ensures guard { guard.new.pages ≡ with_span guard.old.pages (load_span (begun about (pages_in_rule (slice_get (rules_of policy.now).modules about.id)))) Held }
     ensures theirs { StaysTheirs mem.old mem.new guard.old guard.new }
 {
     let load = modules.gate.begin(guard, mem, policy, about);
@@ -46,11 +46,11 @@ fn begin_load(
 // The load under way ends, and its pages are approved.
 fn approve_load(guard: &mut Guard, mem: &mut HostMem, modules: &mut Modules)
     requires theirs { IsTheirs mem.old guard.old }
-    requires may { IfSome modules.old.loading (MayEnd guard.old modules.old.gate.loaded) }
+    requires may { IfSome modules.old.loading (MayEnd guard.old.pages modules.old.gate.loaded) }
     requires there { IsSome modules.old.loading }
     requires counted { IfSome modules.old.loading (λ u. u.load.left ≡ 0) }
     ensures modules { IfSome modules.old.loading (λ u. modules.new ≡ record { gate = record modules.old.gate { loaded = with_module modules.old.gate.loaded u.load.about; loading = false }; loading = None }) }
-    ensures guard { IfSome modules.old.loading (λ u. guard.new ≡ with_span guard.old (load_span u.load) Approved) }
+    ensures guard { IfSome modules.old.loading (λ u. guard.new.pages ≡ with_span guard.old.pages (load_span u.load) Approved) }
     ensures theirs { StaysTheirs mem.old mem.new guard.old guard.new }
 {
     let Some(UnderWay { hart: _, load }) = modules.loading.take() else {
@@ -62,10 +62,10 @@ fn approve_load(guard: &mut Guard, mem: &mut HostMem, modules: &mut Modules)
 // The load under way ends, and its pages are free again.
 fn release_load(guard: &mut Guard, mem: &mut HostMem, modules: &mut Modules)
     requires theirs { IsTheirs mem.old guard.old }
-    requires may { IfSome modules.old.loading (MayEnd guard.old modules.old.gate.loaded) }
+    requires may { IfSome modules.old.loading (MayEnd guard.old.pages modules.old.gate.loaded) }
     requires there { IsSome modules.old.loading }
     ensures modules { IfSome modules.old.loading (λ u. modules.new ≡ record { gate = record modules.old.gate { loading = false }; loading = None }) }
-    ensures guard { IfSome modules.old.loading (λ u. guard.new ≡ with_span guard.old (load_span u.load) Free) }
+    ensures guard { IfSome modules.old.loading (λ u. guard.new.pages ≡ with_span guard.old.pages (load_span u.load) Free) }
     ensures theirs { StaysTheirs mem.old mem.new guard.old guard.new }
 {
     let Some(UnderWay { hart: _, load }) = modules.loading.take() else {
@@ -88,9 +88,9 @@ pub fn give_pages(
     requires within { IsTrue (rules_within (rules_of policy.now)) }
     requires theirs { IsTheirs mem.old guard.old }
     requires joined { AreJoined (rules_of policy.now) modules.old }
-    requires guarded { AreGuarded (rules_of policy.now) guard.old modules.old.gate.loaded (loading_of modules.old) }
-    requires given { IsGiven (facts_in [] [] (rules_of policy.now) mem.old.ram guard.old modules.old) (loading_of modules.old) beside.now }
-    ensures machine { (m : Machine) → with_modules m (rules_of policy.now) mem.new guard.new modules.new ≡ with_tables (host_pages_beside beside.now which (with_modules m (rules_of policy.now) mem.old guard.old modules.old)) mem.new.tables }
+    requires guarded { AreGuarded (rules_of policy.now) guard.old.pages modules.old.gate.loaded (loading_of modules.old) }
+    requires given { IsGiven (facts_in [] [] (rules_of policy.now) mem.old.ram guard.old.pages modules.old) (loading_of modules.old) beside.now }
+    ensures machine { (m : Machine) → with_modules m (rules_of policy.now) mem.new guard.new.pages modules.new ≡ with_tables (host_pages_beside beside.now which (with_modules m (rules_of policy.now) mem.old guard.old.pages modules.old)) mem.new.tables }
     ensures changed { result ≡ sets_protections beside.now }
     ensures kept { result ≡ false → (guard.new ≡ guard.old) × (mem.new ≡ mem.old) }
     ensures joined { AreJoined (rules_of policy.now) modules.new }

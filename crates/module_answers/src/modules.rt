@@ -49,9 +49,9 @@ impl Modules {
 
     /// Frees the pages of a load that is under way, and drops the rest.
     pub fn end(self, guard: &mut Guard, mem: &mut HostMem)
-        requires may { IfSome self.loading (MayEnd guard.old self.gate.loaded) }
+        requires may { IfSome self.loading (MayEnd guard.old.pages self.gate.loaded) }
         requires theirs { IsTheirs mem.old guard.old }
-        ensures guard { guard.new ≡ without_load guard.old self.loading }
+        ensures guard { guard.new.pages ≡ without_load guard.old.pages self.loading }
         ensures theirs { StaysTheirs mem.old mem.new guard.old guard.new }
     {
         let Modules { mut gate, loading } = self;

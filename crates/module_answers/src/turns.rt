@@ -17,9 +17,9 @@ ghost use Rattle.module_answers.specs.Parts.{with_modules, loading_of};
 use crate::decisions::load_decision;
 use crate::modules::{Modules, UnderWay, put_load};
 use host_mem::HostMem;
-use module_gate::{Load, pages_of};
+use module_gate::Load;
 use processor::page_of;
-use reference::Answer;
+use reference::{Answer, pages_of};
 use sv_types::Policy;
 
 // The bytes of the next page of the module, as RAM has them now.

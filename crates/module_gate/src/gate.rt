@@ -118,11 +118,11 @@ impl Gate {
         requires within { IsTrue (rules_within (rules_of policy.now)) }
         requires known { IsSome (slice_get (rules_of policy.now).modules about.id) }
         requires idle { self.old.loading ≡ false }
-        requires place { is_good_place mem.old.ram guard.old about (pages_in_rule (slice_get (rules_of policy.now).modules about.id)) ≡ true }
+        requires place { is_good_place mem.old.ram guard.old.pages about (pages_in_rule (slice_get (rules_of policy.now).modules about.id)) ≡ true }
         requires theirs { IsTheirs mem.old guard.old }
         ensures load { result ≡ begun about (pages_in_rule (slice_get (rules_of policy.now).modules about.id)) }
         ensures gate { self.new ≡ record self.old { loading = true } }
-        ensures guard { guard.new ≡ with_span guard.old (load_span result) Held }
+        ensures guard { guard.new.pages ≡ with_span guard.old.pages (load_span result) Held }
         ensures theirs { StaysTheirs mem.old mem.new guard.old guard.new }
     {
         let Some(rule) = rule_of(policy, about.id) else {
@@ -155,10 +155,10 @@ impl Gate {
         about: &SavedModule,
     )
         requires loaded { find_module self.old.loaded about.now.id ≡ Some about.now }
-        requires approved { AreApproved (rules_of policy.now) guard.old self.old.loaded }
+        requires approved { AreApproved (rules_of policy.now) guard.old.pages self.old.loaded }
         requires theirs { IsTheirs mem.old guard.old }
         ensures gate { self.new ≡ record self.old { loaded = without_module self.old.loaded about.now.id } }
-        ensures guard { guard.new ≡ with_span guard.old (module_span (rules_of policy.now) about.now) Free }
+        ensures guard { guard.new.pages ≡ with_span guard.old.pages (module_span (rules_of policy.now) about.now) Free }
         ensures theirs { StaysTheirs mem.old mem.new guard.old guard.new }
     {
         guard.unapprove(mem, module_pages(policy, about));
@@ -170,10 +170,10 @@ impl Gate {
     pub fn retire(&mut self, guard: &mut Guard, mem: &mut HostMem, policy: &Policy, init: Span)
         requires within { IsTrue (rules_within (rules_of policy.now)) }
         requires init { (rules_of policy.now).init ≡ Some init }
-        requires pages { length guard.old ≡ policy.now.ram_pages }
+        requires pages { length guard.old.pages ≡ policy.now.ram_pages }
         requires theirs { IsTheirs mem.old guard.old }
         ensures gate { self.new ≡ record self.old { retired = true } }
-        ensures guard { guard.new ≡ with_each guard.old (kernel_pages (rules_of policy.now) self.old.loaded guard.old init) Free }
+        ensures guard { guard.new.pages ≡ with_each guard.old.pages (kernel_pages (rules_of policy.now) self.old.loaded guard.old.pages init) Free }
         ensures theirs { StaysTheirs mem.old mem.new guard.old guard.new }
     {
         self.retired = true;

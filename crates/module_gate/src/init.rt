@@ -9,10 +9,10 @@ ghost use Rattle.machine_model.specs.HostCalls.{is_approved_one};
 ghost use Rattle.page_guard.specs.Guarded.{IsTheirs, StaysTheirs, IsInRam};
 ghost use Rattle.module_gate.specs.Retiring.{is_modules, is_kernels, kernel_pages};
 
-use crate::rules::pages_of;
 use host_mem::HostMem;
 use page_guard::Guard;
 use processor::page_of;
+use reference::pages_of;
 use sv_types::{Policy, Protection, SavedModule, Span};
 
 // Whether a page is one of so many from the first one on.
@@ -38,8 +38,8 @@ fn is_modules(policy: &Policy, loaded: &[SavedModule], page: u32) -> bool
 
 // Whether a page is approved and no module's.
 fn is_kernels(guard: &Guard, policy: &Policy, loaded: &[SavedModule], page: u32) -> bool
-    requires { page < length guard.now }
-    ensures { result ≡ is_kernels (rules_of policy.now) loaded.now page (protection_at guard.now page) }
+    requires { page < length guard.now.pages }
+    ensures { result ≡ is_kernels (rules_of policy.now) loaded.now page (protection_at guard.now.pages page) }
 {
     is_approved(guard.protection(page)) && !is_modules(policy, loaded, page)
 }
@@ -58,9 +58,9 @@ fn free_page(
     loaded: &[SavedModule],
     page: u32,
 )
-    requires inside { page < length guard.old }
+    requires inside { page < length guard.old.pages }
     requires theirs { IsTheirs mem.old guard.old }
-    ensures guard { guard.new ≡ freed_one (is_kernels (rules_of policy.now) loaded.now) guard.old page }
+    ensures guard { guard.new.pages ≡ freed_one (is_kernels (rules_of policy.now) loaded.now) guard.old.pages page }
     ensures theirs { StaysTheirs mem.old mem.new guard.old guard.new }
 {
     if is_kernels(guard, policy, loaded, page) {
@@ -82,9 +82,9 @@ pub fn free_pages(
     loaded: &[SavedModule],
     span: Span,
 )
-    requires inside { IsInRam guard.old span }
+    requires inside { IsInRam guard.old.pages span }
     requires theirs { IsTheirs mem.old guard.old }
-    ensures guard { guard.new ≡ with_each guard.old (kernel_pages (rules_of policy.now) loaded.now guard.old span) Free }
+    ensures guard { guard.new.pages ≡ with_each guard.old.pages (kernel_pages (rules_of policy.now) loaded.now guard.old.pages span) Free }
     ensures theirs { StaysTheirs mem.old mem.new guard.old guard.new }
 {
     'pages: for i in 0..span.count {

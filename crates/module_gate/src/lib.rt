@@ -12,7 +12,7 @@ mod rules;
 pub use gate::Gate;
 pub use load::Load;
 pub use places::is_good_place;
-pub use rules::{pages_of, rule_of};
+pub use rules::rule_of;
 
 #[cfg(test)]
 mod tests;

@@ -101,11 +101,11 @@ impl Load {
     pub fn approve(self, gate: &mut Gate, guard: &mut Guard, mem: &mut HostMem)
         requires other { find_module gate.old.loaded self.about.id ≡ None }
         requires counted { self.left ≡ 0 }
-        requires inside { IsInRam guard.old (load_span self) }
-        requires held { AllAre guard.old (load_span self) Held }
+        requires inside { IsInRam guard.old.pages (load_span self) }
+        requires held { AllAre guard.old.pages (load_span self) Held }
         requires theirs { IsTheirs mem.old guard.old }
         ensures gate { gate.new ≡ record gate.old { loaded = with_module gate.old.loaded self.about; loading = false } }
-        ensures guard { guard.new ≡ with_span guard.old (load_span self) Approved }
+        ensures guard { guard.new.pages ≡ with_span guard.old.pages (load_span self) Approved }
         ensures theirs { StaysTheirs mem.old mem.new guard.old guard.new }
     {
         let Load {
@@ -123,11 +123,11 @@ impl Load {
 
     /// Ends the load of this gate at any moment: its pages are free again.
     pub fn release(self, gate: &mut Gate, guard: &mut Guard, mem: &mut HostMem)
-        requires inside { IsInRam guard.old (load_span self) }
-        requires held { AllAre guard.old (load_span self) Held }
+        requires inside { IsInRam guard.old.pages (load_span self) }
+        requires held { AllAre guard.old.pages (load_span self) Held }
         requires theirs { IsTheirs mem.old guard.old }
         ensures gate { gate.new ≡ record gate.old { loading = false } }
-        ensures guard { guard.new ≡ with_span guard.old (load_span self) Free }
+        ensures guard { guard.new.pages ≡ with_span guard.old.pages (load_span self) Free }
         ensures theirs { StaysTheirs mem.old mem.new guard.old guard.new }
     {
         let Load {
@@ -146,7 +146,7 @@ impl Load {
 // The digest of a page with the fields cleared that begin in it. The page begins at the byte `first` of the text.
 fn masked_digest(bytes: &[u8], first: u32, sites: &[Site]) -> Digest
     requires page { length bytes.now ≡ page_size }
-    requires start { first % 4096 ≡ 0 }
+    requires start { first % page_size ≡ 0 }
     requires aligned { All IsAligned sites.now }
     ensures { result ≡ page_digest (masked bytes.now (piece_sites first page_size sites.now)) }
 {

@@ -23,7 +23,7 @@ fn is_place(mem: &HostMem, gpa: u64, va: u64, count: u32) -> bool
 
 // Whether a page is approved or held.
 fn is_taken(guard: &Guard, page: usize) -> bool
-    ensures { result ≡ is_taken guard.now page }
+    ensures { result ≡ is_taken guard.now.pages page }
 {
     match guard.protections().get(page).copied() {
         None | Some(Protection::Free) => false,
@@ -33,7 +33,7 @@ fn is_taken(guard: &Guard, page: usize) -> bool
 
 // Whether a page of a span is approved or held.
 fn any_taken(guard: &Guard, span: Span) -> bool
-    ensures { result ≡ list_any (is_taken guard.now) (numbers_from span.first span.count) }
+    ensures { result ≡ list_any (is_taken guard.now.pages) (numbers_from span.first span.count) }
 {
     'tested: for i in 0..span.count {
         if is_taken(guard, span.first as usize + i as usize) {
@@ -48,7 +48,7 @@ fn any_taken(guard: &Guard, span: Span) -> bool
 #[tactic(auto, unfolding(crate::specs::Gates::is_good_place))]
 pub fn is_good_place(guard: &Guard, mem: &HostMem, about: &SavedModule, pages: u32) -> bool
     requires { IsTheirs mem.now guard.now }
-    ensures { result ≡ is_good_place mem.now.ram guard.now about.now pages }
+    ensures { result ≡ is_good_place mem.now.ram guard.now.pages about.now pages }
 {
     is_place(mem, about.gpa, about.va, pages) && !any_taken(guard, pages_at(about.gpa, pages))
 }

@@ -3,10 +3,10 @@
 ghost use Rattle.std.specs.Prelude.{◌≡◌, ◌<◌, ◌^◌, option_map, slice_get};
 ghost use Rattle.processor.specs.Bytes.{page_of};
 ghost use Rattle.sv_types.specs.Policies.{rules_of, module_rule};
-ghost use Rattle.reference.specs.States.{pages_in_rule};
 ghost use Rattle.module_gate.specs.Gates.{pages_at, module_span};
 
 use processor::page_of;
+use reference::pages_of;
 use sv_types::{ModulePolicy, Policy, SavedModule, Span};
 
 /// The policy's rule of a module.
@@ -14,16 +14,6 @@ pub fn rule_of(policy: &Policy, id: u64) -> Option<&ModulePolicy>
     ensures { option_map (λ m. module_rule m.now) result ≡ slice_get (rules_of policy.now).modules id }
 {
     policy.modules.get(id as usize)
-}
-
-/// The number of a module's pages, 0 where the policy has no such module.
-pub fn pages_of(policy: &Policy, id: u64) -> u32
-    ensures { result ≡ pages_in_rule (slice_get (rules_of policy.now).modules id) }
-{
-    match rule_of(policy, id) {
-        Some(rule) => rule.pages,
-        None => 0,
-    }
 }
 
 /// So many pages from a guest-physical address on.

@@ -36,29 +36,30 @@ by_test g page k x false e below = ap or_free (get_other g page k x (λ same. le
 pub set_is_protect : (g : List Protection) (page : ℕ) (x : Protection) → page < length g → protect (protection_at g) page x ≡ protection_at (slice_set g page x)
 set_is_protect g page x below = λ i k. sym (by_test g page k x (k == page) refl below) i
 
-pub set_theirs : (r : Region) (g : List Protection) (page : ℕ) (x : Protection) → page < length g → HoldsTrees r.tables (length g) [] (protect (protection_at g) page x)
-    → AreViews r.tables (length g) [] (protect (protection_at g) page x) → length r.ram ≡ page_size * length g → IsTheirs r (slice_set g page x)
-set_theirs r g page x below trees views ram =
+pub set_theirs : (r : Region) (g : List Protection) (bound : List ℕ) (page : ℕ) (x : Protection) → page < length g
+    → HoldsTrees r.tables (length g) bound (protect (protection_at g) page x)
+    → AreViews r.tables (length g) bound (protect (protection_at g) page x)
+    → length r.ram ≡ page_size * length g → IsTheirs r (record { pages = slice_set g page x; bound = bound })
+set_theirs r g bound page x below trees views ram =
     let same = set_is_protect g page x below in
     let size = sym (length-set g page x) in record {
       ram = ram ∙ ap (λ (n : ℕ). page_size * n) size;
-      views = subst (λ (n : ℕ). AreViews r.tables n [] (protection_at (slice_set g page x))) size (subst (AreViews r.tables (length g) []) same views);
-      trees = subst (λ (n : ℕ). HoldsTrees r.tables n [] (protection_at (slice_set g page x))) size (subst (HoldsTrees r.tables (length g) []) same trees);
+      views = subst (λ (n : ℕ). AreViews r.tables n bound (protection_at (slice_set g page x))) size (subst (AreViews r.tables (length g) bound) same views);
+      trees = subst (λ (n : ℕ). HoldsTrees r.tables n bound (protection_at (slice_set g page x))) size (subst (HoldsTrees r.tables (length g) bound) same trees);
     }
 
 -- the guard's trees are drawn for its list
-pub drawn_by : (tables : List ℕ) (trees : Shape) (guard : List Protection) → trees.ram_pages ≡ length guard → trees.bound ≡ []
-    → HoldsTrees tables (length guard) [] (protection_at guard) → CountsTaken trees.counts (length guard) (protection_at guard) → AreDrawn tables trees (protection_at guard)
-drawn_by tables trees guard pages unbound holds counts = record {
-  holds = subst (λ (bound : List ℕ). HoldsTrees tables trees.ram_pages bound (protection_at guard)) (sym unbound)
-      (subst (λ (n : ℕ). HoldsTrees tables n [] (protection_at guard)) (sym pages) holds);
-  counts = subst (λ (n : ℕ). CountsTaken trees.counts n (protection_at guard)) (sym pages) counts;
+pub drawn_by : (tables : List ℕ) (trees : Shape) (g : List Protection) → trees.ram_pages ≡ length g
+    → HoldsTrees tables (length g) trees.bound (protection_at g) → CountsTaken trees.counts (length g) (protection_at g) → AreDrawn tables trees (protection_at g)
+drawn_by tables trees g pages holds counts = record {
+  holds = subst (λ (n : ℕ). HoldsTrees tables n trees.bound (protection_at g)) (sym pages) holds;
+  counts = subst (λ (n : ℕ). CountsTaken trees.counts n (protection_at g)) (sym pages) counts;
 }
 
--- what drawn trees give, where no entry is bound
-pub drawn_plain : (tables : List ℕ) (trees : Shape) (n : ℕ) (ps : ℕ → Protection) → trees.ram_pages ≡ n → trees.bound ≡ [] → AreDrawn tables trees ps
-    → HoldsTrees tables n [] ps × CountsTaken trees.counts n ps
-drawn_plain tables trees n ps pages unbound drawn = (
-  subst (λ (bound : List ℕ). HoldsTrees tables n bound ps) unbound (subst (λ (m : ℕ). HoldsTrees tables m trees.bound ps) pages drawn.holds),
+-- what drawn trees give, by the pages and the bound entries that they are drawn for
+pub drawn_for : (tables : List ℕ) (trees : Shape) (n : ℕ) (bound : List ℕ) (ps : ℕ → Protection) → trees.ram_pages ≡ n → trees.bound ≡ bound → AreDrawn tables trees ps
+    → HoldsTrees tables n bound ps × CountsTaken trees.counts n ps
+drawn_for tables trees n bound ps pages same drawn = (
+  subst (λ (b : List ℕ). HoldsTrees tables n b ps) same (subst (λ (m : ℕ). HoldsTrees tables m trees.bound ps) pages drawn.holds),
   subst (λ (m : ℕ). CountsTaken trees.counts m ps) pages drawn.counts,
 )

@@ -111,12 +111,12 @@ free_bits (suc n) = ap (λ (bits : List Bool). true ∷ bits) (free_bits n)
 pub none_held : (n : ℕ) → all_free ≡ protection_at (replicate n Free)
 none_held n = λ i page. sym (all_free_at n page) i
 
-pub new_theirs : (r : Region) (n : ℕ) → length r.ram ≡ page_size * n → AreViews r.tables n [] all_free → HoldsTrees r.tables n [] all_free
-    → IsTheirs r (replicate n Free)
-new_theirs r n ram views trees =
+pub new_theirs : (r : Region) (n : ℕ) (bound : List ℕ) → length r.ram ≡ page_size * n → AreViews r.tables n bound all_free → HoldsTrees r.tables n bound all_free
+    → IsTheirs r (record { pages = replicate n Free; bound = bound })
+new_theirs r n bound ram views trees =
     let size : n ≡ length (replicate n Free) = sym (length-replicate n Free) in
     let same : all_free ≡ protection_at (replicate n Free) = none_held n in record {
       ram = ram ∙ ap (λ (n : ℕ). page_size * n) size;
-      views = subst (λ (k : ℕ). AreViews r.tables k [] (protection_at (replicate n Free))) size (subst (AreViews r.tables n []) same views);
-      trees = subst (λ (k : ℕ). HoldsTrees r.tables k [] (protection_at (replicate n Free))) size (subst (HoldsTrees r.tables n []) same trees);
+      views = subst (λ (k : ℕ). AreViews r.tables k bound (protection_at (replicate n Free))) size (subst (AreViews r.tables n bound) same views);
+      trees = subst (λ (k : ℕ). HoldsTrees r.tables k bound (protection_at (replicate n Free))) size (subst (HoldsTrees r.tables n bound) same trees);
     }

@@ -4,7 +4,7 @@ ghost use Rattle.std.specs.Prelude.{◌≡◌, ◌+◌, ◌*◌, ◌/◌, ◌<�
 ghost use Rattle.processor.specs.Bytes.{page_size};
 ghost use Rattle.sv_types.specs.Views.{view_hgatp};
 ghost use Rattle.sv_types.specs.declared.protection.Protection.TheVariants.{Free, Held, Approved};
-ghost use Rattle.gstage_tables.specs.Layout.{table_size};
+ghost use Rattle.gstage_tables.specs.Layout.{most_bound, table_size};
 ghost use Rattle.reference.specs.Protections.{with_pages};
 ghost use Rattle.reference.specs.Protections.{is_free};
 ghost use Rattle.page_guard.specs.Guarded.{with_span, IsInRam, AllAre, first_taken, IsTheirs, StaysTheirs};
@@ -17,7 +17,7 @@ use std::marker::Model;
 use sv_types::{Protection, Span, View};
 
 /// The protection of each page of RAM, with the trees and the bits for devices that follow it. Contracts see the list of
-/// protections, by the number of the page.
+/// protections, by the number of the page, and the page that each entry is bound to.
 #[derive(Drop)]
 pub struct Guard {
     trees: Trees,
@@ -26,19 +26,18 @@ pub struct Guard {
 }
 
 impl Model for Guard {
-    ghost use Rattle.std.specs.Prelude.{List};
-    ghost use Rattle.sv_types.specs.declared.protection.Protection.{Protection as Kind};
+    ghost use Rattle.page_guard.specs.Guarded.{Guarded};
 
-    ghost Value = { List Kind };
+    ghost Value = { Guarded };
 
-    ghost use Rattle.std.specs.Prelude.{◌≡◌, ◌≤◌, length, map, []};
+    ghost use Rattle.std.specs.Prelude.{◌≡◌, ◌≤◌, length, map};
     ghost use Rattle.processor.specs.Regions.{most_ram_pages};
     ghost use Rattle.gstage_tables.specs.Blocks.{CountsTaken};
     ghost use Rattle.reference.specs.Protections.{is_free, protection_at};
 
-    ghost view = { λ g. g.protections.items };
+    ghost view = { λ g. record { pages = g.protections.items; bound = g.trees.bound } };
 
-    ghost invariant = { λ g. (g.trees.ram_pages ≡ length g.protections.items) × ((g.trees.bound ≡ []) × (CountsTaken g.trees.counts (length g.protections.items) (protection_at g.protections.items) × ((g.dma ≡ map is_free g.protections.items) × (length g.protections.items ≤ most_ram_pages)))) };
+    ghost invariant = { λ g. (g.trees.ram_pages ≡ length g.protections.items) × (CountsTaken g.trees.counts (length g.protections.items) (protection_at g.protections.items) × ((g.dma ≡ map is_free g.protections.items) × (length g.protections.items ≤ most_ram_pages))) };
 }
 
 /// Pages that are held, until they are approved or released. It can't be dropped. Contracts see the span.
@@ -61,17 +60,20 @@ pub struct Taken {
 }
 
 impl Guard {
-    /// All pages free. The region's table part has the size that the trees ask for.
-    pub fn new(alloc: Global, mem: &mut HostMem) -> Result<Guard, AllocError>
-        requires { length mem.old.tables ≡ table_size (length mem.old.ram / page_size) 0 }
-        ensures guard { IfOk result (λ g. g ≡ replicate (length mem.old.ram / page_size) Free) }
+    /// All pages free, where `bound` has the page that each entry is bound to. The region's table part has the size that the
+    /// trees ask for.
+    pub fn new(alloc: Global, mem: &mut HostMem, bound: &[u32]) -> Result<Guard, AllocError>
+        requires few { length bound.now ≤ most_bound }
+        requires size { length mem.old.tables ≡ table_size (length mem.old.ram / page_size) (length bound.now) }
+        ensures guard { IfOk result (λ g. g.pages ≡ replicate (length mem.old.ram / page_size) Free) }
+        ensures bound { IfOk result (λ g. g.bound ≡ bound.now) }
         ensures theirs { IfOk result (λ g. IsTheirs mem.new g) }
         ensures ram { mem.new.ram ≡ mem.old.ram }
     {
         let pages = mem.ram_pages();
         let protections = vec![in alloc; Protection::Free; pages]?;
         let dma = DmaGuard::new(alloc, pages)?;
-        let trees = Trees::new(mem, &[]);
+        let trees = Trees::new(mem, bound);
         Ok(Guard {
             trees,
             dma,
@@ -81,22 +83,22 @@ impl Guard {
 
     /// The protection of a page of RAM.
     pub fn protection(&self, page: u32) -> Protection
-        requires { page < length self.now }
-        ensures { slice_get self.now page ≡ Some result }
+        requires { page < length self.now.pages }
+        ensures { slice_get self.now.pages page ≡ Some result }
     {
         self.protections[page as usize]
     }
 
     /// The protections of all pages of RAM.
     pub fn protections(&self) -> &[Protection]
-        ensures { result.now ≡ self.now }
+        ensures { result.now ≡ self.now.pages }
     {
         &self.protections
     }
 
     /// Which pages a device may write: the free ones.
     pub fn dma(&self) -> &DmaGuard
-        ensures { result.now ≡ map is_free self.now }
+        ensures { result.now ≡ map is_free self.now.pages }
     {
         &self.dma
     }
@@ -110,13 +112,13 @@ impl Guard {
 
     /// Holds the pages of a span, all of them or, where one is not free, none.
     pub fn hold(&mut self, mem: &mut HostMem, span: Span) -> Result<Hold, Taken>
-        requires inside { IsInRam self.old span }
+        requires inside { IsInRam self.old.pages span }
         requires theirs { IsTheirs mem.old self.old }
-        ensures free { OnOk result (first_taken self.old span ≡ None) }
-        ensures guard { OnOk result (self.new ≡ with_span self.old span Held) }
-        ensures held { OnOk result (AllAre self.new span Held) }
+        ensures free { OnOk result (first_taken self.old.pages span ≡ None) }
+        ensures guard { OnOk result (self.new.pages ≡ with_span self.old.pages span Held) }
+        ensures held { OnOk result (AllAre self.new.pages span Held) }
         ensures hold { IfOk result (λ hold. hold ≡ span) }
-        ensures taken { IfErr result (λ taken. first_taken self.old span ≡ Some taken.page) }
+        ensures taken { IfErr result (λ taken. first_taken self.old.pages span ≡ Some taken.page) }
         ensures kept { OnErr result ((self.new ≡ self.old) × (mem.new ≡ mem.old)) }
         ensures theirs { StaysTheirs mem.old mem.new self.old self.new }
     {
@@ -127,11 +129,11 @@ impl Guard {
 
     /// Approves the pages that are held.
     pub fn approve(&mut self, mem: &mut HostMem, hold: Hold)
-        requires inside { IsInRam self.old hold }
-        requires held { AllAre self.old hold Held }
+        requires inside { IsInRam self.old.pages hold }
+        requires held { AllAre self.old.pages hold Held }
         requires theirs { IsTheirs mem.old self.old }
-        ensures guard { self.new ≡ with_span self.old hold Approved }
-        ensures approved { AllAre self.new hold Approved }
+        ensures guard { self.new.pages ≡ with_span self.old.pages hold Approved }
+        ensures approved { AllAre self.new.pages hold Approved }
         ensures theirs { StaysTheirs mem.old mem.new self.old self.new }
     {
         let Hold { span: approved } = hold;
@@ -140,10 +142,10 @@ impl Guard {
 
     /// Frees the pages that are held.
     pub fn release(&mut self, mem: &mut HostMem, hold: Hold)
-        requires inside { IsInRam self.old hold }
-        requires held { AllAre self.old hold Held }
+        requires inside { IsInRam self.old.pages hold }
+        requires held { AllAre self.old.pages hold Held }
         requires theirs { IsTheirs mem.old self.old }
-        ensures guard { self.new ≡ with_span self.old hold Free }
+        ensures guard { self.new.pages ≡ with_span self.old.pages hold Free }
         ensures theirs { StaysTheirs mem.old mem.new self.old self.new }
     {
         let Hold { span: released } = hold;
@@ -152,10 +154,10 @@ impl Guard {
 
     /// Frees pages that are approved.
     pub fn unapprove(&mut self, mem: &mut HostMem, span: Span)
-        requires inside { IsInRam self.old span }
-        requires approved { AllAre self.old span Approved }
+        requires inside { IsInRam self.old.pages span }
+        requires approved { AllAre self.old.pages span Approved }
         requires theirs { IsTheirs mem.old self.old }
-        ensures guard { self.new ≡ with_span self.old span Free }
+        ensures guard { self.new.pages ≡ with_span self.old.pages span Free }
         ensures theirs { StaysTheirs mem.old mem.new self.old self.new }
     {
         self.set_all(mem, span, Protection::Free);
@@ -163,9 +165,9 @@ impl Guard {
 
     // The first page of a span that isn't free is the refusal.
     fn all_free(&self, span: Span) -> Result<(), Taken>
-        requires { IsInRam self.now span }
-        ensures free { OnOk result (first_taken self.now span ≡ None) }
-        ensures taken { IfErr result (λ taken. first_taken self.now span ≡ Some taken.page) }
+        requires { IsInRam self.now.pages span }
+        ensures free { OnOk result (first_taken self.now.pages span ≡ None) }
+        ensures taken { IfErr result (λ taken. first_taken self.now.pages span ≡ Some taken.page) }
     {
         'tested: for i in 0..span.count {
             let page = span.first + i;
@@ -177,10 +179,10 @@ impl Guard {
     }
 
     fn set_all(&mut self, mem: &mut HostMem, span: Span, protection: Protection)
-        requires inside { IsInRam self.old span }
+        requires inside { IsInRam self.old.pages span }
         requires theirs { IsTheirs mem.old self.old }
-        ensures guard { self.new ≡ with_span self.old span protection }
-        ensures all { AllAre self.new span protection }
+        ensures guard { self.new.pages ≡ with_span self.old.pages span protection }
+        ensures all { AllAre self.new.pages span protection }
         ensures theirs { StaysTheirs mem.old mem.new self.old self.new }
     {
         'changed: for i in 0..span.count {
@@ -190,9 +192,9 @@ impl Guard {
 
     #[tactic(auto, using(crate::proofs::Sets::set_theirs))]
     fn set(&mut self, mem: &mut HostMem, page: u32, protection: Protection)
-        requires inside { page < length self.old }
+        requires inside { page < length self.old.pages }
         requires theirs { IsTheirs mem.old self.old }
-        ensures guard { self.new ≡ slice_set self.old page protection }
+        ensures guard { self.new.pages ≡ slice_set self.old.pages page protection }
         ensures theirs { StaysTheirs mem.old mem.new self.old self.new }
     {
         self.trees.set(mem, page, protection);

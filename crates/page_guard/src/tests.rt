@@ -35,7 +35,7 @@ fn a_span_held_approved_and_freed(rt: HostRuntime) -> Result<(), Fail> {
     let mut mem = HostMem::new(rt.alloc(), size, 16)?;
     assert_eq!(rt; mem.table_bytes(), size);
     assert_eq!(rt; mem.ram_pages(), 16);
-    let mut guard = Guard::new(rt.alloc(), &mut mem)?;
+    let mut guard = Guard::new(rt.alloc(), &mut mem, &[])?;
     let text = Span { first: 2, count: 3 };
     let hold = guard.hold(&mut mem, text)?;
     assert_eq!(rt; guard.protection(4), Protection::Held);

@@ -1,14 +1,16 @@
 -- A policy's table is not deep.
-use Rattle.std.proofs.Common.{ℕ, ◌≤◌, List, [], ◌∷◌, map, codes, Option, Some, None, Ordering, Less, Equal, Greater, arith}
+use Rattle.std.proofs.Common.{ℕ, ◌≤◌, List, [], ◌∷◌, map, codes, Option, Some, None, Ordering, Less, Equal, Greater, arith, Bool, true, false, ◌==◌, if◌then◌else◌}
 use Rattle.std.specs.Ordering.{nat_cmp, match_ordering}
 use Rattle.std.specs.Cmp.Lexicographic.{slice_cmp}
-use Rattle.toml.specs.Data.{Data, string, Members, no_members, member, depth, items_depth, members_depth}
+use Rattle.toml.specs.Data.{Data, string, array, Members, no_members, member, depth, items_depth, members_depth}
 use Rattle.toml.specs.View.{items_of}
 use Rattle.sv_types.specs.Policies.{Rules, ModuleRule}
 use Rattle.sv_types.specs.declared.module.Span.{Span}
 use Rattle.sv_types.specs.declared.module.Site.{Site}
 use Rattle.sv_types.specs.declared.policy.Export.{Export}
-use Rattle.policy.specs.Printed.{with_member, with_init, with_exports, with_modules, address_data, export_data, span_data, site_data, module_data, kernel_data, rules_members, entries_data, exports_data, sites_data, modules_data, measure_data, number_data}
+use Rattle.policy.specs.Bindings.{bindings_of}
+use Rattle.policy.specs.declared.binding.Binding.{Binding}
+use Rattle.policy.specs.Printed.{with_member, with_init, with_exports, with_modules, address_data, binding_data, export_data, span_data, site_data, module_data, kernel_data, rules_members, entries_data, exports_data, sites_data, modules_data, measure_data, number_data}
 
 depth_of_either : (o : Ordering) (a b c : Members) (n : ℕ) → members_depth a ≤ n → members_depth b ≤ n → members_depth c ≤ n → members_depth (match_ordering o a b c) ≤ n
 depth_of_either Less a b c n x y z = x
@@ -28,6 +30,10 @@ depth_each f n each (x ∷ xs) = omega (arith, each x, depth_each f n each xs)
 address_depth : (a : ℕ) → depth (address_data a) ≤ 0
 unfolding address_data
 address_depth a = omega arith
+
+binding_depth : (b : Binding) → depth (binding_data b) ≤ 1
+unfolding binding_data address_data
+binding_depth b = omega arith
 
 export_depth : (e : Export) → depth (export_data e) ≤ 1
 unfolding export_data address_data
@@ -77,21 +83,25 @@ modules_depth (m ∷ more) ms h =
     let items : items_depth (items_of (map module_data (m ∷ more))) ≤ 3 = depth_each module_data 3 module_depth (m ∷ more) in
     depth_with (codes "module") (modules_data (m ∷ more)) ms 80 (omega arith) h
 
+entries_depth : (is_plain : Bool) (entries bound : List ℕ) → depth (array (items_of (if is_plain then map address_data entries else map binding_data (bindings_of entries bound)))) ≤ 2
+entries_depth true entries bound = omega (arith, depth_each address_data 0 address_depth entries)
+entries_depth false entries bound = omega (arith, depth_each binding_data 1 binding_depth (bindings_of entries bound))
+
 pub depth_of_rules : (r : Rules) → members_depth (rules_members r) ≤ 80
 unfolding rules_members
 depth_of_rules r =
-    let entries : items_depth (items_of (map address_data r.entries)) ≤ 0 = depth_each address_data 0 address_depth r.entries in
+    let entries : depth (entries_data r.format r.entries r.bound) ≤ 2 = entries_depth (r.format == 1) r.entries r.bound in
     let kernel : depth (kernel_data r.kernel r.init) ≤ 2 = kernel_depth r.kernel r.init in
     let one : Members = with_member (codes "format") (number_data r.format) no_members in
     let two : Members = with_member (codes "harts") (number_data r.harts) one in
     let three : Members = with_member (codes "ram_pages") (number_data r.ram_pages) two in
-    let four : Members = with_member (codes "entries") (entries_data r.entries) three in
+    let four : Members = with_member (codes "entries") (entries_data r.format r.entries r.bound) three in
     let five : Members = with_exports r.exports four in
     let six : Members = with_member (codes "kernel") (kernel_data r.kernel r.init) five in
     let h1 : members_depth one ≤ 80 = depth_with (codes "format") (number_data r.format) no_members 80 (omega arith) (omega arith) in
     let h2 : members_depth two ≤ 80 = depth_with (codes "harts") (number_data r.harts) one 80 (omega arith) h1 in
     let h3 : members_depth three ≤ 80 = depth_with (codes "ram_pages") (number_data r.ram_pages) two 80 (omega arith) h2 in
-    let h4 : members_depth four ≤ 80 = depth_with (codes "entries") (entries_data r.entries) three 80 (omega arith) h3 in
+    let h4 : members_depth four ≤ 80 = depth_with (codes "entries") (entries_data r.format r.entries r.bound) three 80 (omega arith) h3 in
     let h5 : members_depth five ≤ 80 = exports_depth r.exports four h4 in
     let h6 : members_depth six ≤ 80 = depth_with (codes "kernel") (kernel_data r.kernel r.init) five 80 (omega arith) h5 in
     modules_depth r.modules six h6

@@ -10,5 +10,7 @@ pub mod WrittenValues
 pub mod WrittenLists
 pub mod WrittenRules
 pub mod ReadLists
+pub mod BindingsRead
+pub mod BindingsBack
 pub mod ReadWithin
 pub mod ExportsRead

@@ -21,7 +21,7 @@ module _ {A : Type 0} (judged : List A → Data → Judged A) (fits : List A →
         both_true (one before d first.0 first.1) rest.3,
       )
 
-  each_within_read : (items : Items) (xs : List A) → each_item judged [] items ≡ Ok xs → (length xs ≡ items_length items) × (each_within fits [] xs ≡ true)
+  pub each_within_read : (items : Items) (xs : List A) → each_item judged [] items ≡ Ok xs → (length xs ≡ items_length items) × (each_within fits [] xs ≡ true)
   each_within_read items xs read =
       let all = each_within_behind [] items xs read in
       (sym (ap length all.1) ∙ all.2, sym (ap (each_within fits []) all.1) ∙ all.3)

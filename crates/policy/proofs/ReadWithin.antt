@@ -1,17 +1,19 @@
 -- What is read from a table is within the limits of policies.
-use Rattle.std.proofs.Common.{◌≡◌, ℕ, nat_le, ◌==◌, ℤ, pos, negsuc, Bool, true, false, not, ◌&&◌, List, [], length, codes, Option, Some, None, Ok, refl, sym, ◌∙◌, ap, subst}
+use Rattle.std.proofs.Common.{◌≡◌, ℕ, nat_le, ◌==◌, ℤ, pos, negsuc, Bool, true, false, not, ◌&&◌, List, [], length, codes, Option, Some, None, Ok, refl, sym, ◌∙◌, ap, subst, if◌then◌else◌}
 use Rattle.std.proofs.lemmas.Bool.{and_parts}
 use Rattle.toml.specs.Data.{Data, Items, no_items, item, Members, get_member}
 use Rattle.processor.specs.Bytes.{ram_base}
-use Rattle.sv_types.specs.Policies.{Rules, ModuleRule, format_within, harts_within, ram_pages_within, entry_within, entries_count_within, entries_within, exports_count_within, export_within, exports_within, bound_within, is_exported, span_within, init_within, place_within, is_aligned, base_within, anchor_within, is_behind, next_site_within, sites_within, sites_count_within, sites_of, module_within, modules_within, modules_count_within, is_module, module_pages_within, rules_within}
+use Rattle.sv_types.specs.Policies.{Rules, ModuleRule, format_within, harts_within, ram_pages_within, entry_within, entries_count_within, entries_within, exports_count_within, export_within, exports_within, all_bound, bound_within, is_exported, span_within, init_within, place_within, is_aligned, base_within, anchor_within, is_behind, next_site_within, sites_within, sites_count_within, sites_of, module_within, modules_within, modules_count_within, is_module, module_pages_within, rules_within}
 use Rattle.sv_types.specs.declared.module.Span.{Span}
 use Rattle.sv_types.specs.declared.module.Site.{Site}
 use Rattle.sv_types.specs.declared.relocation_kind.RelocationKind.{RelocationKind}
 use Rattle.sv_types.specs.declared.policy.Export.{Export}
 use Rattle.policy.specs.Refusals.{◌>>=◌}
-use Rattle.policy.specs.Values.{required, integer_of, members_in, with_known, limited, number_of, natural_of, items_in, address_of, name_of}
-use Rattle.policy.specs.Text.{kernel_of, key_name, key_pages, key_measure, key_harts, key_ram_pages, key_entries, known_keys, module_keys, module_pages_of, module_rule_of, format_number, format_of, entry_of, entries_of, export_of_two, export_of, export_of_items, exports_of, unrepeated, page_span, page_address_of, page_count_of, init_of_two, init_of_items, init_of, kernel_rule, fitting, offset_of, kind_of, base_of, anchor_of, site_of_five, site_of_items, site_of, sites_in, module_of_members, module_of, modules_of, rules_of_members}
-use Rattle.policy.proofs.ReadLists.{limited_read}
+use Rattle.policy.specs.Values.{required, integer_of, members_in, with_known, limited, number_of, natural_of, items_in, items_length, address_of, entry_of, name_of}
+use Rattle.policy.specs.Text.{kernel_of, key_name, key_pages, key_measure, key_harts, key_ram_pages, key_entries, known_keys, module_keys, module_pages_of, module_rule_of, format_number, format_of, each_entry, plain_entries, bound_entries, entries_by, entries_of, export_of_two, export_of, export_of_items, exports_of, unrepeated, page_span, page_address_of, page_count_of, init_of_two, init_of_items, init_of, kernel_rule, fitting, offset_of, kind_of, base_of, anchor_of, site_of_five, site_of_items, site_of, sites_in, module_of_members, module_of, modules_of, rules_of_members}
+use Rattle.policy.specs.Bindings.{each_binding, entries_in, bound_in}
+use Rattle.policy.proofs.ReadLists.{each_within_read, limited_read}
+use Rattle.policy.proofs.BindingsRead.{entry_read, bindings_read}
 use Rattle.policy.proofs.Judging.{bind_ok, after, ok_same, limited_ok, both_true, if_ok}
 use Rattle.policy_limits.specs.declared.policy_fault.PolicyFault.{PolicyFault}
 
@@ -29,20 +31,35 @@ unrepeated_ok false a c h = (refl, ok_same a c h)
 
 number_read : (z : ℤ) (n : ℕ) → format_number z ≡ Ok n → format_within n ≡ true
 number_read (pos m) n h =
-    let one = if_ok (m == 1) 1 n PolicyFault.OtherFormat h in
-    subst (λ (x : ℕ). format_within x ≡ true) one.1 refl
+    let one = if_ok (format_within m) m n PolicyFault.OtherFormat h in
+    subst (λ (x : ℕ). format_within x ≡ true) one.1 one.0
 number_read (negsuc m) n h = cc h
 
 -- ---- entries and exports
 
-entry_read : (before : List ℕ) (d : Data) (a : ℕ) → entry_of d ≡ Ok a → entry_within a ≡ true
-entry_read before d a read =
-    let address = bind_ok (address_of d) (λ address. limited (entry_within address) address) a read in
-    let fit = limited_ok (entry_within address.0) address.0 a address.2 in
-    sym (ap entry_within fit.1) ∙ fit.0
+-- entries that are within, and what binds them
+EntriesWithin : (is_plain : Bool) (ram_pages count : ℕ) → List ℕ × List ℕ → Type 0
+EntriesWithin is_plain ram_pages count r =
+    (length r.0 ≡ count) × (entries_within r.0 ≡ true) × ((if is_plain then length r.1 == 0 else all_bound ram_pages [] r.0 r.1) ≡ true)
 
-entries_read : (d : Data) (entries : List ℕ) → entries_of d ≡ Ok entries → (entries_count_within (length entries) ≡ true) × (entries_within entries ≡ true)
-entries_read d entries read = limited_read (λ before. entry_of) (λ before entry. entry_within entry) entry_read entries_count_within d entries read
+by_format_read : (is_plain : Bool) (ram_pages : ℕ) (items : Items) (r : List ℕ × List ℕ) →
+    (if is_plain then plain_entries items else bound_entries ram_pages items) ≡ Ok r → EntriesWithin is_plain ram_pages (items_length items) r
+by_format_read true ram_pages items r read =
+    let list = bind_ok (each_entry [] items) (λ entries. Ok (entries, [])) r read in
+    let all = each_within_read (λ before. entry_of) (λ before entry. entry_within entry) (λ before. entry_read) items list.0 list.1 in
+    subst (EntriesWithin true ram_pages (items_length items)) (ok_same (list.0, []) r list.2) (all.0, all.1, refl)
+by_format_read false ram_pages items r read =
+    let list = bind_ok (each_binding ram_pages [] items) (λ bindings. Ok (entries_in bindings, bound_in bindings)) r read in
+    subst (EntriesWithin false ram_pages (items_length items)) (ok_same (entries_in list.0, bound_in list.0) r list.2) (bindings_read ram_pages items list.0 list.1)
+
+entries_read : (format ram_pages : ℕ) (d : Data) (r : List ℕ × List ℕ) → entries_of format ram_pages d ≡ Ok r →
+    (entries_count_within (length r.0) ≡ true) × (entries_within r.0 ≡ true) × ((if format == 1 then length r.1 == 0 else all_bound ram_pages [] r.0 r.1) ≡ true)
+entries_read format ram_pages d r read =
+    let items = bind_ok (items_in d) _ r read in
+    let few = bind_ok (limited (entries_count_within (items_length items.0)) items.0) (entries_by format ram_pages) r items.2 in
+    let fit = limited_ok (entries_count_within (items_length items.0)) items.0 few.0 few.1 in
+    let all = by_format_read (format == 1) ram_pages few.0 r few.2 in
+    (ap entries_count_within (all.0 ∙ ap items_length (sym fit.1)) ∙ fit.0, all.1, all.2)
 
 two_read : (before : List Export) (name addr : Data) (e : Export) → export_of_two before name addr ≡ Ok e → export_within before e ≡ true
 unfolding export_of_two
@@ -192,19 +209,20 @@ rules_read ms r read =
     after (known_keys ms) _ r read λ known known_is read.
     after (key_harts known) _ r read λ harts harts_is read.
     after (key_ram_pages known) _ r read λ ram_pages ram_pages_is read.
-    after (key_entries known) _ r read λ entries entries_is read.
+    after (key_entries format ram_pages known) _ r read λ entries entries_is read.
     after (exports_of (get_member (codes "exports") known)) _ r read λ exports exports_is read.
     after (kernel_rule ram_pages known) _ r read λ kernel kernel_is read.
     after (modules_of (length exports) (get_member (codes "module") known)) _ r read λ modules modules_is read.
     let harts_data = bind_ok (required (codes "harts") known) (number_of harts_within) harts harts_is in
     let pages_data = bind_ok (required (codes "ram_pages") known) (number_of ram_pages_within) ram_pages ram_pages_is in
-    let entries_data = bind_ok (required (codes "entries") known) entries_of entries entries_is in
+    let entries_data = bind_ok (required (codes "entries") known) (entries_of format ram_pages) entries entries_is in
+    let listed = entries_read format ram_pages entries_data.0 entries entries_data.2 in
     let rules : Rules = record {
       format = format;
       harts = harts;
       ram_pages = ram_pages;
-      entries = entries;
-      bound = [];
+      entries = entries.0;
+      bound = entries.1;
       exports = exports;
       kernel = kernel.0;
       init = kernel.1;
@@ -214,8 +232,8 @@ rules_read ms r read =
     (rules_true rules (format_read ms format format_is)
     (number_within harts_within harts_data.0 harts harts_data.2)
     (number_within ram_pages_within pages_data.0 ram_pages pages_data.2)
-    (entries_read entries_data.0 entries entries_data.2)
+    (listed.0, listed.1)
     (exports_read (get_member (codes "exports") known) exports exports_is)
-    (rw (format_read ms format format_is) refl)
+    listed.2
     (kernel_read ram_pages known kernel kernel_is)
     (modules_read (length exports) (get_member (codes "module") known) modules modules_is))

@@ -1,12 +1,13 @@
 -- A policy within its limits reads back from its printed table.
-use Rattle.std.proofs.Common.{◌≡◌, ℕ, ◌+◌, ◌*◌, ◌/◌, ◌%◌, ◌<◌, ◌≤◌, ◌-◌, nat_le, codes, pos, Bool, true, false, not, List, [], ◌∷◌, length, Option, Some, None, Ok, refl, sym, ap, subst, arith, if◌then◌else◌, ◌==◌}
+use Rattle.std.proofs.Common.{◌≡◌, ℕ, ◌+◌, ◌*◌, ◌/◌, ◌%◌, ◌<◌, ◌≤◌, ◌-◌, nat_le, codes, pos, Bool, true, false, not, List, [], ◌∷◌, length, map, Option, Some, None, Ok, refl, sym, ◌∙◌, ap, subst, arith, if◌then◌else◌, ◌==◌}
 use Rattle.std.proofs.lemmas.Bool.{and_parts, leb-true, le-leb, eqb-true}
 use Rattle.std.proofs.lemmas.List.{nil_from_length}
 use Rattle.std.proofs.lemmas.Bool.Decides.{nat_tests}
 use Rattle.std.specs.List.{All}
-use Rattle.toml.specs.Data.{Members, get_member}
+use Rattle.toml.specs.Data.{Items, Members, get_member}
+use Rattle.toml.specs.View.{items_of}
 use Rattle.processor.specs.Bytes.{ram_base}
-use Rattle.sv_types.specs.Policies.{Rules, ModuleRule, each_within, entry_within, entries_count_within, exports_count_within, export_within, is_exported, span_within, init_within, next_site_within, site_within, place_within, is_aligned, base_within, anchor_within, is_behind, sites_within, sites_count_within, sites_of, module_within, modules_within, modules_count_within, is_module, module_pages_within, format_within, harts_within, ram_pages_within, entries_within, exports_within, bound_within, numbers_within, lists_within, rules_within}
+use Rattle.sv_types.specs.Policies.{Rules, ModuleRule, each_within, entry_within, entries_count_within, exports_count_within, export_within, is_exported, span_within, init_within, next_site_within, site_within, place_within, is_aligned, base_within, anchor_within, is_behind, sites_within, sites_count_within, sites_of, module_within, modules_within, modules_count_within, is_module, module_pages_within, format_within, harts_within, ram_pages_within, entries_within, exports_within, all_bound, bound_within, numbers_within, lists_within, rules_within}
 use Rattle.sv_types.specs.RelocationKinds as kinds
 use Rattle.processor.specs.Regions.{most_ram_pages}
 use Rattle.sv_types.specs.declared.module.Span.{Span}
@@ -14,24 +15,53 @@ use Rattle.sv_types.specs.declared.module.Site.{Site}
 use Rattle.sv_types.specs.declared.policy.Export.{Export}
 use Rattle.sv_types.specs.declared.relocation_kind.RelocationKind.{RelocationKind}
 use Rattle.sv_types.specs.declared.relocation_kind.RelocationKind.TheVariants.{Word64, Branch, Jal, PcrelHi20, PcrelLo12I, PcrelLo12S, Hi20, Lo12I, Lo12S}
-use Rattle.policy.specs.Values.{limited}
-use Rattle.policy.specs.Text.{format_number, entry_of, entries_of, export_of_two, export_of, some_exports_of, span_at, init_of_two, init_of, kernel_rule, site_of_five, site_of, sites_in, module_of_members, module_of, some_modules_of, rules_of_members, rules_of_text, table_of_text}
-use Rattle.policy.specs.Printed.{address_data, entries_data, export_data, exports_data, span_data, site_data, sites_data, module_data, modules_data, kernel_data, rules_members}
+use Rattle.policy.specs.Values.{limited, entry_of, items_length}
+use Rattle.policy.specs.Bindings.{bindings_of, entries_in, bound_in}
+use Rattle.policy.specs.Text.{format_number, plain_entries, bound_entries, entries_of, export_of_two, export_of, some_exports_of, span_at, init_of_two, init_of, kernel_rule, site_of_five, site_of, sites_in, module_of_members, module_of, some_modules_of, rules_of_members, rules_of_text, table_of_text}
+use Rattle.policy.specs.Printed.{address_data, binding_data, entries_data, export_data, exports_data, span_data, site_data, sites_data, module_data, modules_data, kernel_data, rules_members}
 use Rattle.policy.specs.Ranges.{IsAddress, IsDigest, IsExport, IsModule, IsPolicy}
 use Rattle.policy.proofs.Judging.{then_ok, limited_true}
 use Rattle.policy.proofs.WrittenValues.{address_back, measure_back}
 use Rattle.policy.proofs.WrittenLists.{each_item_back, items_length-map}
+use Rattle.policy.proofs.BindingsBack.{bindings_back, bound_length, entries_of_pairs, bound_of_pairs, pairs_length}
 
 -- ---- entries and exports
 
 entry_back : (before : List ℕ) (a : ℕ) → IsAddress a → entry_within a ≡ true → entry_of (address_data a) ≡ Ok a
 entry_back before a small within = then_ok _ (λ address. limited (entry_within address) address) a _ (address_back a small) (limited_true _ a within)
 
-entries_back : (entries : List ℕ) → All IsAddress entries → entries_count_within (length entries) ≡ true →
-    each_within (λ before entry. entry_within entry) [] entries ≡ true → entries_of (entries_data entries) ≡ Ok entries
-entries_back entries ranges count within =
-    rw (items_length-map address_data entries, count)
+-- the items that are printed for entries of either format
+abbrev entry_items : (is_plain : Bool) (entries bound : List ℕ) → Items
+entry_items is_plain entries bound = items_of (if is_plain then map address_data entries else map binding_data (bindings_of entries bound))
+
+-- what binds entries in either format
+abbrev binds : (is_plain : Bool) (ram_pages : ℕ) (entries bound : List ℕ) → Bool
+binds is_plain ram_pages entries bound = if is_plain then length bound == 0 else all_bound ram_pages [] entries bound
+
+entry_count : (is_plain : Bool) (ram_pages : ℕ) (entries bound : List ℕ) → binds is_plain ram_pages entries bound ≡ true →
+    items_length (entry_items is_plain entries bound) ≡ length entries
+entry_count true ram_pages entries bound bounds = items_length-map address_data entries
+entry_count false ram_pages entries bound bounds =
+    items_length-map binding_data (bindings_of entries bound) ∙ pairs_length entries bound (bound_length ram_pages [] entries bound bounds)
+
+by_format_back : (is_plain : Bool) (ram_pages : ℕ) (entries bound : List ℕ) → ram_pages ≤ most_ram_pages → All IsAddress entries →
+    each_within (λ before entry. entry_within entry) [] entries ≡ true → binds is_plain ram_pages entries bound ≡ true →
+    (if is_plain then plain_entries (entry_items is_plain entries bound) else bound_entries ram_pages (entry_items is_plain entries bound)) ≡ Ok (entries, bound)
+by_format_back true ram_pages entries bound few ranges within bounds =
+    then_ok _ (λ list. Ok (list, [])) entries _
     (each_item_back (λ before. entry_of) address_data (λ before entry. entry_within entry) IsAddress entry_back [] entries ranges within)
+    (ap (λ (none : List ℕ). Ok (entries, none)) (sym (nil_from_length bound (eqb-true (length bound) 0 bounds))))
+by_format_back false ram_pages entries bound few ranges within bounds =
+    let same = bound_length ram_pages [] entries bound bounds in
+    then_ok _ (λ bindings. Ok (entries_in bindings, bound_in bindings)) (bindings_of entries bound) _
+    (bindings_back ram_pages [] [] entries bound few ranges within bounds)
+    (rw (entries_of_pairs entries bound same, bound_of_pairs entries bound same) refl)
+
+entries_back : (format ram_pages : ℕ) (entries bound : List ℕ) → ram_pages ≤ most_ram_pages → All IsAddress entries → entries_count_within (length entries) ≡ true →
+    each_within (λ before entry. entry_within entry) [] entries ≡ true → binds (format == 1) ram_pages entries bound ≡ true →
+    entries_of format ram_pages (entries_data format entries bound) ≡ Ok (entries, bound)
+entries_back format ram_pages entries bound few ranges count within bounds =
+    rw (entry_count (format == 1) ram_pages entries bound bounds, count) (by_format_back (format == 1) ram_pages entries bound few ranges within bounds)
 
 not_true : (b : Bool) → not b ≡ true → b ≡ false
 not_true true h = cc h
@@ -128,20 +158,14 @@ modules_back exports modules ranges count within =
 -- ---- the whole
 
 format_back : (n : ℕ) → format_within n ≡ true → format_number (pos n) ≡ Ok n
-format_back n within = rw within (ap Ok (sym (eqb-true n 1 within)))
-
--- in format 1 no entry is bound
-none_bound : (bound : List ℕ) (first other : Bool) → first ≡ true → (if first then length bound == 0 else other) ≡ true → bound ≡ []
-none_bound bound true other is within = nil_from_length bound (eqb-true (length bound) 0 within)
-none_bound bound false other is within = absurd (cc is)
+format_back n within = rw within refl
 
 -- what reading the parts of a printed policy gives
 record Back (r : Rules) : Type 0 where
   format : format_number (pos r.format) ≡ Ok r.format
   harts : harts_within r.harts ≡ true
   ram_pages : ram_pages_within r.ram_pages ≡ true
-  entries : entries_of (entries_data r.entries) ≡ Ok r.entries
-  bound : r.bound ≡ []
+  entries : entries_of r.format r.ram_pages (entries_data r.format r.entries r.bound) ≡ Ok (r.entries, r.bound)
   exports : some_exports_of (exports_data r.exports) ≡ Ok r.exports
   kernel : (ms : Members) → get_member (codes "kernel") ms ≡ Some (kernel_data r.kernel r.init) → kernel_rule r.ram_pages ms ≡ Ok (r.kernel, r.init)
   modules : some_modules_of (length r.exports) (modules_data r.modules) ≡ Ok r.modules
@@ -163,20 +187,19 @@ parts_back r is within =
       format = format_back r.format harts.0;
       harts = harts.1;
       ram_pages = numbers.1;
-      entries = entries_back r.entries is.entries entries.0 entries.1;
-      bound = none_bound r.bound (format_within r.format) _ harts.0 bound.1;
+      entries = entries_back r.format r.ram_pages r.entries r.bound few is.entries entries.0 entries.1 bound.1;
       exports = exports_back r.exports is.exports exports_count.1 exports.1;
       kernel = λ ms at. init_back r.ram_pages r.kernel r.init ms at is.kernel init.1 few;
       modules = modules_back (length r.exports) r.modules is.modules modules_count.1 modules.1;
     }
 
-abbrev rules_from : (format harts ram_pages : ℕ) → List ℕ → List Export → List ℕ → Option Span → List ModuleRule → Rules
-rules_from format harts ram_pages entries exports kernel init modules = record {
+abbrev rules_from : (format harts ram_pages : ℕ) → (entries bound : List ℕ) → List Export → List ℕ → Option Span → List ModuleRule → Rules
+rules_from format harts ram_pages entries bound exports kernel init modules = record {
   format = format;
   harts = harts;
   ram_pages = ram_pages;
   entries = entries;
-  bound = [];
+  bound = bound;
   exports = exports;
   kernel = kernel;
   init = init;
@@ -184,23 +207,18 @@ rules_from format harts ram_pages entries exports kernel init modules = record {
 }
 
 -- with and without exports and modules
-lists_back : (format harts ram_pages : ℕ) (entries : List ℕ) (exports : List Export) (kernel : List ℕ) (init : Option Span) (modules : List ModuleRule) →
-    Back (rules_from format harts ram_pages entries exports kernel init modules) →
-    rules_of_members (rules_members (rules_from format harts ram_pages entries exports kernel init modules)) ≡ Ok (rules_from format harts ram_pages entries exports kernel init modules)
+lists_back : (format harts ram_pages : ℕ) (entries bound : List ℕ) (exports : List Export) (kernel : List ℕ) (init : Option Span) (modules : List ModuleRule) →
+    Back (rules_from format harts ram_pages entries bound exports kernel init modules) →
+    rules_of_members (rules_members (rules_from format harts ram_pages entries bound exports kernel init modules)) ≡ Ok (rules_from format harts ram_pages entries bound exports kernel init modules)
 unfolding rules_of_members rules_members
-lists_back format harts ram_pages entries [] kernel init [] b = rw (b.format, b.harts, b.ram_pages, b.entries, b.kernel _ refl) refl
-lists_back format harts ram_pages entries [] kernel init (m ∷ ms) b = rw (b.format, b.harts, b.ram_pages, b.entries, b.kernel _ refl, b.modules) refl
-lists_back format harts ram_pages entries (e ∷ es) kernel init [] b = rw (b.format, b.harts, b.ram_pages, b.entries, b.exports, b.kernel _ refl) refl
-lists_back format harts ram_pages entries (e ∷ es) kernel init (m ∷ ms) b =
+lists_back format harts ram_pages entries bound [] kernel init [] b = rw (b.format, b.harts, b.ram_pages, b.entries, b.kernel _ refl) refl
+lists_back format harts ram_pages entries bound [] kernel init (m ∷ ms) b = rw (b.format, b.harts, b.ram_pages, b.entries, b.kernel _ refl, b.modules) refl
+lists_back format harts ram_pages entries bound (e ∷ es) kernel init [] b = rw (b.format, b.harts, b.ram_pages, b.entries, b.exports, b.kernel _ refl) refl
+lists_back format harts ram_pages entries bound (e ∷ es) kernel init (m ∷ ms) b =
     rw (b.format, b.harts, b.ram_pages, b.entries, b.exports, b.kernel _ refl, b.modules) refl
 
 pub rules_back : (r : Rules) → IsPolicy r → rules_within r ≡ true → rules_of_members (rules_members r) ≡ Ok r
-rules_back r is within =
-    let back = parts_back r is within in
-    let same : r ≡ rules_from r.format r.harts r.ram_pages r.entries r.exports r.kernel r.init r.modules =
-    ap (λ (bound : List ℕ). record r { bound = bound }) back.bound in
-    subst (λ (x : Rules). rules_of_members (rules_members x) ≡ Ok x) (sym same)
-    (lists_back r.format r.harts r.ram_pages r.entries r.exports r.kernel r.init r.modules (subst Back same back))
+rules_back r is within = lists_back r.format r.harts r.ram_pages r.entries r.bound r.exports r.kernel r.init r.modules (parts_back r is within)
 
 pub text_back : (r : Rules) → IsPolicy r → rules_within r ≡ true → (bytes : List ℕ) → table_of_text bytes ≡ Ok (rules_members r) → rules_of_text bytes ≡ Ok r
 text_back r is within bytes at = then_ok (table_of_text bytes) rules_of_members (rules_members r) _ at (rules_back r is within)

@@ -1,5 +1,6 @@
 pub mod Refusals
 pub mod Values
+pub mod Bindings
 pub mod Text
 pub mod Printed
 pub mod Ranges

@@ -1,6 +1,6 @@
 -- The table of a policy, as it is printed.
 -- TOML 1.0; the keys are this project's own.
-use Rattle.std.specs.Prelude.{ℕ, pos, List, [], ◌∷◌, map, codes, Option, Some, None, ◌+◌, ◌*◌}
+use Rattle.std.specs.Prelude.{ℕ, pos, List, [], ◌∷◌, map, codes, Option, Some, None, ◌+◌, ◌*◌, ◌==◌, if◌then◌else◌}
 use Rattle.std.specs.Ordering.{nat_cmp, match_ordering}
 use Rattle.std.specs.Cmp.Lexicographic.{slice_cmp}
 use Rattle.hex.specs.Hex.{encode_lower}
@@ -13,6 +13,8 @@ use Rattle.sv_types.specs.RelocationKinds.{kind_number}
 use Rattle.sv_types.specs.declared.module.Span.{Span}
 use Rattle.sv_types.specs.declared.module.Site.{Site}
 use Rattle.sv_types.specs.declared.policy.Export.{Export}
+use Rattle.policy.specs.Bindings.{bindings_of}
+use Rattle.policy.specs.declared.binding.Binding.{Binding}
 
 -- the members, where the key holds the value
 abbrev pub with_member : List ℕ → Data → Members → Members
@@ -39,8 +41,13 @@ unfoldable pub site_data : Site → Data
 site_data site =
     array (items_of (number_data site.offset ∷ number_data (kind_number site.kind) ∷ number_data site.base ∷ integer site.addend ∷ number_data site.anchor ∷ []))
 
-abbrev pub entries_data : List ℕ → Data
-entries_data entries = array (items_of (map address_data entries))
+unfoldable pub binding_data : Binding → Data
+binding_data b = array (items_of (address_data b.va ∷ address_data b.gpa ∷ []))
+
+-- format 1 lists the entries alone, and format 2 each with the address that it is bound to
+abbrev pub entries_data : (format : ℕ) → (entries bound : List ℕ) → Data
+entries_data format entries bound =
+    array (items_of (if format == 1 then map address_data entries else map binding_data (bindings_of entries bound)))
 
 abbrev pub exports_data : List Export → Data
 exports_data exports = array (items_of (map export_data exports))
@@ -75,6 +82,6 @@ with_modules (m ∷ ms) members = with_member (codes "module") (modules_data (m 
 unfoldable pub rules_members : Rules → Members
 rules_members r =
     with_modules r.modules (with_member (codes "kernel") (kernel_data r.kernel r.init)
-    (with_exports r.exports (with_member (codes "entries") (entries_data r.entries)
+    (with_exports r.exports (with_member (codes "entries") (entries_data r.format r.entries r.bound)
     (with_member (codes "ram_pages") (number_data r.ram_pages) (with_member (codes "harts") (number_data r.harts)
     (with_member (codes "format") (number_data r.format) no_members))))))

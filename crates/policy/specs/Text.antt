@@ -6,34 +6,45 @@ use Rattle.std.specs.Str.{is_utf8}
 use Rattle.toml.specs.Data.{Data, Items, no_items, item, Members, get_member}
 use Rattle.toml.specs.Parse.{parse_document}
 use Rattle.processor.specs.Bytes.{page_size, ram_base}
-use Rattle.sv_types.specs.Policies.{Rules, ModuleRule, harts_within, ram_pages_within, entries_count_within, exports_count_within, modules_count_within, module_pages_within, sites_count_within, entry_within, is_exported, span_within, place_within, is_aligned, base_within, anchor_within, is_behind, is_module, sites_of}
+use Rattle.sv_types.specs.Policies.{Rules, ModuleRule, format_within, harts_within, ram_pages_within, entries_count_within, exports_count_within, modules_count_within, module_pages_within, sites_count_within, is_exported, span_within, place_within, is_aligned, base_within, anchor_within, is_behind, is_module, sites_of}
 use Rattle.sv_types.specs.RelocationKinds as kinds
 use Rattle.sv_types.specs.declared.module.Span.{Span}
 use Rattle.sv_types.specs.declared.module.Site.{Site}
 use Rattle.sv_types.specs.declared.policy.Export.{Export}
 use Rattle.sv_types.specs.declared.relocation_kind.RelocationKind.{RelocationKind}
 use Rattle.policy.specs.Refusals.{Judged, ◌>>=◌}
-use Rattle.policy.specs.Values.{required, integer_of, natural_of, members_in, items_in, limited, number_of, name_of, address_of, measure_of, with_known, items_length, each_item}
+use Rattle.policy.specs.Values.{required, integer_of, natural_of, members_in, items_in, limited, number_of, name_of, address_of, entry_of, measure_of, with_known, items_length, each_item}
+use Rattle.policy.specs.Bindings.{each_binding, entries_in, bound_in}
 use Rattle.policy_limits.specs.declared.policy_fault.PolicyFault.{PolicyFault}
 
 -- ---- format
 
 abbrev pub format_number : ℤ → Judged ℕ
-format_number z = elim z [ pos n ↦ (if n == 1 then Ok 1 else Err PolicyFault.OtherFormat) | negsuc n ↦ Err PolicyFault.OtherFormat ]
+format_number z = elim z [ pos n ↦ (if format_within n then Ok n else Err PolicyFault.OtherFormat) | negsuc n ↦ Err PolicyFault.OtherFormat ]
 
 abbrev pub format_of : Members → Judged ℕ
 format_of members = required (codes "format") members >>= integer_of >>= format_number
 
 -- ---- entries and exports
 
-abbrev pub entry_of : Data → Judged ℕ
-entry_of d = address_of d >>= λ address. limited (entry_within address) address
-
 abbrev pub each_entry : List ℕ → Items → Judged (List ℕ)
 each_entry = each_item (λ before. entry_of)
 
-abbrev pub entries_of : Data → Judged (List ℕ)
-entries_of d = items_in d >>= λ items. limited (entries_count_within (items_length items)) items >>= each_entry []
+-- format 1 lists entries alone
+abbrev pub plain_entries : Items → Judged (List ℕ × List ℕ)
+plain_entries items = each_entry [] items >>= λ entries. Ok (entries, [])
+
+-- format 2 lists entries, each with the address that it is bound to
+abbrev pub bound_entries : ℕ → Items → Judged (List ℕ × List ℕ)
+bound_entries ram_pages items = each_binding ram_pages [] items >>= λ bindings. Ok (entries_in bindings, bound_in bindings)
+
+abbrev pub entries_by : (format ram_pages : ℕ) → Items → Judged (List ℕ × List ℕ)
+entries_by format ram_pages items = if format == 1 then plain_entries items else bound_entries ram_pages items
+
+-- the entries, and the addresses that they are bound to
+abbrev pub entries_of : (format ram_pages : ℕ) → Data → Judged (List ℕ × List ℕ)
+entries_of format ram_pages d =
+    items_in d >>= λ items. limited (entries_count_within (items_length items)) items >>= entries_by format ram_pages
 
 abbrev pub unrepeated : {A : Type 0} → Bool → A → Judged A
 unrepeated true a = Err PolicyFault.RepeatedName
@@ -208,8 +219,8 @@ key_harts members = required (codes "harts") members >>= number_of harts_within
 abbrev pub key_ram_pages : Members → Judged ℕ
 key_ram_pages members = required (codes "ram_pages") members >>= number_of ram_pages_within
 
-abbrev pub key_entries : Members → Judged (List ℕ)
-key_entries members = required (codes "entries") members >>= entries_of
+abbrev pub key_entries : (format ram_pages : ℕ) → Members → Judged (List ℕ × List ℕ)
+key_entries format ram_pages members = required (codes "entries") members >>= entries_of format ram_pages
 
 abbrev pub known_keys : Members → Judged Members
 known_keys = with_known policy_keys
@@ -228,11 +239,11 @@ rules_of_members members = do
   known ← known_keys members
   harts ← key_harts known
   ram_pages ← key_ram_pages known
-  entries ← key_entries known
+  entries ← key_entries format ram_pages known
   exports ← exports_of (get_member (codes "exports") known)
   kernel ← kernel_rule ram_pages known
   modules ← modules_of (length exports) (get_member (codes "module") known)
-  Ok (record { format = format; harts = harts; ram_pages = ram_pages; entries = entries; bound = []; exports = exports; kernel = kernel.0; init = kernel.1; modules = modules })
+  Ok (record { format = format; harts = harts; ram_pages = ram_pages; entries = entries.0; bound = entries.1; exports = exports; kernel = kernel.0; init = kernel.1; modules = modules })
 
 -- the table of a text
 abbrev pub table_of_text : List ℕ → Judged Members

@@ -6,6 +6,7 @@ use Rattle.std.specs.Str.{bytes_eq}
 use Rattle.toml.specs.Data.{Data, Items, no_items, item, Members, no_members, member, get_member, as_integer, as_str, as_array, as_table}
 use Rattle.sv_types.specs.Limits.{most_name_bytes}
 use Rattle.sv_types.specs.Numbers.{digest_of}
+use Rattle.sv_types.specs.Policies.{entry_within}
 use Rattle.text_numbers.specs.Addresses as addresses
 use Rattle.policy.specs.Refusals.{Judged, ◌>>=◌}
 use Rattle.policy_limits.specs.declared.policy_fault.PolicyFault.{PolicyFault}
@@ -49,6 +50,10 @@ name_of d = text_of d >>= λ text. limited (name_within text) text
 
 abbrev pub address_of : Data → Judged ℕ
 address_of d = text_of d >>= λ text. ok_or (addresses.address_of text) PolicyFault.BadHexadecimal
+
+-- an instruction's address
+abbrev pub entry_of : Data → Judged ℕ
+entry_of d = address_of d >>= λ address. limited (entry_within address) address
 
 -- a digest's bytes
 abbrev pub measure_of : Data → Judged (List ℕ)

@@ -1,28 +1,27 @@
 // Permitted entries and exports.
 
 ghost use Rattle.std.specs.Prelude.{◌≡◌, ◌≤◌, List, length, [], IfOk, IfErr, option_map};
+ghost use Rattle.sv_types.specs.Limits.{most_exports};
 ghost use Rattle.toml.specs.View.{view, items_view};
 ghost use Rattle.policy.specs.Refusals.{Refuses};
 ghost use Rattle.policy.specs.ExportNames.{HasNames};
 ghost use Rattle.sv_types.specs.declared.policy.Export.{Export as ExportData};
 ghost use Rattle.policy.specs.Text as spec;
 
+use crate::binding::{bound_in, each_binding, entries_in};
 use crate::refusal::PolicyRefusal;
-use crate::values::{address, items, name};
-use policy_limits::{MOST_ENTRIES, MOST_EXPORTS, PolicyFault};
+use crate::values::{address, entry, items, name};
+use policy_limits::{MOST_ENTRIES, MOST_EXPORTS, PLAIN_FORMAT, PolicyFault};
 use std::alloc::Global;
 use std::collections::BTreeSet;
 use sv_types::Export;
 use toml::Value;
 
-fn entry(value: &Value) -> Result<u64, PolicyFault>
-    ensures { result ≡ spec.entry_of (view value.now) }
-{
-    let address = address(value)?;
-    if address % 4 != 0 {
-        return Err(PolicyFault::BeyondLimit);
-    }
-    Ok(address)
+/// Permitted entries, and in format 2 the guest-physical address that each of them is bound to.
+#[derive(Drop)]
+pub struct PermittedEntries {
+    pub list: Vec<u64>,
+    pub bound: Vec<u64>,
 }
 
 pub(crate) fn each_entry(alloc: Global, items: &[Value]) -> Result<Vec<u64>, PolicyRefusal>
@@ -37,16 +36,61 @@ pub(crate) fn each_entry(alloc: Global, items: &[Value]) -> Result<Vec<u64>, Pol
     Ok(entries)
 }
 
+fn plain_entries(alloc: Global, items: &[Value]) -> Result<PermittedEntries, PolicyRefusal>
+    ensures ok { IfOk result (λ entries. spec.plain_entries (items_view items.now) ≡ Ok (entries.list.items, entries.bound.items)) }
+    ensures refused { IfErr result (Refuses (spec.plain_entries (items_view items.now))) }
+{
+    let list = each_entry(alloc, items)?;
+    let bound = Vec::new(alloc);
+    Ok(PermittedEntries { list, bound })
+}
+
+fn bound_entries(
+    alloc: Global,
+    ram_pages: u32,
+    items: &[Value],
+) -> Result<PermittedEntries, PolicyRefusal>
+    ensures ok { IfOk result (λ entries. spec.bound_entries ram_pages (items_view items.now) ≡ Ok (entries.list.items, entries.bound.items)) }
+    ensures refused { IfErr result (Refuses (spec.bound_entries ram_pages (items_view items.now))) }
+{
+    let bindings = each_binding(alloc, ram_pages, items)?;
+    let list = entries_in(alloc, bindings.as_slice())?;
+    let bound = bound_in(alloc, bindings.as_slice())?;
+    Ok(PermittedEntries { list, bound })
+}
+
+/// The entries of a list of this format.
+pub(crate) fn entries_by(
+    alloc: Global,
+    format: u8,
+    ram_pages: u32,
+    items: &[Value],
+) -> Result<PermittedEntries, PolicyRefusal>
+    ensures ok { IfOk result (λ entries. spec.entries_by format ram_pages (items_view items.now) ≡ Ok (entries.list.items, entries.bound.items)) }
+    ensures refused { IfErr result (Refuses (spec.entries_by format ram_pages (items_view items.now))) }
+{
+    if format == PLAIN_FORMAT {
+        plain_entries(alloc, items)
+    } else {
+        bound_entries(alloc, ram_pages, items)
+    }
+}
+
 #[tactic(auto, using(crate::proofs::Lists::items_length_view))]
-pub fn entries(alloc: Global, value: &Value) -> Result<Vec<u64>, PolicyRefusal>
-    ensures ok { IfOk result (λ entries. spec.entries_of (view value.now) ≡ Ok entries.items) }
-    ensures refused { IfErr result (Refuses (spec.entries_of (view value.now))) }
+pub fn entries(
+    alloc: Global,
+    format: u8,
+    ram_pages: u32,
+    value: &Value,
+) -> Result<PermittedEntries, PolicyRefusal>
+    ensures ok { IfOk result (λ entries. spec.entries_of format ram_pages (view value.now) ≡ Ok (entries.list.items, entries.bound.items)) }
+    ensures refused { IfErr result (Refuses (spec.entries_of format ram_pages (view value.now))) }
 {
     let items = items(value)?;
     if items.len() < 1 || items.len() > MOST_ENTRIES {
         return Err(PolicyRefusal::Fault(PolicyFault::BeyondLimit));
     }
-    each_entry(alloc, items)
+    entries_by(alloc, format, ram_pages, items)
 }
 
 // An export whose name isn't among those of the exports before it.
@@ -100,7 +144,7 @@ pub(crate) fn each_export(alloc: Global, items: &[Value]) -> Result<Vec<Export>,
 #[tactic(auto, using(crate::proofs::Lists::items_length_view))]
 fn some_exports(alloc: Global, value: &Value) -> Result<Vec<Export>, PolicyRefusal>
     ensures ok { IfOk result (λ exports. spec.some_exports_of (view value.now) ≡ Ok exports.items) }
-    ensures few { IfOk result (λ exports. length exports.items ≤ 4096) }
+    ensures few { IfOk result (λ exports. length exports.items ≤ most_exports) }
     ensures refused { IfErr result (Refuses (spec.some_exports_of (view value.now))) }
 {
     let items = items(value)?;
@@ -113,7 +157,7 @@ fn some_exports(alloc: Global, value: &Value) -> Result<Vec<Export>, PolicyRefus
 /// The exports. None are listed where the key is missing.
 pub fn exports(alloc: Global, value: Option<&Value>) -> Result<Vec<Export>, PolicyRefusal>
     ensures ok { IfOk result (λ exports. spec.exports_of (option_map (λ v. view v.now) value.entry) ≡ Ok exports.items) }
-    ensures few { IfOk result (λ exports. length exports.items ≤ 4096) }
+    ensures few { IfOk result (λ exports. length exports.items ≤ most_exports) }
     ensures refused { IfErr result (Refuses (spec.exports_of (option_map (λ v. view v.now) value.entry))) }
 {
     match value {

@@ -1,6 +1,7 @@
 //! The policy: its limits, and its text.
 #![tactic(auto)]
 
+mod binding;
 mod entries;
 mod first;
 mod kernel;

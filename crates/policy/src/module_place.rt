@@ -1,6 +1,7 @@
 // Where a policy's text is refused in a module, for a person.
 
 ghost use Rattle.std.specs.Prelude.{◌≤◌};
+ghost use Rattle.sv_types.specs.Limits.{most_exports};
 
 use crate::first::{first_refused, refuses};
 use crate::modules::{MODULE_KEYS, each_module, key_measure, key_name, key_pages};
@@ -18,7 +19,7 @@ pub(crate) fn modules_place(
     exports: usize,
     value: Option<&Value>,
 ) -> Result<Option<String>, AllocError>
-    requires { exports ≤ 4096 }
+    requires { exports ≤ most_exports }
 {
     let Some(value) = value else {
         return Ok(None);
@@ -42,7 +43,7 @@ fn module_place(
     items: &[Value],
     i: usize,
 ) -> Result<Option<String>, AllocError>
-    requires { exports ≤ 4096 }
+    requires { exports ≤ most_exports }
 {
     let i = i.min(items.len());
     let before = match each_module(alloc, exports, &items[..i]) {
@@ -77,7 +78,7 @@ fn key_place(
     sites_before: usize,
     table: &Table,
 ) -> Result<String, AllocError>
-    requires { exports ≤ 4096 }
+    requires { exports ≤ most_exports }
 {
     if let Some(unknown) = first_unknown(&MODULE_KEYS, table) {
         return String::from_str(alloc, unknown);

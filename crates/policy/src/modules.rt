@@ -1,6 +1,7 @@
 // The modules that may be loaded.
 
 ghost use Rattle.std.specs.Prelude.{◌≡◌, ◌+◌, ◌≤◌, [], IfOk, IfErr, option_map, map, length};
+ghost use Rattle.sv_types.specs.Limits.{most_exports};
 ghost use Rattle.sv_types.specs.Policies as limits;
 ghost use Rattle.toml.specs.View.{view, table_view, items_view};
 ghost use Rattle.policy.specs.Refusals.{Refuses, judged_map};
@@ -67,7 +68,7 @@ fn module_of_members(
     sites_before: usize,
     table: &Table,
 ) -> Result<ModulePolicy, PolicyRefusal>
-    requires few_exports { exports ≤ 4096 }
+    requires few_exports { exports ≤ most_exports }
     requires sites_of { sites_before ≡ limits.sites_of (map limits.module_rule before.now) }
     requires few_sites { sites_before ≤ 131072 }
     ensures ok { IfOk result (λ m.
@@ -97,7 +98,7 @@ fn module(
     sites_before: usize,
     value: &Value,
 ) -> Result<ModulePolicy, PolicyRefusal>
-    requires few_exports { exports ≤ 4096 }
+    requires few_exports { exports ≤ most_exports }
     requires sites_of { sites_before ≡ limits.sites_of (map limits.module_rule before.now) }
     requires few_sites { sites_before ≤ 131072 }
     ensures ok { IfOk result (λ m.
@@ -116,7 +117,7 @@ pub(crate) fn each_module(
     exports: usize,
     items: &[Value],
 ) -> Result<Vec<ModulePolicy>, PolicyRefusal>
-    requires { exports ≤ 4096 }
+    requires { exports ≤ most_exports }
     ensures ok { IfOk result (λ modules.
         spec.each_module exports [] (items_view items.now) ≡ Ok (map limits.module_rule modules.items)) }
     ensures refused { IfErr result (Refuses (spec.each_module exports [] (items_view items.now))) }
@@ -137,7 +138,7 @@ fn some_modules(
     exports: usize,
     value: &Value,
 ) -> Result<Vec<ModulePolicy>, PolicyRefusal>
-    requires { exports ≤ 4096 }
+    requires { exports ≤ most_exports }
     ensures ok { IfOk result (λ modules. spec.some_modules_of exports (view value.now) ≡ Ok (map limits.module_rule modules.items)) }
     ensures refused { IfErr result (Refuses (spec.some_modules_of exports (view value.now))) }
 {
@@ -154,7 +155,7 @@ pub fn modules(
     exports: usize,
     value: Option<&Value>,
 ) -> Result<Vec<ModulePolicy>, PolicyRefusal>
-    requires { exports ≤ 4096 }
+    requires { exports ≤ most_exports }
     ensures ok { IfOk result (λ modules.
         spec.modules_of exports (option_map (λ v. view v.now) value.entry) ≡ Ok (map limits.module_rule modules.items)) }
     ensures refused { IfErr result (Refuses (spec.modules_of exports (option_map (λ v. view v.now) value.entry))) }

@@ -1,6 +1,6 @@
 // Where a policy's text is refused, for a person. The judgements are the reader's own, in its order.
 
-use crate::entries::{each_entry, each_export, entries, exports};
+use crate::entries::{each_export, entries_by, exports};
 use crate::first::{first_refused, refuses};
 use crate::kernel::{KERNEL_KEYS, init, kernel};
 use crate::module_place::modules_place;
@@ -32,9 +32,9 @@ pub fn refused_place(alloc: Global, bytes: &[u8]) -> Result<Option<String>, Allo
 }
 
 fn table_place(alloc: Global, table: &Table) -> Result<Option<String>, AllocError> {
-    if format(table).is_err() {
+    let Ok(format) = format(table) else {
         return key(alloc, "format");
-    }
+    };
     if let Some(unknown) = first_unknown(&POLICY_KEYS, table) {
         return key(alloc, unknown);
     }
@@ -44,8 +44,8 @@ fn table_place(alloc: Global, table: &Table) -> Result<Option<String>, AllocErro
     let Ok(ram_pages) = ram_pages(table) else {
         return key(alloc, "ram_pages");
     };
-    if refuses(&key_entries(alloc, table)) {
-        return entries_place(alloc, optional(table, "entries"));
+    if refuses(&key_entries(alloc, format, ram_pages, table)) {
+        return entries_place(alloc, format, ram_pages, optional(table, "entries"));
     }
     lists_place(alloc, ram_pages, table)
 }
@@ -92,9 +92,17 @@ fn few_items(value: Option<&Value>, most: usize) -> &[Value] {
     }
 }
 
-fn entries_place(alloc: Global, value: Option<&Value>) -> Result<Option<String>, AllocError> {
+fn entries_place(
+    alloc: Global,
+    format: u8,
+    ram_pages: u32,
+    value: Option<&Value>,
+) -> Result<Option<String>, AllocError> {
     let items = few_items(value, MOST_ENTRIES);
-    let item = first_refused(items, |part| refuses(&each_entry(alloc, part)));
+    let item = first_refused(
+        items,
+        |part| refuses(&entries_by(alloc, format, ram_pages, part)),
+    );
     list_key(alloc, "entries", item)
 }
 

@@ -1,15 +1,17 @@
 // The printing of a policy's text.
 
-ghost use Rattle.std.specs.Prelude.{◌≡◌, IfOk, OnOk, Some, true, map, string_bytes};
-ghost use Rattle.toml.specs.Data.{string, no_members};
+ghost use Rattle.std.specs.Prelude.{◌≡◌, IfOk, OnOk, Some, true, map, length, string_bytes};
+ghost use Rattle.toml.specs.Data.{string, array, no_members};
 ghost use Rattle.toml.specs.Parse.{parse_document};
-ghost use Rattle.toml.specs.View.{view, table_view};
+ghost use Rattle.toml.specs.View.{view, items_of, table_view};
 ghost use Rattle.sv_types.specs.Policies as limits;
 ghost use Rattle.std.specs.List.{All};
 ghost use Rattle.policy.specs.Ranges.{IsAddress, IsDigest, IsExport, IsModule, IsPolicy};
+ghost use Rattle.policy.specs.Bindings.{binding, bindings_of};
 ghost use Rattle.policy.specs.Text.{table_of_text, rules_of_text};
 ghost use Rattle.policy.specs.Printed as spec;
 
+use policy_limits::PLAIN_FORMAT;
 use processor::{PAGE_BYTES, RAM_BASE};
 use std::alloc::{AllocError, Global};
 use sv_types::{Digest, Export, ModulePolicy, Policy, Site, Span};
@@ -47,8 +49,8 @@ fn measure(alloc: Global, digest: &Digest) -> Result<Value, AllocError>
     Ok(Value::from(text))
 }
 
-fn entries(alloc: Global, entries: &[u64]) -> Result<Value, AllocError>
-    ensures printed { IfOk result (λ v. view v ≡ spec.entries_data entries.now) }
+fn plain_entries(alloc: Global, entries: &[u64]) -> Result<Value, AllocError>
+    ensures printed { IfOk result (λ v. view v ≡ array (items_of (map spec.address_data entries.now))) }
     ensures typed { OnOk result (All IsAddress entries.now) }
 {
     let mut values = Vec::new(alloc);
@@ -57,6 +59,41 @@ fn entries(alloc: Global, entries: &[u64]) -> Result<Value, AllocError>
         values.push(value)?;
     }
     Ok(Value::Array(values))
+}
+
+#[tactic(auto, unfolding(crate::specs::Printed::binding_data))]
+fn binding(alloc: Global, entry: u64, gpa: u64) -> Result<Value, AllocError>
+    ensures { IfOk result (λ v. view v ≡ spec.binding_data (binding entry gpa)) }
+{
+    let entry = address(alloc, entry)?;
+    let gpa = address(alloc, gpa)?;
+    let values = vec![in alloc; entry, gpa]?;
+    Ok(Value::Array(values))
+}
+
+fn bound_entries(alloc: Global, entries: &[u64], bound: &[u64]) -> Result<Value, AllocError>
+    requires { length bound.now ≡ length entries.now }
+    ensures printed { IfOk result (λ v. view v ≡ array (items_of (map spec.binding_data (bindings_of entries.now bound.now)))) }
+    ensures typed { OnOk result (All IsAddress entries.now) }
+{
+    let mut values = Vec::new(alloc);
+    for (i, entry) in entries.iter().enumerate() {
+        let value = binding(alloc, *entry, bound[i])?;
+        values.push(value)?;
+    }
+    Ok(Value::Array(values))
+}
+
+fn entries(alloc: Global, policy: &Policy) -> Result<Value, AllocError>
+    requires { limits.rules_within (limits.rules_of policy.now) ≡ true }
+    ensures printed { IfOk result (λ v. view v ≡ spec.entries_data policy.now.format policy.now.entries.items policy.now.bound.items) }
+    ensures typed { OnOk result (All IsAddress policy.now.entries.items) }
+{
+    if policy.format == PLAIN_FORMAT {
+        plain_entries(alloc, policy.entries.as_slice())
+    } else {
+        bound_entries(alloc, policy.entries.as_slice(), policy.bound.as_slice())
+    }
 }
 
 #[tactic(auto, unfolding(crate::specs::Printed::export_data))]
@@ -206,6 +243,7 @@ fn put_modules(alloc: Global, table: &mut Table, items: &[ModulePolicy]) -> Resu
 
 #[tactic(auto, unfolding(crate::specs::Printed::rules_members))]
 fn policy_table(alloc: Global, policy: &Policy) -> Result<Table, AllocError>
+    requires { limits.rules_within (limits.rules_of policy.now) ≡ true }
     ensures printed { IfOk result (λ t. table_view t ≡ spec.rules_members (limits.rules_of policy.now)) }
     ensures typed { OnOk result (IsPolicy (limits.rules_of policy.now)) }
 {
@@ -218,12 +256,7 @@ fn policy_table(alloc: Global, policy: &Policy) -> Result<Table, AllocError>
     )?;
     put(alloc, &mut table, "harts", number(u32::from(policy.harts)))?;
     put(alloc, &mut table, "ram_pages", number(policy.ram_pages))?;
-    put(
-        alloc,
-        &mut table,
-        "entries",
-        entries(alloc, policy.entries.as_slice())?,
-    )?;
+    put(alloc, &mut table, "entries", entries(alloc, policy)?)?;
     put_exports(alloc, &mut table, policy.exports.as_slice())?;
     put(alloc, &mut table, "kernel", kernel(alloc, policy)?)?;
     put_modules(alloc, &mut table, policy.modules.as_slice())?;
@@ -232,6 +265,7 @@ fn policy_table(alloc: Global, policy: &Policy) -> Result<Table, AllocError>
 
 // The text that is read back as the policy's table.
 fn text(alloc: Global, policy: &Policy) -> Result<String, AllocError>
+    requires { limits.rules_within (limits.rules_of policy.now) ≡ true }
     ensures printed { IfOk result (λ text.
         parse_document (string_bytes text) ≡ Some (spec.rules_members (limits.rules_of policy.now))) }
     ensures typed { OnOk result (IsPolicy (limits.rules_of policy.now)) }

@@ -1,6 +1,7 @@
 // The relocated fields of a module.
 
 ghost use Rattle.std.specs.Prelude.{◌≡◌, ◌≤◌, [], ◌+◌, length, IfOk, IfErr};
+ghost use Rattle.sv_types.specs.Limits.{most_exports};
 ghost use Rattle.toml.specs.View.{view, items_view};
 ghost use Rattle.policy.specs.Refusals.{Refuses};
 ghost use Rattle.policy.specs.Text as spec;
@@ -20,7 +21,7 @@ pub struct Bounds {
     pub pages: u32,
     pub exports: usize,
     ghost few_pages: { pages ≤ 1024 },
-    ghost few_exports: { exports ≤ 4096 },
+    ghost few_exports: { exports ≤ most_exports },
 }
 
 fn offset(pages: u32, value: &Value) -> Result<u32, PolicyFault>
@@ -54,7 +55,7 @@ fn fitting(kind: RelocationKind, offset: u32) -> Result<RelocationKind, PolicyFa
 }
 
 fn base(exports: usize, value: &Value) -> Result<u16, PolicyFault>
-    requires { exports ≤ 4096 }
+    requires { exports ≤ most_exports }
     ensures { result ≡ spec.base_of exports (view value.now) }
 {
     let base = natural(value)?;

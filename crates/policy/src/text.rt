@@ -6,12 +6,14 @@ ghost use Rattle.toml.specs.View.{table_view};
 ghost use Rattle.policy.specs.Refusals.{Refuses, judged_map};
 ghost use Rattle.policy.specs.Text as spec;
 
-use crate::entries::{entries, exports};
+use crate::entries::{PermittedEntries, entries, exports};
 use crate::kernel::{init, kernel};
 use crate::modules::{key_measure, modules};
 use crate::refusal::PolicyRefusal;
 use crate::values::{integer, natural, optional, required, with_known};
-use policy_limits::{FEWEST_RAM_PAGES, MOST_HARTS, MOST_RAM_PAGES, PolicyFault};
+use policy_limits::{
+    BOUND_FORMAT, FEWEST_RAM_PAGES, MOST_HARTS, MOST_RAM_PAGES, PLAIN_FORMAT, PolicyFault,
+};
 use std::alloc::Global;
 use std::str;
 use sv_types::{Digest, Policy, Span};
@@ -33,11 +35,10 @@ pub(crate) fn format(table: &Table) -> Result<u8, PolicyFault>
 {
     let value = required(table, "format")?;
     let number = integer(value)?;
-    if number == 1 {
-        Ok(1)
-    } else {
-        Err(PolicyFault::OtherFormat)
+    if number < i64::from(PLAIN_FORMAT) || number > i64::from(BOUND_FORMAT) {
+        return Err(PolicyFault::OtherFormat);
     }
+    Ok(number as u8)
 }
 
 pub(crate) fn harts(table: &Table) -> Result<u8, PolicyFault>
@@ -62,12 +63,17 @@ pub(crate) fn ram_pages(table: &Table) -> Result<u32, PolicyFault>
     Ok(pages as u32)
 }
 
-pub(crate) fn key_entries(alloc: Global, table: &Table) -> Result<Vec<u64>, PolicyRefusal>
-    ensures ok { IfOk result (λ entries. spec.key_entries (table_view table.now) ≡ Ok entries.items) }
-    ensures refused { IfErr result (Refuses (spec.key_entries (table_view table.now))) }
+pub(crate) fn key_entries(
+    alloc: Global,
+    format: u8,
+    ram_pages: u32,
+    table: &Table,
+) -> Result<PermittedEntries, PolicyRefusal>
+    ensures ok { IfOk result (λ entries. spec.key_entries format ram_pages (table_view table.now) ≡ Ok (entries.list.items, entries.bound.items)) }
+    ensures refused { IfErr result (Refuses (spec.key_entries format ram_pages (table_view table.now))) }
 {
     let value = required(table, "entries")?;
-    entries(alloc, value)
+    entries(alloc, format, ram_pages, value)
 }
 
 fn known_keys(table: &Table) -> Result<&Table, PolicyFault>
@@ -95,7 +101,7 @@ fn read_table(alloc: Global, table: &Table) -> Result<Policy, PolicyRefusal>
     let table = known_keys(table)?;
     let harts = harts(table)?;
     let ram_pages = ram_pages(table)?;
-    let entries = key_entries(alloc, table)?;
+    let entries = key_entries(alloc, format, ram_pages, table)?;
     let exports = exports(alloc, optional(table, "exports"))?;
     let (kernel, init) = kernel_rule(ram_pages, table)?;
     let modules = modules(alloc, exports.len(), optional(table, "module"))?;
@@ -103,8 +109,8 @@ fn read_table(alloc: Global, table: &Table) -> Result<Policy, PolicyRefusal>
         format,
         harts,
         ram_pages,
-        entries,
-        bound: Vec::new(alloc),
+        entries: entries.list,
+        bound: entries.bound,
         exports,
         kernel,
         init,

@@ -96,6 +96,17 @@ pub fn address(value: &Value) -> Result<u64, PolicyFault>
     }
 }
 
+/// An instruction's address.
+pub fn entry(value: &Value) -> Result<u64, PolicyFault>
+    ensures { result ≡ spec.entry_of (view value.now) }
+{
+    let address = address(value)?;
+    if address % 4 != 0 {
+        return Err(PolicyFault::BeyondLimit);
+    }
+    Ok(address)
+}
+
 /// The 32 bytes of a digest.
 pub fn measure(value: &Value) -> Result<Digest, PolicyFault>
     ensures { result ≡ spec.measure_of (view value.now) }

@@ -1,1 +1,2 @@
 mod ModuleNames
+mod Bound

@@ -1,11 +1,19 @@
 // The limits of a policy's values.
 
-ghost use Rattle.std.specs.Prelude.{◌≡◌, ◌+◌, ◌≤◌, IsTrue, map, length};
+ghost use Rattle.std.specs.Prelude.{◌≡◌, ◌==◌, ◌+◌, ◌≤◌, IsTrue, [], map, length};
+ghost use Rattle.std.specs.List.{list_any};
+ghost use Rattle.sv_types.specs.Limits.{most_exports};
 ghost use Rattle.sv_types.specs.Policies as limits;
 
 use crate::names::{is_exported, is_module};
-use crate::places::{is_aligned, is_anchor, is_behind, is_place};
+use crate::places::{bound_fits, is_aligned, is_anchor, is_behind, is_place};
 use sv_types::{Export, FIRST_EXPORT_BASE, MOST_HARTS, ModulePolicy, Policy, Site, Span};
+
+/// The format that lists entries alone.
+pub const PLAIN_FORMAT: u8 = 1;
+
+/// The format that binds each entry to a guest-physical address.
+pub const BOUND_FORMAT: u8 = 2;
 
 /// The fewest pages of RAM.
 pub const FEWEST_RAM_PAGES: u32 = 16;
@@ -69,14 +77,14 @@ fn init_within(ram_pages: u32, init: Option<Span>) -> bool
 }
 
 fn base_within(exports: usize, base: u16) -> bool
-    requires { exports ≤ 4096 }
+    requires { exports ≤ most_exports }
     ensures { result ≡ limits.base_within exports base }
 {
     usize::from(base) < usize::from(FIRST_EXPORT_BASE) + exports
 }
 
 fn site_within(pages: u32, exports: usize, site: Site) -> bool
-    requires { exports ≤ 4096 }
+    requires { exports ≤ most_exports }
     ensures { result ≡ limits.site_within pages exports site }
 {
     is_place(pages, u64::from(site.offset))
@@ -86,7 +94,7 @@ fn site_within(pages: u32, exports: usize, site: Site) -> bool
 }
 
 fn sites_within(pages: u32, exports: usize, sites: &[Site]) -> bool
-    requires { exports ≤ 4096 }
+    requires { exports ≤ most_exports }
     ensures { result ≡ limits.sites_within pages exports sites.now }
 {
     for (i, site) in sites.iter().enumerate() {
@@ -111,7 +119,7 @@ fn module_within(
     sites_before: usize,
     m: &ModulePolicy,
 ) -> bool
-    requires few_exports { exports ≤ 4096 }
+    requires few_exports { exports ≤ most_exports }
     requires sites_of { sites_before ≡ limits.sites_of (map limits.module_rule before.now) }
     requires few_sites { sites_before ≤ 131072 }
     ensures value { result ≡ limits.module_within exports (map limits.module_rule before.now) (limits.module_rule m.now) }
@@ -125,7 +133,7 @@ fn module_within(
 }
 
 fn modules_within(exports: usize, modules: &[ModulePolicy]) -> bool
-    requires { exports ≤ 4096 }
+    requires { exports ≤ most_exports }
     ensures { result ≡ limits.modules_within exports (map limits.module_rule modules.now) }
 {
     let mut sites = 0;
@@ -139,28 +147,54 @@ fn modules_within(exports: usize, modules: &[ModulePolicy]) -> bool
 }
 
 fn numbers_within(policy: &Policy) -> bool
-    ensures value { result ≡ limits.numbers_within (limits.rules_of policy.now) }
-    ensures format { IsTrue result → policy.now.format ≡ 1 }
+    ensures { result ≡ limits.numbers_within (limits.rules_of policy.now) }
 {
-    policy.format == 1
+    PLAIN_FORMAT <= policy.format
+        && policy.format <= BOUND_FORMAT
         && 1 <= policy.harts
         && policy.harts <= MOST_HARTS
         && FEWEST_RAM_PAGES <= policy.ram_pages
         && policy.ram_pages <= MOST_RAM_PAGES
 }
 
-// No entry is bound in format 1.
+fn has_met(before: &[u64], entry: u64) -> bool
+    ensures { result ≡ list_any (λ e. e == entry) before.now }
+{
+    before.iter().any(|e| *e == entry)
+}
+
+#[tactic(auto, using(crate::proofs::Bound::unequal))]
+fn all_bound(ram_pages: u32, entries: &[u64], bound: &[u64]) -> bool
+    ensures { result ≡ limits.all_bound ram_pages [] entries.now bound.now }
+{
+    if entries.len() != bound.len() {
+        return false;
+    }
+    for (i, entry) in entries.iter().enumerate() {
+        if !bound_fits(ram_pages, *entry, bound[i]) || has_met(&entries[..i], *entry) {
+            return false;
+        }
+    }
+    true
+}
+
 fn bound_within(policy: &Policy) -> bool
-    requires { policy.now.format ≡ 1 }
     ensures { result ≡ limits.bound_within (limits.rules_of policy.now) }
 {
-    policy.bound.is_empty()
+    if policy.format == PLAIN_FORMAT {
+        policy.bound.is_empty()
+    } else {
+        all_bound(
+            policy.ram_pages,
+            policy.entries.as_slice(),
+            policy.bound.as_slice(),
+        )
+    }
 }
 
 fn lists_within(policy: &Policy) -> bool
-    requires { policy.now.format ≡ 1 }
     ensures value { result ≡ limits.lists_within (limits.rules_of policy.now) }
-    ensures few_exports { IsTrue result → length policy.now.exports.items ≤ 4096 }
+    ensures few_exports { IsTrue result → length policy.now.exports.items ≤ most_exports }
 {
     1 <= policy.entries.len()
         && policy.entries.len() <= MOST_ENTRIES

@@ -1,9 +1,9 @@
-// The places of relocated fields in a module.
+// The places of relocated fields in a module, and the addresses that entries are bound to.
 
 ghost use Rattle.std.specs.Prelude.{◌≡◌, ◌≤◌, Some};
 ghost use Rattle.sv_types.specs.Policies as limits;
 
-use processor::PAGE_BYTES;
+use processor::{PAGE_BYTES, RAM_BASE};
 use sv_types::{RelocationKind, Site};
 
 /// The bytes of a field.
@@ -68,4 +68,14 @@ pub fn is_behind(before: &[Site], site: &Site) -> bool
     ensures { result ≡ limits.is_behind before.now site.now }
 {
     end(before) <= u64::from(site.offset)
+}
+
+/// An entry may be bound to this guest-physical address in RAM of so many pages: it is in RAM, and it stands in its page
+/// where the entry stands in its own.
+pub fn bound_fits(ram_pages: u32, entry: u64, gpa: u64) -> bool
+    ensures { result ≡ limits.bound_fits ram_pages entry gpa }
+{
+    RAM_BASE <= gpa
+        && gpa < RAM_BASE + PAGE_BYTES * u64::from(ram_pages)
+        && gpa % PAGE_BYTES == entry % PAGE_BYTES
 }

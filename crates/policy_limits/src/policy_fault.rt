@@ -20,10 +20,12 @@ pub enum PolicyFault {
     BeyondLimit,
     /// A name was met before.
     RepeatedName,
-    /// The format isn't 1.
+    /// The format is neither 1 nor 2.
     OtherFormat,
     /// Sites don't ascend, or they overlap.
     NotAscending,
+    /// An entry was met before, in format 2.
+    RepeatedEntry,
 }
 
 impl PolicyFault {
@@ -41,6 +43,7 @@ impl PolicyFault {
             PolicyFault::RepeatedName => 7,
             PolicyFault::OtherFormat => 8,
             PolicyFault::NotAscending => 9,
+            PolicyFault::RepeatedEntry => 10,
         }
     }
 }

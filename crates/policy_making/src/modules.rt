@@ -1,6 +1,8 @@
 // What a policy says of modules.
 
 ghost use Rattle.std.specs.Prelude.{◌≡◌, ◌≤◌, ◌%◌, ◌/◌, Ok, IsTrue, map, length, All, IfOk, IfErr};
+ghost use Rattle.processor.specs.Bytes.{page_size};
+ghost use Rattle.sv_types.specs.Limits.{most_exports};
 ghost use Rattle.sv_types.specs.Measure as measures;
 ghost use Rattle.sv_types.specs.Policies.{module_pages_within, module_rule};
 ghost use Rattle.reference.specs.Relocations.{masked};
@@ -27,7 +29,7 @@ fn masked_digest<R: Threads + Sync>(
     text: &mut [u8],
     sites: &[Site],
 ) -> Result<Digest, AllocError>
-    requires whole { length text.old % 4096 ≡ 0 }
+    requires whole { length text.old % page_size ≡ 0 }
     requires inside { piece_sites 0 (length text.old) sites.now ≡ sites.now }
     requires aligned { All IsAligned sites.now }
     ensures { IfOk result (λ digest. digest ≡ measures.measure (masked text.old sites.now)) }
@@ -43,7 +45,7 @@ fn rule_of<R: Threads + Sync>(
     name: Name,
     image: ModuleImage,
 ) -> Result<ModulePolicy, AllocError>
-    requires whole { length image.text.items % 4096 ≡ 0 }
+    requires whole { length image.text.items % page_size ≡ 0 }
     requires pages { IsTrue (module_pages_within (pages_of image.text.items)) }
     requires inside { piece_sites 0 (length image.text.items) image.sites.items ≡ image.sites.items }
     requires aligned { All IsAligned image.sites.items }
@@ -67,7 +69,7 @@ fn made_module<R: Threads + Sync>(
     exports: &[Export],
     object: &ObjectFile,
 ) -> Result<ModulePolicy, MakingRefusal>
-    requires few { length exports.now ≤ 4096 }
+    requires few { length exports.now ≤ most_exports }
     ensures made { IfOk result (λ made. spec.module_made exports.now (spec.file_of object.now) ≡ Ok (module_rule made)) }
     ensures refused { IfErr result (Refuses (spec.module_made exports.now (spec.file_of object.now))) }
 {
@@ -87,7 +89,7 @@ pub fn made_modules<R: Threads + Sync>(
     exports: &[Export],
     objects: &[ObjectFile],
 ) -> Result<Vec<ModulePolicy>, MakingRefusal>
-    requires few { length exports.now ≤ 4096 }
+    requires few { length exports.now ≤ most_exports }
     ensures made { IfOk result (λ made. spec.modules_made exports.now (map spec.file_of objects.now) ≡ Ok (map module_rule made.items)) }
     ensures refused { IfErr result (Refuses (spec.modules_made exports.now (map spec.file_of objects.now))) }
 {

@@ -14,13 +14,31 @@ use Rattle.reference.specs.States.{BlockDevice}
 pub data BlockRegister : Type 0 where
   Sector Address Count Command Status : BlockRegister
 
+-- their offsets, and their widths in bytes
+abbrev pub block_offset : BlockRegister → ℕ
+block_offset Sector = 0x00
+block_offset Address = 0x08
+block_offset Count = 0x10
+block_offset Command = 0x14
+block_offset Status = 0x18
+
+abbrev pub block_width : BlockRegister → ℕ
+block_width Sector = 8
+block_width Address = 8
+block_width Count = 4
+block_width Command = 4
+block_width Status = 4
+
+abbrev pub is_register : ℕ → ℕ → BlockRegister → Bool
+is_register offset width register = offset == block_offset register && width == block_width register
+
 unfoldable pub block_register : ℕ → ℕ → Option BlockRegister
 block_register offset width =
-    if offset == 0 && width == 8 then Some Sector
-    else if offset == 8 && width == 8 then Some Address
-    else if offset == 0x10 && width == 4 then Some Count
-    else if offset == 0x14 && width == 4 then Some Command
-    else if offset == 0x18 && width == 4 then Some Status
+    if is_register offset width Sector then Some Sector
+    else if is_register offset width Address then Some Address
+    else if is_register offset width Count then Some Count
+    else if is_register offset width Command then Some Command
+    else if is_register offset width Status then Some Status
     else None
 
 abbrev pub block_value : BlockState → BlockRegister → ℕ

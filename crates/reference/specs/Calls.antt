@@ -10,6 +10,7 @@ use Rattle.sv_types.specs.ApprovedPages.{numbers_from}
 use Rattle.sv_types.specs.Policies.{Rules}
 use Rattle.processor.specs.Registers.{Supervisor}
 use Rattle.sv_types.specs.SbiCodes.{code_word}
+use Rattle.sv_types.specs.SbiRegisters as sbi
 use Rattle.sv_types.specs.declared.saved.SavedModule.{SavedModule}
 use Rattle.sv_types.specs.declared.sbi.SbiCode.{SbiCode}
 use Rattle.sv_types.specs.declared.sbi.SbiCode.TheVariants.{Success, NoInput, NotSupported, InvalidParameter, InvalidAddress, Already}
@@ -21,7 +22,7 @@ use Rattle.reference.specs.declared.answers.Extension.{Extension}
 use Rattle.reference.specs.declared.answers.Reply.{Reply}
 use Rattle.reference.specs.declared.answers.Reply.TheVariants.{Gives, Replies, Stays, Stops}
 
--- ---- what a call asks: a7 is register 17, a6 register 16, a0 to a3 are registers 10 to 13
+-- ---- what a call asks
 
 pub record Asked : Type 0 where
   pub extension : ℕ
@@ -33,12 +34,12 @@ pub record Asked : Type 0 where
 
 abbrev pub asked_by : List ℕ → Asked
 asked_by registers = record {
-  extension = register registers 17;
-  function = register registers 16;
-  a0 = register registers 10;
-  a1 = register registers 11;
-  a2 = register registers 12;
-  a3 = register registers 13;
+  extension = register registers sbi.a7;
+  function = register registers sbi.a6;
+  a0 = register registers sbi.a0;
+  a1 = register registers sbi.a1;
+  a2 = register registers sbi.a2;
+  a3 = register registers sbi.a3;
 }
 
 -- what an answer depends on beside
@@ -199,7 +200,7 @@ stopped_hart = record (hart_at 0 registers_at_boot) { started = false }
 
 -- a hart that is started with its number in a0 and an opaque value in a1
 abbrev pub started_hart : (h pc opaque : ℕ) → Hart
-started_hart h pc opaque = hart_at pc (set_register (set_register registers_at_boot 10 h) 11 opaque)
+started_hart h pc opaque = hart_at pc (set_register (set_register registers_at_boot sbi.a0 h) sbi.a1 opaque)
 
 -- ---- harts that are interrupted
 

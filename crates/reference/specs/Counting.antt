@@ -3,6 +3,7 @@ use Rattle.std.specs.Prelude.{ℕ, ◌+◌, ◌-◌, ◌^◌, ◌%◌, ◌<◌, 
 use Rattle.sv_types.specs.declared.event.Counts.{Counts}
 use Rattle.processor.specs.declared.mode.Mode.{Mode}
 use Rattle.processor.specs.declared.mode.Mode.TheVariants.{Kernel, User}
+use Rattle.sv_types.specs.Limits.{most_notes}
 use Rattle.sv_types.specs.declared.event.Note.{Note}
 use Rattle.sv_types.specs.declared.event.Rule.{Rule}
 use Rattle.sv_types.specs.declared.event.Verdict.{Verdict}
@@ -92,9 +93,6 @@ pub record MayCount (c : Counts) : Type 0 where
 
 abbrev pub counted : (Counts → Counts) → Journal → Journal
 counted count j = record j { counts = count j.counts }
-
-abbrev pub most_notes : ℕ
-most_notes = 4096
 
 -- one more note, which is kept if it is one of the first
 abbrev pub noted : Note → Journal → Journal

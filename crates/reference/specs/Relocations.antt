@@ -1,12 +1,13 @@
 -- The relocated fields of a module's text: clearing them, and which value each has to have.
 -- RISC-V ELF psABI, "Relocations".
-use Rattle.std.specs.Prelude.{ℕ, zero, suc, ◌+◌, ◌-◌, ◌*◌, ◌%◌, ◌^◌, Bool, true, false, ◌&&◌, List, fold, ◌==◌, if◌then◌else◌, bit_and, slice_get, Option, Some, None, ℤ, pos, negsuc, int_le}
+use Rattle.std.specs.Prelude.{ℕ, ◌+◌, ◌-◌, ◌*◌, ◌%◌, ◌^◌, Bool, true, false, ◌&&◌, List, fold, ◌==◌, if◌then◌else◌, bit_and, slice_get, Option, Some, None, ℤ, pos, negsuc, int_le}
 use Rattle.std.specs.List.{list_all}
 use Rattle.std.specs.Int.{w64, cast_unsigned}
 use Rattle.processor.specs.Bits.{without}
 use Rattle.processor.specs.Bytes.{word, write_word}
 use Rattle.processor.specs.Effects.{plus, minus, signed}
 use Rattle.processor.specs.Instructions.{bits}
+use Rattle.sv_types.specs.Limits.{text_base, data_base, no_base, first_export_base}
 use Rattle.sv_types.specs.declared.module.Site.{Site}
 use Rattle.sv_types.specs.declared.module.Bases.{Bases}
 use Rattle.sv_types.specs.declared.policy.Export.{Export}
@@ -85,12 +86,13 @@ abbrev pub export_addr : Option Export → ℕ
 export_addr None = 0
 export_addr (Some e) = e.addr
 
--- the address that a symbol's base stands for: text, data, none, or an export
+-- the address that a symbol's base stands for
 abbrev pub symbol_base : List Export → Bases → ℕ → ℕ
-symbol_base exports bases zero = bases.va
-symbol_base exports bases (suc zero) = bases.data_va
-symbol_base exports bases (suc (suc zero)) = 0
-symbol_base exports bases (suc (suc (suc i))) = export_addr (slice_get exports i)
+symbol_base exports bases base =
+    if base == text_base then bases.va
+    else if base == data_base then bases.data_va
+    else if base == no_base then 0
+    else export_addr (slice_get exports (base - first_export_base))
 
 -- S + A for these, S + A - P for the others
 abbrev pub is_absolute : RelocationKind → Bool

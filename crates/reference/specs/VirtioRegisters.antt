@@ -2,6 +2,7 @@
 -- block device; the vendor's number is this project's own. A register that only the driver writes reads 0.
 use Rattle.std.specs.Prelude.{ℕ, ◌/◌, ◌%◌, ◌^◌, Bool, not, ◌&&◌, length, ◌==◌, if◌then◌else◌, Option, Some, None, option_map}
 use Rattle.processor.specs.Bits.{flag}
+use Rattle.reference.specs.BlockDisk.{sector_size}
 use Rattle.reference.specs.VirtioDevice.{VirtioDevice, is_selected}
 use Rattle.sv_types.specs.declared.virtio.VirtioRegister.{VirtioRegister}
 
@@ -43,7 +44,7 @@ register_at offset width = if width == 4 then register_named offset else None
 -- ---- what they read
 
 abbrev pub sectors : VirtioDevice → ℕ
-sectors d = length d.bytes / 512
+sectors d = length d.bytes / sector_size
 
 -- the one feature that is offered is bit 32: a device of version 1
 unfoldable pub register_value : VirtioDevice → VirtioRegister → ℕ

@@ -3,6 +3,7 @@
 use Rattle.std.specs.Prelude.{ℕ, zero, suc, ◌+◌, ◌-◌, ◌*◌, ◌%◌, Bool, not, ◌&&◌, ◌||◌, ◌==◌, List, [], ◌∷◌, ◌++◌, nat_le, if◌then◌else◌, min}
 use Rattle.std.specs.List.{list_all}
 use Rattle.processor.specs.Bytes.{word, in_ram, ram_place, page_size}
+use Rattle.reference.specs.BlockDisk.{sector_size, beat_size}
 use Rattle.reference.specs.VirtioQueue.{used_gpa, used_index_gpa}
 use Rattle.reference.specs.VirtioChain.{header_of}
 use Rattle.sv_types.specs.declared.virtio.VirtioMove.{VirtioMove}
@@ -33,7 +34,7 @@ fits_type kind part = if kind == 0 then part.write else not part.write
 
 -- there are sectors, and all of them lie on the disk
 abbrev pub are_sectors : (disk_size sector size : ℕ) → Bool
-are_sectors disk_size sector size = not (size == 0) && size % 512 == 0 && nat_le (512 * sector + size) disk_size
+are_sectors disk_size sector size = not (size == 0) && size % sector_size == 0 && nat_le (sector_size * sector + size) disk_size
 
 unfoldable pub can_move : List ℕ → (disk_size kind sector : ℕ) → List VirtioPart → Bool
 can_move ram disk_size kind sector parts =
@@ -47,9 +48,9 @@ result_by ram disk_size kind sector parts =
 
 -- ---- the moves
 
--- a move ends after 64 bytes, at the page's end or at the descriptor's
+-- a move ends after a beat's bytes, at the page's end or at the descriptor's
 abbrev pub piece_size : (gpa len : ℕ) → ℕ
-piece_size gpa len = min 64 (min (page_size - gpa % page_size) len)
+piece_size gpa len = min beat_size (min (page_size - gpa % page_size) len)
 
 abbrev pub piece : Bool → (gpa place size : ℕ) → VirtioMove
 piece write gpa place size = if write then VirtioMove.ToMemory gpa place size else VirtioMove.ToDisk gpa place size
@@ -78,4 +79,4 @@ last_moves result_gpa used size head accepted =
 
 -- a request makes its data's moves only where its result is 0 as it is accepted
 abbrev pub moves_by : ℕ → (sector : ℕ) → List VirtioPart → List VirtioMove
-moves_by result sector parts = if result == 0 then data_moves (512 * sector) parts else []
+moves_by result sector parts = if result == 0 then data_moves (sector_size * sector) parts else []

@@ -8,8 +8,10 @@ ghost use Rattle.reference.specs.Run.{HasEnded, run};
 ghost use Rattle.reference.specs.States.{State, is_protected, protection};
 
 mod answers;
+mod rules;
 
 pub use answers::{Answer, Beside, Extension, Reply};
+pub use rules::pages_of;
 
 /// A page is protected exactly where its protection isn't free.
 pub fn law_protected()

@@ -1,6 +1,7 @@
 // Pieces of a module's text.
 
 ghost use Rattle.std.specs.Prelude.{◌≡◌, ◌+◌, ◌%◌, ◌≤◌, length, All};
+ghost use Rattle.processor.specs.Bytes.{page_size};
 ghost use Rattle.reference.specs.Relocations as spec;
 ghost use Rattle.relocated_fields.specs.Pieces.{lies_in, moved, piece_sites, IsAligned};
 ghost use Rattle.relocated_fields.specs.Steps.{cleared_in_piece, right_in_piece};
@@ -54,8 +55,8 @@ fn field_right(text: &[u8], site: &Site, bases: &Bases, exports: &[Export]) -> b
 // Whether a site's field is right, if it begins in the piece.
 #[tactic(auto, using(crate::proofs::Sites::ends_inside))]
 fn is_right(text: &[u8], first: u32, site: &Site, bases: &Bases, exports: &[Export]) -> bool
-    requires pages { length text.now % 4096 ≡ 0 }
-    requires start { first % 4096 ≡ 0 }
+    requires pages { length text.now % page_size ≡ 0 }
+    requires start { first % page_size ≡ 0 }
     requires aligned { IsAligned site.now }
     ensures { result ≡ right_in_piece exports.now bases.now first text.now site.now }
 {
@@ -68,8 +69,8 @@ fn is_right(text: &[u8], first: u32, site: &Site, bases: &Bases, exports: &[Expo
 // Clears a site's field, if it begins in the piece.
 #[tactic(auto, using(crate::proofs::Sites::ends_inside))]
 fn clear_in_piece(text: &mut [u8], first: u32, site: &Site)
-    requires pages { length text.old % 4096 ≡ 0 }
-    requires start { first % 4096 ≡ 0 }
+    requires pages { length text.old % page_size ≡ 0 }
+    requires start { first % page_size ≡ 0 }
     requires aligned { IsAligned site.now }
     ensures { text.new ≡ cleared_in_piece first text.old site.now }
 {
@@ -81,8 +82,8 @@ fn clear_in_piece(text: &mut [u8], first: u32, site: &Site)
 /// Clears the fields that begin in this piece of a module's text, which is whole pages from the byte `first` on. Each
 /// site's offset is a multiple of its field's bytes.
 pub fn mask(text: &mut [u8], first: u32, sites: &[Site])
-    requires pages { length text.old % 4096 ≡ 0 }
-    requires start { first % 4096 ≡ 0 }
+    requires pages { length text.old % page_size ≡ 0 }
+    requires start { first % page_size ≡ 0 }
     requires aligned { All IsAligned sites.now }
     ensures { text.new ≡ spec.masked text.old (piece_sites first (length text.old) sites.now) }
 {
@@ -100,8 +101,8 @@ pub fn fields_right(
     bases: &Bases,
     exports: &[Export],
 ) -> bool
-    requires pages { length text.now % 4096 ≡ 0 }
-    requires start { first % 4096 ≡ 0 }
+    requires pages { length text.now % page_size ≡ 0 }
+    requires start { first % page_size ≡ 0 }
     requires aligned { All IsAligned sites.now }
     ensures { result ≡ spec.fields_right exports.now bases.now (piece_sites first (length text.now) sites.now) text.now }
 {

@@ -13,8 +13,9 @@ pub(crate) fn policy_fault(fault: PolicyFault) -> &'static str {
         PolicyFault::BadHexadecimal => "hexadecimal digits are wrong, too few or too many",
         PolicyFault::BeyondLimit => "a number, a length or an address is beyond its limit",
         PolicyFault::RepeatedName => "the name was met before",
-        PolicyFault::OtherFormat => "the format isn't 1",
+        PolicyFault::OtherFormat => "the format is neither 1 nor 2",
         PolicyFault::NotAscending => "sites don't ascend, or they overlap",
+        PolicyFault::RepeatedEntry => "the entry was met before",
     }
 }
 

@@ -1,6 +1,7 @@
 // The files of `measure`.
 
 ghost use Rattle.std.specs.Prelude.{◌≤◌, length, IfOk};
+ghost use Rattle.sv_types.specs.Limits.{most_exports};
 
 use crate::faults::{image_fault, object_fault, policy_fault};
 use crate::files::{Again, Found, MostBytes, read_part, said, said_at};
@@ -81,7 +82,7 @@ fn exports_in(
     kernel: &[u8],
     wanted: &[Name],
 ) -> Result<Vec<Export>, Found>
-    ensures { IfOk result (λ exports. length exports.items ≤ 4096) }
+    ensures { IfOk result (λ exports. length exports.items ≤ most_exports) }
 {
     match wanted_exports(alloc, kernel, wanted) {
         Ok(exports) => Ok(exports),
@@ -109,7 +110,7 @@ fn undefined(alloc: Global, kernel: &[u8], wanted: &[Name]) -> Option<Name> {
 }
 
 fn module_file(alloc: Global, name: &str, object: &[u8], exports: &[Export]) -> Result<(), Found>
-    requires { length exports.now ≤ 4096 }
+    requires { length exports.now ≤ most_exports }
 {
     match read_module(alloc, object, exports) {
         Ok(_) => Ok(()),

@@ -1,6 +1,7 @@
 // The files of `flat`, `run` and `live`.
 
 ghost use Rattle.std.specs.Prelude.{◌<◌, ◌≤◌, IfOk, IsTrue};
+ghost use Rattle.sv_types.specs.Limits.{most_harts};
 ghost use Rattle.sv_types.specs.Policies.{rules_of, rules_within};
 
 use crate::faults::{image_fault, policy_fault};
@@ -11,10 +12,7 @@ use policy_limits::PolicyFault;
 use processor::PAGE_SIZE;
 use script::ScriptRefusal;
 use std::alloc::Global;
-use sv_types::Policy;
-
-/// The bytes of a disk's sector.
-const SECTOR_SIZE: usize = 512;
+use sv_types::{Policy, SECTOR_BYTES};
 
 /// The names of a run's files.
 #[derive(Clone, Copy, Drop)]
@@ -89,7 +87,7 @@ fn disk_file<A: Again>(alloc: Global, files: &A, most: usize, name: &str) -> Res
         return Ok(());
     }
     let disk = read_part(alloc, files, name, most)?;
-    if disk.len() % SECTOR_SIZE != 0 {
+    if disk.len() as u64 % SECTOR_BYTES != 0 {
         return Err(said(alloc, name, "no whole sectors of 512 bytes"));
     }
     Ok(())
@@ -103,7 +101,7 @@ fn script_file<A: Again>(
     harts: u8,
 ) -> Result<(), Found>
     requires some { 0 < harts }
-    requires few { harts ≤ 4 }
+    requires few { harts ≤ most_harts }
 {
     if name == "none" || name.starts_with("auto:") {
         return Ok(());

@@ -5,12 +5,12 @@ use Rattle.std.proofs.lemmas.Bool.{eq-eqb}
 use Rattle.processor.specs.Bytes.{page_size}
 use Rattle.processor.specs.Effects.{set_register}
 use Rattle.processor.specs.Requests.{reserved_at, touches, after_write}
+use Rattle.sv_types.specs.Limits.{most_notes}
 use Rattle.sv_types.specs.Clock.{Clock, with_timer}
 use Rattle.sv_types.specs.declared.event.Note.{Note}
 use Rattle.sv_types.specs.declared.event.Verdict.{Verdict}
 use Rattle.sv_types.specs.declared.saved.SavedModule.{SavedModule}
 use Rattle.reference.specs.Calls.{interrupted}
-use Rattle.reference.specs.Counting.{most_notes}
 use Rattle.reference.specs.Devices.{hart_after_write}
 use Rattle.reference.specs.States.{Hart, Loading, with_module, without_module}
 use Rattle.attempt_laws.specs.Agree.{IsNotLoading}

@@ -1,17 +1,17 @@
 -- What a run keeps from a sound state on.
-use Rattle.std.proofs.Common.{◌≡◌, ℕ, ◌+◌, ◌-◌, ◌*◌, ◌/◌, ◌%◌, ◌<◌, ◌≤◌, ◌⊎◌, inl, inr, List, [], take, drop, refl, sym, ap, subst, ◌∙◌, true, false, arith}
-use Rattle.std.proofs.lemmas.List.{drop-take, take-take, drop-drop}
+use Rattle.std.proofs.Common.{◌≡◌, ℕ, ◌-◌, ◌⊎◌, inl, inr, List, [], refl, sym, ap, subst, ◌∙◌, true, false}
 use Rattle.std.specs.Prelude.{Option, Some, None, is_some, slice_get}
-use Rattle.processor.specs.Bytes.{part, page_bytes, page_size, ram_place}
+use Rattle.processor.specs.Bytes.{page_bytes, ram_place}
+use Rattle.run_laws.proofs.StateLawsHold.{page_in_text}
 use Rattle.sv_types.specs.Measure.{page_digest}
-use Rattle.sv_types.specs.ApprovedPages.{approved_bytes, numbers_from}
+use Rattle.sv_types.specs.ApprovedPages.{approved_bytes}
 use Rattle.sv_types.specs.declared.saved.SavedModule.{SavedModule}
 use Rattle.reference.specs.Origins.{IsPageOf, IsOwned, TextStays, is_kernel_text, ownership}
 use Rattle.reference.specs.States.{State, Loading, has_number, is_approved_in, pages_in_rule}
 use Rattle.reference.specs.Run.{run}
 use Rattle.reference.specs.Soundness.{IsSound, IsSoundLoad, HoldsModule}
 use Rattle.run_laws.specs.StateLaws.{IsText, IsModulePage, HoldsLoad, HasOrigins}
-use Rattle.run_laws.proofs.Lookups.{not_true, both, all_found, numbers_bounds}
+use Rattle.run_laws.proofs.Lookups.{not_true, both, all_found}
 use Rattle.run_laws.proofs.ModulesSound.{same_module}
 use Rattle.run_laws.proofs.Sounds.{Goes}
 use Rattle.run_laws.proofs.StepsSound.{run_goes}
@@ -37,27 +37,6 @@ some_is x y e = cc
 
 text_of : (s r : State) (page : ℕ) → IsSound s → TextStays (ownership s) (ownership r) → is_kernel_text (ownership r) page ≡ true → IsText s r page
 text_of s r page sound stays e = record { unretired = e; bytes = stays.bytes page e ∙ text_bytes s page sound (stays.was page e) }
-
--- a part of a part of a list
-part_in : (list : List ℕ) (at n i m : ℕ) → i + m ≤ n → part (part list at n) i m ≡ part list (at + i) m
-part_in list at n i m fits =
-    let split : n ≡ i + (n - i) = omega arith in
-    let e = subst (λ (k : ℕ). drop i (take k (drop at list)) ≡ take (n - i) (drop i (drop at list))) (sym split) (drop-take i (n - i) (drop at list)) in
-    rw (e, drop-drop) (take-take m (n - i) (drop (at + i) list) (omega arith))
-
-page_place : (at page : ℕ) → at % 4096 ≡ 0 → at / 4096 ≤ page → at + 4096 * (page - at / 4096) ≡ 4096 * page
-page_place at page aligned behind = omega arith
-
-page_fits : (first n page : ℕ) → first ≤ page → page < first + n → 4096 * (page - first) + 4096 ≤ 4096 * n
-page_fits first n page behind before = omega arith
-
--- a module's page is a part of its text, since the module begins with a page
-page_in_text : (ram : List ℕ) (place n page : ℕ) → place % 4096 ≡ 0 → has_number (numbers_from (place / 4096) n) page ≡ true
-    → page_bytes ram page ≡ part (part ram place (page_size * n)) (page_size * (page - place / 4096)) page_size
-page_in_text ram place n page aligned inside =
-    let bounds = numbers_bounds (place / 4096) n page inside in
-    sym (part_in ram place (page_size * n) (page_size * (page - place / 4096)) page_size (page_fits (place / 4096) n page bounds.0 bounds.1)
-    ∙ ap (λ (at : ℕ). part ram at page_size) (page_place place page aligned bounds.0))
 
 module_page : (r : State) (m : SavedModule) (page : ℕ) → IsSound r → IsPageOf r.rules r.loaded m page → IsModulePage r m page
 module_page r m page sound p = record {

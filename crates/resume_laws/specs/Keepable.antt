@@ -2,6 +2,7 @@
 use Rattle.std.specs.Prelude.{◌≡◌, ℕ, ◌+◌, ◌*◌, ◌%◌, ◌<◌, ◌≤◌, true, List, [], ◌∷◌, length, min, Option, Some, None, slice_get}
 use Rattle.processor.specs.Bytes.{page_size}
 use Rattle.processor.specs.declared.mode.Mode.TheVariants.{Kernel}
+use Rattle.sv_types.specs.Limits.{most_notes}
 use Rattle.sv_types.specs.Clock.{Clock, latest, timer_of}
 use Rattle.sv_types.specs.Console.{most_queued}
 use Rattle.sv_types.specs.Policies.{Rules}
@@ -12,7 +13,6 @@ use Rattle.sv_types.specs.declared.event.Rule.TheVariants.{Entry, Write}
 use Rattle.sv_types.specs.declared.event.Verdict.{Verdict}
 use Rattle.sv_types.specs.declared.event.Verdict.TheVariants.{Running, Shutdown, Stopped}
 use Rattle.sv_types.specs.declared.saved.SavedModule.{SavedModule}
-use Rattle.reference.specs.Counting.{most_notes}
 use Rattle.reference.specs.Run.{run}
 use Rattle.reference.specs.Soundness.{IsSound}
 use Rattle.reference.specs.Start.{IsStart}

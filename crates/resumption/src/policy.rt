@@ -1,14 +1,15 @@
 // Whether a snapshot is of a machine under a policy: its harts and pages, the entries that harts are in, and its modules.
 
-ghost use Rattle.std.specs.Prelude.{◌≡◌, ◌+◌, ◌*◌, ◌≤◌, is_some, nat_le, option_map, slice_get};
+ghost use Rattle.std.specs.Prelude.{◌≡◌, ◌+◌, ◌*◌, ◌≤◌, is_some, nat_le};
 ghost use Rattle.std.specs.List.{list_all};
 ghost use Rattle.processor.specs.Bytes.{page_size, ram_base, ram_place};
 ghost use Rattle.sv_types.specs.Policies.{rules_of};
-ghost use Rattle.reference.specs.States.{binding_at, pages_in_rule};
+ghost use Rattle.reference.specs.States.{binding_at};
 ghost use Rattle.snapshot_form.specs.Snapshots.{contents};
 ghost use Rattle.resumption.specs.Judgements.{fits, is_bound, is_loaded, is_of_policy, load_fits};
 
 use processor::{PAGE_BYTES, RAM_BASE};
+use reference::pages_of;
 use saved_machine::{SavedHart, SavedLoad};
 use snapshot_form::Snapshot;
 use sv_types::{Policy, SavedModule};
@@ -60,16 +61,6 @@ fn all_fit(policy: &Policy, modules: &[SavedModule]) -> bool
     ensures { result ≡ list_all (fits (rules_of policy.now)) modules.now }
 {
     modules.iter().all(|about| fits(policy, about))
-}
-
-// The number of a module's pages, 0 where the policy has no such module.
-fn pages_of(policy: &Policy, id: u64) -> u32
-    ensures { result ≡ pages_in_rule (slice_get (rules_of policy.now).modules id) }
-{
-    match policy.modules.get(id as usize) {
-        Some(rule) => rule.pages,
-        None => 0,
-    }
 }
 
 // So many pages from an address on end in RAM.

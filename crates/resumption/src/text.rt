@@ -58,7 +58,7 @@ fn is_retired(policy: &Policy, retired: bool, page: u32) -> bool
     retired && is_init(&policy.init, page)
 }
 
-#[tactic(auto, using(crate::proofs::Spans::in_numbers))]
+#[tactic(auto, using(reference::proofs::PageSpans::in_numbers))]
 fn is_init(init: &Option<Span>, page: u32) -> bool
     ensures { result ≡ is_init init.now page }
 {

@@ -80,7 +80,7 @@ page_fits : (first n page : ℕ) → first ≤ page → page < first + n → 409
 page_fits first n page behind before = omega arith
 
 -- a module's page is a part of its text, since the module begins with a page
-page_in_text : (ram : List ℕ) (place n page : ℕ) → place % 4096 ≡ 0 → has_number (numbers_from (place / 4096) n) page ≡ true
+pub page_in_text : (ram : List ℕ) (place n page : ℕ) → place % 4096 ≡ 0 → has_number (numbers_from (place / 4096) n) page ≡ true
     → page_bytes ram page ≡ part (part ram place (page_size * n)) (page_size * (page - place / 4096)) page_size
 page_in_text ram place n page aligned inside =
     let bounds = numbers_bounds (place / 4096) n page inside in

@@ -1,6 +1,7 @@
 -- The virtio block device as data of a fixed size, with a place in a chain for the moves that are left, and the device that
 -- it stands for. This project's own.
 use Rattle.std.specs.Prelude.{ℕ, ◌+◌, ◌-◌, ◌*◌, List, [], ◌∷◌, ◌++◌, drop, get_or, option_map}
+use Rattle.reference.specs.BlockDisk.{sector_size}
 use Rattle.sv_types.specs.declared.virtio.VirtioMove.{VirtioMove}
 use Rattle.sv_types.specs.declared.virtio.VirtioPart.{VirtioPart}
 use Rattle.sv_types.specs.declared.virtio.VirtioRequest.{VirtioRequest}
@@ -29,7 +30,7 @@ data_left q = behind q.offset (between q.parts q.part (last_place q))
 
 -- where the next byte of data lies on the disk
 abbrev pub disk_place : VirtioRequest → ℕ
-disk_place q = 512 * q.sector + (bytes_in (between q.parts 1 q.part) + q.offset)
+disk_place q = sector_size * q.sector + (bytes_in (between q.parts 1 q.part) + q.offset)
 
 abbrev pub last_left : ℕ → VirtioRequest → List VirtioMove
 last_left accepted q = drop q.tail (last_moves (part_at q (last_place q)).gpa q.used q.size q.head accepted)

@@ -1,5 +1,6 @@
 -- What the program owes to what is asked of it.
 use Rattle.std.specs.Prelude.{◌≡◌, ◌≢◌, ◌<◌, ◌≤◌, ◌⊎◌, ℕ, List, [], ◌++◌, length, Bool, true, false, IsTrue, IsFalse, Option, Some, None, Result, Ok, Err, OnOk, IfOk, IsErrOf}
+use Rattle.sv_types.specs.Limits.{most_printed}
 use Rattle.sv_types.specs.declared.event.Event.{Event}
 use Rattle.sv_types.specs.declared.status.Status.{Status}
 use Rattle.reference.specs.States.{State}
@@ -42,9 +43,9 @@ pub record RunsTo (wanting : Type 0) (start : State) (events : List Event) (mach
   pub first : Machine
   pub reaches : Reaches first start done machine
   pub rest :
-      ((left ≡ []) × (length machine.journal.printed < 4096) × IsFalse (is_due machine.journal.printed)
+      ((left ≡ []) × (length machine.journal.printed < most_printed) × IsFalse (is_due machine.journal.printed)
       × TookPrefix (after_taking old cleared) new (machine_output machine))
-      ⊎ ((length machine.journal.printed ≤ 4096) × IsTrue (is_due machine.journal.printed)
+      ⊎ ((length machine.journal.printed ≤ most_printed) × IsTrue (is_due machine.journal.printed)
       × BreaksOff (after_taking old cleared) new machine.journal.printed)
   -- nothing is written where memory was wanting
   pub quiet : wanting → new ≡ after_taking old cleared

@@ -5,7 +5,7 @@ use Rattle.std.specs.Str.{bytes_eq}
 use Rattle.sv_types.specs.declared.event.Event.{Event}
 use Rattle.sv_types.specs.declared.status.Status.{Status}
 use Rattle.processor.specs.Bytes.{page_size}
-use Rattle.sv_types.specs.Boot.{flat_ram_pages}
+use Rattle.sv_types.specs.Boot.{most_flat_bytes}
 use Rattle.sv_types.specs.ApprovedPages.{numbers_from}
 use Rattle.guest_gen.specs.Generated.{generated_image, generated_policy}
 use Rattle.policy_limits.specs.declared.policy_fault.PolicyFault.{PolicyFault}
@@ -134,7 +134,7 @@ flat_events events = first_events events (Schedule.Rounds 1 0)
 
 unfoldable pub flat_plan : (file wanted : List ℕ) → (events : ℕ) → Plan
 flat_plan file wanted events =
-    read_part Part.Flat file (page_size * flat_ram_pages) (λ bytes. Judge (End (pages_judged bytes wanted (flat_events events))))
+    read_part Part.Flat file most_flat_bytes (λ bytes. Judge (End (pages_judged bytes wanted (flat_events events))))
 
 -- ---- gen
 

@@ -237,7 +237,8 @@ fn run_on_bench<F: Files, O: Sink>(
     result
 }
 
-// The run of a booted machine with its report, and then its disk, where it is saved.
+// The run of a booted machine with its report, and then its disk, where it is saved. Seven parameters, since each is another
+// value of the caller's: what is run, for how long, where it is saved, and the outside world.
 fn run_and_save<F: Files, O: Sink>(
     alloc: Global,
     machine: &mut Machine,

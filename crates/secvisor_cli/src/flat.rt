@@ -1,5 +1,7 @@
 // The command `flat`.
 ghost use Rattle.std.specs.Prelude.{◌≡◌, ◌<◌, ◌≤◌, ◌-◌, ◌^◌, ◌%◌, IsTrue, length, true, false, OnOk, IfErr};
+ghost use Rattle.processor.specs.Bytes.{page_size};
+ghost use Rattle.sv_types.specs.Boot.{most_flat_bytes};
 ghost use Rattle.secvisor_cli.specs.Plans.{flat_plan, flat_events, is_whole_pages, measure_judged};
 ghost use Rattle.secvisor_cli.specs.Reading.{MayFollow};
 ghost use Rattle.secvisor_cli.specs.Ready.{IsReady, Prepares};
@@ -15,10 +17,10 @@ use processor::PAGE_SIZE;
 use script::rounds;
 use std::alloc::Global;
 use std::thread::Threads;
-use sv_types::Digest;
+use sv_types::{Digest, FLAT_PAGES};
 
 /// The most bytes of plain pages.
-pub const MOST_FLAT_BYTES: usize = 65536;
+pub const MOST_FLAT_BYTES: usize = FLAT_PAGES * PAGE_SIZE;
 
 /// Reads the pages, judges and measures them, and boots a machine.
 pub fn prepare_flat<R: Threads + Sync, F: Files>(
@@ -43,7 +45,7 @@ pub fn prepare_flat<R: Threads + Sync, F: Files>(
 
 fn is_whole_pages(bytes: &[u8]) -> bool
     ensures value { result ≡ is_whole_pages bytes.now }
-    ensures whole { IsTrue result → length bytes.now % 4096 ≡ 0 }
+    ensures whole { IsTrue result → length bytes.now % page_size ≡ 0 }
 {
     bytes.len() > 0 && bytes.len() % PAGE_SIZE == 0
 }
@@ -56,8 +58,8 @@ fn boot<R: Threads + Sync>(
     wanted: Digest,
     events: u64,
 ) -> Result<Ready<'static>, Stop>
-    requires whole { length pages.now % 4096 ≡ 0 }
-    requires size { length pages.now ≤ 65536 }
+    requires whole { length pages.now % page_size ≡ 0 }
+    requires size { length pages.now ≤ most_flat_bytes }
     requires events { events ≤ 2 ^ 32 }
     ensures { IsReady (measure_judged pages.now wanted (flat_events events)) result }
 {

@@ -1,6 +1,7 @@
 // The commands `run` and `vrun`.
 ghost use Rattle.std.specs.Prelude.{◌≡◌, ◌<◌, ◌≤◌, ◌-◌, ◌^◌, ◌%◌, ◌==◌, ℕ, List, IfOk, OnOk, IfErr, IsTrue, length, true};
 ghost use Rattle.std.specs.Option.{option_copied};
+ghost use Rattle.reference.specs.BlockDisk.{sector_size};
 ghost use Rattle.sv_types.specs.Measure.{measure};
 ghost use Rattle.sv_types.specs.Policies.{rules_of, rules_within};
 ghost use Rattle.sv_types.specs.Schedule.{Schedule};
@@ -99,7 +100,7 @@ fn boot_with<R: Threads + Sync>(
 ) -> Result<Machine, BootRefusal>
     requires within { IsTrue (rules_within (rules_of policy)) }
     requires read { IsRead policy.ram_pages image.now }
-    requires sectors { length disk.items % 512 ≡ 0 }
+    requires sectors { length disk.items % sector_size ≡ 0 }
     ensures new { (file : List ℕ) → IsImageOf file policy.ram_pages image.now → IfOk result (λ m. IsNew m (start_with kind (rules_of policy) file disk.items)) }
     ensures measured { OnOk result (measure (image_text image.now) ≡ policy.kernel) }
     ensures permitted { OnOk result (has_number policy.entries.items image.now.entry ≡ true) }
@@ -156,7 +157,7 @@ fn read_disk<F: Files>(alloc: Global, name: Option<&str>, files: &mut F) -> Resu
     requires permitted { MayStage (disk_part (option_copied name)) (F.state files.old) }
     requires reads { (F.state files.old).read_faults < 2 ^ 64 - 1 }
     ensures stage { Staged (disk_part (option_copied name.entry)) (λ disk. disk.items) (F.state files.old) (F.state files.new) result }
-    ensures sectors { IfOk result (λ disk. length disk.items % 512 ≡ 0) }
+    ensures sectors { IfOk result (λ disk. length disk.items % sector_size ≡ 0) }
 {
     let Some(name) = name else {
         return Ok(Vec::new(alloc));
@@ -171,8 +172,8 @@ fn read_disk<F: Files>(alloc: Global, name: Option<&str>, files: &mut F) -> Resu
 }
 
 fn is_whole_sectors(bytes: &[u8]) -> bool
-    ensures value { result ≡ (length bytes.now % 512 == 0) }
-    ensures whole { IsTrue result → length bytes.now % 512 ≡ 0 }
+    ensures value { result ≡ (length bytes.now % sector_size == 0) }
+    ensures whole { IsTrue result → length bytes.now % sector_size ≡ 0 }
 {
     bytes.len() % SECTOR_BYTES as usize == 0
 }

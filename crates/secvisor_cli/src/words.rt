@@ -3,6 +3,7 @@ ghost use Rattle.std.specs.Prelude.{◌≡◌, option_map, IfOk, IsTrue};
 ghost use Rattle.std.specs.Option.{option_copied};
 ghost use Rattle.sv_types.specs.Numbers.{number_within};
 ghost use Rattle.processor.specs.Regions.{most_ram_pages};
+ghost use Rattle.sv_types.specs.Limits.{most_harts, fewest_ram_pages};
 ghost use Rattle.policy_making.specs.WordRanges.{entries_of, are_module_names};
 ghost use Rattle.command_words.specs.Values.{split_of, flat_split_of, run_split_of, measure_split_of};
 ghost use Rattle.secvisor_cli.specs.CommandLine.{command_judged, flat_judged, gen_judged, run_judged, run_of, unless_none, source_of, auto_of, making_judged, terms_judged, terms_with, init_of};
@@ -250,7 +251,7 @@ fn terms_with(
 }
 
 fn ram_pages_of(word: &str) -> Option<u32>
-    ensures { result ≡ number_within 16 most_ram_pages word.now }
+    ensures { result ≡ number_within fewest_ram_pages most_ram_pages word.now }
 {
     let (low, high) = (u64::from(FEWEST_RAM_PAGES), u64::from(MOST_RAM_PAGES));
     match number_within(word.as_bytes(), low, high) {
@@ -260,7 +261,7 @@ fn ram_pages_of(word: &str) -> Option<u32>
 }
 
 fn harts_of(word: &str) -> Option<u8>
-    ensures { result ≡ number_within 1 4 word.now }
+    ensures { result ≡ number_within 1 most_harts word.now }
 {
     match number_within(word.as_bytes(), 1, u64::from(MOST_HARTS)) {
         Some(number) => Some(number as u8),

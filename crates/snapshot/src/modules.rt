@@ -1,6 +1,7 @@
 // The bytes of loaded modules and of a load under way.
 
 ghost use Rattle.std.specs.Prelude.{◌≡◌, ℕ, ◌≤◌, Bool, List, [], length, slice_get, ◌++◌, OnOk};
+ghost use Rattle.sv_types.specs.Limits.{most_harts};
 ghost use Rattle.snapshot_form.specs.Forms.{listed, number, within};
 ghost use Rattle.saved_machine.specs.declared.harts.SavedHart.{SavedHart};
 ghost use Rattle.snapshot_form.specs.PageForms.{gate, is_above, last_id, load, loading, may_load, module_within, modules, next_module};
@@ -82,7 +83,7 @@ pub(crate) fn read_gate<'a>(
     bytes: &'a [u8],
     harts: &[SavedHart],
 ) -> Result<(Gate, &'a [u8]), ReadError>
-    requires { length harts.now ≤ 4 }
+    requires { length harts.now ≤ most_harts }
     ensures { Reads (λ x. (gate_parts x.0, x.1.now)) result ((gate harts.now).taken bytes.now) }
 {
     let (modules, rest) = read_modules(alloc, bytes)?;
@@ -157,7 +158,7 @@ fn read_loading<'a>(
     bytes: &'a [u8],
     harts: &[SavedHart],
 ) -> Result<(Option<SavedLoad>, &'a [u8]), SnapRefusal>
-    requires { length harts.now ≤ 4 }
+    requires { length harts.now ≤ most_harts }
     ensures { Gives (λ x. (x.0, x.1.now)) result ((loading harts.now).taken bytes.now) }
 {
     let (is_under_way, rest) = read_flag(bytes)?;
@@ -170,7 +171,7 @@ fn read_loading<'a>(
 
 #[tactic(auto, unfolding(snapshot_form::specs::PageForms::load))]
 fn read_load<'a>(bytes: &'a [u8], harts: &[SavedHart]) -> Result<(SavedLoad, &'a [u8]), SnapRefusal>
-    requires { length harts.now ≤ 4 }
+    requires { length harts.now ≤ most_harts }
     ensures { Gives (λ x. (x.0, x.1.now)) result ((load harts.now).taken bytes.now) }
 {
     let (hart, rest) = read_loading_hart(bytes, harts)?;
@@ -192,7 +193,7 @@ fn read_loading_hart<'a>(
     bytes: &'a [u8],
     harts: &[SavedHart],
 ) -> Result<(u8, &'a [u8]), SnapRefusal>
-    requires { length harts.now ≤ 4 }
+    requires { length harts.now ≤ most_harts }
     ensures { Gives (λ x. (x.0, x.1.now)) result ((within (λ h. may_load (slice_get harts.now h)) number).taken bytes.now) }
 {
     let (n, rest) = read_number(bytes)?;

@@ -2,6 +2,7 @@
 
 ghost use Rattle.std.specs.Prelude.{◌≡◌, ◌≤◌, ◌*◌, ◌++◌, true, length, Ok, OnOk, IfOk};
 ghost use Rattle.processor.specs.Bytes.{page_size};
+ghost use Rattle.sv_types.specs.Limits.{most_harts};
 ghost use Rattle.snapshot_form.specs.DeviceForms.{is_block};
 ghost use Rattle.snapshot_form.specs.Forms.{plain};
 ghost use Rattle.snapshot_form.specs.Snapshots.{Contents, beginning, body, contents, hart_count, header, magic, page_count, snapshot, snapshot_read, whole_body, whole_header, whole_of};
@@ -18,7 +19,7 @@ use crate::values::{in_range, read_number, read_plain, write_number};
 use policy_limits::{FEWEST_RAM_PAGES, MOST_RAM_PAGES};
 use processor::PAGE_BYTES;
 use saved_machine::{Saved, SavedHart};
-use snapshot_form::{SnapRefusal, Snapshot};
+use snapshot_form::{SnapRefusal, Snapshot, law_snapshot};
 use std::alloc::{AllocError, Global};
 use sv_types::{MOST_EVENTS, MOST_HARTS, PortState};
 
@@ -73,6 +74,7 @@ pub fn read(alloc: Global, bytes: &[u8]) -> Result<Snapshot, ReadError>
     ensures has { IfOk result (λ s. snapshot.has (contents s) ≡ true) }
     ensures every { (s : Contents) → snapshot.has s ≡ true → bytes.now ≡ snapshot.spell s → Reads contents result (Ok s) }
 {
+    law_snapshot();
     read_all(alloc, bytes)
 }
 
@@ -155,7 +157,7 @@ struct Header {
 
 #[tactic(auto, unfolding(snapshot_form::specs::Snapshots::header))]
 fn read_header(bytes: &[u8]) -> Result<(Header, &[u8]), SnapRefusal>
-    ensures range { IfOk result (λ x. x.0.harts ≤ 4) }
+    ensures range { IfOk result (λ x. x.0.harts ≤ most_harts) }
     ensures header { Gives (λ x. (header_view x.0, x.1.now)) result (header.taken bytes.now) }
 {
     let rest = read_magic(bytes)?;
@@ -189,7 +191,7 @@ fn read_magic(bytes: &[u8]) -> Result<&[u8], SnapRefusal>
 }
 
 fn read_hart_count(bytes: &[u8]) -> Result<(u8, &[u8]), SnapRefusal>
-    ensures range { IfOk result (λ x. x.0 ≤ 4) }
+    ensures range { IfOk result (λ x. x.0 ≤ most_harts) }
     ensures count { Gives (λ x. (x.0, x.1.now)) result (hart_count.taken bytes.now) }
 {
     let (n, rest) = read_number(bytes)?;
@@ -218,7 +220,7 @@ struct Body {
 
 #[tactic(auto, unfolding(snapshot_form::specs::Snapshots::body))]
 fn read_body(alloc: Global, bytes: &[u8], header: Header) -> Result<(Body, &[u8]), ReadError>
-    requires { header.harts ≤ 4 }
+    requires { header.harts ≤ most_harts }
     ensures { Reads (λ x. (body_parts x.0, x.1.now)) result ((body (header_view header)).taken bytes.now) }
 {
     let (harts, rest) = read_harts(alloc, bytes, header.ram_pages, header.harts)?;

@@ -8,13 +8,14 @@ use Rattle.std.proofs.lemmas.Slice.Eq.{bytes_eq-Decides}
 use Rattle.processor.specs.Bytes.{page_size}
 use Rattle.sv_types.specs.Policies.{is_between, harts_within, ram_pages_within, modules_count_within}
 use Rattle.processor.specs.Registers.{legal_status, legal_interrupts, legal_tvec, legal_counteren, legal_epc, legal_satp}
+use Rattle.sv_types.specs.Limits.{most_disk_bytes}
 use Rattle.sv_types.specs.declared.event.Verdict.{Verdict}
 use Rattle.sv_types.specs.declared.block.BlockState.{BlockState}
 use Rattle.reference.specs.BlockDisk.{sector_size}
 use Rattle.saved_machine.specs.declared.harts.SavedHart.{SavedHart}
 use Rattle.sv_types.specs.declared.event.Verdict.TheVariants as Verdict
 use Rattle.sv_types.specs.SbiCodes.{code_word}
-use Rattle.snapshot_form.specs.DeviceForms.{console, goes_with, has_beats, transfer, standing, block, most_disk_bytes, holds_transfer, disk, devices, is_block, block_in, port}
+use Rattle.snapshot_form.specs.DeviceForms.{console, goes_with, has_beats, transfer, standing, block, holds_transfer, disk, devices, is_block, block_in, port}
 use Rattle.snapshot_form.specs.Forms.{Form, spell_number, is_word, number, byte, plain, nothing, within, and_then, ◌⨾◌, made, always, spell_all, has_all, listed, counted, measured}
 use Rattle.snapshot_form.specs.HartForms.{flag, mode, place, is_nonzero, reservation, aligned, legal, side, trap_status, status, registers, begins_with_0, hart, harts}
 use Rattle.snapshot_form.specs.JournalForms.{count, event_counts, hart_counts, rule_counts, counts, codes_known, is_among, found_among, code, hart_number, is_kind, demote, denied, answer, load_note, unload, retire_of, retire_parts, retire, note_behind, note, notes, is_verdict, stopped_entry, stopped_write, verdict_behind, verdict, journal}

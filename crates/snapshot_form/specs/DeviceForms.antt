@@ -1,5 +1,7 @@
 -- The forms of the devices: the console's input, the block device and its disk. This project's own.
-use Rattle.std.specs.Prelude.{ℕ, Option, Some, None, is_some, ◌+◌, ◌*◌, ◌/◌, ◌%◌, ◌^◌, List, Bool, true, false, not, ◌&&◌, ◌||◌, nat_lt, nat_le, ◌==◌, if◌then◌else◌}
+use Rattle.std.specs.Prelude.{ℕ, Option, Some, None, is_some, ◌+◌, ◌*◌, ◌/◌, ◌%◌, List, Bool, true, false, not, ◌&&◌, ◌||◌, nat_lt, nat_le, ◌==◌, if◌then◌else◌}
+use Rattle.sv_types.specs.Console.{most_queued}
+use Rattle.sv_types.specs.Limits.{most_disk_bytes}
 use Rattle.reference.specs.BlockDisk.{is_busy, beats_done, beat_size, sector_size}
 use Rattle.snapshot_form.specs.Forms.{Form, number, within, and_then, ◌⨾◌, made, always, measured}
 use Rattle.sv_types.specs.BlockNumbers.{command_number, command_of, status_number}
@@ -9,9 +11,9 @@ use Rattle.sv_types.specs.declared.block.BlockStatus.{BlockStatus}
 use Rattle.sv_types.specs.declared.port.PortState.{PortState}
 use Rattle.reference.specs.Start.{block_at_boot}
 
--- no more than 256 bytes
+-- no more than the console keeps
 unfoldable pub console : Form (List ℕ)
-console = measured (λ n. nat_le n 256)
+console = measured (λ n. nat_le n most_queued)
 
 -- ---- the block device
 
@@ -103,9 +105,6 @@ unfoldable pub port : Form PortState
 port = made PortState.Block block_in is_block block
 
 -- ---- the disk
-
-abbrev pub most_disk_bytes : ℕ
-most_disk_bytes = 64 * 2 ^ 20
 
 -- whole sectors, among them those of a transfer under way
 abbrev pub holds_transfer : BlockState → ℕ → Bool

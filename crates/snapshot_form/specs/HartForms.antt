@@ -6,6 +6,7 @@ use Rattle.processor.specs.Bytes.{page_size, ram_base}
 use Rattle.processor.specs.Registers.{legal_status, legal_interrupts, legal_tvec, legal_counteren, legal_epc, legal_satp}
 use Rattle.processor.specs.declared.mode.Mode.TheVariants.{Kernel, User}
 use Rattle.processor.specs.declared.mode.Mode.{Mode}
+use Rattle.sv_types.specs.Limits.{most_entries}
 
 -- ---- small values
 
@@ -29,7 +30,7 @@ is_user User = true
 unfoldable pub mode : Form Mode
 mode = made mode_of is_user always flag
 
--- 0 none, else a place and 1; there are 64 places
+-- 0 none, else a place among the entries, and 1
 abbrev pub place_number : Option ℕ → ℕ
 place_number None = 0
 place_number (Some place) = place + 1
@@ -38,7 +39,7 @@ abbrev pub place_of : ℕ → Option ℕ
 place_of n = if n == 0 then None else Some (n - 1)
 
 unfoldable pub place : Form (Option ℕ)
-place = made place_of place_number always (within (λ n. nat_le n 64) number)
+place = made place_of place_number always (within (λ n. nat_le n most_entries) number)
 
 -- 0 none, else an address of RAM that is a multiple of 8
 abbrev pub address_number : Option ℕ → ℕ

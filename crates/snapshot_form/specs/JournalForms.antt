@@ -1,5 +1,6 @@
 -- The forms of what a machine recorded: its counts, notes and verdict. This project's own.
 use Rattle.std.specs.Prelude.{ℕ, List, [], ◌∷◌, min, Bool, false, ◌||◌, nat_lt, nat_le, ◌==◌, if◌then◌else◌}
+use Rattle.sv_types.specs.Limits.{most_notes}
 use Rattle.snapshot_form.specs.Forms.{Form, number, nothing, within, and_then, ◌⨾◌, made, always, counted}
 use Rattle.snapshot_form.specs.HartForms.{aligned}
 use Rattle.sv_types.specs.Policies.{is_between}
@@ -193,9 +194,9 @@ note_behind harts kind =
 unfoldable pub note : ℕ → Form Note
 note harts = made (λ x. x.1) (λ n. (kind_of n, n)) always (and_then (within (is_between 1 5) number) (note_behind harts))
 
--- the first 4,096, or all of them
+-- those that a journal keeps, or all of them
 unfoldable pub notes : ℕ → ℕ → Form (List Note)
-notes harts all = counted (λ n. n == min 4096 all) (λ before. note harts)
+notes harts all = counted (λ n. n == min most_notes all) (λ before. note harts)
 
 -- ---- the verdict: 0 running, 1 shut down, 2 stopped by an entry, 3 by a write
 

@@ -6,6 +6,7 @@ use Rattle.snapshot_form.specs.Forms.{Form, number, byte, plain, nothing, within
 use Rattle.snapshot_form.specs.HartForms.{flag, is_user, aligned}
 use Rattle.snapshot_form.specs.declared.whole.TextPage.{TextPage}
 use Rattle.processor.specs.Bytes.{page_size}
+use Rattle.sv_types.specs.Limits.{most_module_pages}
 use Rattle.sv_types.specs.Policies.{modules_count_within}
 use Rattle.sv_types.specs.declared.saved.SavedModule.{SavedModule}
 use Rattle.sv_types.specs.declared.protection.Protection.TheVariants.{Free, Held, Approved}
@@ -80,7 +81,7 @@ last_id before = option_map (λ (m : SavedModule). m.id) (slice_get before (leng
 abbrev pub next_module : List SavedModule → Form SavedModule
 next_module before = module_within (is_above (last_id before))
 
--- ascending by id; there are no more than 64
+-- ascending by id, as many as a policy may name
 unfoldable pub modules : Form (List SavedModule)
 modules = counted modules_count_within next_module
 
@@ -97,11 +98,11 @@ abbrev pub may_load : Option SavedHart → Bool
 may_load None = false
 may_load (Some hart) = hart.started && not (is_user hart.mode)
 
--- no module has more than 1,024 pages
+-- no more pages are left than a module may have
 unfoldable pub load : List SavedHart → Form SavedLoad
 load harts =
     made load_of load_parts always
-    (within (λ h. may_load (slice_get harts h)) number ⨾ (module_within (is_above None) ⨾ within (λ n. nat_le n 1024) number))
+    (within (λ h. may_load (slice_get harts h)) number ⨾ (module_within (is_above None) ⨾ within (λ n. nat_le n most_module_pages) number))
 
 abbrev pub some_or : {A : Type 0} → A → Option A → A
 some_or past None = past

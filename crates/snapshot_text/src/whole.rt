@@ -1,5 +1,5 @@
 // What is shown of a snapshot.
-ghost use Rattle.std.specs.Prelude.{◌≡◌, ◌++◌, OnOk, IfOk, string_bytes};
+ghost use Rattle.std.specs.Prelude.{◌≡◌, IfOk, string_bytes};
 ghost use Rattle.snapshot_form.specs.Snapshots.{contents};
 ghost use Rattle.snapshot_text.specs.SnapshotTexts as spec;
 

@@ -6,6 +6,7 @@ use Rattle.sv_types.specs.Policies.{Rules, rules_within}
 use Rattle.processor.specs.Regions.{Region, IsRegion}
 use Rattle.sv_types.specs.Views.{AreViews}
 use Rattle.processor.specs.SecondStage.{WalksApart}
+use Rattle.sv_types.specs.Limits.{most_harts}
 use Rattle.sv_types.specs.declared.saved.SavedModule.{SavedModule}
 use Rattle.sv_types.specs.declared.protection.Protection.{Protection}
 use Rattle.sv_types.specs.declared.protection.Protection.TheVariants.{Held}
@@ -46,7 +47,7 @@ pub record IsInOrder (m : Machine) : Type 0 where
   pub within : IsTrue (rules_within m.rules)
   pub words : AreWords m.rules.entries
   pub number : length m.harts ≡ m.rules.harts
-  pub few : m.rules.harts ≤ 4
+  pub few : m.rules.harts ≤ most_harts
   pub pages : length m.protections ≡ m.rules.ram_pages
   pub dma : m.dma ≡ map is_free m.protections
   pub size : length m.region.ram ≡ page_size * m.rules.ram_pages

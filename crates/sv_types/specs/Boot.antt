@@ -1,5 +1,6 @@
 -- What a machine begins with. This project's own.
-use Rattle.std.specs.Prelude.{ℕ}
+use Rattle.std.specs.Prelude.{ℕ, ◌*◌}
+use Rattle.processor.specs.Bytes.{page_size}
 use Rattle.sv_types.specs.declared.event.Counts.{Counts}
 
 abbrev pub no_counts : Counts
@@ -24,3 +25,7 @@ no_counts = record {
 -- the pages of RAM of a machine of plain pages
 abbrev pub flat_ram_pages : ℕ
 flat_ram_pages = 16
+
+-- the bytes of these pages
+abbrev pub most_flat_bytes : ℕ
+most_flat_bytes = page_size * flat_ram_pages

@@ -1,6 +1,6 @@
 -- The console: a queue of input bytes, and two registers of one byte. This project's own; the registers have the layout
 -- of the receiver buffer and the line status of the National Semiconductor PC16550D.
-use Rattle.std.specs.Prelude.{ℕ, ◌%◌, Bool, ◌&&◌, List, [], ◌∷◌, ◌++◌, length, drop, slice_index, ◌==◌, nat_lt, if◌then◌else◌, Option, Some, None, option_map}
+use Rattle.std.specs.Prelude.{ℕ, ◌+◌, ◌%◌, Bool, ◌&&◌, List, [], ◌∷◌, ◌++◌, length, drop, slice_index, ◌==◌, nat_lt, if◌then◌else◌, Option, Some, None, option_map}
 
 -- ---- the queue
 
@@ -28,15 +28,29 @@ console_line queue = nat_lt 0 (length queue)
 pub data ConsoleRegister : Type 0 where
   Data Status : ConsoleRegister
 
+-- their offsets; each is one byte wide
+abbrev pub data_offset : ℕ
+data_offset = 0
+
+abbrev pub status_offset : ℕ
+status_offset = 5
+
+-- bits of the status: the console can print (5 and 6), and input is there (0)
+abbrev pub can_print : ℕ
+can_print = 0x60
+
+abbrev pub has_input : ℕ
+has_input = 0x01
+
 -- the register that a load of a width at an offset reads
 unfoldable pub loaded_register : ℕ → ℕ → Option ConsoleRegister
 loaded_register offset width =
-    if width == 1 then (if offset == 0 then Some Data else if offset == 5 then Some Status else None) else None
+    if width == 1 then (if offset == data_offset then Some Data else if offset == status_offset then Some Status else None) else None
 
--- the first byte, 0 where there is none; bit 0 says that there is one, and bits 5 and 6 that the console can print
+-- the first byte, 0 where there is none
 abbrev pub register_value : List ℕ → ConsoleRegister → ℕ
 register_value queue Data = slice_index queue 0
-register_value queue Status = if console_line queue then 0x61 else 0x60
+register_value queue Status = if console_line queue then can_print + has_input else can_print
 
 -- a load of the data takes the byte
 abbrev pub after_register_load : List ℕ → Option ConsoleRegister → List ℕ
@@ -53,4 +67,4 @@ after_load queue offset width = after_register_load queue (loaded_register offse
 
 -- the byte that a store prints, none where there is no such register
 abbrev pub stored : ℕ → ℕ → ℕ → Option ℕ
-stored offset width value = if offset == 0 && width == 1 then Some (value % 256) else None
+stored offset width value = if offset == data_offset && width == 1 then Some (value % 256) else None

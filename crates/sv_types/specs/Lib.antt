@@ -15,4 +15,5 @@ pub mod Limits
 pub mod Kernel
 pub mod Policies
 pub mod SbiCodes
+pub mod SbiRegisters
 pub mod Views

@@ -34,6 +34,10 @@ most_name_bytes = 64
 abbrev pub most_disk_bytes : ℕ
 most_disk_bytes = 64 * 2 ^ 20
 
+-- the bytes of the console that a journal has room for, until they are handed on
+abbrev pub most_printed : ℕ
+most_printed = 4096
+
 -- the notes that a journal keeps, and the events of a run
 abbrev pub most_notes : ℕ
 most_notes = 4096

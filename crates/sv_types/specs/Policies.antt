@@ -204,7 +204,7 @@ modules_within exports = each_within (module_within exports) []
 -- ---- the whole
 
 abbrev pub format_within : ℕ → Bool
-format_within format = format == 1
+format_within = is_between 1 2
 
 abbrev pub numbers_within : Rules → Bool
 numbers_within r = format_within r.format && harts_within r.harts && ram_pages_within r.ram_pages

@@ -27,8 +27,8 @@ pub use failed::Failed;
 pub use image_fault::{HeaderFault, ImageFault};
 pub use kernel::ProgramHeader;
 pub use limits::{
-    BEAT_BYTES, DATA_BASE, FIRST_EXPORT_BASE, MOST_DISK_BYTES, MOST_EVENTS, MOST_HARTS, MOST_NOTES,
-    MOST_QUEUED, NO_BASE, SECTOR_BYTES, TEXT_BASE,
+    BEAT_BYTES, DATA_BASE, FIRST_EXPORT_BASE, FLAT_PAGES, MOST_DISK_BYTES, MOST_EVENTS, MOST_HARTS,
+    MOST_NOTES, MOST_PRINTED, MOST_QUEUED, NO_BASE, SECTOR_BYTES, TEXT_BASE,
 };
 pub use module::{Bases, Site, Span};
 pub use name::{MOST_NAME_BYTES, Name};

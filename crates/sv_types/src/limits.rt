@@ -12,8 +12,14 @@ pub const MOST_DISK_BYTES: u64 = 64 << 20;
 /// The most bytes of input that wait at the console.
 pub const MOST_QUEUED: usize = 256;
 
+/// The most bytes of the console that a journal has room for, until they are handed on.
+pub const MOST_PRINTED: usize = 4096;
+
 /// The most notes that a journal keeps.
 pub const MOST_NOTES: usize = 4096;
+
+/// The pages of RAM of a machine that is made from plain pages.
+pub const FLAT_PAGES: usize = 16;
 
 /// The most harts of a machine.
 pub const MOST_HARTS: u8 = 4;

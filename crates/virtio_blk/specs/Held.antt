@@ -1,6 +1,7 @@
 -- The device as the code holds it, and what holds of it at each moment.
 use Rattle.std.specs.Prelude.{◌≡◌, ℕ, ◌+◌, ◌-◌, ◌*◌, ◌%◌, ◌^◌, ◌<◌, ◌≤◌, true, false, ◌==◌, if◌then◌else◌, List, [], ◌∷◌, ◌++◌, length, drop, replicate, get_or, Option, Some, None, IfSome, option_map}
 use Rattle.processor.specs.Bytes.{page_size, ram_base, ram_place}
+use Rattle.reference.specs.BlockDisk.{beat_size}
 use Rattle.reference.specs.VirtioDevice.{VirtioDevice}
 use Rattle.reference.specs.VirtioStores.{is_size}
 use Rattle.reference.specs.VirtioChain.{no_part, most_parts, header_of}
@@ -87,8 +88,8 @@ first_move (move ∷ moves) = Some move
 
 -- a move stays in a page, and on the disk
 abbrev pub CanBeMade : ℕ → VirtioMove → Type 0
-CanBeMade disk_size (VirtioMove.ToMemory gpa place size) = (size ≤ 64) × ((gpa % page_size + size ≤ page_size) × (place + size ≤ disk_size))
-CanBeMade disk_size (VirtioMove.ToDisk gpa place size) = (size ≤ 64) × ((gpa % page_size + size ≤ page_size) × (place + size ≤ disk_size))
+CanBeMade disk_size (VirtioMove.ToMemory gpa place size) = (size ≤ beat_size) × ((gpa % page_size + size ≤ page_size) × (place + size ≤ disk_size))
+CanBeMade disk_size (VirtioMove.ToDisk gpa place size) = (size ≤ beat_size) × ((gpa % page_size + size ≤ page_size) × (place + size ≤ disk_size))
 CanBeMade disk_size (VirtioMove.PutResult gpa) = gpa % page_size + 1 ≤ page_size
 CanBeMade disk_size (VirtioMove.PutHead gpa head) = gpa % page_size + 4 ≤ page_size
 CanBeMade disk_size (VirtioMove.PutLength gpa) = gpa % page_size + 4 ≤ page_size

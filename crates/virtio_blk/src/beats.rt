@@ -2,6 +2,7 @@
 
 ghost use Rattle.std.specs.Prelude.{◌≡◌, ℕ, ◌+◌, ◌%◌, ◌^◌, ◌<◌, ◌≤◌, false, true, IsTrue, length, Some};
 ghost use Rattle.processor.specs.Bytes.{page_size, overwrite, low_bytes};
+ghost use Rattle.reference.specs.BlockDisk.{beat_size};
 ghost use Rattle.reference.specs.Disk.{is_writable};
 ghost use Rattle.reference.specs.Move.{OutsideRam};
 ghost use Rattle.dma_guard.specs.Transfers.{told, after_move};
@@ -29,7 +30,7 @@ const STATE_CHANGED: u32 = 2;
 // The request after a move that wrote so many bytes into memory.
 #[tactic(auto, unfolding(saved_machine::specs::VirtioStates::moves_left))]
 fn with_written(request: &VirtioRequest, size: u64) -> VirtioRequest
-    requires small { size ≤ 64 }
+    requires small { size ≤ beat_size }
     ensures request { (accepted : ℕ) → request_of accepted result ≡ with_written (request_of accepted request.now) size }
     ensures others { result ≡ record request.now { written = result.written } }
 {
@@ -117,7 +118,8 @@ impl Virtio {
         self.state.interrupt |= REQUEST_DONE;
     }
 
-    // Bytes of the disk go into memory.
+    // Bytes of the disk go into memory. Seven parameters: the move's three parts are numbers of one variant, and the guard and
+    // the memory belong to the bus.
     #[tactic(auto, unfolding(reference::specs::VirtioBeats::to_memory, dma_guard::specs::Transfers::write_answer, dma_guard::specs::Transfers::after_write))]
     fn to_memory(
         &mut self,
@@ -128,7 +130,7 @@ impl Virtio {
         guard: &DmaGuard,
         mem: &mut HostMem,
     ) -> Beaten
-        requires small { size ≤ 64 }
+        requires small { size ≤ beat_size }
         requires one_page { gpa % page_size + size ≤ page_size }
         requires inside { place + size ≤ length self.old.bytes }
         requires placed { IsPlaced request.now }

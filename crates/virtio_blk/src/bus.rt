@@ -1,6 +1,7 @@
 // What registers read, and what stores into them do.
 
 ghost use Rattle.std.specs.Prelude.{◌≡◌, ◌+◌, ◌-◌, ◌*◌, ◌/◌, ◌%◌, ◌^◌, ◌<◌, ◌≤◌, length};
+ghost use Rattle.reference.specs.BlockDisk.{sector_size};
 ghost use Rattle.reference.specs.VirtioDevice.{is_broken, is_selected};
 ghost use Rattle.reference.specs.VirtioRegisters.{register_value};
 ghost use Rattle.reference.specs.VirtioStores.{reset, with_features, kept_status, with_status, can_set, can_be_used, with_ready, with_size, with_descriptors, with_available, with_used, with_low, with_high, put};
@@ -44,10 +45,10 @@ fn at_reset() -> VirtioState
 }
 
 impl Virtio {
-    /// A device after a reset, with a disk in whole sectors of 512 bytes.
+    /// A device after a reset, with a disk in whole sectors.
     #[tactic(auto, unfolding(crate::specs::Held::state_at_reset, reference::specs::VirtioStores::reset))]
     pub fn new(disk: Vec<u8>) -> Virtio
-        requires sectors { length disk.items % 512 ≡ 0 }
+        requires sectors { length disk.items % sector_size ≡ 0 }
         ensures { device_of result ≡ reset disk.items }
     {
         Virtio {
@@ -76,7 +77,7 @@ impl Virtio {
     }
 
     fn sectors(&self) -> u64
-        ensures { result ≡ length self.now.bytes / 512 }
+        ensures { result ≡ length self.now.bytes / sector_size }
     {
         self.bytes.len() as u64 / SECTOR_BYTES
     }

@@ -28,12 +28,19 @@ returns-then-ne-clause-all g c =
     let ended : c.events.machine.journal.verdict ≢ Running = λ is. grind (arith, is) in
     λ start new. ran_ended _ start _ _ _ _ _ (c.events.invariant.on start new) ended
 
+pub repeat-made-requires-clause-few : goal.repeat-made-requires-clause-few
+repeat-made-requires-clause-few g c =
+    let hand : IsAtHand c.events.drawing c.draw.new.self c.in-Some.row = c.in-Some.ensures.row in
+    let all : c.in-Some.row.count + c.draw.new.self.undrawn ≡ c.events.drawing.row.count + c.events.drawing.undrawn =
+    ap (λ (r : EventRun). r.count + c.draw.new.self.undrawn) hand.row_is ∙ hand.count in
+    omega (arith, all, c.events.invariant.few, c.requires.events)
+
 pub repeat-made-requires-clause-counts : goal.repeat-made-requires-clause-counts
 repeat-made-requires-clause-counts g c =
     let hand : IsAtHand c.events.drawing c.draw.new.self c.in-Some.row = c.in-Some.ensures.row in
     let all : c.in-Some.row.count + c.draw.new.self.undrawn ≡ c.events.drawing.row.count + c.events.drawing.undrawn =
     ap (λ (r : EventRun). r.count + c.draw.new.self.undrawn) hand.row_is ∙ hand.count in
-    counts_within (c.args.events - count_left c.events.drawing) (18446744073709551615 - c.in-Some.row.count) c.events.machine.journal.counts (omega (arith, all, c.events.invariant.few))
+    counts_within (c.args.events - count_left c.events.drawing) (9223372036854775807 - c.in-Some.row.count) c.events.machine.journal.counts (omega (arith, all, c.events.invariant.few))
     c.events.invariant.counts
 
 pub flush_due-requires : goal.flush_due-requires

@@ -11,6 +11,6 @@ approve_text-requires-clause-placed g c =
     let made = ap (λ (r : Region). length r.ram) c.in_ok-mem.ensures ∙ length-replicate {A = ℕ} 16384 0 in
     let whole = c.in_ok-guard.ensures.theirs.ram in
     let kept = ap length c.in_ok-guard.ensures.ram in
-    let pages : 4 ≡ length c.in_ok-guard.guard = omega arith in
+    let pages : 4 ≡ length c.in_ok-guard.guard.pages = omega arith in
     subst (λ (n : ℕ). ArePlaced n (segments_of c.in_ok-image.image)) pages
     (image_placed _ 4 (segments_of c.in_ok-image.image) c.in_ok-image.ensures.accepted c.in_ok-image.ensures.segments)

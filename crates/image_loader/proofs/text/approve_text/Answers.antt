@@ -16,7 +16,7 @@ use Rattle.image_loader.proofs.text.approve_text.Goals as goal
 
 pub pages-preserved : goal.pages-preserved
 pages-preserved c =
-    let guard = c.pages.guard in
+    let guard = c.pages.guard.pages in
     let page = c.pages.page in
     let pages = c.ram_pages-pages.result in
     let ss = segments_of c.args.image.now in
@@ -32,7 +32,7 @@ pages-preserved c =
     ap length c.as_slice-segments.ensures.value ∙ sym (length-map c.args.image.now.segments.items segment_of) in
     let test : nat_lt c.index.result.now (length c.as_slice-segments.result.now) ≡ picks page =
     rw (owner, count) (owner_tells page ss) in
-    let changed : c.approve_if.new.guard ≡ approved_where (picks page) guard page =
+    let changed : c.approve_if.new.guard.pages ≡ approved_where (picks page) guard page =
     c.approve_if.ensures.guard ∙ ap (λ (t : Bool). approved_where t guard page) test in (
       ap (λ (g : List Protection). with_each g (filter picks (numbers_from (page + 1) (pages - (page + 1)))) Approved) changed
           ∙ sym (next_page picks guard page pages c.pages-test.true) ∙ before.0,
@@ -49,7 +49,7 @@ returns-clause-guard c =
     let picks = λ (page : ℕ). list_any (is_text_of page) ss in
     let size = c.ram_pages-pages.ensures.value in
     let most = c.ram_pages-pages.ensures.region.most in
-    let all : pages ≡ length c.args.guard.now = let whole = c.requires.theirs.ram in omega arith in
+    let all : pages ≡ length c.args.guard.now.pages = let whole = c.requires.theirs.ram in omega arith in
     let few : pages ≤ most_ram_pages = omega arith in
-    sym (last_page picks c.pages.guard c.pages.page pages (omega arith)) ∙ c.pages.invariant.0
-    ∙ ap (λ (text : List ℕ). with_each c.args.guard.now text Approved) (sym (text_in_ram ss pages few (rw all c.requires.placed)))
+    sym (last_page picks c.pages.guard.pages c.pages.page pages (omega arith)) ∙ c.pages.invariant.0
+    ∙ ap (λ (text : List ℕ). with_each c.args.guard.now.pages text Approved) (sym (text_in_ram ss pages few (rw all c.requires.placed)))

@@ -12,7 +12,7 @@ use Rattle.image_loader.proofs.text.approve_text.Given as goal
 -- the pages from here on are free, and those of the text are left to approve
 abbrev pub invariant-pages : goal.invariant-pages
 invariant-pages l =
-    (with_each l.guard (filter (λ page. list_any (is_text_of page) (segments_of l.image)) (numbers_from l.page (l.pages - l.page))) Approved
-    ≡ with_each l.fn.guard (filter (λ page. list_any (is_text_of page) (segments_of l.image)) (numbers_from 0 l.pages)) Approved)
-    × (((q : ℕ) → l.page ≤ q → q < l.pages → slice_get l.guard q ≡ Some Free)
+    (with_each l.guard.pages (filter (λ page. list_any (is_text_of page) (segments_of l.image)) (numbers_from l.page (l.pages - l.page))) Approved
+    ≡ with_each l.fn.guard.pages (filter (λ page. list_any (is_text_of page) (segments_of l.image)) (numbers_from 0 l.pages)) Approved)
+    × (((q : ℕ) → l.page ≤ q → q < l.pages → slice_get l.guard.pages q ≡ Some Free)
     × StaysTheirs l.fn.mem l.mem l.fn.guard l.guard)

@@ -4,16 +4,20 @@ use Rattle.standing_laws.specs.Starts.{machine_at_boot, image_machine}
 use Rattle.elf64_load.specs.Images.{segments_of}
 use Rattle.disk_port.specs.Ports.{port_disk}
 use Rattle.sv_types.specs.Policies.{rules_of}
-use Rattle.machine.proofs.ImageStarting.{image_made, unbound_within}
+use Rattle.machine.proofs.ImageStarting.{image_made}
+use Rattle.machine.proofs.BoundPages.{bound_along, bound_few}
 use Rattle.machine.proofs.image_start.assemble.Goals as goal
 
 pub returns-clause-made : goal.returns-clause-made
 returns-clause-made c =
     IfOk-weaker c.at_boot.result
-    (λ p. p ≡ machine_at_boot (rules_of c.args.policy) c.image_guard.new.mem c.args.image.now.entry c.in_ok-guard.guard (port_disk c.args.port))
+    (λ p. p ≡ machine_at_boot (rules_of c.args.policy) c.image_guard.new.mem c.args.image.now.entry c.in_ok-guard.guard.pages (port_disk c.args.port))
     (λ p. p ≡ image_machine p.region.tables (rules_of c.args.policy) c.args.image.now.entry (segments_of c.args.image.now) (port_disk c.args.port))
-    (λ p made. image_made p (rules_of c.args.policy) c.args.image.now.entry (segments_of c.args.image.now) c.image_guard.new.mem c.in_ok-guard.guard (port_disk c.args.port) made (c.in_ok-guard.ensures.ram ∙ c.in_ok-mem.ensures.ram) c.in_ok-guard.ensures.guard)
+    (λ p made. image_made p (rules_of c.args.policy) c.args.image.now.entry (segments_of c.args.image.now) c.image_guard.new.mem c.in_ok-guard.guard.pages (port_disk c.args.port) made (c.in_ok-guard.ensures.ram ∙ c.in_ok-mem.ensures.ram) c.in_ok-guard.ensures.guard)
     c.at_boot.ensures
 
-pub at_boot-requires-clause-unbound : goal.at_boot-requires-clause-unbound
-at_boot-requires-clause-unbound c = unbound_within (rules_of c.args.policy) c.requires.within
+pub at_boot-requires-clause-along : goal.at_boot-requires-clause-along
+at_boot-requires-clause-along c = bound_along (rules_of c.args.policy) c.requires.within
+
+pub at_boot-requires-clause-few : goal.at_boot-requires-clause-few
+at_boot-requires-clause-few c = bound_few (rules_of c.args.policy) c.requires.within

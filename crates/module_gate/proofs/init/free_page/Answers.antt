@@ -9,7 +9,7 @@ use Rattle.module_gate.proofs.init.free_page.Goals as goal
 
 pub unapprove-requires-clause-approved : goal.unapprove-requires-clause-approved
 unapprove-requires-clause-approved c =
-    let guard = c.args.guard.now in
+    let guard = c.args.guard.now.pages in
     let page = c.args.page in
     let law = rules_of c.args.policy.now in
     let picked : is_kernels law c.args.loaded.now page (protection_at guard page) ≡ true = search rules in
@@ -17,7 +17,7 @@ unapprove-requires-clause-approved c =
 
 pub returns-then-is_kernels-clause-guard : goal.returns-then-is_kernels-clause-guard
 returns-then-is_kernels-clause-guard c =
-    let guard = c.args.guard.now in
+    let guard = c.args.guard.now.pages in
     let page = c.args.page in
     let picks = is_kernels (rules_of c.args.policy.now) c.args.loaded.now in
     let picked : picks page (protection_at guard page) ≡ true = search rules in
@@ -25,7 +25,7 @@ returns-then-is_kernels-clause-guard c =
 
 pub returns-else-is_kernels-clause-guard : goal.returns-else-is_kernels-clause-guard
 returns-else-is_kernels-clause-guard c =
-    let guard = c.args.guard.now in
+    let guard = c.args.guard.now.pages in
     let page = c.args.page in
     let picks = is_kernels (rules_of c.args.policy.now) c.args.loaded.now in
     let other : picks page (protection_at guard page) ≡ false = search rules in kept_where picks guard page other

@@ -13,7 +13,7 @@ pages-init c = (refl, stays_same c.args.mem.now c.args.guard.now c.requires.thei
 
 pub pages-preserved : goal.pages-preserved
 pages-preserved c =
-    let guard = c.args.guard.now in
+    let guard = c.args.guard.now.pages in
     let page = c.args.span.first + c.pages.i in
     let picks = is_kernels (rules_of c.args.policy.now) c.args.loaded.now in
     let before = c.pages.invariant in (
@@ -23,7 +23,7 @@ pages-preserved c =
 
 pub returns-clause-guard : goal.returns-clause-guard
 returns-clause-guard c =
-    let guard = c.args.guard.now in
+    let guard = c.args.guard.now.pages in
     let picks = is_kernels (rules_of c.args.policy.now) c.args.loaded.now in
     let all : c.pages.i ≡ c.args.span.count = omega arith in
     c.pages.invariant.0 ∙ ap (λ (n : ℕ). freed_by picks guard c.args.span.first n) all ∙ freed_each picks guard c.args.span.first c.args.span.count

@@ -8,5 +8,5 @@ use Rattle.module_gate.proofs.init.free_pages.Given as goal
 -- the pages so far are freed
 abbrev pub invariant-pages : goal.invariant-pages
 invariant-pages l =
-    (l.guard ≡ freed_by (is_kernels (rules_of l.policy) l.loaded) l.fn.guard l.span.first l.i)
+    (l.guard.pages ≡ freed_by (is_kernels (rules_of l.policy) l.loaded) l.fn.guard.pages l.span.first l.i)
     × StaysTheirs l.fn.mem l.mem l.fn.guard l.guard

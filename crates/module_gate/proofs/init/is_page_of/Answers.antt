@@ -3,7 +3,7 @@ use Rattle.std.specs.Prelude.{nat_le, nat_lt}
 use Rattle.processor.specs.Bytes.{page_of}
 use Rattle.sv_types.specs.Policies.{rules_of}
 use Rattle.reference.specs.States.{pages_in_rule}
-use Rattle.module_gate.proofs.Retired.{in_numbers}
+use Rattle.reference.proofs.PageSpans.{in_numbers}
 use Rattle.module_gate.proofs.init.is_page_of.Goals as goal
 
 pub returns : goal.returns

@@ -7,7 +7,7 @@ use Rattle.module_gate.proofs.places.any_taken.Goals as goal
 
 pub returns-then-is_taken : goal.returns-then-is_taken
 returns-then-is_taken c =
-    let guard = c.args.guard.now in
+    let guard = c.args.guard.now.pages in
     let here : is_taken guard (c.args.span.first + c.tested.i) ≡ true = search rules in
     let more = c.args.span.count - (c.tested.i + 1) in
     let all : c.tested.i + 1 + more ≡ c.args.span.count = omega (arith, c.tested-test.true) in
@@ -16,6 +16,6 @@ returns-then-is_taken c =
 
 pub tested-preserved : goal.tested-preserved
 tested-preserved c =
-    let guard = c.args.guard.now in
+    let guard = c.args.guard.now.pages in
     let here : is_taken guard (c.args.span.first + c.tested.i) ≡ false = search rules in
     one_more (is_taken guard) c.args.span.first c.tested.i false c.tested.invariant here

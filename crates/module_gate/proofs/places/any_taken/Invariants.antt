@@ -6,4 +6,4 @@ use Rattle.module_gate.proofs.places.any_taken.Given as goal
 
 -- no page so far is taken
 abbrev pub invariant-tested : goal.invariant-tested
-invariant-tested l = list_any (is_taken l.guard) (numbers_from l.span.first l.i) ≡ false
+invariant-tested l = list_any (is_taken l.guard.pages) (numbers_from l.span.first l.i) ≡ false

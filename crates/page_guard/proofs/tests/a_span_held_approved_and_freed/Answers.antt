@@ -6,4 +6,4 @@ use Rattle.page_guard.proofs.tests.a_span_held_approved_and_freed.Goals as goal
 
 pub unapprove-requires-clause-approved : goal.unapprove-requires-clause-approved
 unapprove-requires-clause-approved g c =
-    subst (λ (span : Span). AllAre c.approve.new.self span Approved) c.in_ok-hold.ensures.hold c.approve.ensures.approved
+    subst (λ (span : Span). AllAre c.approve.new.self.pages span Approved) c.in_ok-hold.ensures.hold c.approve.ensures.approved

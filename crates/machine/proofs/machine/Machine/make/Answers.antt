@@ -4,7 +4,7 @@ use Rattle.machine_model.specs.Machine.{Machine}
 use Rattle.machine_model.specs.StandsFor.{StandsFor}
 use Rattle.machine_model.specs.Steps.{IsStep}
 use Rattle.machine.proofs.Addressed.{step_addressed}
-use Rattle.machine.proofs.Ready.{all_outside, guarded, may_attempt}
+use Rattle.machine.proofs.Ready.{guarded, may_turn}
 use Rattle.machine.proofs.Repeated.{step_counts}
 use Rattle.machine.proofs.Stepped.{step_bounded, step_happens, step_stands}
 use Rattle.machine.proofs.machine.Machine.make.Goals as goal
@@ -12,16 +12,12 @@ use Rattle.machine.proofs.machine.Machine.make.Goals as goal
 pub step-requires-clause-guarded : goal.step-requires-clause-guarded
 step-requires-clause-guarded c = guarded c.self.inside.parts c.self.invariant.state c.self.invariant.stands
 
-pub step-requires-clause-outside : goal.step-requires-clause-outside
-step-requires-clause-outside c = all_outside c.self.inside.parts c.self.invariant.state c.self.invariant.stands
-
 pub step-requires-clause-ready : goal.step-requires-clause-ready
-step-requires-clause-ready c = λ on h. may_attempt c.self.inside.parts c.self.invariant.state h c.self.invariant.stands on
+step-requires-clause-ready c = λ on h. may_turn c.self.inside.parts c.self.invariant.state h c.self.invariant.stands on
 
 pub invariant_of-self : goal.invariant_of-self
 invariant_of-self c =
     let bounded = step_bounded c.self.inside.parts c.step.new.self c.self.invariant.state c.args.event c.self.invariant.stands c.step.ensures.step
-    (all_outside c.self.inside.parts c.self.invariant.state c.self.invariant.stands)
     (record { attempts = c.self.invariant.attempts; printed = c.self.invariant.printed }) in
     record {
       state = step c.self.invariant.state c.args.event;

@@ -4,9 +4,9 @@ use Rattle.machine.proofs.machine.Machine.repeat.Goals as goal
 
 pub round-made-requires-clause-counts : goal.round-made-requires-clause-counts
 round-made-requires-clause-counts c =
-    counts_within (18446744073709551615 - c.args.count + c.events.made) (18446744073709551615 - (c.args.count - c.events.made)) c.events.self.journal.counts
-    (omega (arith, c.events-test.true, c.ranges.count.fits))
-    (c.events.invariant.counts (18446744073709551615 - c.args.count) c.requires.counts)
+    counts_within (9223372036854775807 - c.args.count + c.events.made) (9223372036854775807 - (c.args.count - c.events.made)) c.events.self.journal.counts
+    (omega (arith, c.events-test.true, c.requires.few))
+    (c.events.invariant.counts (9223372036854775807 - c.args.count) c.requires.counts)
 
 pub returns-then-printed-clause-stands : goal.returns-then-printed-clause-stands
 returns-then-printed-clause-stands c =

@@ -4,9 +4,9 @@ use Rattle.machine.proofs.machine.Machine.round.Goals as goal
 
 pub make-requires-clause-counts : goal.make-requires-clause-counts
 make-requires-clause-counts c =
-    counts_within (18446744073709551615 - c.args.most + c.row-made.result) 18446744073709551614 c.row-made.new.self.journal.counts
-    (omega (arith, c.if-made-most.false, c.row-made.ensures.most, c.ranges.most.fits))
-    (c.row-made.ensures.counts (18446744073709551615 - c.args.most) c.requires.counts)
+    counts_within (9223372036854775807 - c.args.most + c.row-made.result) 9223372036854775806 c.row-made.new.self.journal.counts
+    (omega (arith, c.if-made-most.false, c.row-made.ensures.most, c.requires.few))
+    (c.row-made.ensures.counts (9223372036854775807 - c.args.most) c.requires.counts)
 
 pub returns-clause-chain : goal.returns-clause-chain
 returns-clause-chain c =

@@ -2,26 +2,23 @@ use Rattle.std.proofs.Common.{◌≡◌, ◌+◌, ℕ, subst, sym}
 use Rattle.sv_types.specs.declared.event.Event.{Event}
 use Rattle.reference.specs.Counting.{CountsAtMost}
 use Rattle.machine_model.specs.Machine.{Machine}
-use Rattle.machine.proofs.Ready.{all_outside, may_attempt}
+use Rattle.machine.proofs.Ready.{ready_at}
 use Rattle.machine.proofs.Rows.{Rowed, makes_rowed}
 use Rattle.machine.specs.Repeats.{IsQuiet, Repeats}
 use Rattle.machine.specs.Rows.{MayRow}
 use Rattle.machine.proofs.machine.Machine.row.Goals as goal
 
-pub may_row-requires : goal.may_row-requires
-may_row-requires c = record { outside = all_outside c.self.inside.parts c.self.invariant.state c.self.invariant.stands }
-
 pub row-requires-clause-ready : goal.row-requires-clause-ready
 row-requires-clause-ready c =
     let may : MayRow c.self.inside.parts c.in-Turn.which = c.may_row.ensures c.if-not-may_row.false in
-    may_attempt c.self.inside.parts c.self.invariant.state c.in-Turn.which c.self.invariant.stands may.running may.attempts
+    ready_at c.self.inside.parts c.self.invariant.state c.in-Turn.which c.self.invariant.stands may.running may.attempts
 
 pub invariant_of-self : goal.invariant_of-self
 invariant_of-self c =
     let may : MayRow c.self.inside.parts c.in-Turn.which = c.may_row.ensures c.if-not-may_row.false in
     let rowed : Rowed c.row.result c.self.inside.parts c.in-Turn.which c.row.new.self =
     makes_rowed c.row.result c.self.inside.parts c.row.new.self c.in-Turn.which c.self.invariant.state may
-    (all_outside c.self.inside.parts c.self.invariant.state c.self.invariant.stands) c.self.invariant.stands c.self.invariant.addresses
+    c.self.invariant.stands c.self.invariant.addresses
     (record { attempts = c.self.invariant.attempts; printed = c.self.invariant.printed }) c.row.ensures.makes in
     record {
       state = rowed.state;
@@ -36,7 +33,7 @@ returns-clause-chain c =
     let may : MayRow c.self.inside.parts c.in-Turn.which = c.may_row.ensures c.if-not-may_row.false in
     let rowed : Rowed c.row.result c.self.inside.parts c.in-Turn.which c.row.new.self =
     makes_rowed c.row.result c.self.inside.parts c.row.new.self c.in-Turn.which c.self.invariant.state may
-    (all_outside c.self.inside.parts c.self.invariant.state c.self.invariant.stands) c.self.invariant.stands c.self.invariant.addresses
+    c.self.invariant.stands c.self.invariant.addresses
     (record { attempts = c.self.invariant.attempts; printed = c.self.invariant.printed }) c.row.ensures.makes in
     subst (λ (e : Event). Repeats c.row.result c.args.self.now e c.row.new.self) (sym c.in-Turn.is)
     (subst (λ (m : Machine). Repeats c.row.result m (Event.Turn c.in-Turn.which) c.row.new.self) c.self.view_is rowed.chain)
@@ -46,7 +43,7 @@ returns-clause-quiet c =
     let may : MayRow c.self.inside.parts c.in-Turn.which = c.may_row.ensures c.if-not-may_row.false in
     let rowed : Rowed c.row.result c.self.inside.parts c.in-Turn.which c.row.new.self =
     makes_rowed c.row.result c.self.inside.parts c.row.new.self c.in-Turn.which c.self.invariant.state may
-    (all_outside c.self.inside.parts c.self.invariant.state c.self.invariant.stands) c.self.invariant.stands c.self.invariant.addresses
+    c.self.invariant.stands c.self.invariant.addresses
     (record { attempts = c.self.invariant.attempts; printed = c.self.invariant.printed }) c.row.ensures.makes in
     subst (λ (m : Machine). IsQuiet m c.row.new.self) c.self.view_is rowed.quiet
 
@@ -55,6 +52,6 @@ returns-clause-counts c =
     let may : MayRow c.self.inside.parts c.in-Turn.which = c.may_row.ensures c.if-not-may_row.false in
     let rowed : Rowed c.row.result c.self.inside.parts c.in-Turn.which c.row.new.self =
     makes_rowed c.row.result c.self.inside.parts c.row.new.self c.in-Turn.which c.self.invariant.state may
-    (all_outside c.self.inside.parts c.self.invariant.state c.self.invariant.stands) c.self.invariant.stands c.self.invariant.addresses
+    c.self.invariant.stands c.self.invariant.addresses
     (record { attempts = c.self.invariant.attempts; printed = c.self.invariant.printed }) c.row.ensures.makes in
     subst (λ (m : Machine). (n : ℕ) → CountsAtMost n m.journal.counts → CountsAtMost (n + c.row.result) c.row.new.self.journal.counts) c.self.view_is rowed.counts

@@ -31,7 +31,7 @@ invariant_of-self c =
     record {
       entries = c.self.invariant.entries;
       bound = c.self.invariant.bound;
-      unbound = c.self.invariant.unbound;
+      places = pages.ensures.theirs.bound ∙ c.self.invariant.places;
       few = subst (λ (n : ℕ). n ≤ 4) (sym number) c.self.invariant.few;
       caches = ap (λ (xs : List Lines). length xs) same ∙ c.fence.ensures.number ∙ ap (λ (xs : List Lines). length xs) c.deref_mut-2.ensures.value
           ∙ c.self.invariant.caches ∙ sym number;
@@ -49,9 +49,9 @@ returns c =
     let answer = c.args.answer.now in
     let same = with_items_is c.self.inside.seats c.give.new.seats (c.give.ensures.number ∙ c.deref_mut.ensures.len) in
     subst (λ (seats : List Seat). WithTables c.args.self.now (host_given c.args.self.now c.args.which answer)
-    (left_parts c.self.inside seats c.give.new.devices c.give.new.journal pages.new.mem pages.new.guard pages.new.modules)) (sym same)
+    (left_parts c.self.inside seats c.give.new.devices c.give.new.journal pages.new.mem pages.new.guard.pages pages.new.modules)) (sym same)
     (gives c.self.inside c.args.which answer c.give.new.seats c.give.new.devices c.give.new.journal pages.new.mem pages.new.guard pages.new.modules
     c.args.self.now c.self.view_is
     (c.give.ensures.hosts ∙ ap (λ (seats : List Seat). hosts_beside answer.beside (update (hosts_of seats) c.args.which (host_replied answer.reply))) c.deref_mut.ensures.value)
     c.give.ensures.devices c.give.ensures.journal (pages.ensures.machine (machine_of_parts c.self.inside))
-    c.self.invariant.theirs pages.ensures.theirs.theirs pages.ensures.theirs.size c.self.invariant.pages c.self.invariant.unbound)
+    c.self.invariant.theirs pages.ensures.theirs c.self.invariant.pages c.self.invariant.places)

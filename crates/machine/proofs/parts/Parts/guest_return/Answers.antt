@@ -10,5 +10,5 @@ returns c =
     answers c.self.inside c.args.which c.index_mut-seat.result.now c.index_mut-seat.ensures.value
     (λ m host mode. host_exit_answered m c.args.which host mode Returns)
     c.guest_return.new.seat c.self.inside.devices c.guest_return.new.journal c.args.self.now c.self.view_is c.requires.there c.self.invariant.theirs
-    c.self.invariant.pages c.self.invariant.unbound
+    c.self.invariant.pages c.self.invariant.places
     (c.guest_return.ensures.machine (machine_of_parts c.self.inside) c.args.which)

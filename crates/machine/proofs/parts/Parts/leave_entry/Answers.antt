@@ -1,14 +1,30 @@
+use Rattle.std.proofs.Common.{length, ap, ◌∙◌}
 use Rattle.machine_model.specs.HostExits.{host_exit_answered}
+use Rattle.machine_model.specs.HostHarts.{host_outside}
+use Rattle.machine_model.specs.Machine.{Machine}
 use Rattle.machine_model.specs.declared.exits.ExitAnswer.TheVariants.{LeavesEntry}
-use Rattle.machine.proofs.Seated.{answers}
+use Rattle.machine.proofs.Seated.{answers, leaves}
+use Rattle.machine.proofs.Turns.{length_update}
 use Rattle.machine.specs.Parts.{machine_of_parts}
 use Rattle.machine.proofs.parts.Parts.leave_entry.Goals as goal
 
-pub returns : goal.returns
+pub returns-clause-answer : goal.returns-clause-answer
 unfolding host_exit_answered
-returns c =
+returns-clause-answer c =
     answers c.self.inside c.args.which c.index_mut-seat.result.now c.index_mut-seat.ensures.value
     (λ m host mode. host_exit_answered m c.args.which host mode LeavesEntry)
     c.leave_entry.new.seat c.self.inside.devices c.self.inside.journal c.args.self.now c.self.view_is c.requires.there c.self.invariant.theirs
-    c.self.invariant.pages c.self.invariant.unbound
+    c.self.invariant.pages c.self.invariant.places
     (c.leave_entry.ensures.machine (machine_of_parts c.self.inside) c.args.which c.self.inside.journal)
+
+pub returns-clause-left : goal.returns-clause-left
+returns-clause-left c =
+    leaves c.self.inside c.args.which c.index_mut-seat.result.now c.index_mut-seat.ensures.value c.leave_entry.new.seat c.args.self.now c.self.view_is
+    (c.leave_entry.ensures.machine (machine_of_parts c.self.inside) c.args.which c.self.inside.journal)
+
+pub returns-clause-number : goal.returns-clause-number
+returns-clause-number c =
+    ap (λ (m : Machine). length m.harts)
+    (leaves c.self.inside c.args.which c.index_mut-seat.result.now c.index_mut-seat.ensures.value c.leave_entry.new.seat c.args.self.now c.self.view_is
+    (c.leave_entry.ensures.machine (machine_of_parts c.self.inside) c.args.which c.self.inside.journal))
+    ∙ length_update c.args.self.now.harts c.args.which host_outside

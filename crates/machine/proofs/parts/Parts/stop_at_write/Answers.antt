@@ -9,5 +9,5 @@ unfolding host_exit_answered
 returns c =
     journal_answers c.self.inside c.args.which c.index.result.now c.index.ensures
     (λ m host mode. host_exit_answered m c.args.which host mode (StopsAtWrite c.args.gpa))
-    c.stop_at_write.new.journal c.args.self.now c.self.view_is c.requires.there c.self.invariant.theirs c.self.invariant.pages c.self.invariant.unbound
+    c.stop_at_write.new.journal c.args.self.now c.self.view_is c.requires.there c.self.invariant.theirs c.self.invariant.pages c.self.invariant.places
     (c.stop_at_write.ensures.machine (machine_of_parts c.self.inside))

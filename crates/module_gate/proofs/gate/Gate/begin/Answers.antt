@@ -10,24 +10,24 @@ use Rattle.module_gate.proofs.gate.Gate.begin.Goals as goal
 pub pages_at-requires : goal.pages_at-requires
 pages_at-requires c =
     let pages = pages_in_rule (slice_get (rules_of c.args.policy.now).modules c.args.about.id) in
-    let inside = good_inside c.args.mem.now.ram c.args.guard.now c.args.about pages c.requires.place c.requires.theirs.ram in
+    let inside = good_inside c.args.mem.now.ram c.args.guard.now.pages c.args.about pages c.requires.place c.requires.theirs.ram in
     omega (arith, inside, c.requires.theirs.ram, c.ram_pages-pages.ensures.region.most)
 
 pub hold-requires-clause-inside : goal.hold-requires-clause-inside
 hold-requires-clause-inside c =
     let rule = module_rule c.in-Some.rule.now in
     let there : slice_get (rules_of c.args.policy.now).modules c.args.about.id ≡ Some rule = search rules in
-    let good : is_good_place c.args.mem.now.ram c.args.guard.now c.args.about rule.pages ≡ true =
-    sym (ap (λ o. is_good_place c.args.mem.now.ram c.args.guard.now c.args.about (pages_in_rule o)) there) ∙ c.requires.place in
-    rw c.pages_at.ensures (good_inside c.args.mem.now.ram c.args.guard.now c.args.about rule.pages good c.requires.theirs.ram)
+    let good : is_good_place c.args.mem.now.ram c.args.guard.now.pages c.args.about rule.pages ≡ true =
+    sym (ap (λ o. is_good_place c.args.mem.now.ram c.args.guard.now.pages c.args.about (pages_in_rule o)) there) ∙ c.requires.place in
+    rw c.pages_at.ensures (good_inside c.args.mem.now.ram c.args.guard.now.pages c.args.about rule.pages good c.requires.theirs.ram)
 
 pub unreachable-requires-in_default-hold : goal.unreachable-requires-in_default-hold
 unreachable-requires-in_default-hold c =
     let rule = module_rule c.in-Some.rule.now in
     let there : slice_get (rules_of c.args.policy.now).modules c.args.about.id ≡ Some rule = search rules in
-    let good : is_good_place c.args.mem.now.ram c.args.guard.now c.args.about rule.pages ≡ true =
-    sym (ap (λ o. is_good_place c.args.mem.now.ram c.args.guard.now c.args.about (pages_in_rule o)) there) ∙ c.requires.place in
-    let none = none_taken c.args.mem.now.ram c.args.guard.now c.args.about rule.pages good in
+    let good : is_good_place c.args.mem.now.ram c.args.guard.now.pages c.args.about rule.pages ≡ true =
+    sym (ap (λ o. is_good_place c.args.mem.now.ram c.args.guard.now.pages c.args.about (pages_in_rule o)) there) ∙ c.requires.place in
+    let none = none_taken c.args.mem.now.ram c.args.guard.now.pages c.args.about rule.pages good in
     let taken = c.in_default-hold.ensures.taken in
     let same = c.pages_at.ensures in
     absurd (cc)

@@ -7,4 +7,4 @@ use Rattle.page_guard.proofs.guard.Guard.all_free.Given as goal
 
 -- no page so far is taken
 abbrev pub invariant-tested : goal.invariant-tested
-invariant-tested l = find (λ page. not (is_free (protection_at l.self page))) (numbers_from l.span.first l.i) ≡ None
+invariant-tested l = find (λ page. not (is_free (protection_at l.self.pages page))) (numbers_from l.span.first l.i) ≡ None

@@ -1,4 +1,4 @@
-use Rattle.std.proofs.Common.{rules, ◌≡◌, ◌≤◌, ◌∙◌, sym, ap, arith, ℕ, List, [], length, map, replicate, subst}
+use Rattle.std.proofs.Common.{rules, ◌≡◌, ◌≤◌, ◌∙◌, sym, ap, arith, ℕ, List, length, map, replicate, subst}
 use Rattle.processor.specs.Regions.{most_ram_pages}
 use Rattle.sv_types.specs.Views.{AreViews, all_free}
 use Rattle.sv_types.specs.declared.protection.Protection.TheVariants.{Free}
@@ -24,17 +24,16 @@ invariant_of-result c =
     let counted : CountsTaken c.new-trees.result.counts (length c.in_ok-protections.protections.items) (protection_at c.in_ok-protections.protections.items) =
     subst (λ (n : ℕ). CountsTaken c.new-trees.result.counts n (protection_at c.in_ok-protections.protections.items)) (sym size)
     (subst (λ (list : List Protection). CountsTaken c.new-trees.result.counts c.ram_pages-pages.result (protection_at list)) (sym items) counts) in
-    (pages ∙ sym size, (c.new-trees.ensures.bound, (counted, (bits ∙ ap (map is_free) (sym items), rw size most))))
+    (pages ∙ sym size, (counted, (bits ∙ ap (map is_free) (sym items), rw size most)))
 
 pub returns-clause-theirs : goal.returns-clause-theirs
 returns-clause-theirs c =
     let items : c.in_ok-protections.protections.items ≡ replicate c.ram_pages-pages.result Free = search rules in
     let ram = ap (λ (ram : List ℕ). length ram) c.new-trees.ensures.ram in
     let pages : c.new-trees.result.ram_pages ≡ c.ram_pages-pages.result = omega (arith, c.new-trees.ensures.pages, c.ram_pages-pages.ensures.value, ram) in
-    subst (IsTheirs c.new-trees.new.mem) (sym items)
-    (new_theirs c.new-trees.new.mem c.ram_pages-pages.result
+    let bound = c.new-trees.result.bound in
+    subst (λ (list : List Protection). IsTheirs c.new-trees.new.mem (record { pages = list; bound = bound })) (sym items)
+    (new_theirs c.new-trees.new.mem c.ram_pages-pages.result bound
     (omega (arith, c.new-trees.ensures.pages, pages))
-    (subst (λ (n : ℕ). AreViews c.new-trees.new.mem.tables n [] all_free) pages
-    (subst (λ (bound : List ℕ). AreViews c.new-trees.new.mem.tables c.new-trees.result.ram_pages bound all_free) c.new-trees.ensures.bound c.new-trees.ensures.views))
-    (subst (λ (n : ℕ). HoldsTrees c.new-trees.new.mem.tables n [] all_free) pages
-    (subst (λ (bound : List ℕ). HoldsTrees c.new-trees.new.mem.tables c.new-trees.result.ram_pages bound all_free) c.new-trees.ensures.bound c.new-trees.ensures.drawn.holds)))
+    (subst (λ (n : ℕ). AreViews c.new-trees.new.mem.tables n bound all_free) pages c.new-trees.ensures.views)
+    (subst (λ (n : ℕ). HoldsTrees c.new-trees.new.mem.tables n bound all_free) pages c.new-trees.ensures.drawn.holds))

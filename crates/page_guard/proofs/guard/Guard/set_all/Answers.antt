@@ -13,14 +13,14 @@ pub changed-preserved : goal.changed-preserved
 changed-preserved c =
     let set = c.set.ensures.guard
     ∙ ap (λ (g : List Protection). slice_set g (c.args.span.first + c.changed.i) c.args.protection) c.changed.invariant.0
-    ∙ pages_more c.args.self.now c.args.span.first c.changed.i c.args.protection in
+    ∙ pages_more c.args.self.now.pages c.args.span.first c.changed.i c.args.protection in
     (set, stays_further c.args.mem.now c.changed.mem c.set.new.mem c.args.self.now c.changed.self c.set.new.self c.changed.invariant.1 c.set.ensures.theirs)
 
 pub returns-clause-all : goal.returns-clause-all
 returns-clause-all c =
     let all : c.changed.i ≡ c.args.span.count = omega arith in
-    let span : c.changed.self ≡ with_pages c.args.self.now c.args.span.first c.args.span.count c.args.protection =
-    c.changed.invariant.0 ∙ ap (λ (n : ℕ). with_pages c.args.self.now c.args.span.first n c.args.protection) all in record {
+    let span : c.changed.self.pages ≡ with_pages c.args.self.now.pages c.args.span.first c.args.span.count c.args.protection =
+    c.changed.invariant.0 ∙ ap (λ (n : ℕ). with_pages c.args.self.now.pages c.args.span.first n c.args.protection) all in record {
       each = λ i below. ap (λ (g : List Protection). slice_get g (c.args.span.first + i)) span
-          ∙ pages_are c.args.self.now c.args.span.first c.args.span.count c.args.protection c.requires.inside i below;
+          ∙ pages_are c.args.self.now.pages c.args.span.first c.args.span.count c.args.protection c.requires.inside i below;
     }

@@ -6,5 +6,5 @@ use Rattle.page_guard.proofs.guard.Guard.set_all.Given as goal
 -- the pages so far have the protection
 abbrev pub invariant-changed : goal.invariant-changed
 invariant-changed l =
-    (l.self ≡ with_pages l.fn.self l.span.first l.i l.protection)
+    (l.self.pages ≡ with_pages l.fn.self.pages l.span.first l.i l.protection)
     × StaysTheirs l.fn.mem l.mem l.fn.self l.self

@@ -1,0 +1,104 @@
+-- The pages that a policy within its limits binds its entries to.
+use Rattle.std.proofs.Common.{◌≡◌, ℕ, zero, suc, ◌+◌, ◌^◌, ◌<◌, ◌≤◌, IsTrue, List, [], ◌∷◌, ◌++◌, length, map, drop, refl, sym, ◌∙◌, ap, subst, arith, get_or, append_assoc, append-nil}
+use Rattle.std.specs.Prelude.{Bool, true, false, ◌&&◌, ◌==◌, not, if◌then◌else◌}
+use Rattle.std.specs.List.{list_any}
+use Rattle.std.proofs.lemmas.Bool.{eqb-true}
+use Rattle.std.proofs.lemmas.Bool.Decides.{nat_tests}
+use Rattle.std.proofs.lemmas.List.{drop_more}
+use Rattle.gstage_tables.specs.Layout.{most_bound}
+use Rattle.processor.specs.Bytes.{page_of}
+use Rattle.processor.specs.Regions.{most_ram_pages}
+use Rattle.sv_types.specs.Policies.{Rules, rules_within, bound_within, bound_fits, all_bound}
+
+-- ---- what the limits say
+
+three : (a b c : Bool) → (a && b && c) ≡ true → (a ≡ true) × (c ≡ true)
+three true true c e = (refl, e)
+three true false c e = cc
+three false b c e = cc
+
+-- an entry and its address fit, and so do the others
+first_fits : (n : ℕ) (before : List ℕ) (va gpa : ℕ) (entries bound : List ℕ) → all_bound n before (va ∷ entries) (gpa ∷ bound) ≡ true
+    → (bound_fits n va gpa ≡ true) × (all_bound n (before ++ va ∷ []) entries bound ≡ true)
+first_fits n before va gpa entries bound within =
+    three (bound_fits n va gpa) (not (list_any (λ e. e == va) before)) (all_bound n (before ++ va ∷ []) entries bound) within
+
+each_bound : (n : ℕ) (before entries bound : List ℕ) → all_bound n before entries bound ≡ true → length bound ≤ length entries
+each_bound n before [] [] within = omega arith
+each_bound n before [] (gpa ∷ bound) within = cc
+each_bound n before (va ∷ entries) [] within = cc
+each_bound n before (va ∷ entries) (gpa ∷ bound) within =
+    let rest = each_bound n (before ++ va ∷ []) entries bound (first_fits n before va gpa entries bound within).1 in omega (arith, rest)
+
+small_page : (n va gpa : ℕ) → bound_fits n va gpa ≡ true → n ≤ most_ram_pages → page_of gpa < 2 ^ 32
+small_page n va gpa fits most = grind (arith, nat_tests)
+
+page_within : (n : ℕ) (before entries bound : List ℕ) (i d : ℕ) → all_bound n before entries bound ≡ true → n ≤ most_ram_pages → i < length bound
+    → page_of (get_or bound i d) < 2 ^ 32
+page_within n before [] [] i d within most below = absurd (omega (arith, below))
+page_within n before [] (gpa ∷ bound) i d within most below = absurd (cc)
+page_within n before (va ∷ entries) [] i d within most below = absurd (omega (arith, below))
+page_within n before (va ∷ entries) (gpa ∷ bound) zero d within most below = small_page n va gpa (first_fits n before va gpa entries bound within).0 most
+page_within n before (va ∷ entries) (gpa ∷ bound) (suc i) d within most below =
+    page_within n (before ++ va ∷ []) entries bound i d (first_fits n before va gpa entries bound within).1 most (omega (arith, below))
+
+-- in each format
+along_by : (rules : Rules) (b : Bool) → IsTrue (if b then length rules.bound == 0 else all_bound rules.ram_pages [] rules.entries rules.bound)
+    → length rules.bound ≤ length rules.entries
+along_by rules true none = let empty : length rules.bound ≡ 0 = eqb-true (length rules.bound) 0 none in omega (arith, empty)
+along_by rules false each = each_bound rules.ram_pages [] rules.entries rules.bound each
+
+page_by : (rules : Rules) (i d : ℕ) (b : Bool) → IsTrue (if b then length rules.bound == 0 else all_bound rules.ram_pages [] rules.entries rules.bound)
+    → rules.ram_pages ≤ most_ram_pages → i < length rules.bound → page_of (get_or rules.bound i d) < 2 ^ 32
+page_by rules i d true none most below =
+    let empty : length rules.bound ≡ 0 = eqb-true (length rules.bound) 0 none in absurd (omega (arith, empty, below))
+page_by rules i d false each most below = page_within rules.ram_pages [] rules.entries rules.bound i d each most below
+
+bound_rules : (rules : Rules) → IsTrue (rules_within rules) → IsTrue (bound_within rules)
+bound_rules rules within = grind (arith, nat_tests)
+
+-- no more than entries, of which there are at most 64
+pub bound_along : (rules : Rules) → IsTrue (rules_within rules) → length rules.bound ≤ length rules.entries
+bound_along rules within = along_by rules (rules.format == 1) (bound_rules rules within)
+
+pub bound_few : (rules : Rules) → IsTrue (rules_within rules) → length rules.bound ≤ most_bound
+bound_few rules within =
+    let along = bound_along rules within in
+    let entries : length rules.entries ≤ 64 = grind (arith, nat_tests) in
+    omega (arith, along, entries)
+
+-- the number of each page is one of 32 bits
+pub page_fits : (rules : Rules) (i d : ℕ) → IsTrue (rules_within rules) → i < length rules.bound → page_of (get_or rules.bound i d) < 2 ^ 32
+page_fits rules i d within below =
+    let most : rules.ram_pages ≤ most_ram_pages = grind (arith, nat_tests) in
+    page_by rules i d (rules.format == 1) (bound_rules rules within) most below
+
+-- ---- one page after the other
+
+-- one page more
+pub next_page : (bound pages whole : List ℕ) (i d page : ℕ) → i < length bound → page ≡ page_of (get_or bound i d)
+    → pages ++ map page_of (drop i bound) ≡ whole → (pages ++ page ∷ []) ++ map page_of (drop (i + 1) bound) ≡ whole
+next_page bound pages whole i d page below is so_far =
+    let rest : List ℕ = map page_of (drop (i + 1) bound) in
+    append_assoc pages (page ∷ []) rest
+    ∙ ap (λ (p : ℕ). pages ++ p ∷ rest) is
+    ∙ ap (λ (xs : List ℕ). pages ++ map page_of xs) (sym (drop_more bound i d below))
+    ∙ so_far
+
+none_after : (xs : List ℕ) → drop (length xs) xs ≡ []
+none_after [] = refl
+none_after (x ∷ xs) = none_after xs
+
+-- none is left
+pub all_pages : (bound pages whole : List ℕ) (i : ℕ) → i ≡ length bound → pages ++ map page_of (drop i bound) ≡ whole → pages ≡ whole
+all_pages bound pages whole i end so_far =
+    let none : drop i bound ≡ [] = ap (λ (k : ℕ). drop k bound) end ∙ none_after bound in
+    sym (append-nil pages) ∙ sym (ap (λ (xs : List ℕ). pages ++ map page_of xs) none) ∙ so_far
+
+length_pages : (bound : List ℕ) → length (map page_of bound) ≡ length bound
+length_pages [] = refl
+length_pages (gpa ∷ bound) = ap suc (length_pages bound)
+
+-- as many as are bound
+pub as_many : (bound pages : List ℕ) → pages ≡ map page_of bound → length pages ≡ length bound
+as_many bound pages is = ap (λ (xs : List ℕ). length xs) is ∙ length_pages bound
