@@ -102,5 +102,9 @@ pub(crate) fn root_word(trees: u64, tree: u64, i: u64) -> u64
     requires tree { tree < trees }
     ensures { result ≡ root_word trees tree i }
 {
-    if i == 2 { pointer(ROOT_PAGES * trees + tree) } else { 0 }
+    if i == 2 {
+        pointer(ROOT_PAGES * trees + tree)
+    } else {
+        0
+    }
 }

@@ -1,4 +1,4 @@
-// Calls that take memory, with memory; and a span that is held, approved and freed again.
+// Calls that take memory, with memory; and a span that is held, approved and freed again, with one of its pages bound.
 use super::{Entries, Guard};
 use gstage_tables::Trees;
 use host_mem::HostMem;
@@ -31,11 +31,12 @@ fn entries_that_are_bound(rt: HostRuntime) -> Result<(), Fail> {
 
 #[test]
 fn a_span_held_approved_and_freed(rt: HostRuntime) -> Result<(), Fail> {
-    let size = Trees::table_bytes(16, 0);
+    let bound = [3];
+    let size = Trees::table_bytes(16, bound.len());
     let mut mem = HostMem::new(rt.alloc(), size, 16)?;
     assert_eq!(rt; mem.table_bytes(), size);
     assert_eq!(rt; mem.ram_pages(), 16);
-    let mut guard = Guard::new(rt.alloc(), &mut mem, &[])?;
+    let mut guard = Guard::new(rt.alloc(), &mut mem, &bound)?;
     let text = Span { first: 2, count: 3 };
     let hold = guard.hold(&mut mem, text)?;
     assert_eq!(rt; guard.protection(4), Protection::Held);

@@ -1,6 +1,6 @@
 -- Bound entries that are printed read back.
-use Rattle.std.proofs.Common.{◌≡◌, ℕ, ◌+◌, ◌*◌, ◌^◌, ◌<◌, ◌≤◌, ◌==◌, nat_le, nat_lt, Bool, true, false, ◌&&◌, not, List, [], ◌∷◌, ◌++◌, length, map, Ok, refl, sym, ◌∙◌, ap, suc, subst, arith}
-use Rattle.std.proofs.lemmas.Bool.{and_parts}
+use Rattle.std.proofs.Common.{◌≡◌, ℕ, ◌+◌, ◌*◌, ◌^◌, ◌<◌, ◌≤◌, ◌==◌, nat_le, nat_lt, Bool, true, false, ◌&&◌, not, List, [], ◌∷◌, ◌++◌, length, map, Ok, refl, sym, ◌∙◌, ap, zero, suc, get_or, subst, arith, if◌then◌else◌}
+use Rattle.std.proofs.lemmas.Bool.{and_parts, ne_eqb}
 use Rattle.std.proofs.lemmas.Bool.Decides.{nat_tests}
 use Rattle.std.proofs.lemmas.List.{append_assoc, append-nil, map-append}
 use Rattle.std.proofs.lemmas.List.Elements.{All-head, All-tail}
@@ -8,7 +8,7 @@ use Rattle.std.specs.List.{All, list_any}
 use Rattle.toml.specs.View.{items_of}
 use Rattle.processor.specs.Bytes.{page_size, ram_base}
 use Rattle.processor.specs.Regions.{most_ram_pages}
-use Rattle.sv_types.specs.Policies.{each_within, entry_within, bound_fits, all_bound}
+use Rattle.sv_types.specs.Policies.{Rules, each_within, entry_within, bound_fits, all_bound, bound_within, numbers_within, lists_within, init_within, modules_count_within, modules_within, rules_within}
 use Rattle.policy.specs.Values.{items_length}
 use Rattle.policy.specs.Bindings.{binding, bindings_of, entries_in, bound_in, is_bound, binding_of_two, binding_of, each_binding}
 use Rattle.policy.specs.declared.binding.Binding.{Binding}
@@ -74,3 +74,26 @@ pub pairs_length : (entries bound : List ℕ) → length bound ≡ length entrie
 pairs_length [] bound same = refl
 pairs_length (va ∷ entries) [] same = absurd (cc same)
 pairs_length (va ∷ entries) (gpa ∷ bound) same = ap suc (pairs_length entries bound (cc same))
+
+-- in a format other than 1 each entry has its address
+pub bound_beside : (r : Rules) → bound_within r ≡ true → ¬ (r.format ≡ 1) → length r.bound ≡ length r.entries
+bound_beside r bounds other = by_format (r.format == 1) bounds (ne_eqb r.format 1 other) where
+  by_format : (is_plain : Bool) → (if is_plain then length r.bound == 0 else all_bound r.ram_pages [] r.entries r.bound) ≡ true → is_plain ≡ false → length r.bound ≡ length r.entries
+  by_format true bounds plain = absurd (cc plain)
+  by_format false bounds plain = bound_length r.ram_pages [] r.entries r.bound bounds
+
+pub binds_of_rules : (r : Rules) → rules_within r ≡ true → bound_within r ≡ true
+binds_of_rules r within =
+    let modules = and_parts _ (modules_within (length r.exports) r.modules) within in
+    let modules_count = and_parts _ (modules_count_within (length r.modules)) modules.0 in
+    let init = and_parts _ (init_within r.ram_pages r.init) modules_count.0 in
+    let lists = and_parts (numbers_within r) (lists_within r) init.0 in
+    (and_parts _ (bound_within r) lists.1).1
+
+-- the pair at a place
+pub pair_at : (entries bound : List ℕ) (i d e : ℕ) (b : Binding) → i < length entries → length bound ≡ length entries →
+    binding (get_or entries i d) (get_or bound i e) ≡ get_or (bindings_of entries bound) i b
+pair_at [] bound i d e b within same = absurd (omega (arith, within))
+pair_at (x ∷ entries) [] i d e b within same = absurd (cc same)
+pair_at (x ∷ entries) (y ∷ bound) zero d e b within same = refl
+pair_at (x ∷ entries) (y ∷ bound) (suc i) d e b within same = pair_at entries bound i d e b (omega (arith, within)) (cc same)

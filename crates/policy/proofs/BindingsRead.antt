@@ -83,4 +83,4 @@ pub bindings_read : (ram_pages : ℕ) (items : Items) (bs : List Binding) → ea
     (length (entries_in bs) ≡ items_length items) × (entries_within (entries_in bs) ≡ true) × (all_bound ram_pages [] (entries_in bs) (bound_in bs) ≡ true)
 bindings_read ram_pages items bs read =
     let all = each_within_read (binding_of ram_pages) (binding_within ram_pages) (binding_read ram_pages) items bs read in
-    (length-map (λ (x : Binding). x.va) bs ∙ all.0, entries_fit ram_pages [] [] bs all.1, bound_fit ram_pages [] bs all.1)
+    (length-map bs (λ (x : Binding). x.va) ∙ all.0, entries_fit ram_pages [] [] bs all.1, bound_fit ram_pages [] bs all.1)

@@ -84,8 +84,9 @@ fn bound_entries(alloc: Global, entries: &[u64], bound: &[u64]) -> Result<Value,
     Ok(Value::Array(values))
 }
 
+#[tactic(auto, using(crate::proofs::BindingsBack::bound_beside))]
 fn entries(alloc: Global, policy: &Policy) -> Result<Value, AllocError>
-    requires { limits.rules_within (limits.rules_of policy.now) ≡ true }
+    requires { limits.bound_within (limits.rules_of policy.now) ≡ true }
     ensures printed { IfOk result (λ v. view v ≡ spec.entries_data policy.now.format policy.now.entries.items policy.now.bound.items) }
     ensures typed { OnOk result (All IsAddress policy.now.entries.items) }
 {
@@ -243,7 +244,7 @@ fn put_modules(alloc: Global, table: &mut Table, items: &[ModulePolicy]) -> Resu
 
 #[tactic(auto, unfolding(crate::specs::Printed::rules_members))]
 fn policy_table(alloc: Global, policy: &Policy) -> Result<Table, AllocError>
-    requires { limits.rules_within (limits.rules_of policy.now) ≡ true }
+    requires { limits.bound_within (limits.rules_of policy.now) ≡ true }
     ensures printed { IfOk result (λ t. table_view t ≡ spec.rules_members (limits.rules_of policy.now)) }
     ensures typed { OnOk result (IsPolicy (limits.rules_of policy.now)) }
 {
@@ -265,7 +266,7 @@ fn policy_table(alloc: Global, policy: &Policy) -> Result<Table, AllocError>
 
 // The text that is read back as the policy's table.
 fn text(alloc: Global, policy: &Policy) -> Result<String, AllocError>
-    requires { limits.rules_within (limits.rules_of policy.now) ≡ true }
+    requires { limits.bound_within (limits.rules_of policy.now) ≡ true }
     ensures printed { IfOk result (λ text.
         parse_document (string_bytes text) ≡ Some (spec.rules_members (limits.rules_of policy.now))) }
     ensures typed { OnOk result (IsPolicy (limits.rules_of policy.now)) }
@@ -279,6 +280,7 @@ fn text(alloc: Global, policy: &Policy) -> Result<String, AllocError>
 
 /// Prints a policy as a text, whose table has the policy's values under their keys, and which is read as that policy.
 /// Fails for want of memory alone.
+#[tactic(auto, using(crate::proofs::BindingsBack::binds_of_rules))]
 pub fn write(alloc: Global, policy: &Policy) -> Result<Vec<u8>, AllocError>
     requires { limits.rules_within (limits.rules_of policy.now) ≡ true }
     ensures table { IfOk result (λ bytes. table_of_text bytes.items ≡ Ok (spec.rules_members (limits.rules_of policy.now))) }

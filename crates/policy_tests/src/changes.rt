@@ -2,10 +2,10 @@
 use crate::texts::{GOOD, number_of};
 use std::test::Fail;
 
-struct Change {
-    from: &'static str,
-    to: &'static str,
-    number: u8,
+pub(crate) struct Change {
+    pub from: &'static str,
+    pub to: &'static str,
+    pub number: u8,
 }
 
 static CHANGES: [Change; 64] = [
@@ -46,7 +46,7 @@ static CHANGES: [Change; 64] = [
     },
     Change {
         from: "format = 1",
-        to: "format = 2\nextra = 1",
+        to: "format = 3\nextra = 1",
         number: 8,
     },
     Change {

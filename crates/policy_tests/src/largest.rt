@@ -10,7 +10,7 @@ use std::test::Fail;
 use sv_types::{ModulePolicy, Name, Policy, RelocationKind, Site};
 
 // A policy within the limits is read back as it was written, but for want of memory.
-fn read_back(alloc: Global, policy: &Policy) -> Result<Policy, PolicyRefusal>
+pub(crate) fn read_back(alloc: Global, policy: &Policy) -> Result<Policy, PolicyRefusal>
     requires { rules_within (rules_of policy.now) ≡ true }
     ensures same { IfOk result (λ back. rules_of back ≡ rules_of policy.now) }
     ensures memory { IfErr result (λ e. e ≡ Memory) }

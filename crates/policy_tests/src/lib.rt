@@ -2,6 +2,8 @@
 #![tactic(auto)]
 
 #[cfg(test)]
+mod bound;
+#[cfg(test)]
 mod changes;
 #[cfg(test)]
 mod largest;

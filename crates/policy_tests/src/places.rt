@@ -8,7 +8,7 @@ struct Place {
     place: &'static str,
 }
 
-static PLACES: [Place; 18] = [
+static PLACES: [Place; 19] = [
     Place {
         from: "format",
         to: "format",
@@ -43,6 +43,11 @@ static PLACES: [Place; 18] = [
         from: "0xFFFFFFc080000100",
         to: "0xFFFFFFc080000102",
         place: "key entries[1]",
+    },
+    Place {
+        from: "format = 1",
+        to: "format = 2",
+        place: "key entries[0]",
     },
     Place {
         from: "[\"0x80000000\", \"0xFFFFFFc080000100\"]",

@@ -2,7 +2,7 @@
 use Rattle.std.specs.Prelude.{◌≡◌, ℕ, ◌+◌, ◌*◌, ◌%◌, ◌<◌, ◌≤◌, true, List, [], ◌∷◌, length, min, Option, Some, None, slice_get}
 use Rattle.processor.specs.Bytes.{page_size}
 use Rattle.processor.specs.declared.mode.Mode.TheVariants.{Kernel}
-use Rattle.sv_types.specs.Limits.{most_notes}
+use Rattle.sv_types.specs.Limits.{most_notes, most_harts}
 use Rattle.sv_types.specs.Clock.{Clock, latest, timer_of}
 use Rattle.sv_types.specs.Console.{most_queued}
 use Rattle.sv_types.specs.Policies.{Rules}
@@ -68,7 +68,7 @@ pub record IsKeepableJournal (harts : ℕ) (notes : List Note) (all : ℕ) (verd
 -- of the four timers those of harts that aren't there are never set
 pub record IsKeepableClock (harts : ℕ) (clock : Clock) : Type 0 where
   pub four : length clock.timers ≡ 4
-  pub unset : (h : ℕ) → harts ≤ h → h < 4 → timer_of clock h ≡ latest
+  pub unset : (h : ℕ) → harts ≤ h → h < most_harts → timer_of clock h ≡ latest
 
 -- ---- modules
 
