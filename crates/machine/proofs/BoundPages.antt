@@ -1,10 +1,9 @@
 -- The pages that a policy within its limits binds its entries to.
-use Rattle.std.proofs.Common.{◌≡◌, ℕ, zero, suc, ◌+◌, ◌^◌, ◌<◌, ◌≤◌, IsTrue, List, [], ◌∷◌, ◌++◌, length, map, drop, refl, sym, ◌∙◌, ap, subst, arith, get_or, append_assoc, append-nil}
+use Rattle.std.proofs.Common.{◌≡◌, ℕ, zero, suc, ◌+◌, ◌^◌, ◌<◌, ◌≤◌, IsTrue, List, [], ◌∷◌, ◌++◌, length, refl, arith, get_or}
 use Rattle.std.specs.Prelude.{Bool, true, false, ◌&&◌, ◌==◌, not, if◌then◌else◌}
 use Rattle.std.specs.List.{list_any}
 use Rattle.std.proofs.lemmas.Bool.{eqb-true}
 use Rattle.std.proofs.lemmas.Bool.Decides.{nat_tests}
-use Rattle.std.proofs.lemmas.List.{drop_more}
 use Rattle.gstage_tables.specs.Layout.{most_bound}
 use Rattle.processor.specs.Bytes.{page_of}
 use Rattle.processor.specs.Regions.{most_ram_pages}
@@ -72,33 +71,3 @@ pub page_fits : (rules : Rules) (i d : ℕ) → IsTrue (rules_within rules) → 
 page_fits rules i d within below =
     let most : rules.ram_pages ≤ most_ram_pages = grind (arith, nat_tests) in
     page_by rules i d (rules.format == 1) (bound_rules rules within) most below
-
--- ---- one page after the other
-
--- one page more
-pub next_page : (bound pages whole : List ℕ) (i d page : ℕ) → i < length bound → page ≡ page_of (get_or bound i d)
-    → pages ++ map page_of (drop i bound) ≡ whole → (pages ++ page ∷ []) ++ map page_of (drop (i + 1) bound) ≡ whole
-next_page bound pages whole i d page below is so_far =
-    let rest : List ℕ = map page_of (drop (i + 1) bound) in
-    append_assoc pages (page ∷ []) rest
-    ∙ ap (λ (p : ℕ). pages ++ p ∷ rest) is
-    ∙ ap (λ (xs : List ℕ). pages ++ map page_of xs) (sym (drop_more bound i d below))
-    ∙ so_far
-
-none_after : (xs : List ℕ) → drop (length xs) xs ≡ []
-none_after [] = refl
-none_after (x ∷ xs) = none_after xs
-
--- none is left
-pub all_pages : (bound pages whole : List ℕ) (i : ℕ) → i ≡ length bound → pages ++ map page_of (drop i bound) ≡ whole → pages ≡ whole
-all_pages bound pages whole i end so_far =
-    let none : drop i bound ≡ [] = ap (λ (k : ℕ). drop k bound) end ∙ none_after bound in
-    sym (append-nil pages) ∙ sym (ap (λ (xs : List ℕ). pages ++ map page_of xs) none) ∙ so_far
-
-length_pages : (bound : List ℕ) → length (map page_of bound) ≡ length bound
-length_pages [] = refl
-length_pages (gpa ∷ bound) = ap suc (length_pages bound)
-
--- as many as are bound
-pub as_many : (bound pages : List ℕ) → pages ≡ map page_of bound → length pages ≡ length bound
-as_many bound pages is = ap (λ (xs : List ℕ). length xs) is ∙ length_pages bound

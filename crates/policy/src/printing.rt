@@ -84,7 +84,6 @@ fn bound_entries(alloc: Global, entries: &[u64], bound: &[u64]) -> Result<Value,
     Ok(Value::Array(values))
 }
 
-#[tactic(auto, using(crate::proofs::BindingsBack::bound_beside))]
 fn entries(alloc: Global, policy: &Policy) -> Result<Value, AllocError>
     requires { limits.bound_within (limits.rules_of policy.now) ≡ true }
     ensures printed { IfOk result (λ v. view v ≡ spec.entries_data policy.now.format policy.now.entries.items policy.now.bound.items) }
