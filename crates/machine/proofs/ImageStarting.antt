@@ -1,6 +1,6 @@
 -- A kernel's image before the first event.
 use Rattle.std.proofs.Common.{get_or, ◌==◌, ◌^◌, ◌<◌, inl, inr, ◌≡◌, ℕ, zero, suc, ◌+◌, ◌-◌, ◌%◌, ◌≤◌, true, IsTrue, List, [], ◌∷◌, ◌++◌, length, take, replicate, refl, sym, ◌∙◌, ap, arith, subst}
-use Rattle.std.specs.Prelude.{Bool, false, Option, Some, None, find, flat_map, if◌then◌else◌}
+use Rattle.std.specs.Prelude.{Option, Some, None, find, flat_map}
 use Rattle.std.proofs.lemmas.Bool.Decides.{nat_tests}
 use Rattle.std.proofs.lemmas.Bool.{cases_Bool}
 use Rattle.elf64_load.specs.Images.{segments_of}

@@ -1,5 +1,5 @@
 -- A row of turns is as many events, one after another.
-use Rattle.std.proofs.Common.{◌≡◌, ℕ, zero, suc, ◌+◌, ◌<◌, ◌≤◌, List, [], ◌∷◌, length, map, refl, sym, ◌∙◌, ap, subst, arith, Bool, true, false, add-one, ◌⊎◌, inl, inr}
+use Rattle.std.proofs.Common.{◌≡◌, ℕ, zero, suc, ◌+◌, ◌<◌, ◌≤◌, List, [], ◌∷◌, length, map, refl, sym, ◌∙◌, ap, subst, arith, false, add-one, inl, inr}
 use Rattle.std.specs.Prelude.{Option, Some, None, is_some, slice_index_or, slice_set}
 use Rattle.std.proofs.lemmas.Bool.Decides.{eqb_tells}
 use Rattle.processor.specs.HypervisorRegisters.{pending}
@@ -14,11 +14,8 @@ use Rattle.processor.specs.HardwareAttempt.{attempt}
 use Rattle.processor.specs.Regions.{Region}
 use Rattle.processor.specs.Requests.{after_write}
 use Rattle.processor.specs.declared.outcome.Outcome.{Outcome}
-use Rattle.sv_types.specs.declared.event.Counts.{Counts}
-use Rattle.sv_types.specs.declared.event.Event.{Event}
 use Rattle.sv_types.specs.declared.event.Event.TheVariants.{Turn}
 use Rattle.sv_types.specs.declared.event.Verdict.{Verdict}
-use Rattle.sv_types.specs.declared.event.Verdict.TheVariants.{Running}
 use Rattle.reference.specs.Counting.{counted, count_turn, count_retired, CountsAtMost}
 use Rattle.reference.specs.Devices.{lines_at}
 use Rattle.reference.specs.Run.{step}
@@ -30,12 +27,12 @@ use Rattle.machine_model.specs.Steps.{IsStep, IsTurn, StepsUnder}
 use Rattle.answer_laws.specs.Laws.{IsQuiet as IsQuietOutcome}
 use Rattle.quick_turns.specs.Rows.{IsRetired, Carries, RetiresThrough}
 use Rattle.machine.proofs.Addressed.{step_addressed}
-use Rattle.machine.proofs.Repeated.{step_counts, counts_more}
+use Rattle.machine.proofs.Repeated.{step_counts}
 use Rattle.machine.proofs.Stepped.{Bounded, step_bounded, step_happens, step_stands}
 use Rattle.machine.proofs.Turns.{quiet_served, turn_served}
-use Rattle.machine.specs.Attempts.{hart_in, nobody}
+use Rattle.machine.specs.Attempts.{hart_in}
 use Rattle.machine.specs.Machines.{HaveAddresses}
-use Rattle.machine.specs.Repeats.{IsQuiet, Makes, Repeats}
+use Rattle.machine.specs.Repeats.{IsQuiet, Repeats}
 use Rattle.machine.specs.Rows.{AreFree, counted_row, after_row, MayRow, MakesRow}
 use Rattle.machine.specs.Turns.{Finished}
 

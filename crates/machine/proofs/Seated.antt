@@ -1,6 +1,6 @@
 -- An answer on one hart is the machine's.
-use Rattle.std.proofs.Common.{◌≡◌, ℕ, ◌<◌, true, false, List, [], length, refl, sym, ◌∙◌, ap, subst}
-use Rattle.std.specs.Prelude.{Option, None, slice_index_or, slice_set}
+use Rattle.std.proofs.Common.{◌≡◌, ℕ, ◌<◌, true, false, List, length, refl, sym, ◌∙◌, ap, subst}
+use Rattle.std.specs.Prelude.{Option, slice_index_or, slice_set}
 use Rattle.sv_types.specs.Policies.{rules_of}
 use Rattle.processor.specs.declared.exit.Exit.{Exit}
 use Rattle.processor.specs.declared.mode.Mode.{Mode}

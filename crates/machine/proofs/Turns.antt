@@ -9,19 +9,19 @@ use Rattle.processor.specs.declared.outcome.Outcome.{Outcome}
 use Rattle.processor.specs.declared.exit.Exit.{Exit}
 use Rattle.sv_types.specs.declared.protection.Protection.{Protection}
 use Rattle.reference.specs.Protections.{protection_at}
-use Rattle.reference.specs.Counting.{counted, count_turn}
+use Rattle.reference.specs.Counting.{counted}
 use Rattle.answer_laws.specs.Laws.{IsQuiet}
 use Rattle.machine_model.specs.HardwareEvent.{attempted, is_loading, left_by, hart_again, sent_again}
 use Rattle.machine_model.specs.HostExits.{host_exit, served_exit, served_by}
 use Rattle.machine_model.specs.HostHarts.{asks_again, host_outside}
-use Rattle.machine_model.specs.Machine.{Machine, HostHart, all_forget, count_outcome, raised, update, with_core}
+use Rattle.machine_model.specs.Machine.{Machine, HostHart, all_forget, count_outcome, update, with_core}
 use Rattle.machine_model.specs.Served.{is_again}
 use Rattle.machine_model.specs.StandsFor.{bound_pages}
 use Rattle.machine_model.specs.Steps.{WithTables, TurnServed, HartServed, StartedServed, AttemptServed, AttemptsServed, OutcomeServed}
 use Rattle.machine_model.specs.declared.exits.ExitAnswer.{ExitAnswer}
 use Rattle.page_guard.specs.Guarded.{Guarded, IsTheirs}
 use Rattle.machine.specs.Attempts.{hart_in}
-use Rattle.machine.specs.Turns.{Concluded, ExitServed, Finished, HasPagesOf, IsReadyTwice, MayAttemptAgain, MayServe, MayTurn, answered_exit, asked_of, left_entry}
+use Rattle.machine.specs.Turns.{Concluded, ExitServed, Finished, HasPagesOf, IsReadyTwice, MayAttemptAgain, MayServe, answered_exit, asked_of, left_entry}
 
 -- the guard's tables show every view, where they are drawn for the pages that the policy binds its entries to
 pub views_shown : (rules : Rules) (region : Region) (guard : Guarded) → IsTheirs region guard → length guard.pages ≡ rules.ram_pages → guard.bound ≡ bound_pages rules
@@ -182,12 +182,6 @@ pub may_again : (m : Machine) (h : ℕ) (o : Outcome) → IsReadyTwice m h → o
 may_again m h (Outcome.Retired wrote) ready is = tt
 may_again m h Outcome.GuestTrap ready is = tt
 may_again m h (Outcome.Exit exit) ready is = λ again. ready.second (asks_by m h (Outcome.Exit exit) exit ready is refl ∙ again)
-
--- the count of turns that is raised changes none of it
-pub raised_ready : (m : Machine) (h : ℕ) → MayTurn m h → MayTurn (raised m count_turn) h
-raised_ready m h may = λ makes.
-    let k : IsReadyTwice m h = may (record { started = makes.started; free = makes.free }) in
-    record { first = k.first; asked = k.asked; second = k.second }
 
 -- ---- the second attempt
 

@@ -1,5 +1,5 @@
 -- The machine from its parts, and what is true of them. This project's own.
-use Rattle.std.specs.Prelude.{◌≡◌, ◌+◌, ◌≤◌, [], map, length}
+use Rattle.std.specs.Prelude.{◌≡◌, ◌+◌, ◌≤◌, map, length}
 use Rattle.sv_types.specs.Limits.{most_harts}
 use Rattle.sv_types.specs.Policies.{rules_of}
 use Rattle.reference.specs.Protections.{is_free}

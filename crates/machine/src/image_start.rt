@@ -143,7 +143,7 @@ fn image_region(
     Ok(mem)
 }
 
-// The pages of the image's text held and then approved, all others free, where entries are bound to these pages.
+// The pages of the image's text held and then approved, all others free. `bound` has the page that each entry is bound to.
 fn image_guard(
     alloc: Global,
     mem: &mut HostMem,

@@ -1,4 +1,4 @@
-use Rattle.std.proofs.Common.{◌≡◌, ◌∙◌, sym, ap, arith, length}
+use Rattle.std.proofs.Common.{◌∙◌, sym, ap, arith, length}
 use Rattle.sv_types.specs.Policies.{Rules}
 use Rattle.machine_model.specs.StandsFor.{bound_pages}
 use Rattle.machine.proofs.start.assemble.Goals as goal

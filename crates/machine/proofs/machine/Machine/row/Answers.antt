@@ -1,4 +1,4 @@
-use Rattle.std.proofs.Common.{◌≡◌, ◌+◌, ℕ, subst, sym}
+use Rattle.std.proofs.Common.{◌+◌, ℕ, subst, sym}
 use Rattle.sv_types.specs.declared.event.Event.{Event}
 use Rattle.reference.specs.Counting.{CountsAtMost}
 use Rattle.machine_model.specs.Machine.{Machine}

@@ -1,4 +1,4 @@
-use Rattle.std.proofs.Common.{◌<◌, ℕ, length, subst, sym, ◌∙◌, ap}
+use Rattle.std.proofs.Common.{◌<◌, ℕ, subst, sym, ◌∙◌}
 use Rattle.machine_model.specs.Machine.{Machine}
 use Rattle.machine.proofs.Turns.{second_may, second_served}
 use Rattle.machine.specs.Turns.{IsReadyAt, left_entry}
