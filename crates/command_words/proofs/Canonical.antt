@@ -7,9 +7,9 @@ use Rattle.std.specs.Str.{bytes_eq}
 use Rattle.std.proofs.lemmas.Slice.Eq.{bytes_eq-Decides}
 use Rattle.clap.specs.Words.{Text, subcommand_of, takes}
 use Rattle.command_words.specs.declared.command.DiskKind.{DiskKind}
-use Rattle.command_words.specs.Commands.{Split, Flat, Gen, Run, Measure, split_words, shape_split, flat_split, gen_split, run_split, measure_split, has_dash}
+use Rattle.command_words.specs.Commands.{Split, Flat, Gen, Run, Measure, Convert, split_words, shape_split, flat_split, gen_split, run_split, measure_split, convert_split, has_dash}
 use Rattle.command_words.specs.Parsing.{whole_app, split_found}
-use Rattle.command_words.proofs.Walks.{IsRead, flat_read, gen_read, run_read, vrun_read, measure_read}
+use Rattle.command_words.proofs.Walks.{IsRead, flat_read, gen_read, run_read, vrun_read, measure_read, convert_read}
 
 -- the name of a command that runs an image with such a disk
 abbrev run_name : DiskKind → Text
@@ -22,6 +22,7 @@ words_of (Flat w) = codes "flat" ∷ w.file ∷ w.wanted ∷ w.events ∷ []
 words_of (Gen calls) = codes "gen" ∷ calls ∷ []
 words_of (Run w) = run_name w.kind ∷ w.image ∷ w.policy ∷ w.disk ∷ w.script ∷ w.events ∷ w.save ∷ []
 words_of (Measure w) = codes "measure" ∷ w.out ∷ w.kernel ∷ w.ram ∷ w.harts ∷ w.entries ∷ w.init ∷ w.modules
+words_of (Convert w) = codes "convert" ∷ w.kernel ∷ w.given ∷ w.out ∷ []
 
 none_is_some : {X : Type 0} {x : X} → None ≡ Some x → ⊥
 none_is_some e = true≢false (sym (ap is_some e))
@@ -47,24 +48,35 @@ measure_kept : (rest : List Text) (s : Split) → measure_split rest ≡ Some s 
 measure_kept (a ∷ b ∷ c ∷ d ∷ f ∷ g ∷ modules) s e = ap words_of (some_is _ s e)
 measure_kept _ s e = absurd (none_is_some e)
 
+convert_kept : (rest : List Text) (s : Split) → convert_split rest ≡ Some s → codes "convert" ∷ rest ≡ words_of s
+convert_kept (a ∷ b ∷ c ∷ []) s e = ap words_of (some_is _ s e)
+convert_kept _ s e = absurd (none_is_some e)
+
 module _ (name : Text) (rest : List Text) (s : Split) where
   -- the name is the one that was tested
   at_name : (tested : Text) → bytes_eq name tested ≡ true → tested ∷ rest ≡ words_of s → name ∷ rest ≡ words_of s
   at_name tested e kept = ap (λ (n : Text). n ∷ rest) ((bytes_eq-Decides name tested).0 e) ∙ kept
 
-  by_measure : (b : Bool) → bytes_eq name (codes "measure") ≡ b → cond b (measure_split rest) None ≡ Some s → name ∷ rest ≡ words_of s
-  by_measure true is e = at_name (codes "measure") is (measure_kept rest s e)
-  by_measure false is e = absurd (none_is_some e)
+  by_convert : (b : Bool) → bytes_eq name (codes "convert") ≡ b → cond b (convert_split rest) None ≡ Some s → name ∷ rest ≡ words_of s
+  by_convert true is e = at_name (codes "convert") is (convert_kept rest s e)
+  by_convert false is e = absurd (none_is_some e)
 
   -- what stands behind the test of a name
+  abbrev behind_measure : Option Split
+  behind_measure = cond (bytes_eq name (codes "convert")) (convert_split rest) None
+
   abbrev behind_vrun : Option Split
-  behind_vrun = cond (bytes_eq name (codes "measure")) (measure_split rest) None
+  behind_vrun = cond (bytes_eq name (codes "measure")) (measure_split rest) behind_measure
 
   abbrev behind_run : Option Split
   behind_run = cond (bytes_eq name (codes "vrun")) (run_split DiskKind.Virtio rest) behind_vrun
 
   abbrev behind_gen : Option Split
   behind_gen = cond (bytes_eq name (codes "run")) (run_split DiskKind.Block rest) behind_run
+
+  by_measure : (b : Bool) → bytes_eq name (codes "measure") ≡ b → cond b (measure_split rest) behind_measure ≡ Some s → name ∷ rest ≡ words_of s
+  by_measure true is e = at_name (codes "measure") is (measure_kept rest s e)
+  by_measure false is e = by_convert (bytes_eq name (codes "convert")) refl e
 
   by_vrun : (b : Bool) → bytes_eq name (codes "vrun") ≡ b → cond b (run_split DiskKind.Virtio rest) behind_vrun ≡ Some s → name ∷ rest ≡ words_of s
   by_vrun true is e = at_name (codes "vrun") is (run_kept DiskKind.Virtio rest s e)
@@ -119,6 +131,7 @@ read_of (Gen calls) short plain = gen_read calls plain
 read_of (Run w) short plain = run_read_by w.kind w.image w.policy w.disk w.script w.events w.save
     (plain_behind w.kind (w.image ∷ w.policy ∷ w.disk ∷ w.script ∷ w.events ∷ w.save ∷ []) plain)
 read_of (Measure w) short plain = measure_read w.out w.kernel w.ram w.harts w.entries w.init w.modules (omega arith) plain
+read_of (Convert w) short plain = convert_read w.kernel w.given w.out plain
 
 split_is_read : (words : List Text) (s : Split) → length words ≤ 2 ^ 64 → split_words words ≡ Some s → IsRead words s
 split_is_read words s short e =

@@ -11,7 +11,7 @@ use Rattle.std.proofs.lemmas.Bool.{le-leb}
 use Rattle.clap.proofs.OnLiterals.{clap_on_literals}
 use Rattle.clap.proofs.WalkLemmas.{walk_stopped}
 use Rattle.command_words.specs.declared.command.DiskKind.{DiskKind}
-use Rattle.command_words.specs.Commands.{Split, Flat, Gen, Run, Measure, has_dash}
+use Rattle.command_words.specs.Commands.{Split, Flat, Gen, Run, Measure, Convert, has_dash}
 use Rattle.command_words.specs.Parsing.{whole_app, split_found}
 use Rattle.command_words.proofs.PlainWords.{IsOn, NoneTrails, placed, placed_pass, pass_is, stopped_pass, walk_is}
 
@@ -106,6 +106,10 @@ measure_is : IsNamed (codes "measure") (shape_named (codes "measure"))
 unfolding clap_on_literals
 measure_is = record { met = refl; found = refl; trails = refl; turn = λ words. refl }
 
+convert_is : IsNamed (codes "convert") (shape_named (codes "convert"))
+unfolding clap_on_literals
+convert_is = record { met = refl; found = refl; trails = refl; turn = λ words. refl }
+
 -- ---- the words of each command
 
 -- `clap` takes the words, and what it finds is the split
@@ -142,6 +146,11 @@ pub vrun_read : (a b c d e f : Text) → list_any has_dash (a ∷ b ∷ c ∷ d 
     (Run (record { kind = DiskKind.Virtio; image = a; policy = b; disk = c; script = d; events = e; save = f }))
 unfolding clap_on_literals split_found
 vrun_read a b c d e f plain = read_by _ _ vrun_is _ _ plain refl refl
+
+pub convert_read : (a b c : Text) → list_any has_dash (a ∷ b ∷ c ∷ []) ≡ false
+    → IsRead (codes "convert" ∷ a ∷ b ∷ c ∷ []) (Convert (record { kernel = a; given = b; out = c }))
+unfolding clap_on_literals split_found
+convert_read a b c plain = read_by _ _ convert_is _ _ plain refl refl
 
 -- ---- any number of modules
 

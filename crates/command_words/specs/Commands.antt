@@ -31,12 +31,20 @@ pub record MeasureSplit : Type 0 where
   pub init : List ℕ
   pub modules : List (List ℕ)
 
+-- convert KERNEL IN OUT
+pub record ConvertSplit : Type 0 where
+  pub kernel : List ℕ
+  -- the policy that is given
+  pub given : List ℕ
+  pub out : List ℕ
+
 pub data Split : Type 0 where
   Flat : FlatSplit → Split
   -- gen N
   Gen : (calls : List ℕ) → Split
   Run : RunSplit → Split
   Measure : MeasureSplit → Split
+  Convert : ConvertSplit → Split
 
 -- ---- by the number of words behind the name
 
@@ -72,6 +80,10 @@ measure_split (out ∷ kernel ∷ ram ∷ harts ∷ entries ∷ init ∷ modules
 }))
 measure_split _ = None
 
+abbrev pub convert_split : List (List ℕ) → Option Split
+convert_split (kernel ∷ given ∷ out ∷ []) = Some (Convert (record { kernel = kernel; given = given; out = out }))
+convert_split _ = None
+
 abbrev pub named_split : List ℕ → List (List ℕ) → Option Split
 named_split name rest =
     if bytes_eq name (codes "flat") then flat_split rest
@@ -79,6 +91,7 @@ named_split name rest =
     else if bytes_eq name (codes "run") then run_split DiskKind.Block rest
     else if bytes_eq name (codes "vrun") then run_split DiskKind.Virtio rest
     else if bytes_eq name (codes "measure") then measure_split rest
+    else if bytes_eq name (codes "convert") then convert_split rest
     else None
 
 abbrev pub shape_split : List (List ℕ) → Option Split

@@ -6,7 +6,7 @@ use Rattle.clap.specs.Simple.{on_top}
 use Rattle.clap.specs.Lexer.{usize_max}
 use Rattle.clap.specs.declared.builder.ArgAction.TheVariants.{Set, Append}
 use Rattle.command_words.specs.declared.command.DiskKind.{DiskKind}
-use Rattle.command_words.specs.Commands.{Split, Flat, Gen, Run, Measure}
+use Rattle.command_words.specs.Commands.{Split, Flat, Gen, Run, Measure, Convert}
 
 -- ---- the commands
 
@@ -40,6 +40,9 @@ run_names = codes "IMAGE" ∷ codes "POLICY" ∷ codes "DISK" ∷ codes "SCRIPT"
 abbrev pub measure_names : List Text
 measure_names = codes "OUT" ∷ codes "KERNEL" ∷ codes "RAM" ∷ codes "HARTS" ∷ codes "ENTRIES" ∷ codes "INIT" ∷ []
 
+abbrev pub convert_names : List Text
+convert_names = codes "KERNEL" ∷ codes "IN" ∷ codes "OUT" ∷ []
+
 abbrev pub flat_app : App
 flat_app = wanting (codes "flat") flat_names
 
@@ -55,6 +58,9 @@ vrun_app = wanting (codes "vrun") run_names
 abbrev pub measure_app : App
 measure_app = with_rule (wanting (codes "measure") measure_names) (list_rule (codes "MODULES"))
 
+abbrev pub convert_app : App
+convert_app = wanting (codes "convert") convert_names
+
 -- the words begin with the name of a command, and nothing asks for help
 abbrev pub bare_app : App
 bare_app = on_top (λ s. record s {
@@ -66,8 +72,8 @@ bare_app = on_top (λ s. record s {
 
 abbrev pub whole_app : App
 whole_app =
-    with_subcommand (with_subcommand (with_subcommand (with_subcommand (with_subcommand bare_app flat_app.top) gen_app.top) run_app.top)
-    vrun_app.top) measure_app.top
+    with_subcommand (with_subcommand (with_subcommand (with_subcommand (with_subcommand (with_subcommand bare_app flat_app.top) gen_app.top)
+    run_app.top) vrun_app.top) measure_app.top) convert_app.top
 
 -- ---- the words under their names
 
@@ -123,6 +129,13 @@ measure_around rows modules = option_and_then (λ out. option_and_then (λ kerne
 abbrev pub measure_found : List Row → Option Split
 measure_found rows = measure_around rows (modules_found rows)
 
+abbrev pub convert_found : List Row → Option Split
+convert_found rows = option_and_then (λ kernel. option_and_then (λ given. option_map (λ out.
+    Convert (record { kernel = kernel; given = given; out = out }))
+    (first_of (codes "OUT") rows))
+    (first_of (codes "IN") rows))
+    (first_of (codes "KERNEL") rows)
+
 abbrev pub named_found : Text × List Row → Option Split
 named_found found =
     if bytes_eq found.0 (codes "flat") then flat_found found.1
@@ -130,6 +143,7 @@ named_found found =
     else if bytes_eq found.0 (codes "run") then run_found DiskKind.Block found.1
     else if bytes_eq found.0 (codes "vrun") then run_found DiskKind.Virtio found.1
     else if bytes_eq found.0 (codes "measure") then measure_found found.1
+    else if bytes_eq found.0 (codes "convert") then convert_found found.1
     else None
 
 -- the words of the command that was met

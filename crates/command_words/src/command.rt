@@ -17,6 +17,7 @@ pub enum CommandWords<'a> {
     Generated(&'a str),
     Run(RunWords<'a>),
     Measure(MeasureWords<'a>),
+    Convert(ConvertWords<'a>),
 }
 
 /// `flat FILE MEASURE EVENTS`
@@ -49,4 +50,13 @@ pub struct MeasureWords<'a> {
     pub entries: &'a str,
     pub init: &'a str,
     pub modules: Vec<&'a str>,
+}
+
+/// `convert KERNEL IN OUT`
+#[derive(Drop)]
+pub struct ConvertWords<'a> {
+    pub kernel: &'a str,
+    /// The name of the policy that is given.
+    pub given: &'a str,
+    pub out: &'a str,
 }

@@ -15,6 +15,8 @@ const RUN: [&str; 6] = ["IMAGE", "POLICY", "DISK", "SCRIPT", "EVENTS", "SAVE"];
 
 const MEASURE: [&str; 6] = ["OUT", "KERNEL", "RAM", "HARTS", "ENTRIES", "INIT"];
 
+const CONVERT: [&str; 3] = ["KERNEL", "IN", "OUT"];
+
 /// All commands, each as a subcommand. Nothing answers with help.
 pub fn program<'a>(alloc: Global) -> Result<Command<'a>, AllocError>
     ensures { IfOk result (λ c. app_of c ≡ whole_app) }
@@ -24,9 +26,10 @@ pub fn program<'a>(alloc: Global) -> Result<Command<'a>, AllocError>
     let run = wanting(alloc, "run", &RUN)?;
     let virtio_run = wanting(alloc, "vrun", &RUN)?;
     let measure = measure(alloc)?;
+    let convert = wanting(alloc, "convert", &CONVERT)?;
     let program = bare(alloc).subcommand(flat)?.subcommand(generated)?;
     let program = program.subcommand(run)?.subcommand(virtio_run)?;
-    program.subcommand(measure)
+    program.subcommand(measure)?.subcommand(convert)
 }
 
 // The words begin with the name of a command.

@@ -1,10 +1,10 @@
 // The words that `clap` found, by their names.
 ghost use Rattle.std.specs.Prelude.{◌≡◌, IfOk, option_map, map};
 ghost use Rattle.clap.specs.Words.{found_of, first_of, rows_of, subcommand_rows_of};
-ghost use Rattle.command_words.specs.Parsing.{flat_found, gen_found, run_found, measure_found, measure_around, modules_found, named_found, split_found};
+ghost use Rattle.command_words.specs.Parsing.{flat_found, gen_found, run_found, measure_found, measure_around, modules_found, convert_found, named_found, split_found};
 ghost use Rattle.command_words.specs.Values.{split_of};
 
-use crate::command::{CommandWords, DiskKind, FlatWords, MeasureWords, RunWords};
+use crate::command::{CommandWords, ConvertWords, DiskKind, FlatWords, MeasureWords, RunWords};
 use clap::ArgMatches;
 use std::alloc::{AllocError, Global};
 
@@ -35,6 +35,7 @@ fn named<'a>(
         "run" => Ok(run(matches, DiskKind::Block)),
         "vrun" => Ok(run(matches, DiskKind::Virtio)),
         "measure" => measure(alloc, matches),
+        "convert" => Ok(convert(matches)),
         _ => Ok(None),
     }
 }
@@ -113,6 +114,15 @@ fn measure_with<'a>(matches: &ArgMatches<'a>, modules: Vec<&'a str>) -> Option<C
         init,
         modules,
     }))
+}
+
+fn convert<'a>(matches: &ArgMatches<'a>) -> Option<CommandWords<'a>>
+    ensures { option_map split_of result ≡ convert_found (rows_of (found_of matches.now)) }
+{
+    let kernel = word(matches, "KERNEL")?;
+    let given = word(matches, "IN")?;
+    let out = word(matches, "OUT")?;
+    Some(CommandWords::Convert(ConvertWords { kernel, given, out }))
 }
 
 fn modules<'a>(alloc: Global, matches: &ArgMatches<'a>) -> Result<Vec<&'a str>, AllocError>

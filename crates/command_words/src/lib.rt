@@ -8,5 +8,5 @@ mod reading;
 #[cfg(test)]
 mod tests;
 
-pub use command::{CommandWords, DiskKind, FlatWords, MeasureWords, RunWords};
+pub use command::{CommandWords, ConvertWords, DiskKind, FlatWords, MeasureWords, RunWords};
 pub use reading::split;

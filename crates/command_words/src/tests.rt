@@ -45,3 +45,20 @@ fn measure_has_its_modules(rt: HostRuntime) {
         _ => assert!(rt; false),
     }
 }
+
+#[test]
+#[tactic(auto, unfolding(crate::specs::Commands::split_words))]
+fn convert_has_its_words(rt: HostRuntime) {
+    let alloc = rt.alloc();
+    let name = word(alloc, "convert").expect(&rt, "memory");
+    let kernel = word(alloc, "k").expect(&rt, "memory");
+    let given = word(alloc, "p").expect(&rt, "memory");
+    let out = word(alloc, "o").expect(&rt, "memory");
+    let words = [name, kernel, given, out];
+    match split(alloc, &words).expect(&rt, "memory") {
+        CommandWords::Convert(words) => {
+            assert!(rt; words.kernel == "k" && words.given == "p" && words.out == "o");
+        }
+        _ => assert!(rt; false),
+    }
+}

@@ -2,6 +2,8 @@
 #![tactic(auto)]
 
 #[cfg(test)]
+mod convert;
+#[cfg(test)]
 mod device_runs;
 #[cfg(test)]
 mod faults;

@@ -38,7 +38,7 @@ new_fit m start have new none =
     let attempts = new.attempts in
     let cleared = new.cleared in
     let printed : length m.parts.journal.printed ≡ 0 = ap (λ (j : Journal). length j.printed) none in
-    record { state = start; stands = new.stands; addresses = have; attempts = omega arith; printed = omega arith }
+    record { state = start; stands = new.stands; addresses = have; attempts = omega arith; few = omega arith; printed = omega arith }
 
 pub flat_fit : (m : Inside) (pages wanted : List ℕ) → IsNew m.parts (flat_start pages wanted) → m.parts.journal ≡ journal_at_boot → IsFit m
 flat_fit m pages wanted new none = new_fit m (flat_start pages wanted) (flat_addressed pages wanted) new none

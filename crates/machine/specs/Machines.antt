@@ -14,11 +14,12 @@ abbrev pub HaveAddresses : List Hart → Type 0
 HaveAddresses [] = Unit {0}
 HaveAddresses (hart ∷ harts) = HasAddress hart.reservation × HaveAddresses harts
 
--- it stands for a state of the reference machine whose reservations have addresses. There were two attempts a turn at most, and
--- no more bytes printed than turns
+-- it stands for a state of the reference machine whose reservations have addresses. There were two attempts a turn at most,
+-- which a word of 64 bits counts, and no more bytes printed than turns
 pub record IsFit (m : Inside) : Type 0 where
   pub state : State
   pub stands : StandsFor m.parts state
   pub addresses : HaveAddresses state.harts
   pub attempts : m.parts.attempts ≤ 2 * m.parts.journal.counts.turns
+  pub few : m.parts.attempts < 2 ^ 64
   pub printed : m.parts.cleared + length m.parts.journal.printed ≤ m.parts.journal.counts.turns

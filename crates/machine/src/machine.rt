@@ -168,7 +168,6 @@ impl Machine {
     pub fn attempts(&self) -> u64
         ensures { result ≡ self.now.attempts }
     {
-        let _counts = self.parts.counts();
         self.parts.row_attempts + self.parts.cpu.count()
     }
 }

@@ -1,15 +1,13 @@
 -- Bound entries that are printed read back.
-use Rattle.std.proofs.Common.{◌≡◌, ℕ, ◌+◌, ◌*◌, ◌^◌, ◌<◌, ◌≤◌, ◌==◌, nat_le, nat_lt, Bool, true, false, ◌&&◌, not, List, [], ◌∷◌, ◌++◌, length, map, Ok, refl, sym, ◌∙◌, ap, zero, suc, get_or, subst, arith, if◌then◌else◌}
+use Rattle.std.proofs.Common.{◌≡◌, ℕ, ◌^◌, ◌<◌, ◌≤◌, ◌==◌, Bool, true, false, not, List, [], ◌∷◌, ◌++◌, length, map, Ok, refl, sym, ◌∙◌, ap, zero, suc, get_or, subst, arith, if◌then◌else◌}
 use Rattle.std.proofs.lemmas.Bool.{and_parts, ne_eqb}
 use Rattle.std.proofs.lemmas.Bool.Decides.{nat_tests}
 use Rattle.std.proofs.lemmas.List.{append_assoc, append-nil, map-append}
 use Rattle.std.proofs.lemmas.List.Elements.{All-head, All-tail}
 use Rattle.std.specs.List.{All, list_any}
 use Rattle.toml.specs.View.{items_of}
-use Rattle.processor.specs.Bytes.{page_size, ram_base}
 use Rattle.processor.specs.Regions.{most_ram_pages}
 use Rattle.sv_types.specs.Policies.{Rules, each_within, entry_within, bound_fits, all_bound, bound_within, numbers_within, lists_within, init_within, modules_count_within, modules_within, rules_within}
-use Rattle.policy.specs.Values.{items_length}
 use Rattle.policy.specs.Bindings.{binding, bindings_of, entries_in, bound_in, is_bound, binding_of_two, binding_of, each_binding}
 use Rattle.policy.specs.declared.binding.Binding.{Binding}
 use Rattle.policy.specs.Printed.{binding_data}

@@ -38,7 +38,7 @@ number_read (negsuc m) n h = cc h
 -- ---- entries and exports
 
 -- entries that are within, and what binds them
-EntriesWithin : (is_plain : Bool) (ram_pages count : ℕ) → List ℕ × List ℕ → Type 0
+abbrev EntriesWithin : (is_plain : Bool) (ram_pages count : ℕ) → List ℕ × List ℕ → Type 0
 EntriesWithin is_plain ram_pages count r =
     (length r.0 ≡ count) × (entries_within r.0 ≡ true) × ((if is_plain then length r.1 == 0 else all_bound ram_pages [] r.0 r.1) ≡ true)
 

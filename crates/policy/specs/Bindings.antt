@@ -1,5 +1,5 @@
 -- Entries of format 2, each a pair with the guest-physical address that it is bound to. This project's own.
-use Rattle.std.specs.Prelude.{ℕ, ◌==◌, Bool, List, ◌∷◌, map, if◌then◌else◌, Ok, Err}
+use Rattle.std.specs.Prelude.{ℕ, ◌==◌, Bool, List, map, if◌then◌else◌, Ok, Err}
 use Rattle.std.specs.List.{list_any, zip}
 use Rattle.toml.specs.Data.{Data, Items, no_items, item}
 use Rattle.sv_types.specs.Policies.{bound_fits}

@@ -1,5 +1,5 @@
 -- Entries that are bound.
-use Rattle.std.proofs.Common.{◌≡◌, ℕ, ◌+◌, ◌<◌, ◌∙◌, Bool, true, false, ◌&&◌, not, ◌==◌, List, [], ◌∷◌, ◌++◌, length, refl, ap, suc}
+use Rattle.std.proofs.Common.{◌≡◌, ℕ, ◌∙◌, Bool, true, false, ◌&&◌, not, ◌==◌, List, [], ◌∷◌, ◌++◌, length, refl, ap, suc}
 use Rattle.std.specs.List.{list_any}
 use Rattle.sv_types.specs.Policies.{all_bound, bound_fits}
 

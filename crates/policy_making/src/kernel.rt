@@ -14,8 +14,9 @@ use std::alloc::{AllocError, Global};
 use std::thread::Threads;
 use sv_types::Digest;
 
+/// The digest of a kernel that was read: the measure of its text. Fails where memory is wanting.
 #[tactic(auto, using(crate::proofs::WholePages::text_is_whole))]
-fn text_digest<R: Threads + Sync>(
+pub fn text_digest<R: Threads + Sync>(
     rt: &R,
     alloc: Global,
     image: &KernelImage,

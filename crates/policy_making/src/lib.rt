@@ -17,7 +17,7 @@ mod refusal;
 pub use entries::{are_entries, entries_of};
 pub use exports::wanted_exports;
 pub use init::span_of;
-pub use kernel::kernel_digest;
+pub use kernel::{kernel_digest, text_digest};
 pub use laws::{law_exports_of_names, law_within_limits};
 pub use module_names::are_module_names;
 pub use modules::made_modules;

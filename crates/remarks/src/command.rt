@@ -1,25 +1,29 @@
 // The words of a command.
 
+use crate::converting::{ConvertNames, convert_files};
 use crate::files::{Again, Found, MostBytes};
 use crate::making::{MakingNames, making_files};
 use crate::running::{RunNames, flat_file, run_files};
 use std::alloc::Global;
+use std::thread::Threads;
 
 /// What there is to say of the file that is refused of a command with these words, beyond the line that refuses it: its
 /// name, where in it, and the fault. None where no file is refused, or one can't be read again.
-pub fn remark<A: Again>(
+pub fn remark<R: Threads + Sync, A: Again>(
+    rt: &R,
     alloc: Global,
     words: &[String],
     files: &A,
     most: &MostBytes,
 ) -> Option<String> {
-    match judged(alloc, words, files, most) {
+    match judged(rt, alloc, words, files, most) {
         Err(Found::Remark(text)) => Some(text),
         Ok(()) | Err(Found::Nothing) => None,
     }
 }
 
-fn judged<A: Again>(
+fn judged<R: Threads + Sync, A: Again>(
+    rt: &R,
     alloc: Global,
     words: &[String],
     files: &A,
@@ -31,6 +35,7 @@ fn judged<A: Again>(
             "run" | "vrun" => run_words(alloc, rest, files, most),
             "live" => live_words(alloc, rest, files, most),
             "measure" => measure_words(alloc, rest, files, most),
+            "convert" => convert_words(rt, alloc, rest, files, most),
             _ => Ok(()),
         },
         [] => Ok(()),
@@ -104,6 +109,25 @@ fn measure_words<A: Again>(
                 modules,
             };
             making_files(alloc, files, most, &names)
+        }
+        _ => Ok(()),
+    }
+}
+
+fn convert_words<R: Threads + Sync, A: Again>(
+    rt: &R,
+    alloc: Global,
+    words: &[String],
+    files: &A,
+    most: &MostBytes,
+) -> Result<(), Found> {
+    match words {
+        [kernel, given, _] => {
+            let names = ConvertNames {
+                kernel: kernel.as_str(),
+                given: given.as_str(),
+            };
+            convert_files(rt, alloc, files, most, &names)
         }
         _ => Ok(()),
     }

@@ -1,6 +1,7 @@
 // Faults in words.
 
 use elf64_reloc::ObjectFault;
+use entry_binding::ConvertFault;
 use policy_limits::PolicyFault;
 use sv_types::{HeaderFault, ImageFault};
 
@@ -66,5 +67,14 @@ pub(crate) fn object_fault(fault: ObjectFault) -> &'static str {
         ObjectFault::Overlap => "two fields overlap",
         ObjectFault::NoText => "no section is executable",
         ObjectFault::Name => "a name that is wanted is empty, too long or no UTF-8 text",
+    }
+}
+
+pub(crate) fn convert_fault(fault: ConvertFault) -> &'static str {
+    match fault {
+        ConvertFault::OtherFormat => "the format isn't 1",
+        ConvertFault::NoPlace => "an entry lies in no executable segment of the kernel",
+        ConvertFault::OtherByte =>
+            "an entry and its place in the kernel differ in their low 12 bits",
     }
 }

@@ -4,6 +4,7 @@
 #![tactic(auto)]
 
 mod command;
+mod converting;
 mod faults;
 mod files;
 mod making;

@@ -51,7 +51,13 @@ pub(crate) fn run_files<A: Again>(
     script_file(alloc, files, most.script, names.script, policy.harts)
 }
 
-fn policy_file<A: Again>(alloc: Global, files: &A, most: usize, name: &str) -> Result<Policy, Found>
+/// A policy's file.
+pub(crate) fn policy_file<A: Again>(
+    alloc: Global,
+    files: &A,
+    most: usize,
+    name: &str,
+) -> Result<Policy, Found>
     ensures { IfOk result (λ policy. IsTrue (rules_within (rules_of policy))) }
 {
     let text = read_part(alloc, files, name, most)?;

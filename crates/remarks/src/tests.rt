@@ -70,6 +70,14 @@ static ROWS: [Row; 10] = [
         said: "good.policy: no ELF file",
     },
     Row {
+        words: &["convert", "one", "bad.policy", "out"],
+        said: "bad.policy: key harts: a number, a length or an address is beyond its limit",
+    },
+    Row {
+        words: &["convert", "one", "good.policy", "out"],
+        said: "one: shorter than an ELF-64 header",
+    },
+    Row {
         words: &["run", "one", "good.policy"],
         said: "",
     },
@@ -95,7 +103,7 @@ fn remarks(rt: HostRuntime) -> Result<(), Fail> {
         for word in row.words {
             words.push(String::from_str(rt.alloc(), word)?)?;
         }
-        let said = remark(rt.alloc(), &words, &Held, &MOST);
+        let said = remark(&rt, rt.alloc(), &words, &Held, &MOST);
         let told = match &said {
             Some(said) => said.as_str(),
             None => "",
@@ -112,7 +120,7 @@ fn too_long(rt: HostRuntime) -> Result<(), Fail> {
         words.push(String::from_str(rt.alloc(), word)?)?;
     }
     let most = MostBytes { flat: 9, ..MOST };
-    let said = remark(rt.alloc(), &words, &Held, &most);
+    let said = remark(&rt, rt.alloc(), &words, &Held, &most);
     let told = match &said {
         Some(said) => said.as_str(),
         None => "",

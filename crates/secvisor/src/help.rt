@@ -7,6 +7,9 @@ How secvisor is used:
 
   secvisor measure OUT KERNEL RAM HARTS ENTRIES INIT MODULES...
       makes the policy of a kernel and its modules, and saves it as OUT
+  secvisor convert KERNEL IN OUT
+      binds each entry of the policy IN to its place in the kernel, and saves the new policy as
+      OUT
   secvisor run IMAGE POLICY DISK SCRIPT EVENTS SAVE
       runs a kernel under a policy
   secvisor vrun IMAGE POLICY DISK SCRIPT EVENTS SAVE
@@ -21,7 +24,7 @@ How secvisor is used:
 
   OUT, SAVE    names that a file is saved under; SAVE may be none
   KERNEL, IMAGE   an ELF image for RV64IMA, linked, at most 64 MiB
-  POLICY       what measure made, or a text like it
+  POLICY, IN   what measure made, or a text like it; POLICY also what convert made
   DISK         the disk's bytes, whole sectors of 512, or none for an empty disk
   SCRIPT       a script of events, none for the harts in turn, or auto:K for a drawn order
   EVENTS       the most events, 0 to 4294967296; with live to 4294950912, beside the keys

@@ -81,7 +81,7 @@ fn explain(rt: &HostRuntime, words: &[String], status: Status) {
         }
         Status::Refused => {
             let files = PlainFiles { rt };
-            if let Some(said) = remark(rt.alloc(), words, &files, &MOST_BYTES) {
+            if let Some(said) = remark(rt, rt.alloc(), words, &files, &MOST_BYTES) {
                 let _written = eprintln!(rt; "secvisor: {said}");
             }
         }

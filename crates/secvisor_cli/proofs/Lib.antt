@@ -6,3 +6,5 @@ pub mod ReadyLemmas
 pub mod StageLemmas
 pub mod TopLemmas
 pub mod MakingLemmas
+pub mod ConvertLemmas
+pub mod ConvertDone

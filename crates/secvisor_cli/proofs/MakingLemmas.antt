@@ -19,7 +19,7 @@ use Rattle.secvisor_cli.specs.declared.ready.Made.{Made}
 use Rattle.secvisor_cli.specs.declared.ready.Stop.{Stop}
 use Rattle.secvisor_cli.specs.declared.ready.Stop.TheVariants.{Memory}
 use Rattle.secvisor_cli.specs.CommandLine.{PolicyWords}
-use Rattle.secvisor_cli.specs.Plans.{Due, Refuse, Make, Plan, End, Judge, Held, most_image_bytes, most_object_bytes, making_fault, made_judged, made_part, Kernel, digest_part, Modules, with_module, module_part, modules_part, making_plan}
+use Rattle.secvisor_cli.specs.Plans.{Due, Refuse, measured, measured_line, Plan, End, Judge, Held, most_image_bytes, most_object_bytes, making_fault, made_judged, made_part, Kernel, digest_part, Modules, with_module, module_part, modules_part, making_plan}
 use Rattle.secvisor_cli.specs.Reading.{FoundAs, Follows, MayFollow}
 use Rattle.secvisor_cli.specs.Ready.{PartRead, stop_of_making, IsMade, Prepares, Passes, MayStage}
 use Rattle.secvisor_cli.proofs.ReadyLemmas.{end_ready, judge_ready, judge_wants, read_ready, stopped_ready}
@@ -181,19 +181,19 @@ pub making_stops : (words : PolicyWords) (kernel : Kernel) (modules : Modules) (
     Refuses (policy_behind words.terms kernel.file kernel.digest modules.names modules.objects) refused → Prepares (making_plan words kernel modules) files files (Err (stop_of_making refused))
 unfolding making_plan
 making_stops words kernel modules files refused why =
-    judged_stops (λ rules. End (Make words.out rules)) (policy_behind words.terms kernel.file kernel.digest modules.names modules.objects) refused files why
+    judged_stops (λ rules. End (measured words.out rules)) (policy_behind words.terms kernel.file kernel.digest modules.names modules.objects) refused files why
 
 pub making_wants : (words : PolicyWords) (kernel : Kernel) (modules : Modules) (files : FilesState) → Prepares (making_plan words kernel modules) files files (Err Memory)
 unfolding making_plan
 making_wants words kernel modules files = judge_wants _ files
 
 pub making_ready : (words : PolicyWords) (kernel : Kernel) (modules : Modules) (files : FilesState) (rules : Rules) (made : Made) →
-    policy_behind words.terms kernel.file kernel.digest modules.names modules.objects ≡ Ok rules → IsMade words.out rules made →
+    policy_behind words.terms kernel.file kernel.digest modules.names modules.objects ≡ Ok rules → IsMade words.out rules (measured_line rules.kernel) made →
     Prepares (making_plan words kernel modules) files files (Ok (Save made))
 unfolding making_plan
 making_ready words kernel modules files rules made is it =
     judge_ready _ files files _
-    (subst (λ (j : Judged Rules). Prepares (made_judged (λ r. End (Make words.out r)) j) files files (Ok (Save made))) (sym is) (end_ready (Make words.out rules) files _ it))
+    (subst (λ (j : Judged Rules). Prepares (made_judged (λ r. End (measured words.out r)) j) files files (Ok (Save made))) (sym is) (end_ready (measured words.out rules) files _ it))
 
 -- the same files under the words' terms
 pub behind_same : (terms wanted : Terms) (file kernel digest : List ℕ) (names given : List (List ℕ)) (objects held : List ObjectFile) → terms ≡ wanted → file ≡ kernel → names ≡ given → objects ≡ held →

@@ -12,10 +12,14 @@ use Rattle.guest_gen.specs.Generated.{generated_image, generated_policy}
 use Rattle.sv_types.specs.Measure.{measure}
 use Rattle.sv_types.specs.Output.{run_status}
 use Rattle.reference.specs.States.{State, has_number}
-use Rattle.sv_types.specs.Kernel.{header_entry, kernel_refusal}
+use Rattle.sv_types.specs.Kernel.{header_entry, kernel_refusal, kernel_segments}
 use Rattle.sv_types.specs.Policies.{Rules}
 use Rattle.policy.specs.Refusals.{Judged}
 use Rattle.policy.specs.Text.{rules_of_text}
+use Rattle.entry_binding.specs.Binding.{bound_rules}
+use Rattle.entry_binding.specs.Faults.{Judged as Bound}
+use Rattle.entry_binding.specs.declared.fault.BindFault.{BindFault}
+use Rattle.entry_binding.specs.declared.fault.BindFault.TheVariants as binding
 use Rattle.reference.specs.Run.{run}
 use Rattle.machine_model.specs.Machine.{Machine}
 use Rattle.machine_model.specs.Reaches.{IsNew}
@@ -42,8 +46,8 @@ use Rattle.secvisor_cli.specs.declared.trouble.Trouble.{Trouble}
 use Rattle.secvisor_cli.specs.declared.trouble.Trouble.TheVariants.{Write, Memory}
 use Rattle.secvisor_cli.specs.Refusals.{refusal_line, refusal_status, takes_memory}
 use Rattle.command_words.specs.declared.command.DiskKind.{DiskKind}
-use Rattle.secvisor_cli.specs.CommandLine.{Command, Flat, Generated, Run, RunWords, Source, Rounds, Auto, Text, MakePolicy, PolicyWords, judged}
-use Rattle.secvisor_cli.specs.Plans.{Due, Refuse, RunFrom, Make, measured_line, Exactly, Saving, policy_saving, saves_due, most_image_bytes, most_object_bytes, making_fault, made_judged, made_part, Kernel, digest_part, Modules, no_modules, with_module, module_part, modules_part, making_plan, measure_plan, Plan, End, bytes_due, status_due, found_plan, flat_plan, command_plan, plan_of, measure_judged, pages_judged, is_whole_pages, flat_events, gen_plan, gen_due, gen_disk, policy_judged, policy_part, part_judged, kernel_part, disk_refusal, disk_part, text_part, script_part, image_measure, boot_judged, boot_plan, image_plan, run_plan, start_with}
+use Rattle.secvisor_cli.specs.CommandLine.{Command, Flat, Generated, Run, RunWords, Source, Rounds, Auto, Text, MakePolicy, PolicyWords, Convert, ConvertWords, judged}
+use Rattle.secvisor_cli.specs.Plans.{Due, Refuse, RunFrom, Make, Exactly, Saving, policy_saving, saves_due, most_image_bytes, most_object_bytes, making_fault, made_judged, made_part, Kernel, digest_part, Modules, no_modules, with_module, module_part, modules_part, making_plan, measure_plan, Plan, End, bytes_due, status_due, found_plan, flat_plan, command_plan, plan_of, measure_judged, pages_judged, is_whole_pages, flat_events, gen_plan, gen_due, gen_disk, policy_judged, policy_part, part_judged, kernel_part, disk_refusal, disk_part, text_part, script_part, image_measure, boot_judged, boot_plan, image_plan, run_plan, start_with, measured, binding_refusal, converted_judged, bound_plan, binding_plan, convert_plan}
 use Rattle.secvisor_cli.specs.Reading.{Follows, MayFollow, MaySave, Saved, SaveBroke, SavesUnder}
 use Rattle.secvisor_cli.specs.Ready.{IsMade, IsReady, IsReadyWhere, IsFresh, MayCarryOut, MaySaveRun, Prepares}
 use Rattle.secvisor_cli.specs.Answers.{Outside, outside, Writes, SavesAndWrites, WritesAndSaves, Answers, AnswersReached, Performs, MeetsSaves, MeetsSavesBehind, Meets, MeetsReached, Headline, BenchAfter, settled}
@@ -64,7 +68,7 @@ wanting_answers (Some due) files sink bench it = absurd it
 pub is_fresh : (due : Due) (ready : Booted) → IsReady due (Ok (Boots ready)) → IsFresh ready
 is_fresh (Refuse refusal) ready it = absurd it
 is_fresh (RunFrom start events save) ready it = it.3
-is_fresh (Make name rules) ready it = absurd it
+is_fresh (Make name rules line) ready it = absurd it
 
 pub may_save_run : (due : Due) (ready : Booted) (files : FilesState) → IsReady due (Ok (Boots ready)) → MaySave (saves_due due) files →
     MaySaveRun ready.machine (first_events ready.events ready.script) (option_copied ready.save) files
@@ -76,13 +80,13 @@ may_save_run (RunFrom start events save) ready files it may = record {
       subst (λ (es : List Event). MaySave (saves_due (RunFrom start es (option_copied ready.save))) files) (sym it.1)
       (subst (λ (name : Option (List ℕ)). MaySave (saves_due (RunFrom start events name)) files) (sym it.2) may);
 }
-may_save_run (Make name rules) ready files it may = absurd it
+may_save_run (Make name rules line) ready files it may = absurd it
 
 pub may_save_made : (due : Due) (made : Made) (files : FilesState) → IsReady due (Ok (Save made)) → MaySave (saves_due due) files →
     IsTrue (files.permits_save ((made.name.now, made.text.items) ∷ []))
 may_save_made (Refuse refusal) made files it may = absurd it
 may_save_made (RunFrom start events save) made files it may = absurd it
-may_save_made (Make name rules) made files it may = subst (λ (n : List ℕ). IsTrue (files.permits_save ((n, made.text.items) ∷ []))) (sym it.name_is) (may made.text.items it.reads)
+may_save_made (Make name rules line) made files it may = subst (λ (n : List ℕ). IsTrue (files.permits_save ((n, made.text.items) ∷ []))) (sym it.name_is) (may made.text.items it.reads)
 
 may_where : (reached : Option Due) (ready : Ready) (files : FilesState) → IsReadyWhere reached (Ok ready) → ((due : Due) → reached ≡ Some due → MaySave (saves_due due) files) →
     MayCarryOut ready files
@@ -106,35 +110,35 @@ booted_answers (Refuse refusal) ready old new result it a = absurd it
 booted_answers (RunFrom start events save) ready old new result it a =
     subst (λ (name : Option (List ℕ)). WritesAndSaves (RunFrom start events name) old new result) it.2
     (subst (λ (es : List Event). WritesAndSaves (RunFrom start es (option_copied ready.save)) old new result) it.1 (a start it.0))
-booted_answers (Make name rules) ready old new result it a = absurd it
+booted_answers (Make name rules line) ready old new result it a = absurd it
 
 -- the text of a policy that was made, as the policy
 abbrev exact_saving : Made → Saving
 exact_saving made = record { name = made.name.now; content = Exactly made.text.items }
 
-saved_as_policy : (name : List ℕ) (rules : Rules) (made : Made) (old new : FilesState) → IsMade name rules made → Saved (exact_saving made) old new → Saved (policy_saving name rules) old new
-saved_as_policy name rules made old new it s =
+saved_as_policy : (name : List ℕ) (rules : Rules) (line : List ℕ) (made : Made) (old new : FilesState) → IsMade name rules line made → Saved (exact_saving made) old new → Saved (policy_saving name rules) old new
+saved_as_policy name rules line made old new it s =
     subst (λ (n : List ℕ). Saved (policy_saving n rules) old new) it.name_is
     (record { bytes = s.bytes; content = subst (λ (text : List ℕ). rules_of_text text ≡ Ok rules) (sym s.content) it.reads; held = s.held; others = s.others; leaves = s.leaves })
 
-broke_as_policy : (name : List ℕ) (rules : Rules) (made : Made) (old new : FilesState) → IsMade name rules made → SaveBroke (exact_saving made) old new → SaveBroke (policy_saving name rules) old new
-broke_as_policy name rules made old new it b =
+broke_as_policy : (name : List ℕ) (rules : Rules) (line : List ℕ) (made : Made) (old new : FilesState) → IsMade name rules line made → SaveBroke (exact_saving made) old new → SaveBroke (policy_saving name rules) old new
+broke_as_policy name rules line made old new it b =
     subst (λ (n : List ℕ). SaveBroke (policy_saving n rules) old new) it.name_is (record { bytes = b.bytes; content = subst (λ (text : List ℕ). rules_of_text text ≡ Ok rules) (sym b.content) it.reads; faults = b.faults; others = b.others; leaves = b.leaves })
 
-as_policy : (name : List ℕ) (rules : Rules) (made : Made) (f0 f1 : FilesState) (old new : SinkState) (result : Result Status Trouble) → IsMade name rules made →
-    SavesAndWrites (exact_saving made) (string_bytes made.line) f0 f1 old new result → SavesAndWrites (policy_saving name rules) (measured_line rules.kernel) f0 f1 old new result
-as_policy name rules made f0 f1 old new (Ok status) it s =
-    (s.0, saved_as_policy name rules made f0 f1 it s.1, s.2 ∙ ap (λ (line : List ℕ). after_taking old line) it.line)
-as_policy name rules made f0 f1 old new (Err Write) it (inl s) = inl (broke_as_policy name rules made f0 f1 it s.0, s.1)
-as_policy name rules made f0 f1 old new (Err Write) it (inr s) =
-    inr (saved_as_policy name rules made f0 f1 it s.0, subst (λ (line : List ℕ). BreaksOff old new line) it.line s.1)
-as_policy name rules made f0 f1 old new (Err Memory) it s = absurd s
+as_policy : (name : List ℕ) (rules : Rules) (line : List ℕ) (made : Made) (f0 f1 : FilesState) (old new : SinkState) (result : Result Status Trouble) → IsMade name rules line made →
+    SavesAndWrites (exact_saving made) (string_bytes made.line) f0 f1 old new result → SavesAndWrites (policy_saving name rules) line f0 f1 old new result
+as_policy name rules line made f0 f1 old new (Ok status) it s =
+    (s.0, saved_as_policy name rules line made f0 f1 it s.1, s.2 ∙ ap (λ (l : List ℕ). after_taking old l) it.line_is)
+as_policy name rules line made f0 f1 old new (Err Write) it (inl s) = inl (broke_as_policy name rules line made f0 f1 it s.0, s.1)
+as_policy name rules line made f0 f1 old new (Err Write) it (inr s) =
+    inr (saved_as_policy name rules line made f0 f1 it s.0, subst (λ (l : List ℕ). BreaksOff old new l) it.line_is s.1)
+as_policy name rules line made f0 f1 old new (Err Memory) it s = absurd s
 
 pub made_answers : (due : Due) (made : Made) (f0 f1 : FilesState) (old new : SinkState) (bench : Option Machine) (result : Result Status Trouble) → IsReady due (Ok (Save made)) →
     SavesAndWrites (exact_saving made) (string_bytes made.line) f0 f1 old new result → Answers due (outside f0 old bench) (outside f1 new bench) result
 made_answers (Refuse refusal) made f0 f1 old new bench result it s = absurd it
 made_answers (RunFrom start events save) made f0 f1 old new bench result it s = absurd it
-made_answers (Make name rules) made f0 f1 old new bench result it s = (as_policy name rules made f0 f1 old new result it s, refl)
+made_answers (Make name rules line) made f0 f1 old new bench result it s = (as_policy name rules line made f0 f1 old new result it s, refl)
 
 pub refused_answers : (reached : Option Due) (given : Refusal) (files : FilesState) (old new : SinkState) (bench : Option Machine) (result : Result Status Trouble) →
     IsReadyWhere reached (Err (Refused given)) → Writes (refusal_status given) (refusal_line given) old new result → (IsErrOf result Memory → IsTrue (takes_memory given)) →
@@ -144,7 +148,7 @@ refused_answers (Some (Refuse refusal)) given files old new bench result it w wa
     subst (λ (r : Refusal). Answers (Refuse r) (outside files old bench) (outside files new bench) result) it
     (record { written = result; writes = w; saves = (refl, refl); wants = wants; quiet = quiet; bench = refl })
 refused_answers (Some (RunFrom start events save)) given files old new bench result it w wants quiet = absurd it
-refused_answers (Some (Make name rules)) given files old new bench result it w wants quiet = absurd it
+refused_answers (Some (Make name rules line)) given files old new bench result it w wants quiet = absurd it
 
 pub performs : (plan : Plan) (f0 f1 f2 : FilesState) (ready : Result Ready Stop) (old new : SinkState) (b0 b1 : Option Machine) (result : Result Status Trouble) → (p : Prepares plan f0 f1 ready) →
     AnswersReached p.reached (outside f1 old b0) (outside f2 new b1) result → Performs plan (outside f0 old b0) (outside f2 new b1) result
@@ -155,7 +159,7 @@ performs plan f0 f1 f2 ready old new b0 b1 result p a = record { reached = p.rea
 bench_under : (P Q : Type 0) (due : Due) (old new : SinkState) (b0 b1 : Option Machine) → (Q → P) → BenchAfter P due old new b0 b1 → BenchAfter Q due old new b0 b1
 bench_under P Q (Refuse refusal) old new b0 b1 back bench = bench
 bench_under P Q (RunFrom start events save) old new b0 b1 back some = (some.0, some.1, runs_under P Q start events some.0 old new back some.2)
-bench_under P Q (Make name rules) old new b0 b1 back bench = bench
+bench_under P Q (Make name rules line) old new b0 b1 back bench = bench
 
 meets_ok : (due : Due) (old new : Outside) (s : Status) → WritesAndSaves due old new (Ok s) → Wrote (status_due due) (bytes_due due) old.sink new.sink (Ok s) →
     MeetsSaves due old new s → Meets due old new s
@@ -211,32 +215,32 @@ meets_first : (due : Due) (old new : Outside) (result : Result Status Trouble) �
     MeetsSavesBehind (saves_due due) (bytes_due due) old new (settled result)
 meets_first due old new result a = meets_saves (saves_due due) (status_due due) (bytes_due due) old new a.written result a.writes a.saves
 
-meets_made : (name : List ℕ) (rules : Rules) (old new : Outside) (result : Result Status Trouble) →
-    SavesAndWrites (policy_saving name rules) (measured_line rules.kernel) old.files new.files old.sink new.sink result → new.bench ≡ old.bench →
-    Meets (Make name rules) old new (settled result)
-meets_made name rules old new (Ok status) a bench =
-    subst (λ (s : Status). Meets (Make name rules) old new s) (sym a.0)
+meets_made : (name : List ℕ) (rules : Rules) (line : List ℕ) (old new : Outside) (result : Result Status Trouble) →
+    SavesAndWrites (policy_saving name rules) line old.files new.files old.sink new.sink result → new.bench ≡ old.bench →
+    Meets (Make name rules line) old new (settled result)
+meets_made name rules line old new (Ok status) a bench =
+    subst (λ (s : Status). Meets (Make name rules line) old new s) (sym a.0)
     (record {
       status = λ _. refl;
       whole = λ _. a.2;
-      prefix = prefix_whole old.sink new.sink (measured_line rules.kernel) a.2;
+      prefix = prefix_whole old.sink new.sink line a.2;
       saves = record { saved = λ _. a.1; broke = λ e. absurd (cc e) };
       no_write = λ _. ap (λ (k : SinkState). k.faults) a.2;
       wants = λ e. absurd (cc e);
       quiet = λ e. absurd (cc e);
       bench = bench;
     })
-meets_made name rules old new (Err Write) (inl a) bench = record {
+meets_made name rules line old new (Err Write) (inl a) bench = record {
   status = λ t. absurd (cc t);
   whole = λ t. absurd (cc t);
-  prefix = subst (λ (k : SinkState). TookPrefix old.sink k (measured_line rules.kernel)) (sym a.1) (prefix_none old.sink (measured_line rules.kernel));
+  prefix = subst (λ (k : SinkState). TookPrefix old.sink k line) (sym a.1) (prefix_none old.sink line);
   saves = record { saved = λ t. absurd (cc t); broke = λ _. inl a };
   no_write = λ never. absurd (never refl);
   wants = λ e. absurd (cc e);
   quiet = λ e. absurd (cc e);
   bench = bench;
 }
-meets_made name rules old new (Err Write) (inr a) bench = record {
+meets_made name rules line old new (Err Write) (inr a) bench = record {
   status = λ t. absurd (cc t);
   whole = λ t. absurd (cc t);
   prefix = a.1.prefix;
@@ -246,12 +250,12 @@ meets_made name rules old new (Err Write) (inr a) bench = record {
   quiet = λ e. absurd (cc e);
   bench = bench;
 }
-meets_made name rules old new (Err Memory) a bench = absurd a
+meets_made name rules line old new (Err Memory) a bench = absurd a
 
 meets : (due : Due) (old new : Outside) (result : Result Status Trouble) → Answers due old new result → Meets due old new (settled result)
 meets (Refuse refusal) old new result a = meets_written (Refuse refusal) old new result a (meets_first (Refuse refusal) old new result a)
 meets (RunFrom start events save) old new result a = meets_written (RunFrom start events save) old new result a (meets_first (RunFrom start events save) old new result a)
-meets (Make name rules) old new result a = meets_made name rules old new result a.0 a.1
+meets (Make name rules line) old new result a = meets_made name rules line old new result a.0 a.1
 
 reached_settled : (reached : Option Due) (old new : Outside) (result : Result Status Trouble) → AnswersReached reached old new result → MeetsReached reached old new (settled result)
 reached_settled None old new (Ok s) a = absurd (cc a.0)
@@ -273,7 +277,7 @@ first_broke saving old new (inr it) = let rose = it.1 in omega arith
 due_faults : (due : Due) (old new : Outside) → MeetsSaves due old new Status.WriteFault → old.sink.faults ≤ new.sink.faults
 due_faults (Refuse refusal) old new m = meets_faults None (refusal_line refusal) old new m
 due_faults (RunFrom start events save) old new m = meets_faults (saves_due (RunFrom start events save)) (bytes_due (RunFrom start events save)) old new m
-due_faults (Make name rules) old new m = first_broke (policy_saving name rules) old new (m.broke refl)
+due_faults (Make name rules line) old new m = first_broke (policy_saving name rules) old new (m.broke refl)
 
 meets_writes : (due : Due) (old new : Outside) (s : Status) → Meets due old new s → (s ≡ Status.WriteFault) ⊎ (s ≢ Status.WriteFault) → old.sink.faults ≤ new.sink.faults
 meets_writes due old new s m (inl is) =
@@ -343,7 +347,7 @@ made_changes saving line f0 f1 old new (Err Memory) a = absurd a
 answer_changes : (due : Due) (old new : Outside) (result : Result Status Trouble) → Answers due old new result → Changes (saves_due due) old.files new.files
 answer_changes (Refuse refusal) old new result a = changes None old.files new.files a.written result a.saves
 answer_changes (RunFrom start events save) old new result a = changes (saves_due (RunFrom start events save)) old.files new.files a.written result a.saves
-answer_changes (Make name rules) old new result a = made_changes (policy_saving name rules) (measured_line rules.kernel) old.files new.files old.sink new.sink result a.0
+answer_changes (Make name rules line) old new result a = made_changes (policy_saving name rules) line old.files new.files old.sink new.sink result a.0
 
 effect_reached : (plan : Plan) (reached : Option Due) (old read : FilesState) (sink : SinkState) (bench : Option Machine) (new : Outside) (result : Result Status Trouble) →
     Follows plan old read reached → AnswersReached reached (outside read sink bench) new result → Effect plan old new.files
@@ -472,10 +476,31 @@ modules_found_faults (name ∷ names) before next never =
     made_part_found_faults Part.Module name most_object_bytes (names_with before.names) (λ file wanted. modules_part names (with_module before name file wanted) next)
     (λ file wanted. modules_found_faults names (with_module before name file wanted) next never)
 
+binding_no_read_fault : (fault : BindFault) → status_due (Refuse (binding_refusal fault)) ≢ Status.ReadFault
+binding_no_read_fault (binding.Convert fault) = λ e. cc e
+binding_no_read_fault (binding.Measure found wanted) = λ e. cc e
+
+converted_no_read_fault : (out : List ℕ) (bound : Bound Rules) → status_due (converted_judged out bound) ≢ Status.ReadFault
+converted_no_read_fault out (Ok rules) = λ e. cc e
+converted_no_read_fault out (Err fault) = binding_no_read_fault fault
+
+bound_found_faults : (words : ConvertWords) (rules : Rules) (file : List ℕ) → HasFoundFaults (bound_plan words rules file)
+unfolding bound_plan
+bound_found_faults words rules file = converted_no_read_fault words.out (bound_rules rules (kernel_segments file))
+
+binding_found_faults : (words : ConvertWords) (rules : Rules) → HasFoundFaults (binding_plan words rules)
+unfolding binding_plan kernel_part found_plan
+binding_found_faults words rules =
+    (λ e. cc e, λ file. part_found_faults FileFault.Image (bound_plan words rules file) (kernel_refusal file rules.ram_pages) (bound_found_faults words rules file))
+
+convert_found_faults : (words : ConvertWords) → HasFoundFaults (convert_plan words)
+unfolding convert_plan policy_part found_plan
+convert_found_faults words = (λ e. cc e, λ bytes. policy_found_faults (binding_plan words) (rules_of_text bytes) (binding_found_faults words))
+
 making_found_faults : (words : PolicyWords) (kernel : Kernel) (modules : Modules) → HasFoundFaults (making_plan words kernel modules)
 unfolding making_plan
 making_found_faults words kernel modules =
-    made_found_faults (λ rules. End (Make words.out rules)) (policy_behind words.terms kernel.file kernel.digest modules.names modules.objects) (λ rules. λ e. cc e)
+    made_found_faults (λ rules. End (measured words.out rules)) (policy_behind words.terms kernel.file kernel.digest modules.names modules.objects) (λ rules. λ e. cc e)
 
 measure_found_faults : (words : PolicyWords) → HasFoundFaults (measure_plan words)
 unfolding measure_plan digest_part
@@ -490,6 +515,7 @@ command_found_faults (Flat file wanted events) = flat_found_faults file wanted e
 command_found_faults (Generated calls) = gen_found_faults calls
 command_found_faults (Run words) = run_found_faults words
 command_found_faults (MakePolicy words) = measure_found_faults words
+command_found_faults (Convert words) = convert_found_faults words
 
 words_found_faults : (asked : Result Command Refusal) → NoReadFault asked → HasFoundFaults (plan_of asked)
 unfolding plan_of

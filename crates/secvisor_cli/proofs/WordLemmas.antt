@@ -16,7 +16,7 @@ use Rattle.policy_making.specs.Ranges.{terms_within}
 use Rattle.policy_making.specs.WordRanges.{are_entries, entries_of, are_module_names, span_of}
 use Rattle.policy_making.proofs.WordsWithin.{entries_count, entries_good, span_of_within}
 use Rattle.command_words.specs.declared.command.DiskKind.{DiskKind}
-use Rattle.command_words.specs.Commands.{Split, RunSplit, MeasureSplit, flat_split, gen_split, run_split, measure_split, split_words}
+use Rattle.command_words.specs.Commands.{Split, RunSplit, MeasureSplit, flat_split, gen_split, run_split, measure_split, convert_split, split_words}
 use Rattle.secvisor_cli.specs.declared.refusal.Refusal.{Refusal}
 use Rattle.secvisor_cli.specs.declared.refusal.Refusal.TheVariants.{OutOfRange}
 use Rattle.secvisor_cli.specs.declared.refusal.Word.{Word}
@@ -57,6 +57,13 @@ not_measure (a ∷ b ∷ c ∷ d ∷ []) few = refl
 not_measure (a ∷ b ∷ c ∷ d ∷ e ∷ []) few = refl
 not_measure (a ∷ b ∷ c ∷ d ∷ e ∷ f ∷ rest) few = absurd (omega arith)
 
+pub not_convert : (words : List (List ℕ)) → length words ≢ 3 → convert_split words ≡ None
+not_convert [] other = refl
+not_convert (a ∷ []) other = refl
+not_convert (a ∷ b ∷ []) other = refl
+not_convert (a ∷ b ∷ c ∷ []) other = absurd (other refl)
+not_convert (a ∷ b ∷ c ∷ d ∷ rest) other = refl
+
 -- ---- words that were judged good
 
 -- a command has them
@@ -82,6 +89,7 @@ command_names (Split.Flat w) good = tt
 command_names (Split.Gen calls) good = tt
 command_names (Split.Run w) good = tt
 command_names (Split.Measure w) good = names_of_making w (terms_judged w.ram w.harts w.entries w.init) good
+command_names (Split.Convert w) good = tt
 
 -- the names of modules are in range
 pub has_module_names : (words : List (List ℕ)) (split : Split) → split_words words ≡ Some split → IsTrue (is_ok (judged words)) → HasModuleNames split
@@ -209,6 +217,7 @@ split_no_read_fault (Some (Split.Run w)) = run_no_read_fault w (source_of w.scri
 split_no_read_fault (Some (Split.Measure w)) =
     making_no_read_fault w (terms_judged w.ram w.harts w.entries w.init)
     (terms_no_read_fault w.init (number_within 16 most_ram_pages w.ram) (number_within 1 4 w.harts) (entries_judged w.entries))
+split_no_read_fault (Some (Split.Convert w)) = tt
 
 pub words_no_read_fault : (words : List (List ℕ)) → NoReadFault (judged words)
 unfolding judged

@@ -14,7 +14,7 @@ use Rattle.outside.specs.Outside.{FilesState, SinkState, after_taking, TookPrefi
 use Rattle.secvisor_cli.specs.declared.trouble.Trouble.{Trouble}
 use Rattle.secvisor_cli.specs.declared.trouble.Trouble.TheVariants.{Write, Memory}
 use Rattle.secvisor_cli.specs.Refusals.{refusal_line, takes_memory}
-use Rattle.secvisor_cli.specs.Plans.{Due, Refuse, RunFrom, Make, measured_line, Saving, saving, policy_saving, Plan, bytes_due, status_due, saves_due}
+use Rattle.secvisor_cli.specs.Plans.{Due, Refuse, RunFrom, Make, Saving, saving, policy_saving, Plan, bytes_due, status_due, saves_due}
 use Rattle.console_run.specs.Console.{is_due}
 use Rattle.secvisor_cli.specs.Reading.{Follows, Saved, SaveBroke}
 use Rattle.console_run.specs.Standing.{Stands, machine_output}
@@ -55,19 +55,19 @@ abbrev pub BenchAfter : (wanting : Type 0) → Due → SinkState → SinkState �
 BenchAfter wanting (Refuse refusal) old new bench_old bench_new = bench_new ≡ bench_old
 BenchAfter wanting (RunFrom start events save) old new bench_old bench_new =
     (machine : Machine) × (bench_new ≡ Some machine) × RunsTo wanting start events machine old new
-BenchAfter wanting (Make name rules) old new bench_old bench_new = bench_new ≡ bench_old
+BenchAfter wanting (Make name rules line) old new bench_old bench_new = bench_new ≡ bench_old
 
 -- words are refused without asking for memory, and a policy that is made is saved without
 abbrev pub may_want : Due → Bool
 may_want (Refuse refusal) = takes_memory refusal
 may_want (RunFrom start events save) = true
-may_want (Make name rules) = false
+may_want (Make name rules line) = false
 
 -- Where memory is wanting for a refusal's line, nothing of it is written. What a run wrote before stands with its bench.
 abbrev pub StaysQuiet : Due → SinkState → SinkState → Type 0
 StaysQuiet (Refuse refusal) old new = new ≡ old
 StaysQuiet (RunFrom start events save) old new = Unit {0}
-StaysQuiet (Make name rules) old new = new ≡ old
+StaysQuiet (Make name rules line) old new = new ≡ old
 
 -- ---- the answer
 
@@ -143,8 +143,8 @@ pub record WritesAndSaves (due : Due) (old new : Outside) (result : Result Statu
 abbrev pub Answers : Due → Outside → Outside → Result Status Trouble → Type 0
 Answers (Refuse refusal) old new result = WritesAndSaves (Refuse refusal) old new result
 Answers (RunFrom start events save) old new result = WritesAndSaves (RunFrom start events save) old new result
-Answers (Make name rules) old new result =
-    SavesAndWrites (policy_saving name rules) (measured_line rules.kernel) old.files new.files old.sink new.sink result
+Answers (Make name rules line) old new result =
+    SavesAndWrites (policy_saving name rules) line old.files new.files old.sink new.sink result
     × (new.bench ≡ old.bench)
 
 -- the same where memory was wanting for a read, or before what is due was ready: nothing happened
@@ -187,7 +187,7 @@ abbrev pub MeetsSaves : Due → Outside → Outside → Status → Type 0
 MeetsSaves (Refuse refusal) old new answer = MeetsSavesBehind None (refusal_line refusal) old new answer
 MeetsSaves (RunFrom start events save) old new answer =
     MeetsSavesBehind (saves_due (RunFrom start events save)) (output (run start events)) old new answer
-MeetsSaves (Make name rules) old new answer = MeetsSavingFirst (policy_saving name rules) old new answer
+MeetsSaves (Make name rules line) old new answer = MeetsSavingFirst (policy_saving name rules) old new answer
 
 -- The status and all bytes that are due, unless a write failed or memory was wanting.
 pub record Meets (due : Due) (old new : Outside) (answer : Status) : Type 0 where

@@ -5,3 +5,4 @@ pub mod Plans
 pub mod Reading
 pub mod Answers
 pub mod Ready
+pub mod Converted

@@ -1,6 +1,7 @@
 -- What is asked, as a plan: which files are read, under which names, in which order, and what is due by what is found in
 -- them. This project's own.
 use Rattle.std.specs.Prelude.{ℕ, ◌%◌, ◌*◌, ◌^◌, List, [], ◌∷◌, ◌++◌, length, map, codes, Bool, ◌&&◌, ◌==◌, nat_lt, if◌then◌else◌, Option, Some, None, Result, Ok, Err}
+use Rattle.std.specs.Fmt.{decimal}
 use Rattle.std.specs.Str.{bytes_eq}
 use Rattle.sv_types.specs.declared.event.Event.{Event}
 use Rattle.sv_types.specs.declared.status.Status.{Status}
@@ -29,12 +30,16 @@ use Rattle.policy_making.specs.declared.refusal.MakingFault.{MakingFault}
 use Rattle.policy_making.specs.declared.refusal.MakingFault.TheVariants as making
 use Rattle.policy_making.specs.Refusals.{Judged as Made}
 use Rattle.policy_making.specs.Making.{ModuleFile, kernel_digest, names_with, policy_behind}
+use Rattle.entry_binding.specs.Binding.{bound_rules}
+use Rattle.entry_binding.specs.Faults.{Judged as Bound}
+use Rattle.entry_binding.specs.declared.fault.BindFault.{BindFault}
+use Rattle.entry_binding.specs.declared.fault.BindFault.TheVariants as binding
 use Rattle.secvisor_cli.specs.declared.file_fault.Part.{Part}
 use Rattle.secvisor_cli.specs.declared.file_fault.FileFault.{FileFault}
 use Rattle.secvisor_cli.specs.declared.refusal.Refusal.{Refusal}
 use Rattle.secvisor_cli.specs.declared.refusal.Refusal.TheVariants.{ReadFault, File, Measure, Entry}
 use Rattle.secvisor_cli.specs.Refusals.{refusal_line, refusal_status}
-use Rattle.secvisor_cli.specs.CommandLine.{Command, Flat, Generated, Run, RunWords, MakePolicy, PolicyWords, Source, Rounds, Auto, Text}
+use Rattle.secvisor_cli.specs.CommandLine.{Command, Flat, Generated, Run, RunWords, MakePolicy, PolicyWords, Convert, ConvertWords, Source, Rounds, Auto, Text}
 
 -- ---- what is due
 
@@ -42,22 +47,33 @@ pub data Due : Type 0 where
   Refuse : Refusal → Due
   -- a run. Behind its report the disk's bytes are saved, where a name for them is given
   RunFrom : (start : State) → (events : List Event) → (save : Option (List ℕ)) → Due
-  -- a policy that was made. It is saved, and then its kernel's digest is printed
-  Make : (name : List ℕ) → (rules : Rules) → Due
+  -- a policy that was made. It is saved, and then a line is printed
+  Make : (name : List ℕ) → (rules : Rules) → (line : List ℕ) → Due
 
 abbrev pub measured_line : List ℕ → List ℕ
 measured_line digest = codes "measured " ++ (hexadecimal_bytes digest ++ line_feed)
+
+-- the number of entries
+abbrev pub converted_line : ℕ → List ℕ
+converted_line entries = codes "converted " ++ (decimal entries ++ line_feed)
+
+-- the line of the kernel's digest
+abbrev pub measured : (name : List ℕ) → Rules → Due
+measured name rules = Make name rules (measured_line rules.kernel)
+
+abbrev pub converted : (name : List ℕ) → Rules → Due
+converted name rules = Make name rules (converted_line (length rules.entries))
 
 -- all bytes that are due, and the status
 abbrev pub bytes_due : Due → List ℕ
 bytes_due (Refuse refusal) = refusal_line refusal
 bytes_due (RunFrom start events save) = output (run start events)
-bytes_due (Make name rules) = measured_line rules.kernel
+bytes_due (Make name rules line) = line
 
 abbrev pub status_due : Due → Status
 status_due (Refuse refusal) = refusal_status refusal
 status_due (RunFrom start events save) = run_status (run start events).journal.verdict
-status_due (Make name rules) = Status.Done
+status_due (Make name rules line) = Status.Done
 
 -- what the saved bytes are
 pub data Content : Type 0 where
@@ -82,7 +98,7 @@ policy_saving name rules = record { name = name; content = PolicyOf rules }
 abbrev pub saves_due : Due → Option Saving
 saves_due (Refuse refusal) = None
 saves_due (RunFrom start events save) = saving (disk_bytes (run start events).devices.disk) save
-saves_due (Make name rules) = Some (policy_saving name rules)
+saves_due (Make name rules line) = Some (policy_saving name rules)
 
 -- ---- plans
 
@@ -281,11 +297,30 @@ modules_part (name ∷ names) before next = module_part name before (λ now. mod
 -- the exports, the modules under them, and the number of all relocated fields
 unfoldable pub making_plan : PolicyWords → Kernel → Modules → Plan
 making_plan words kernel modules =
-    Judge (made_judged (λ rules. End (Make words.out rules)) (policy_behind words.terms kernel.file kernel.digest modules.names modules.objects))
+    Judge (made_judged (λ rules. End (measured words.out rules)) (policy_behind words.terms kernel.file kernel.digest modules.names modules.objects))
 
 unfoldable pub measure_plan : PolicyWords → Plan
 measure_plan words =
     digest_part words.kernel words.terms.ram_pages (λ kernel. modules_part words.modules no_modules (making_plan words kernel))
+
+-- ---- convert: the policy and then the kernel are judged, before entries are bound
+
+abbrev pub binding_refusal : BindFault → Refusal
+binding_refusal (binding.Convert fault) = File (FileFault.Convert fault)
+binding_refusal (binding.Measure found wanted) = Measure found wanted
+
+abbrev pub converted_judged : (out : List ℕ) → Bound Rules → Due
+converted_judged out (Ok rules) = converted out rules
+converted_judged out (Err fault) = Refuse (binding_refusal fault)
+
+unfoldable pub bound_plan : ConvertWords → Rules → (file : List ℕ) → Plan
+bound_plan words rules file = Judge (End (converted_judged words.out (bound_rules rules (kernel_segments file))))
+
+unfoldable pub binding_plan : ConvertWords → Rules → Plan
+binding_plan words rules = image_part rules words.kernel (bound_plan words rules)
+
+unfoldable pub convert_plan : ConvertWords → Plan
+convert_plan words = policy_part words.given (binding_plan words)
 
 -- ---- all commands
 
@@ -294,6 +329,7 @@ command_plan (Flat file wanted events) = flat_plan file wanted events
 command_plan (Generated calls) = gen_plan calls
 command_plan (Run words) = run_plan words
 command_plan (MakePolicy words) = measure_plan words
+command_plan (Convert words) = convert_plan words
 
 -- words that are refused never want memory, and else memory may be wanting for reading them by their names
 unfoldable pub plan_of : Result Command Refusal → Plan

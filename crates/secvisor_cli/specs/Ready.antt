@@ -20,6 +20,8 @@ use Rattle.policy_making.specs.Making.{file_of}
 use Rattle.policy_making.specs.declared.refusal.MakingRefusal.{MakingRefusal}
 use Rattle.policy_making.specs.declared.refusal.MakingRefusal.TheVariants as making
 use Rattle.elf64_load.specs.declared.image.KernelImage.{KernelImage}
+use Rattle.entry_binding.specs.declared.fault.BindRefusal.{BindRefusal}
+use Rattle.entry_binding.specs.declared.fault.BindRefusal.TheVariants as binding
 use Rattle.machine.specs.Boot.{IsImageOf}
 use Rattle.outside.specs.Outside.{FilesState, after_asking}
 use Rattle.machine.specs.declared.boot.BootRefusal.{BootRefusal}
@@ -35,7 +37,7 @@ use Rattle.secvisor_cli.specs.declared.making.MeasuredKernel.{MeasuredKernel}
 use Rattle.secvisor_cli.specs.declared.making.WantingModules.{WantingModules}
 use Rattle.secvisor_cli.specs.declared.ready.Stop.{Stop}
 use Rattle.secvisor_cli.specs.declared.ready.Stop.TheVariants.{Refused, Memory}
-use Rattle.secvisor_cli.specs.Plans.{Due, Refuse, RunFrom, Make, measured_line, making_fault, Kernel, Modules, saves_due, Plan, Found, Faulty, Missing, Longer, Held}
+use Rattle.secvisor_cli.specs.Plans.{Due, Refuse, RunFrom, Make, making_fault, binding_refusal, Kernel, Modules, saves_due, Plan, Found, Faulty, Missing, Longer, Held}
 use Rattle.secvisor_cli.specs.Reading.{Follows, FoundAs, MayFollow, MaySave}
 use Rattle.console_run.specs.Standing.{HasState}
 
@@ -63,6 +65,11 @@ abbrev pub stop_of_making : MakingRefusal → Stop
 stop_of_making (making.Fault fault) = Refused (File (making_fault fault))
 stop_of_making making.Memory = Memory
 
+-- a policy whose entries aren't bound
+abbrev pub stop_of_binding : BindRefusal → Stop
+stop_of_binding (binding.Fault fault) = Refused (binding_refusal fault)
+stop_of_binding binding.Memory = Memory
+
 -- a machine that has made no event, and the events that it is to make
 pub record IsFresh (ready : Booted) : Type 0 where
   pub events : ready.events ≤ 2 ^ 32
@@ -76,10 +83,10 @@ DrawsFrom number (Run booted) = booted.script ≡ Schedule.Auto booted.machine.r
 DrawsFrom number (Save made) = ⊥
 
 -- a text that reads as the policy, under its name, and the line that is printed behind it
-pub record IsMade (name : List ℕ) (rules : Rules) (made : Made) : Type 0 where
+pub record IsMade (name : List ℕ) (rules : Rules) (line : List ℕ) (made : Made) : Type 0 where
   pub name_is : made.name.now ≡ name
   pub reads : rules_of_text made.text.items ≡ Ok rules
-  pub line : string_bytes made.line ≡ measured_line rules.kernel
+  pub line_is : string_bytes made.line ≡ line
 
 -- the machine starts somewhere, and the disk of its run may be saved
 pub record MaySaveRun (machine : Machine) (events : List Event) (save : Option (List ℕ)) (files : FilesState) : Type 0 where
@@ -92,12 +99,12 @@ abbrev pub IsReady : Due → Result Ready Stop → Type 0
 IsReady (RunFrom start events save) (Ok (Run booted)) =
     IsNew booted.machine start × (first_events booted.events booted.script ≡ events) × (option_copied booted.save ≡ save) × IsFresh booted
 IsReady (RunFrom start events save) (Ok (Save made)) = ⊥
-IsReady (Make name rules) (Ok (Run booted)) = ⊥
-IsReady (Make name rules) (Ok (Save made)) = IsMade name rules made
+IsReady (Make name rules line) (Ok (Run booted)) = ⊥
+IsReady (Make name rules line) (Ok (Save made)) = IsMade name rules line made
 IsReady (Refuse refusal) (Ok ready) = ⊥
 IsReady (Refuse refusal) (Err (Refused given)) = given ≡ refusal
 IsReady (RunFrom start events save) (Err (Refused given)) = ⊥
-IsReady (Make name rules) (Err (Refused given)) = ⊥
+IsReady (Make name rules line) (Err (Refused given)) = ⊥
 IsReady due (Err Memory) = Unit {0}
 
 -- what is ready is due, and what it saves may be saved

@@ -16,7 +16,8 @@ use Rattle.secvisor_cli.specs.declared.words.Source.TheVariants as named
 use Rattle.secvisor_cli.specs.declared.words.Run.{Run as AskedRun}
 use Rattle.secvisor_cli.specs.declared.words.Terms.{Terms as AskedTerms}
 use Rattle.secvisor_cli.specs.declared.words.MakePolicy.{MakePolicy as AskedPolicy}
-use Rattle.secvisor_cli.specs.CommandLine.{Command, Flat, Generated, Run, RunWords, MakePolicy, PolicyWords, Source, Rounds, Auto, Text}
+use Rattle.secvisor_cli.specs.declared.words.Convert.{Convert as AskedConvert}
+use Rattle.secvisor_cli.specs.CommandLine.{Command, Flat, Generated, Run, RunWords, MakePolicy, PolicyWords, Convert, ConvertWords, Source, Rounds, Auto, Text}
 
 -- where the events come from, by value
 abbrev pub source_value : Named → Source
@@ -47,12 +48,16 @@ policy_value p = record {
   modules = map (λ name. name.now) p.modules.items;
 }
 
+abbrev pub convert_value : AskedConvert → ConvertWords
+convert_value c = record { kernel = c.kernel.now; given = c.given.now; out = c.out.now }
+
 -- the values of the words
 abbrev pub command_of : Asked → Command
 command_of (asked.Flat flat) = Flat flat.file.now flat.wanted flat.events
 command_of (asked.Generated calls) = Generated calls
 command_of (asked.Run run) = Run (run_value run)
 command_of (asked.MakePolicy policy) = MakePolicy (policy_value policy)
+command_of (asked.Convert convert) = Convert (convert_value convert)
 
 -- the command of these values, or the first word that is out of its range
 abbrev pub IsRead : Result Command Refusal → Result Asked Refusal → Type 0
@@ -73,9 +78,11 @@ HasModuleNames (Split.Flat w) = Unit {0}
 HasModuleNames (Split.Gen calls) = Unit {0}
 HasModuleNames (Split.Run w) = Unit {0}
 HasModuleNames (Split.Measure w) = IsTrue (are_module_names w.modules)
+HasModuleNames (Split.Convert w) = Unit {0}
 
 abbrev pub IsInRange : Asked → Type 0
 IsInRange (asked.Flat flat) = flat.events ≤ most_events
 IsInRange (asked.Generated calls) = (1 ≤ calls) × (calls ≤ most_calls)
 IsInRange (asked.Run run) = run.events ≤ most_events
 IsInRange (asked.MakePolicy policy) = IsTrue (terms_within (terms_value policy.terms)) × IsTrue (are_module_names (map (λ name. name.now) policy.modules.items))
+IsInRange (asked.Convert convert) = Unit {0}

@@ -20,6 +20,7 @@ ghost use Rattle.secvisor_cli.specs.Ready.{Prepares, IsReady, IsFresh, MayCarryO
 ghost use Rattle.secvisor_cli.specs.Answers.{outside, Writes, Answers, SavesAndWrites, Performs, RunsTo, RunsAndSaves, Headline, settled};
 ghost use Rattle.outside.specs.Outside.{MayWrite};
 
+use crate::converting::prepare_converted;
 use crate::flat::prepare_flat;
 use crate::generated::prepare_gen;
 use crate::image_run::prepare_run;
@@ -157,6 +158,7 @@ fn prepare_command<'a, R: Threads + Sync, F: Files>(
         Command::Generated(calls) => prepare_gen(rt, alloc, *calls),
         Command::Run(run) => prepare_run(rt, alloc, run, files),
         Command::MakePolicy(policy) => prepare_policy(rt, alloc, policy, files),
+        Command::Convert(convert) => prepare_converted(rt, alloc, convert, files),
     }
 }
 

@@ -3,6 +3,7 @@ ghost use Rattle.std.specs.Prelude.{◌≡◌};
 ghost use Rattle.secvisor_cli.specs.Refusals.{fault_number, fault_part, part_name};
 
 use elf64_reloc::ObjectFault;
+use entry_binding::ConvertFault;
 use policy_limits::PolicyFault;
 use sv_types::ImageFault;
 
@@ -15,6 +16,8 @@ pub enum Part {
     Disk,
     Script,
     Module,
+    /// A policy and a kernel, of which a policy with bound entries is made.
+    Convert,
 }
 
 /// What is wrong with a file.
@@ -34,6 +37,8 @@ pub enum FileFault {
     DiskSectors,
     /// The first line of a script that is none.
     ScriptLine { line: u64 },
+    /// Why a policy's entries aren't bound.
+    Convert(ConvertFault),
 }
 
 impl Part {
@@ -48,6 +53,7 @@ impl Part {
             Part::Disk => "disk",
             Part::Script => "script",
             Part::Module => "module",
+            Part::Convert => "convert",
         }
     }
 }
@@ -65,6 +71,7 @@ impl FileFault {
             FileFault::Module(_) => Part::Module,
             FileFault::DiskSectors => Part::Disk,
             FileFault::ScriptLine { line: _ } => Part::Script,
+            FileFault::Convert(_) => Part::Convert,
         }
     }
 
@@ -79,6 +86,7 @@ impl FileFault {
             FileFault::Image(fault) => u64::from(fault.number()),
             FileFault::Module(fault) => u64::from(fault.number()),
             FileFault::ScriptLine { line } => line,
+            FileFault::Convert(fault) => u64::from(fault.number()),
         }
     }
 }

@@ -1,7 +1,7 @@
 // The judgement of the words by their places, which takes no memory.
 ghost use Rattle.std.specs.Prelude.{map, string_bytes, ◌≡◌};
 ghost use Rattle.std.specs.List.{list_any};
-ghost use Rattle.command_words.specs.Commands.{has_dash, shape_split, named_split, flat_split, gen_split, run_split, measure_split};
+ghost use Rattle.command_words.specs.Commands.{has_dash, shape_split, named_split, flat_split, gen_split, run_split, measure_split, convert_split};
 ghost use Rattle.secvisor_cli.specs.CommandLine.{judged, split_judged};
 ghost use Rattle.secvisor_cli.specs.Words.{IsJudged};
 
@@ -57,6 +57,7 @@ fn judge_named(name: &str, rest: &[String]) -> Result<(), Refusal>
         "run" => judge_run(DiskKind::Block, rest),
         "vrun" => judge_run(DiskKind::Virtio, rest),
         "measure" => judge_measure(rest),
+        "convert" => judge_convert(rest),
         _ => Err(Refusal::NoCommand),
     }
 }
@@ -132,6 +133,16 @@ fn judge_measure(rest: &[String]) -> Result<(), Refusal>
                 })
             }
         }
+        _ => Err(Refusal::NoCommand),
+    }
+}
+
+#[tactic(auto, using(crate::proofs::WordLemmas::not_convert))]
+fn judge_convert(rest: &[String]) -> Result<(), Refusal>
+    ensures { IsJudged (split_judged (convert_split (map string_bytes rest.now))) result }
+{
+    match rest {
+        [_, _, _] => Ok(()),
         _ => Err(Refusal::NoCommand),
     }
 }

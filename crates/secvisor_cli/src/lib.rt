@@ -3,11 +3,13 @@
 #![tactic(auto)]
 
 mod answer;
+mod converting;
 mod file_fault;
 mod flat;
 mod generated;
 mod image_run;
 mod judgement;
+mod laws;
 mod making;
 mod parts;
 mod ready;
@@ -24,6 +26,7 @@ pub use image_run::{
     MOST_DISK_BYTES, MOST_IMAGE_BYTES, MOST_POLICY_BYTES, MOST_SCRIPT_BYTES, prepare_run,
 };
 pub use judgement::any_has_dash;
+pub use laws::law_converted;
 pub use making::MOST_OBJECT_BYTES;
 pub use ready::{Booted, Made, Ready, Stop};
 pub use refusal::{Refusal, Word};

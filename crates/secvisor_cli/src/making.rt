@@ -165,7 +165,7 @@ fn settings(alloc: Global, terms: &Terms<'_>) -> Result<Settings, AllocError>
 
 fn made<'a>(alloc: Global, name: &'a str, policy: &Policy) -> Result<Made<'a>, AllocError>
     requires within { rules_within (rules_of policy.now) ≡ true }
-    ensures { IfOk result (IsMade name.now (rules_of policy.now)) }
+    ensures { IfOk result (IsMade name.now (rules_of policy.now) (measured_line policy.now.kernel)) }
 {
     let text = policy::write(alloc, policy)?;
     let line = measured_line(alloc, &policy.kernel)?;

@@ -1,11 +1,12 @@
 // What is made ready of a command, before anything is written.
 ghost use Rattle.std.specs.Prelude.{◌≡◌};
 ghost use Rattle.secvisor_cli.specs.declared.ready.Stop.TheVariants.{Refused, Memory};
-ghost use Rattle.secvisor_cli.specs.Plans.{making_fault};
-ghost use Rattle.secvisor_cli.specs.Ready.{stop_of, stop_of_making};
+ghost use Rattle.secvisor_cli.specs.Plans.{binding_refusal, making_fault};
+ghost use Rattle.secvisor_cli.specs.Ready.{stop_of, stop_of_binding, stop_of_making};
 
 use crate::file_fault::FileFault;
 use crate::refusal::Refusal;
+use entry_binding::{BindFault, BindRefusal};
 use machine::{BootRefusal, Machine};
 use policy_limits::PolicyFault;
 use policy_making::{MakingFault, MakingRefusal};
@@ -89,6 +90,29 @@ impl From<MakingRefusal> for Stop {
                 fault: file_fault(fault),
             }),
             MakingRefusal::Memory => Stop::Memory,
+        }
+    }
+}
+
+// Why a policy's entries aren't bound.
+fn binding_refusal(fault: BindFault) -> Refusal
+    ensures { result ≡ binding_refusal fault }
+{
+    match fault {
+        BindFault::Convert(fault) => Refusal::File {
+            fault: FileFault::Convert(fault),
+        },
+        BindFault::Measure { found, wanted } => Refusal::Measure { found, wanted },
+    }
+}
+
+impl From<BindRefusal> for Stop {
+    ghost from_gives = { λ r s. s ≡ stop_of_binding r };
+
+    fn from(refusal: BindRefusal) -> Self {
+        match refusal {
+            BindRefusal::Fault(fault) => Stop::Refused(binding_refusal(fault)),
+            BindRefusal::Memory => Stop::Memory,
         }
     }
 }

@@ -1,7 +1,7 @@
 use Rattle.std.proofs.Common.{◌≡◌, ◌∙◌, ap, ap₂}
 use Rattle.std.proofs.lemmas.Result.{IfOk-weaker}
 use Rattle.clap.specs.Words.{App, app_of, with_subcommand}
-use Rattle.command_words.specs.Parsing.{bare_app, flat_app, gen_app, run_app, vrun_app}
+use Rattle.command_words.specs.Parsing.{bare_app, flat_app, gen_app, run_app, vrun_app, measure_app}
 use Rattle.command_words.proofs.commands.program.Goals as goal
 
 abbrev flat_known : App
@@ -16,6 +16,9 @@ run_known = with_subcommand gen_known run_app.top
 abbrev vrun_known : App
 vrun_known = with_subcommand run_known vrun_app.top
 
+abbrev measure_known : App
+measure_known = with_subcommand vrun_known measure_app.top
+
 pub returns : goal.returns
 returns c =
     let one : app_of c.in_ok-subcommand.field-0 ≡ flat_known =
@@ -26,6 +29,8 @@ returns c =
     c.in_ok-subcommand-2.ensures.shape c.in_ok-run.ensures.local ∙ ap₂ with_subcommand two (ap (λ (a : App). a.top) c.in_ok-run.ensures.app) in
     let four : app_of c.in_ok-program-2.program ≡ vrun_known =
     c.in_ok-program-2.ensures.shape c.in_ok-virtio_run.ensures.local ∙ ap₂ with_subcommand three (ap (λ (a : App). a.top) c.in_ok-virtio_run.ensures.app) in
-    IfOk-weaker c.subcommand-5.result _ _
-    (λ whole adds. adds.shape c.in_ok-measure.ensures.local ∙ ap₂ with_subcommand four (ap (λ (a : App). a.top) c.in_ok-measure.ensures.app))
-    c.subcommand-5.ensures
+    let five : app_of c.in_ok-subcommand-3.field-0 ≡ measure_known =
+    c.in_ok-subcommand-3.ensures.shape c.in_ok-measure.ensures.local ∙ ap₂ with_subcommand four (ap (λ (a : App). a.top) c.in_ok-measure.ensures.app) in
+    IfOk-weaker c.subcommand-6.result _ _
+    (λ whole adds. adds.shape c.in_ok-convert.ensures.local ∙ ap₂ with_subcommand five (ap (λ (a : App). a.top) c.in_ok-convert.ensures.app))
+    c.subcommand-6.ensures

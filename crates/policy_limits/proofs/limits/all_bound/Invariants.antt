@@ -1,4 +1,4 @@
-use Rattle.std.proofs.Common.{◌≡◌, [], length, take, drop}
+use Rattle.std.proofs.Common.{◌≡◌, [], take, drop}
 use Rattle.sv_types.specs.Policies.{all_bound}
 use Rattle.policy_limits.proofs.limits.all_bound.Given as goal
 

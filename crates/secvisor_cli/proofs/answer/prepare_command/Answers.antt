@@ -27,3 +27,8 @@ pub prepare_policy-requires-clause-permitted : goal.prepare_policy-requires-clau
 unfolding command_plan
 prepare_policy-requires-clause-permitted g c κs within =
     subst (λ (command : Asked). MayFollow (command_plan (command_of command)) (g.F.Files.state c.args.files.now)) c.in-MakePolicy.is c.requires.permitted
+
+pub prepare_converted-requires-clause-permitted : goal.prepare_converted-requires-clause-permitted
+unfolding command_plan
+prepare_converted-requires-clause-permitted g c κs within =
+    subst (λ (command : Asked). MayFollow (command_plan (command_of command)) (g.F.Files.state c.args.files.now)) c.in-Convert.is c.requires.permitted

@@ -1,4 +1,4 @@
-use Rattle.std.proofs.Common.{◌≡◌, sym, ap, subst, arith}
+use Rattle.std.proofs.Common.{◌≡◌, ◌<◌, sym, ap, subst, arith}
 use Rattle.machine_model.specs.Machine.{Machine}
 use Rattle.machine_model.specs.StandsFor.{StandsFor}
 use Rattle.machine.proofs.Stepped.{Bounded, cleared_stands, cleared_bounded}
@@ -19,5 +19,6 @@ invariant_of-self c =
       stands = subst (λ (m : Machine). StandsFor m c.self.invariant.state) (sym c.clear_printed.ensures) (cleared_stands c.self.inside.parts c.self.invariant.state c.self.invariant.stands);
       addresses = c.self.invariant.addresses;
       attempts = bounded.attempts;
+      few = subst (λ (m : Machine). m.attempts < 18446744073709551616) (sym c.clear_printed.ensures) c.self.invariant.few;
       printed = bounded.printed;
     }

@@ -1,4 +1,5 @@
-use Rattle.std.proofs.Common.{subst}
+use Rattle.std.proofs.Common.{subst, sym, arith}
+use Rattle.reference.specs.Counting.{CountsAtMost}
 use Rattle.reference.specs.Run.{step}
 use Rattle.machine_model.specs.Machine.{Machine}
 use Rattle.machine_model.specs.StandsFor.{StandsFor}
@@ -19,11 +20,15 @@ pub invariant_of-self : goal.invariant_of-self
 invariant_of-self c =
     let bounded = step_bounded c.self.inside.parts c.step.new.self c.self.invariant.state c.args.event c.self.invariant.stands c.step.ensures.step
     (record { attempts = c.self.invariant.attempts; printed = c.self.invariant.printed }) in
+    let stands = step_stands c.self.inside.parts c.step.new.self c.args.event c.step.ensures.step c.self.invariant.state c.self.invariant.stands in
+    let counts = step_counts 9223372036854775806 c.self.inside.parts c.step.new.self c.self.invariant.state c.args.event c.self.invariant.stands stands
+    (subst (λ (m : Machine). CountsAtMost 9223372036854775806 m.journal.counts) (sym c.self.view_is) c.requires.counts) in
     record {
       state = step c.self.invariant.state c.args.event;
-      stands = step_stands c.self.inside.parts c.step.new.self c.args.event c.step.ensures.step c.self.invariant.state c.self.invariant.stands;
+      stands = stands;
       addresses = step_addressed c.self.invariant.state c.args.event c.self.invariant.stands.unseen_is_right.region.most c.self.invariant.addresses;
       attempts = bounded.attempts;
+      few = let two = bounded.attempts in let turns = counts.turns in omega (arith, two, turns);
       printed = bounded.printed;
     }
 

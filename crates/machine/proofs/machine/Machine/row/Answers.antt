@@ -1,4 +1,4 @@
-use Rattle.std.proofs.Common.{◌+◌, ℕ, subst, sym}
+use Rattle.std.proofs.Common.{◌+◌, ◌-◌, ℕ, subst, sym, arith}
 use Rattle.sv_types.specs.declared.event.Event.{Event}
 use Rattle.reference.specs.Counting.{CountsAtMost}
 use Rattle.machine_model.specs.Machine.{Machine}
@@ -20,11 +20,14 @@ invariant_of-self c =
     makes_rowed c.row.result c.self.inside.parts c.row.new.self c.in-Turn.which c.self.invariant.state may
     c.self.invariant.stands c.self.invariant.addresses
     (record { attempts = c.self.invariant.attempts; printed = c.self.invariant.printed }) c.row.ensures.makes in
+    let counts = rowed.counts (9223372036854775807 - c.args.most)
+    (subst (λ (m : Machine). CountsAtMost (9223372036854775807 - c.args.most) m.journal.counts) (sym c.self.view_is) c.requires.counts) in
     record {
       state = rowed.state;
       stands = rowed.stands;
       addresses = rowed.addresses;
       attempts = rowed.bounded.attempts;
+      few = let two = rowed.bounded.attempts in let turns = counts.turns in omega (arith, two, turns, c.row.ensures.most, c.requires.few);
       printed = rowed.bounded.printed;
     }
 

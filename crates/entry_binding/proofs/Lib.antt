@@ -1,0 +1,5 @@
+pub mod Searches
+pub mod TextPlaces
+pub mod SegmentPlaces
+pub mod OnceEach
+pub mod BoundWithin

@@ -1,0 +1,26 @@
+-- Why a policy's entries aren't bound: the first fault, or want of memory.
+use Rattle.std.specs.Prelude.{◌≡◌, ◌≢◌, ℕ, Result, Ok, Err}
+use Rattle.entry_binding.specs.declared.fault.ConvertFault.{ConvertFault}
+use Rattle.entry_binding.specs.declared.fault.ConvertFault.TheVariants.{OtherFormat, NoPlace, OtherByte}
+use Rattle.entry_binding.specs.declared.fault.BindFault.{BindFault}
+use Rattle.entry_binding.specs.declared.fault.BindRefusal.{BindRefusal}
+use Rattle.entry_binding.specs.declared.fault.BindRefusal.TheVariants.{Fault, Memory}
+
+-- the number in the line that refuses
+abbrev pub convert_fault_number : ConvertFault → ℕ
+convert_fault_number OtherFormat = 1
+convert_fault_number NoPlace = 2
+convert_fault_number OtherByte = 3
+
+-- a value, or the fault for which no entry is bound
+abbrev pub Judged : Type 0 → Type 0
+Judged A = Result A BindFault
+
+-- what was judged, as it is answered
+abbrev pub answered : {A : Type 0} → Judged A → Result A BindRefusal
+answered (Ok a) = Ok a
+answered (Err fault) = Err (Fault fault)
+
+-- this is why, unless it is want of memory
+abbrev pub Refuses : {A : Type 0} → Judged A → BindRefusal → Type 0
+Refuses judged refusal = refusal ≢ Memory → answered judged ≡ Err refusal

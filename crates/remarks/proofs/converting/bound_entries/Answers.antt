@@ -1,0 +1,6 @@
+use Rattle.remarks.proofs.converting.bound_entries.Goals as goal
+
+pub bind-requires : goal.bind-requires
+bind-requires g c = record {
+  kernel = record { file = c.args.image.now; accepted = c.in-Ok.ensures.accepted; segments = c.in-Ok.ensures.segments };
+}
