@@ -10,16 +10,11 @@ ghost use Rattle.entry_binding.specs.InText.{AreOfKernel, EndInWords};
 use crate::entries::{bound_places, each_once};
 use crate::fault::{BindFault, BindRefusal, ConvertFault};
 use elf64_load::{KernelImage, Segment};
+use policy_limits::{BOUND_FORMAT, PLAIN_FORMAT};
 use policy_making::text_digest;
 use std::alloc::Global;
 use std::thread::Threads;
 use sv_types::{Digest, Policy};
-
-/// The format in which no entry is bound.
-const UNBOUND_FORMAT: u8 = 1;
-
-/// The format in which each entry is bound.
-const BOUND_FORMAT: u8 = 2;
 
 #[tactic(auto, unfolding(crate::specs::Binding::entries_bound))]
 fn bind_entries(alloc: Global, policy: Policy, segments: &[Segment]) -> Result<Policy, BindRefusal>
@@ -73,10 +68,8 @@ pub fn bind<R: Threads + Sync>(
     ensures within { rules_within (rules_of policy) ≡ true → IfOk result (λ made. rules_within (rules_of made) ≡ true) }
     ensures refused { IfErr result (Refuses (spec.bound_rules (rules_of policy) (segments_of image.now))) }
 {
-    if policy.format != UNBOUND_FORMAT {
-        return Err(BindRefusal::Fault(BindFault::Convert(
-            ConvertFault::OtherFormat,
-        )));
+    if policy.format != PLAIN_FORMAT {
+        return Err(BindRefusal::Fault(BindFault::Convert(ConvertFault::OtherFormat)));
     }
     let found = text_digest(rt, alloc, image)?;
     bind_measured(alloc, policy, &image.segments, found)

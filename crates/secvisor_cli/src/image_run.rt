@@ -115,7 +115,11 @@ fn boot_with<R: Threads + Sync>(
 // ---- the policy
 
 /// The policy of a name, which is judged.
-pub(crate) fn read_policy<F: Files>(alloc: Global, name: &str, files: &mut F) -> Result<Policy, Stop>
+pub(crate) fn read_policy<F: Files>(
+    alloc: Global,
+    name: &str,
+    files: &mut F,
+) -> Result<Policy, Stop>
     requires permitted { MayStage (policy_part name.now) (F.state files.old) }
     requires reads { (F.state files.old).read_faults < 2 ^ 64 - 1 }
     ensures stage { Staged (policy_part name.now) rules_of (F.state files.old) (F.state files.new) result }
@@ -141,7 +145,11 @@ fn judge_policy(alloc: Global, text: &[u8]) -> Result<Policy, Stop>
 // ---- the image
 
 /// The image of a kernel's file.
-pub(crate) fn judge_kernel(alloc: Global, file: &[u8], ram_pages: u32) -> Result<KernelImage<'_>, Stop>
+pub(crate) fn judge_kernel(
+    alloc: Global,
+    file: &[u8],
+    ram_pages: u32,
+) -> Result<KernelImage<'_>, Stop>
     ensures { IsKernel file.now ram_pages result }
 {
     match read_kernel(alloc, file, ram_pages) {
