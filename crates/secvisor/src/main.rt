@@ -18,6 +18,7 @@ use std::alloc::AllocError;
 use std::env;
 use std::io::{ErrorKind, IsTerminal};
 use std::process::ExitCode;
+use std::thread::Threads;
 
 // Every end has its status, want of memory before the program is called too.
 fn main(rt: HostRuntime) -> ExitCode {
@@ -49,7 +50,7 @@ fn main(rt: HostRuntime) -> ExitCode {
         secvisor(&rt, rt.alloc(), &words, &mut files, &mut out, &mut bench)
     };
     if rt.stderr().is_terminal() {
-        explain(&rt, &words, status);
+        explain(&rt, &rt, &words, status);
     }
     ExitCode::from(status.number())
 }
@@ -74,14 +75,14 @@ const MOST_BYTES: MostBytes = MostBytes {
 
 // To a person at a terminal alone, so that other programs read of a refusal the one line. A failure changes nothing.
 #[inline(never)]
-fn explain(rt: &HostRuntime, words: &[String], status: Status) {
+fn explain<R: Threads + Sync>(rt: &HostRuntime, threads: &R, words: &[String], status: Status) {
     match status {
         Status::Usage => {
             let _written = eprint!(rt; "{}", help());
         }
         Status::Refused => {
             let files = PlainFiles { rt };
-            if let Some(said) = remark(rt, rt.alloc(), words, &files, &MOST_BYTES) {
+            if let Some(said) = remark(threads, rt.alloc(), words, &files, &MOST_BYTES) {
                 let _written = eprintln!(rt; "secvisor: {said}");
             }
         }
