@@ -1,7 +1,9 @@
 #!/usr/bin/env bash
 # build.sh [FOLDER]: makes every guest of guests.txt in FOLDER (out/ beside this file) from nothing but Debian 12's packages:
-#   apt-get install linux-source-6.1 gcc-riscv64-linux-gnu make gcc flex bison bc xz-utils patch python3
-# FOLDER then holds NAME.elf, the modules, disk and script, and measure.txt with the words of each `measure`.
+#   apt-get install linux-source-6.1 gcc-riscv64-linux-gnu linux-libc-dev-riscv64-cross make gcc flex bison bc xz-utils patch \
+#     python3 e2fsprogs
+# FOLDER then holds NAME.elf, the modules, disks and script, and measure.txt with the words of each `measure`. There are two
+# kernels: `kernel`, and `kernel_virtio` with the drivers of a virtio disk, which the guests under `vrun` have.
 # JOBS is how many compilers run at once.
 set -euo pipefail
 here=$(cd "$(dirname "$0")" && pwd)
@@ -9,6 +11,7 @@ tools=$here/../tools
 out=$(realpath -m "${1:-$here/out}")
 source=$out/linux-source-6.1
 kernel=$out/kernel
+kernel_virtio=$out/kernel_virtio
 modules=$out/modules
 
 # Each call of the kernel's make needs these, one without them would configure it for this machine. The last five make
@@ -18,8 +21,9 @@ export LOCALVERSION="" KBUILD_BUILD_USER=secvisor KBUILD_BUILD_HOST=guest KBUILD
 export KBUILD_BUILD_TIMESTAMP='2026-01-01 00:00:00 UTC'
 export PYTHONPATH=$tools PYTHONDONTWRITEBYTECODE=1
 
+# kernel_make FOLDER WORDS...: the kernel's make, for the kernel in FOLDER.
 kernel_make() {
-    make -s -j"${JOBS:-$(nproc)}" -C "$source" O="$kernel" "$@"
+    make -s -j"${JOBS:-$(nproc)}" -C "$source" O="$1" "${@:2}"
 }
 
 unpack() {
@@ -30,20 +34,24 @@ unpack() {
     touch "$source/.patched"
 }
 
+# configure FOLDER OPTIONS...: a kernel with the options of these files.
 configure() {
-    mkdir -p "$kernel"
-    kernel_make tinyconfig > /dev/null
-    cat "$here/kernel.config" >> "$kernel/.config"
-    kernel_make olddefconfig 2> /dev/null
-    local option
-    grep -E '^(# )?CONFIG_' "$here/kernel.config" | while read -r option; do
-        grep -qxF "$option" "$kernel/.config" || { echo "not held: $option"; exit 1; }
+    local folder=$1 option
+    mkdir -p "$folder"
+    kernel_make "$folder" tinyconfig > /dev/null
+    cat "${@:2}" >> "$folder/.config"
+    kernel_make "$folder" olddefconfig 2> /dev/null
+    grep -hE '^(# )?CONFIG_' "${@:2}" | while read -r option; do
+        grep -qxF "$option" "$folder/.config" || { echo "not held: $option"; exit 1; }
     done
 }
 
-build_kernel() {
-    kernel_make vmlinux modules_prepare
+build_kernels() {
+    configure "$kernel" "$here/kernel.config"
+    kernel_make "$kernel" vmlinux modules_prepare
     cp "$kernel/vmlinux.symvers" "$kernel/Module.symvers"
+    configure "$kernel_virtio" "$here/kernel.config" "$here/virtio.config"
+    kernel_make "$kernel_virtio" vmlinux
 }
 
 build_modules() {
@@ -53,7 +61,7 @@ build_modules() {
     cp "$source"/fs/binfmt_script.c "$source"/lib/crypto/aes.c "$modules"
     (cd "$source/lib" && cp bch.c crc-itu-t.c crc7.c percpu_test.c test_hexdump.c test_uuid.c "$modules")
     # Warnings name their file, in data whose length stands in the text: without the folder's name.
-    kernel_make M="$modules" CONFIG_AUTOFS_FS=m CONFIG_CONFIGFS_FS=m KCFLAGS="-fmacro-prefix-map=$modules/=" modules
+    kernel_make "$kernel" M="$modules" CONFIG_AUTOFS_FS=m CONFIG_CONFIGFS_FS=m KCFLAGS="-fmacro-prefix-map=$modules/=" modules
     cp "$modules"/*.ko "$modules"/*/*.ko "$out"
     "$here/change_module.py" "$out/hello.ko" byte "$out/hello_byte.ko"
     "$here/change_module.py" "$out/hello.ko" call "$out/hello_call.ko"
@@ -68,9 +76,27 @@ build_others() {
     "$tools/make_keys.py" 52000000 8000000 "${keys[@]}" > "$out/keys.script"
 }
 
-# guest NAME HARTS COMMANDS APPROVED OTHERS: its image and its line of measure.txt.
+# A small file system with one file, the same bytes each time.
+build_disk() {
+    local disk=$out/virtio.disk id=53656356-6973-4f72-8000-000000000001
+    export E2FSPROGS_FAKE_TIME=1767225600
+    echo "a file of the host" > "$out/greeting"
+    chmod 644 "$out/greeting"
+    rm -f "$disk"
+    truncate -s 64K "$disk"
+    mke2fs -q -F -t ext2 -b 1024 -N 16 -m 0 -I 128 -O none,filetype -U "$id" -E hash_seed="$id",nodiscard "$disk" 2> /dev/null
+    debugfs -w -R "write $out/greeting greeting" "$disk" > /dev/null 2>&1
+}
+
+# guest NAME HARTS COMMANDS APPROVED OTHERS COMMAND: its image for COMMAND, run or vrun, and its line of measure.txt.
 guest() {
     local name=$1 harts=$2 commands=$3 approved=${4//,/ } others=${5//,/ } files=() objects=() names=() module
+    local image=$kernel programs=("bin/attack=$out/attack" "etc/symbols=$out/symbols") virtio=()
+    if [ "$6" = vrun ]; then
+        image=$kernel_virtio
+        programs=("bin/mount=$out/mount" "bin/umount=$out/mount")
+        virtio=(--virtio)
+    fi
     [ "$approved" = - ] && approved=
     [ "$others" = - ] && others=
     for module in $approved; do
@@ -80,25 +106,25 @@ guest() {
     for module in $approved $others; do
         files+=("lib/$module.ko=$out/$module.ko")
     done
-    "$tools/make_archive.py" "$out/$name.cpio" "init=$out/shell" "bin/attack=$out/attack" "etc/symbols=$out/symbols" \
-        "etc/commands=$here/commands/$commands" "${files[@]}"
+    "$tools/make_archive.py" "$out/$name.cpio" "init=$out/shell" "${programs[@]}" "etc/commands=$here/commands/$commands" \
+        "${files[@]}"
     local list
     list=$(IFS=,; echo "${names[*]}")
     local words
-    words=$("$tools/make_image.py" "$kernel/vmlinux" "$out/$name.elf" --virtual 0xffffffff80000000 --physical 0x80200000 \
+    words=$("$tools/make_image.py" "$image/vmlinux" "$out/$name.elf" --virtual 0xffffffff80000000 --physical 0x80200000 \
         --trap-entry handle_exception --hart-entry secondary_start_sbi --init __init_text_begin __init_text_end \
-        --harts "$harts" --archive "$out/$name.cpio" \
+        --harts "$harts" --archive "$out/$name.cpio" "${virtio[@]}" \
         --arguments "earlycon=sbi console=hvc0 lpj=100000${list:+ module.secvisor=$list}")
     echo "$name.policy measure $name.policy $name.elf $words ${objects[*]}" | sed 's/ $//' >> "$out/measure.txt"
 }
 
 mkdir -p "$out"
 unpack
-configure
-build_kernel
+build_kernels
 build_modules
 build_others
+build_disk
 : > "$out/measure.txt"
-grep -v '^#' "$here/guests.txt" | while read -r name harts commands approved others _; do
-    guest "$name" "$harts" "$commands" "$approved" "$others"
+grep -v '^#' "$here/guests.txt" | while read -r name harts commands approved others _ _ command; do
+    guest "$name" "$harts" "$commands" "$approved" "$others" "$command"
 done

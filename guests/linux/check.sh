@@ -26,9 +26,9 @@ wanted() {
     [ "$guests" = '  ' ] || [[ $guests == *" $1 "* ]]
 }
 
-# What a run's notes and verdict say, without numbers that another build changes.
+# What a run's notes, verdict and saved disk say, without numbers that another build changes.
 kinds() {
-    sed -nE '/^(demote|denied gpa|load|unload|retire|verdict) ?/ {
+    sed -nE '/^(demote|denied gpa|load|unload|retire|verdict|file system:|written:) ?/ {
         s/ (hart|turn) [0-9]+//g
         s/0x[0-9a-f]{16}/ADDRESS/g
         p
@@ -43,9 +43,21 @@ measure_all() {
     done < measure.txt
 }
 
+# run_guest COMMAND NAME DISK SCRIPT: its output; the disk of a guest under `vrun` is saved, and looked at.
 run_guest() {
-    "$program" run "$1.elf" "$1.policy" "$2" "$3" 2000000000 none
-    echo "status $?"
+    local saved=none status
+    [ "$1" = vrun ] && saved=$2.saved
+    "$program" "$1" "$2.elf" "$2.policy" "$3" "$4" 2000000000 "$saved"
+    status=$?
+    [ "$saved" = none ] || look_at "$saved"
+    echo "status $status"
+}
+
+# look_at DISK: whether its file system is sound, and the file that Linux wrote.
+look_at() {
+    e2fsck -fn "$1" > /dev/null 2>&1
+    echo "file system: $?"
+    echo "written: $(debugfs -R 'cat written' "$1" 2> /dev/null)"
 }
 
 # compare NAME: the output against the stored one, in the way that was asked for.
@@ -58,10 +70,10 @@ compare() {
 }
 
 run_all() {
-    while read -r name _ _ _ _ disk script; do
+    while read -r name _ _ _ _ disk script command; do
         wanted "$name" || continue
-        run_guest "$name" "$disk" "$script" > "$name.txt"
-        if compare "$name"; then echo "$name: $(tail -2 "$name.txt" | head -1)"; else fail "$name differs"; fi
+        run_guest "$command" "$name" "$disk" "$script" > "$name.txt"
+        if compare "$name"; then echo "$name: $(grep ^verdict "$name.txt")"; else fail "$name differs"; fi
     done < <(grep -v '^#' "$here/guests.txt")
 }
 
@@ -69,7 +81,7 @@ run_seeds() {
     for name in boot four; do
         wanted "$name" || continue
         for seed in 2 3 4 5; do
-            run_guest "$name" none "auto:$seed" > "$name.$seed.txt"
+            run_guest run "$name" none "auto:$seed" > "$name.$seed.txt"
             if tail -2 "$name.$seed.txt" | tr '\n' ' ' | grep -qx 'verdict shutdown status 0 '; then
                 echo "$name auto:$seed: $(grep ^turns "$name.$seed.txt")"
             else

@@ -3,6 +3,9 @@ import struct
 
 MAGIC, VERSION, COMPATIBLE_VERSION = 0xd00dfeed, 17, 16
 BEGIN_NODE, END_NODE, PROPERTY, END = 1, 2, 3, 9
+VIRTIO, VIRTIO_LENGTH = 0x10001000, 0x1000
+EXTERNAL_INTERRUPT = 9
+FIRST_HART = 1      # the name of its interrupts in the tree
 
 
 def flattened(tree):
@@ -54,8 +57,9 @@ def wide(*numbers):
     return [cell for number in numbers for cell in (number >> 32, number & 0xffffffff)]
 
 
-def machine(harts, begin, length, arguments, archive=None):
-    """The tree of a machine with RAM from `begin` on; `archive` is the begin and end of the initial file system.
+def machine(harts, begin, length, arguments, archive=None, virtio=False):
+    """The tree of a machine with RAM from `begin` on; `archive` is the begin and end of the initial file system, and with
+    `virtio` the disk is a virtio device, whose line is the external interrupt of the first hart.
 
     Time runs at 10 MHz: at about one tick a turn, a hart then spends a few turns in a hundred on its timer at 100 Hz."""
     chosen = {'bootargs': arguments}
@@ -68,9 +72,16 @@ def machine(harts, begin, length, arguments, archive=None):
             'riscv,isa': 'rv64ima', 'mmu-type': 'riscv,sv39',
             'interrupt-controller': {'#interrupt-cells': 1, 'interrupt-controller': None, 'compatible': 'riscv,cpu-intc'},
         }
-    return {
+    tree = {
         '#address-cells': 2, '#size-cells': 2, 'compatible': 'secvisor,guest', 'model': 'SecVisor guest',
         'chosen': chosen,
         'memory@%x' % begin: {'device_type': 'memory', 'reg': wide(begin, length)},
         'cpus': processors,
     }
+    if virtio:
+        processors['cpu@0']['interrupt-controller']['phandle'] = FIRST_HART
+        tree['virtio_mmio@%x' % VIRTIO] = {
+            'compatible': 'virtio,mmio', 'reg': wide(VIRTIO, VIRTIO_LENGTH),
+            'interrupts-extended': [FIRST_HART, EXTERNAL_INTERRUPT],
+        }
+    return tree

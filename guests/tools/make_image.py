@@ -37,9 +37,10 @@ def overlap(segments):
     return None
 
 
-def layout(kernel, shift, start, ram, harts, arguments, archive):
+def layout(kernel, shift, start, archive, words):
     """The segments of the image."""
-    tree_at = RAM + ram * PAGE - TREE_ROOM
+    end = RAM + words.ram * PAGE
+    tree_at = end - TREE_ROOM
     archive_at = (tree_at - len(archive)) & -PAGE
     place = (archive_at, archive_at + len(archive)) if archive else None
     code = stub(tree_at, start)
@@ -47,8 +48,8 @@ def layout(kernel, shift, start, ram, harts, arguments, archive):
     if archive:
         segments.append(data_segment(archive_at, archive))
     begin = min(segment.physical for segment in segments[1:]) & -PAGE
-    tree = device_tree.flattened(device_tree.machine(harts, begin, RAM + ram * PAGE - begin, arguments, place))
-    return segments + [data_segment(tree_at, tree)]
+    tree = device_tree.machine(words.harts, begin, end - begin, words.arguments, place, words.virtio)
+    return segments + [data_segment(tree_at, device_tree.flattened(tree))]
 
 
 def policy_words(values, shift, words):
@@ -79,6 +80,7 @@ def parsed(arguments):
     words.add_argument('--harts', type=int, default=1)
     words.add_argument('--archive', help='the initial file system')
     words.add_argument('--arguments', default='', help='the command line of the kernel')
+    words.add_argument('--virtio', action='store_true', help='the tree names a virtio disk, for `vrun`')
     return words.parse_args(arguments)
 
 
@@ -94,7 +96,7 @@ def main(arguments):
     symbols = elf_file.exports(kernel.symbols())
     values = {symbol.name: symbol.value for symbol in symbols}
     start = (values[words.start] if words.start else kernel.entry) + shift
-    segments = layout(kernel, shift, start, words.ram, words.harts, words.arguments, archive)
+    segments = layout(kernel, shift, start, archive, words)
     both = overlap(segments)
     if both:
         sys.exit('segments at 0x%x and 0x%x touch: more RAM?' % (both[0].physical, both[1].physical))

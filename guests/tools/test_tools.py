@@ -100,10 +100,20 @@ class Trees(unittest.TestCase):
         self.assertEqual(tree['chosen']['linux,initrd-end'], [0, 0x83fe1234])
         self.assertEqual([tree['cpus']['cpu@%d' % hart]['reg'] for hart in range(4)], [0, 1, 2, 3])
         self.assertNotIn('cpu@1', device_tree.machine(1, LOW, PAGE, '')['cpus'])
+        self.assertFalse([name for name in tree if name.startswith('virtio')])
+
+    def test_a_virtio_disk_has_the_external_interrupt_of_the_first_hart(self):
+        tree = device_tree.machine(2, LOW, PAGE, '', virtio=True)
+        disk = tree['virtio_mmio@10001000']
+        self.assertEqual((disk['compatible'], disk['reg']), ('virtio,mmio', [0, 0x10001000, 0, 0x1000]))
+        self.assertEqual(disk['interrupts-extended'],
+                         [tree['cpus']['cpu@0']['interrupt-controller']['phandle'], 9])
+        self.assertNotIn('phandle', tree['cpus']['cpu@1']['interrupt-controller'])
 
     @unittest.skipUnless(shutil.which('dtc'), 'without dtc')
     def test_the_compiler_of_trees_makes_the_same_bytes_of_it(self):
-        flat = device_tree.flattened(device_tree.machine(4, LOW, 0x3e00000, 'console=hvc0', (0x83fe0000, 0x83fe1234)))
+        place = (0x83fe0000, 0x83fe1234)
+        flat = device_tree.flattened(device_tree.machine(4, LOW, 0x3e00000, 'console=hvc0', place, virtio=True))
         source = subprocess.run(['dtc', '-q', '-I', 'dtb', '-O', 'dts'], input=flat, capture_output=True, check=True).stdout
         again = subprocess.run(['dtc', '-q', '-I', 'dts', '-O', 'dtb'], input=source, capture_output=True, check=True).stdout
         self.assertEqual(again, flat)

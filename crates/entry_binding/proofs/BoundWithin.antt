@@ -1,21 +1,21 @@
 -- A policy whose entries are bound is within its limits, and they are bound to the kernel's text.
-use Rattle.std.proofs.Common.{◌≡◌, ◌∙◌, ℕ, ◌+◌, ◌≤◌, ◌&&◌, not, Bool, true, false, List, [], ◌∷◌, ◌++◌, length, Ok, Err, None, All, refl, ap, sym, subst, arith, cond, append_assoc, append-nil}
-use Rattle.std.specs.Prelude.{Result, IfOk, ◌==◌}
-use Rattle.std.specs.List.{list_all, list_any}
+use Rattle.std.proofs.Common.{◌≡◌, ◌∙◌, ℕ, ◌≤◌, ◌&&◌, Bool, true, false, List, [], ◌∷◌, ◌++◌, length, Ok, Err, None, All, refl, sym, subst, arith, cond, append_assoc, append-nil}
+use Rattle.std.specs.Prelude.{◌==◌}
+use Rattle.std.specs.List.{list_all}
 use Rattle.std.specs.Str.{bytes_eq}
 use Rattle.std.proofs.lemmas.Bool.{and_parts}
 use Rattle.std.proofs.lemmas.Bool.Decides.{nat_tests}
 use Rattle.processor.specs.Regions.{most_ram_pages}
 use Rattle.sv_types.specs.Kernel.{LoadedSegment, kernel_refusal, kernel_segments, text_of}
 use Rattle.sv_types.specs.Measure.{measure}
-use Rattle.sv_types.specs.Policies.{Rules, all_bound, bound_fits, bound_within, each_within, entries_count_within, entries_within, exports_count_within, exports_within, format_within, harts_within, init_within, lists_within, modules_count_within, modules_within, numbers_within, ram_pages_within, rules_within}
+use Rattle.sv_types.specs.Policies.{Rules, all_bound, bound_within, each_within, entries_count_within, entries_within, exports_count_within, exports_within, format_within, harts_within, init_within, lists_within, modules_count_within, modules_within, numbers_within, ram_pages_within, rules_within}
 use Rattle.elf64_sections.specs.Judged.{◌>>=◌, each}
 use Rattle.entry_binding.specs.Binding.{bound_place, bound_places, bound_rules, each_once, entries_bound, measured_bound, with_places}
 use Rattle.entry_binding.specs.Faults.{Judged}
 use Rattle.entry_binding.specs.InText.{is_in_text}
 use Rattle.entry_binding.specs.declared.fault.BindFault.TheVariants.{Convert, Measure}
 use Rattle.entry_binding.specs.declared.fault.ConvertFault.TheVariants.{OtherFormat}
-use Rattle.entry_binding.proofs.OnceEach.{AreOnce, is_new, once, some_once}
+use Rattle.entry_binding.proofs.OnceEach.{is_new, once, some_once}
 use Rattle.entry_binding.proofs.TextPlaces.{IsBoundWell, IsInRam, accepted_in_ram, bound_well, well_fits, well_in_text}
 
 -- each entry with its place
