@@ -20,6 +20,8 @@ export ARCH=riscv CROSS_COMPILE=riscv64-linux-gnu-
 export LOCALVERSION="" KBUILD_BUILD_USER=secvisor KBUILD_BUILD_HOST=guest KBUILD_BUILD_VERSION=1
 export KBUILD_BUILD_TIMESTAMP='2026-01-01 00:00:00 UTC'
 export PYTHONPATH=$tools PYTHONDONTWRITEBYTECODE=1
+# Makers of file systems lie where a user's shell doesn't look.
+export PATH=$PATH:/usr/sbin
 
 # kernel_make FOLDER WORDS...: the kernel's make, for the kernel in FOLDER.
 kernel_make() {

@@ -8,6 +8,8 @@
 #   write  stores policies, words and output
 set -uo pipefail
 here=$(cd "$(dirname "$0")" && pwd)
+# e2fsck and debugfs lie where a user's shell doesn't look.
+export PATH=$PATH:/usr/sbin
 expected=$here/expected
 what=${1:-}
 program=$(command -v "${2:-secvisor}") || { echo "no program ${2:-secvisor}"; exit 2; }

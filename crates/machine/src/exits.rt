@@ -41,6 +41,7 @@ pub(crate) fn is_again(answer: ExitAnswer) -> bool
 impl Parts {
     // What an exit of a hart is answered.
     #[tactic(auto, using(hart_answers::proofs::Hosts::hosts_length))]
+    #[inline(always)]
     pub(crate) fn exit_answer(&self, which: u8, exit: &Exit) -> ExitAnswer
         requires hart { MayTrap self.now.harts which }
         ensures answer { result ≡ asked_of self.now which exit.now }
@@ -207,6 +208,7 @@ impl Parts {
 
     // Does what an exit is answered.
     #[tactic(auto, unfolding(machine_model::specs::HostExits::host_exit_answered))]
+    #[inline(always)]
     pub(crate) fn carry_out(&mut self, which: u8, answer: ExitAnswer)
         requires hart { MayTrap self.old.harts which }
         requires may { MayServe self.old }

@@ -103,12 +103,16 @@ fn count_row(journal: &mut Journal, made: u64)
 }
 
 impl Parts {
-    // An interrupt is due for a hart.
+    // An interrupt is due for a hart. Where none is enabled, no wire is read.
+    #[tactic(auto, unfolding(processor::specs::HypervisorRegisters::pending, processor::specs::HypervisorRegisters::is_taken))]
     fn is_interrupted(&self, which: u8) -> bool
         requires there { which < length self.now.harts }
         ensures { result ≡ false → pending (hart_in self.now.harts which).core.hregs (hart_in self.now.harts which).core.csrs (lines_at self.now.devices which) ≡ None }
     {
         let seat = &self.seats[which as usize];
+        if seat.hart.core.csrs.hie == 0 {
+            return false;
+        }
         pending(
             &seat.hart.core.csrs,
             seat.side.registers(),

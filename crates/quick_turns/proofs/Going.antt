@@ -2,12 +2,11 @@
 use Rattle.std.proofs.Common.{◌≡◌, ℕ, zero, ◌+◌, ◌/◌, ◌%◌, ◌^◌, ◌<◌, ◌≤◌, List, length, refl, sym, ◌∙◌, ap, subst, add-one, arith, inl, inr, false}
 use Rattle.std.specs.Prelude.{Option, None}
 use Rattle.std.proofs.lemmas.Bool.Decides.{eqb_tells}
-use Rattle.processor.specs.HypervisorRegisters.{HypervisorRegisters}
 use Rattle.processor.specs.SecondStage.{WalksApart}
 use Rattle.processor.specs.CachedWalks.{CacheAgrees, FilledUnder}
 use Rattle.processor.specs.Hardware.{Core}
 use Rattle.processor.specs.HardwareAttempt.{attempt, after_pending, after_fetch, after_word}
-use Rattle.processor.specs.HypervisorRegisters.{pending}
+use Rattle.processor.specs.HypervisorRegisters.{HypervisorRegisters, pending, is_taken}
 use Rattle.processor.specs.Regions.{Region, host_word, write_host, IsHostPlace}
 use Rattle.processor.specs.declared.cached.CacheLine.{CacheLine}
 use Rattle.processor.specs.declared.hregs.HRegs.{HRegs}
@@ -17,7 +16,7 @@ use Rattle.gstage_cache.specs.Fills.{nothing_filled, filled_further}
 use Rattle.hart.specs.Cores.{core_of}
 use Rattle.hart.specs.Conditions.{MayAttempt, Walked}
 use Rattle.hart.specs.declared.hart.Core.{Core as Kept}
-use Rattle.quick_turns.specs.Quick.{Leads, GoesOn}
+use Rattle.quick_turns.specs.Quick.{Leads, GoesOn, SameCourse}
 use Rattle.quick_turns.proofs.Kept.{apart_kept, write_size}
 use Rattle.quick_turns.proofs.Windows.{leads_core, leads_kept, no_window}
 use Rattle.quick_turns.specs.declared.window.Window.{Window}
@@ -29,16 +28,35 @@ pub attempt_at : (r : Region) (core : Core) (lines : Lines) (page host : ℕ) �
 unfolding attempt after_pending after_fetch
 attempt_at r core lines page host none small at leads = rw (none, leads.fetches core.pc small at) refl
 
+-- ---- the registers that decide
+
+pub course_stays : (c : HypervisorRegisters) → SameCourse c c
+course_stays c = record { status = refl; first = refl; enabled = refl; raised = refl }
+
+pub course_further : (a b c : HypervisorRegisters) → SameCourse a b → SameCourse b c → SameCourse a c
+course_further a b c one more = record {
+  status = more.status ∙ one.status;
+  first = more.first ∙ one.first;
+  enabled = more.enabled ∙ one.enabled;
+  raised = more.raised ∙ one.raised;
+}
+
+-- the same interrupt is taken
+pub pending_kept : (regs : HRegs) (before after : HypervisorRegisters) (lines : Lines) → SameCourse before after
+    → pending regs after lines ≡ pending regs before lines
+unfolding pending is_taken
+pending_kept regs before after lines same = rw (same.status, same.enabled, same.raised) refl
+
 pub goes_nowhere : (r : Region) (core : Kept) (regs : HRegs) (lines : List (Option CacheLine)) → MayAttempt r core regs lines → core.reservation ≡ None
     → GoesOn r r core core regs lines lines
 goes_nowhere r core regs lines ready free =
-    record { ready = ready; csrs = refl; free = free; tables = refl; ram = refl; filled = nothing_filled r.tables regs.hgatp lines }
+    record { ready = ready; course = course_stays core.csrs; free = free; tables = refl; ram = refl; filled = nothing_filled r.tables regs.hgatp lines }
 
 pub goes_further : (a b c : Region) (first second third : Kept) (regs : HRegs) (x y z : List (Option CacheLine)) → GoesOn a b first second regs x y
     → GoesOn b c second third regs y z → GoesOn a c first third regs x z
 goes_further a b c first second third regs x y z so_far more = record {
   ready = more.ready;
-  csrs = more.csrs ∙ so_far.csrs;
+  course = course_further first.csrs second.csrs third.csrs so_far.course more.course;
   free = more.free;
   tables = more.tables ∙ so_far.tables;
   ram = more.ram ∙ so_far.ram;
@@ -52,16 +70,21 @@ Row n r core after next = (lines : Lines) → pending core.hregs core.csrs lines
 pub row_starts : (r : Region) (core : Core) → Row zero r core r core
 row_starts r core = λ lines none. (refl, refl)
 
-pub row_more : (n : ℕ) (r mid after : Region) (core before next : Core) → before.csrs ≡ core.csrs → before.hregs ≡ core.hregs → Row n r core mid before
+still_none : (core before : Core) (lines : Lines) → SameCourse core.csrs before.csrs → before.hregs ≡ core.hregs
+    → pending core.hregs core.csrs lines ≡ None → pending before.hregs before.csrs lines ≡ None
+still_none core before lines course hregs none =
+    ap (λ (h : HRegs). pending h before.csrs lines) hregs ∙ pending_kept core.hregs core.csrs before.csrs lines course ∙ none
+
+pub row_more : (n : ℕ) (r mid after : Region) (core before next : Core) → SameCourse core.csrs before.csrs → before.hregs ≡ core.hregs → Row n r core mid before
     → ((lines : Lines) → pending before.hregs before.csrs lines ≡ None → Carries (attempt mid before lines) after next) → Row (n + 1) r core after next
-row_more n r mid after core before next csrs hregs row one = λ lines none.
-    let still : pending before.hregs before.csrs lines ≡ None = rw (csrs, hregs) none in
+row_more n r mid after core before next course hregs row one = λ lines none.
+    let still = still_none core before lines course hregs none in
     subst (λ (k : ℕ). RetiresThrough k r core lines after next) (sym (add-one n)) (mid, (before, (row lines none, one lines still)))
 
-pub row_stays : (n : ℕ) (r mid after : Region) (core before next : Core) → before.csrs ≡ core.csrs → before.hregs ≡ core.hregs → Row n r core mid before
+pub row_stays : (n : ℕ) (r mid after : Region) (core before next : Core) → SameCourse core.csrs before.csrs → before.hregs ≡ core.hregs → Row n r core mid before
     → ((lines : Lines) → pending before.hregs before.csrs lines ≡ None → (after ≡ mid) × (next ≡ before)) → Row n r core after next
-row_stays n r mid after core before next csrs hregs row same = λ lines none.
-    let still : pending before.hregs before.csrs lines ≡ None = rw (csrs, hregs) none in
+row_stays n r mid after core before next course hregs row same = λ lines none.
+    let still = still_none core before lines course hregs none in
     let both = same lines still in
     subst (λ (x : Region). RetiresThrough n r core lines x next) (sym both.0)
     (subst (λ (x : Core). RetiresThrough n r core lines mid x) (sym both.1) (row lines none))
@@ -71,7 +94,7 @@ pub goes_behind : (r after : Region) (core next : Kept) (regs : HRegs) (x y z : 
     → GoesOn r after core next regs y z → GoesOn r after core next regs x z
 goes_behind r after core next regs x y z walked on = record {
   ready = on.ready;
-  csrs = on.csrs;
+  course = on.course;
   free = on.free;
   tables = on.tables;
   ram = on.ram;
@@ -84,19 +107,19 @@ goes_behind r after core next regs x y z walked on = record {
 abbrev pub low : Lines
 low = record { time = 0; external = false; timer = false }
 
-pub stayed_leads : (r after : Region) (core next : Kept) (regs : HRegs) (page host : ℕ) → after ≡ r → next.csrs ≡ core.csrs → Leads r (core_of core regs) page host
+pub stayed_leads : (r after : Region) (core next : Kept) (regs : HRegs) (page host : ℕ) → after ≡ r → SameCourse core.csrs next.csrs → Leads r (core_of core regs) page host
     → Leads after (core_of next regs) page host
-stayed_leads r after core next regs page host same csrs leads =
-    subst (λ (x : Region). Leads x (core_of next regs) page host) (sym same) (leads_core r (core_of core regs) (core_of next regs) page host csrs refl leads)
+stayed_leads r after core next regs page host same course leads =
+    subst (λ (x : Region). Leads x (core_of next regs) page host) (sym same) (leads_core r (core_of core regs) (core_of next regs) page host course refl leads)
 
 pub stored_leads : (r after : Region) (core next : Kept) (regs : HRegs) (x y : List (Option CacheLine)) (here there : Window) → GoesOn r after core next regs x y
     → WalksApart r regs.hgatp → Leads r (core_of core regs) here.page here.host → (next.csrs.vsatp / 2 ^ 60 ≡ 0 → there ≡ here)
     → ((next.csrs.vsatp / 2 ^ 60 ≡ 0 → ⊥) → there ≡ record { page = 18446744073709551615; host = 0 }) → Leads after (core_of next regs) there.page there.host
 stored_leads r after core next regs x y here there on apart leads bare paged = elim (eqb_tells (next.csrs.vsatp / 2 ^ 60) 0) [
   | inl same ↦
-      let was : core.csrs.vsatp / 2 ^ 60 ≡ 0 = ap (λ (c : HypervisorRegisters). c.vsatp / 2 ^ 60) (sym on.csrs) ∙ same.1 in
+      let was : core.csrs.vsatp / 2 ^ 60 ≡ 0 = ap (λ (n : ℕ). n / 2 ^ 60) (sym on.course.first) ∙ same.1 in
       subst (λ (w : Window). Leads after (core_of next regs) w.page w.host) (sym (bare same.1))
-      (leads_core after (core_of core regs) (core_of next regs) here.page here.host on.csrs refl
+      (leads_core after (core_of core regs) (core_of next regs) here.page here.host on.course refl
       (leads_kept r after (core_of core regs) here.page here.host was on.tables on.ram apart leads))
   | inr other ↦ subst (λ (w : Window). Leads after (core_of next regs) w.page w.host) (sym (paged other.1)) (no_window after (core_of next regs) 0)
 ]
@@ -118,7 +141,7 @@ store_goes r after core next regs lines held at n value ready free walked behind
           agrees = subst (λ (t : List ℕ). CacheAgrees t held) (sym (write_behind r at n value behind)) walked.agrees;
         };
       };
-      csrs = refl;
+      course = course_stays core.csrs;
       free = free;
       tables = write_behind r at n value behind;
       ram = write_size r at n value behind place;

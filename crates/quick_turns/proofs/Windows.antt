@@ -3,7 +3,6 @@ use Rattle.std.proofs.Common.{◌≡◌, ℕ, zero, suc, ◌+◌, ◌-◌, ◌*�
 use Rattle.std.specs.Prelude.{Option, Some, None, Result, Ok, Err, if◌then◌else◌, ◌==◌}
 use Rattle.processor.specs.Hardware.{Core}
 use Rattle.processor.specs.Bits.{bit}
-use Rattle.processor.specs.HypervisorRegisters.{HypervisorRegisters}
 use Rattle.processor.specs.declared.hregs.HRegs.{HRegs}
 use Rattle.processor.specs.HardwareMemory.{settings_at, place_or_exception, translated}
 use Rattle.processor.specs.Regions.{Region, IsRegion, IsHostPlace}
@@ -15,12 +14,12 @@ use Rattle.processor.specs.declared.mode.Mode.{Mode}
 use Rattle.processor.specs.declared.translation.Fault.{Fault}
 use Rattle.processor.specs.declared.translation.Place.{Place}
 use Rattle.gstage_cache.proofs.Walks.{moved, page_moves, answer_near, answer_is}
-use Rattle.quick_turns.specs.Quick.{Leads}
+use Rattle.quick_turns.specs.Quick.{Leads, SameCourse}
 use Rattle.quick_turns.proofs.Kept.{walks_kept}
 
 -- what a first stage goes by, of the registers alone
-abbrev settings_by : HypervisorRegisters → Settings
-settings_by csrs = record { satp = csrs.vsatp; sum = bit csrs.vsstatus 18; mxr = bit csrs.vsstatus 19 }
+abbrev settings_by : (vsatp vsstatus : ℕ) → Settings
+settings_by vsatp vsstatus = record { satp = vsatp; sum = bit vsstatus 18; mxr = bit vsstatus 19 }
 
 -- ---- the first stage
 
@@ -193,15 +192,16 @@ no_window r core host = record {
   places = λ va small at aligned. absurd (omega arith);
 }
 
-core_translated : (r : Region) (core next : Core) (va : ℕ) → next.csrs ≡ core.csrs → next.hregs ≡ core.hregs
+core_translated : (r : Region) (core next : Core) (va : ℕ) → SameCourse core.csrs next.csrs → next.hregs ≡ core.hregs
     → translated r next Fetch va 0 ≡ translated r core Fetch va 0
 unfolding translated
-core_translated r core next va csrs hregs =
-    ap (λ (c : HypervisorRegisters). place_or_exception Fetch va 0 (two_stages r next.hregs.hgatp (settings_by c) next.hregs.mode va Fetch)) csrs
+core_translated r core next va course hregs =
+    ap (λ (n : ℕ). place_or_exception Fetch va 0 (two_stages r next.hregs.hgatp (settings_by n next.csrs.vsstatus) next.hregs.mode va Fetch)) course.first
+    ∙ ap (λ (n : ℕ). place_or_exception Fetch va 0 (two_stages r next.hregs.hgatp (settings_by core.csrs.vsatp n) next.hregs.mode va Fetch)) course.status
     ∙ ap (λ (h : HRegs). place_or_exception Fetch va 0 (two_stages r h.hgatp (settings_at core) h.mode va Fetch)) hregs
 
 -- a window goes by the registers of translation alone
-pub leads_core : (r : Region) (core next : Core) (page host : ℕ) → next.csrs ≡ core.csrs → next.hregs ≡ core.hregs → Leads r core page host → Leads r next page host
-leads_core r core next page host csrs hregs leads =
-    let same : (va : ℕ) → translated r next Fetch va 0 ≡ translated r core Fetch va 0 = λ va. core_translated r core next va csrs hregs in
+pub leads_core : (r : Region) (core next : Core) (page host : ℕ) → SameCourse core.csrs next.csrs → next.hregs ≡ core.hregs → Leads r core page host → Leads r next page host
+leads_core r core next page host course hregs leads =
+    let same : (va : ℕ) → translated r next Fetch va 0 ≡ translated r core Fetch va 0 = λ va. core_translated r core next va course hregs in
     record { fetches = λ va small at. same va ∙ leads.fetches va small at; places = leads.places }

@@ -4,6 +4,7 @@ use Rattle.processor.specs.Bytes.{page_size}
 use Rattle.processor.specs.CachedWalks.{FilledUnder}
 use Rattle.processor.specs.Hardware.{Core, Attempted}
 use Rattle.processor.specs.HardwareMemory.{translated}
+use Rattle.processor.specs.HypervisorRegisters.{HypervisorRegisters}
 use Rattle.processor.specs.Regions.{Region, IsHostPlace}
 use Rattle.processor.specs.declared.access.Access.TheVariants.{Fetch}
 use Rattle.processor.specs.declared.cached.CacheLine.{CacheLine}
@@ -31,11 +32,18 @@ abbrev pub Made : Bool → Attempted → (before after : Region) → (core next 
 Made false a before after core next = (after ≡ before) × (next ≡ core)
 Made true a before after core next = Carries a after next
 
--- a hart may go on: it stands at an instruction, in the same mode, with the same registers of traps and of translation and no
--- reservation; the tables and RAM's size stay, and the cache was filled by walks alone
+-- the registers by which interrupts are taken and addresses are translated stay
+pub record SameCourse (before after : HypervisorRegisters) : Type 0 where
+  pub status : after.vsstatus ≡ before.vsstatus
+  pub first : after.vsatp ≡ before.vsatp
+  pub enabled : after.hie ≡ before.hie
+  pub raised : after.hvip ≡ before.hvip
+
+-- a hart may go on: it stands at an instruction, in the same mode, with the same registers of interrupts and of translation
+-- and no reservation; the tables and RAM's size stay, and the cache was filled by walks alone
 pub record GoesOn (before after : Region) (core next : Kept) (regs : HRegs) (lines held : List (Option CacheLine)) : Type 0 where
   pub ready : MayAttempt after next regs held
-  pub csrs : next.csrs ≡ core.csrs
+  pub course : SameCourse core.csrs next.csrs
   pub free : next.reservation ≡ None
   pub tables : after.tables ≡ before.tables
   pub ram : length after.ram ≡ length before.ram

@@ -14,6 +14,7 @@ ghost use Rattle.hart.specs.Conditions.{MayAttempt};
 ghost use Rattle.quick_turns.specs.Quick.{Comes, GoesOn};
 
 use crate::memory::{Reach, reached};
+use crate::registers::{CsrAccess, csr};
 use crate::tried::Tried;
 use crate::words::Decoded;
 use gstage_cache::Cache;
@@ -116,7 +117,8 @@ fn store(
     }
 }
 
-/// An instruction carried out, where it only computes, loads or stores.
+/// An instruction carried out, where it only computes, loads, stores, or reads or writes a register by which no later turn
+/// goes.
 #[tactic(auto, using(gstage_cache::specs::Fills::nothing_filled, processor_laws::proofs::EffectRequests::is_request), unfolding(processor::specs::HardwareAttempt::after_word, processor::specs::HardwareAttempt::after_instruction, processor::specs::HardwareAttempt::after_effect))]
 #[inline(always)]
 pub(crate) fn carry_out(
@@ -166,6 +168,23 @@ pub(crate) fn carry_out(
                 address: addr,
                 width,
                 value,
+            },
+        ),
+        Effect::Csr {
+            rd,
+            number,
+            op,
+            value,
+            writes,
+        } => csr(
+            core,
+            regs,
+            CsrAccess {
+                rd,
+                number,
+                op,
+                operand: value,
+                writes,
             },
         ),
         Effect::Fence => {

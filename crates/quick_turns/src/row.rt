@@ -53,7 +53,8 @@ fn turn(
 }
 
 /// Up to `most` turns of a hart in a row, each of whose attempts carries out its instruction. Answers how many were made:
-/// what isn't a plain computation, load or store, or is refused, or misaligned, stops the row before its turn.
+/// what isn't a plain computation, load or store, or an access to a register by which no later turn goes, or is refused, or
+/// misaligned, stops the row before its turn.
 ///
 /// The hart has no reservation. No other hart's is looked at. That no interrupt is taken at the start is what the
 /// clause on turns asks; none comes up on the way, since no register changes that decides it.

@@ -1,4 +1,4 @@
-use Rattle.std.proofs.Common.{◌≡◌, ◌∙◌}
+use Rattle.std.proofs.Common.{◌≡◌, ◌∙◌, arith}
 use Rattle.std.proofs.lemmas.Result.{IfOk-weaker}
 use Rattle.standing_laws.specs.Starts.{machine_at_boot, image_machine}
 use Rattle.elf64_load.specs.Images.{segments_of}
@@ -21,3 +21,11 @@ at_boot-requires-clause-along c = bound_along (rules_of c.args.policy) c.require
 
 pub at_boot-requires-clause-few : goal.at_boot-requires-clause-few
 at_boot-requires-clause-few c = bound_few (rules_of c.args.policy) c.requires.within
+
+pub image_region-requires-clause-bound : goal.image_region-requires-clause-bound
+image_region-requires-clause-bound c =
+    let few = bound_few (rules_of c.args.policy) c.requires.within in omega (arith, few, c.in_ok-bound.ensures.number, c.len.ensures)
+
+pub image_guard-requires-clause-few : goal.image_guard-requires-clause-few
+image_guard-requires-clause-few c =
+    let few = bound_few (rules_of c.args.policy) c.requires.within in omega (arith, few, c.in_ok-bound.ensures.number, c.deref.ensures.len)

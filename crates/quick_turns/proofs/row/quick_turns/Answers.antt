@@ -19,7 +19,7 @@ turns-init c = record {
 pub returns-then-not-turn-clause-retires : goal.returns-then-not-turn-clause-retires
 returns-then-not-turn-clause-retires c =
     row_stays c.turns.made c.args.mem.now c.turns.mem c.turn.new.mem (core_of c.args.core.now c.args.regs.now) (core_of c.turns.core c.args.regs.now)
-    (core_of c.turn.new.core c.args.regs.now) c.turns.invariant.on.csrs refl c.turns.invariant.row
+    (core_of c.turn.new.core c.args.regs.now) c.turns.invariant.on.course refl c.turns.invariant.row
     (λ lines none. subst (λ (b : Bool). Made b (attempt c.turns.mem (core_of c.turns.core c.args.regs.now) lines) c.turns.mem c.turn.new.mem (core_of c.turns.core c.args.regs.now) (core_of c.turn.new.core c.args.regs.now))
     c.if-not-turn.true (c.turn.ensures.made lines none))
 
@@ -31,7 +31,7 @@ returns-then-not-turn-clause-on c =
 pub turns-preserved : goal.turns-preserved
 turns-preserved c = record {
   row = row_more c.turns.made c.args.mem.now c.turns.mem c.turn.new.mem (core_of c.args.core.now c.args.regs.now) (core_of c.turns.core c.args.regs.now)
-      (core_of c.turn.new.core c.args.regs.now) c.turns.invariant.on.csrs refl c.turns.invariant.row
+      (core_of c.turn.new.core c.args.regs.now) c.turns.invariant.on.course refl c.turns.invariant.row
       (λ lines none. subst (λ (b : Bool). Made b (attempt c.turns.mem (core_of c.turns.core c.args.regs.now) lines) c.turns.mem c.turn.new.mem (core_of c.turns.core c.args.regs.now) (core_of c.turn.new.core c.args.regs.now))
       c.if-not-turn.false (c.turn.ensures.made lines none));
   on = goes_further c.args.mem.now c.turns.mem c.turn.new.mem c.args.core.now c.turns.core c.turn.new.core c.args.regs.now c.args.cache.now c.turns.cache c.turn.new.cache

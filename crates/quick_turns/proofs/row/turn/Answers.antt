@@ -12,12 +12,12 @@ returns-in-Stopped-clause-made c = λ lines none. c.in-Stopped.ensures.comes lin
 pub returns-in-Stopped-clause-leads : goal.returns-in-Stopped-clause-leads
 returns-in-Stopped-clause-leads c =
     stayed_leads c.args.mem.now c.carry_out.new.mem c.args.core.now c.carry_out.new.core c.args.regs.now c.args.window.now.page c.args.window.now.host
-    (c.in-Stopped.ensures.comes low).0 c.carry_out.ensures.on.csrs c.requires.leads
+    (c.in-Stopped.ensures.comes low).0 c.carry_out.ensures.on.course c.requires.leads
 
 pub returns-in-Retired-clause-leads : goal.returns-in-Retired-clause-leads
 returns-in-Retired-clause-leads c =
     stayed_leads c.args.mem.now c.carry_out.new.mem c.args.core.now c.carry_out.new.core c.args.regs.now c.in-Some.here.page c.in-Some.here.host
-    (c.in-Retired.ensures.comes low).0 c.carry_out.ensures.on.csrs c.in-Some.ensures.leads
+    (c.in-Retired.ensures.comes low).0 c.carry_out.ensures.on.course c.in-Some.ensures.leads
 
 pub returns-in-Stored-clause-leads : goal.returns-in-Stored-clause-leads
 returns-in-Stored-clause-leads c =

@@ -1,0 +1,130 @@
+// Accesses to supervisor registers that quick turns carry out.
+
+ghost use Rattle.std.specs.Prelude.{◌≡◌, ◌<◌, ◌%◌, ℕ, if◌then◌else◌, IfSome, None};
+ghost use Rattle.processor.specs.Regions.{Region};
+ghost use Rattle.processor.specs.Requests.{csr_value};
+ghost use Rattle.processor.specs.Hardware.{with_region};
+ghost use Rattle.processor.specs.HardwareAttempt.{csr_reached, after_csr};
+ghost use Rattle.processor.specs.HypervisorRegisters.{HypervisorRegisters, read_virtual, write_virtual};
+ghost use Rattle.processor.specs.declared.lines.Lines.{Lines};
+ghost use Rattle.hart.specs.Cores.{core_of};
+ghost use Rattle.hart.specs.Conditions.{MayStep};
+ghost use Rattle.quick_turns.specs.Quick.{Comes, SameCourse};
+
+use crate::tried::Tried;
+use csr_file::Csrs;
+use hart::Core;
+use processor::{Csr, CsrOp, HRegs, Lines};
+
+// Some wires, for registers that are read without them.
+const LOW: Lines = Lines {
+    time: 0,
+    external: false,
+    timer: false,
+};
+
+// The value of a register that doesn't go by the wires, as the guest reads it.
+#[tactic(auto, unfolding(processor::specs::HypervisorRegisters::read_virtual))]
+#[inline(always)]
+fn kept_value(csrs: &Csrs, hideleg: u64, csr: Csr) -> Option<u64>
+    ensures { (lines : Lines) → IfSome result (λ value. value ≡ read_virtual hideleg csrs.now lines csr) }
+{
+    match csr {
+        Csr::Sip | Csr::Time => None,
+        Csr::Sstatus
+        | Csr::Sie
+        | Csr::Stvec
+        | Csr::Scounteren
+        | Csr::Sscratch
+        | Csr::Sepc
+        | Csr::Scause
+        | Csr::Stval
+        | Csr::Satp => Some(csrs.value(hideleg, &LOW, csr)),
+    }
+}
+
+// Writes a register by which no interrupt is taken and no address is translated. Answers whether it is one.
+#[tactic(auto, unfolding(processor::specs::HypervisorRegisters::write_virtual))]
+#[inline(always)]
+fn write(csrs: &mut Csrs, hideleg: u64, csr: Csr, value: u64) -> bool
+    ensures written { csrs.new ≡ (if result then write_virtual hideleg csrs.old csr value else csrs.old) }
+    ensures course { SameCourse csrs.old csrs.new }
+{
+    match csr {
+        Csr::Stvec | Csr::Scounteren | Csr::Sscratch | Csr::Sepc | Csr::Scause | Csr::Stval => {
+            csrs.set(hideleg, csr, value);
+            true
+        }
+        _ => false,
+    }
+}
+
+// What an access makes of the old value and its operand.
+#[tactic(auto, unfolding(processor::specs::Requests::csr_value))]
+fn csr_value(op: CsrOp, old: u64, operand: u64) -> u64
+    ensures { result ≡ csr_value op old operand }
+{
+    match op {
+        CsrOp::Csrrw | CsrOp::Csrrwi => operand,
+        CsrOp::Csrrs | CsrOp::Csrrsi => old | operand,
+        CsrOp::Csrrc | CsrOp::Csrrci => old & !operand,
+    }
+}
+
+/// An access to the register of a number: rd takes its old value, and the new one is written where the access writes.
+#[derive(Clone, Copy, Drop)]
+pub(crate) struct CsrAccess {
+    pub(crate) rd: u8,
+    pub(crate) number: u16,
+    pub(crate) op: CsrOp,
+    pub(crate) operand: u64,
+    pub(crate) writes: bool,
+}
+
+// The old value of a register, and the new one written; none where that isn't done in a row.
+#[inline(always)]
+fn exchange(csrs: &mut Csrs, hideleg: u64, access: CsrAccess, csr: Csr) -> Option<u64>
+    ensures value { (lines : Lines) → IfSome result (λ old. old ≡ read_virtual hideleg csrs.old lines csr) }
+    ensures written { (lines : Lines) → IfSome result (λ old. csrs.new ≡ (if access.writes then write_virtual hideleg csrs.old csr (csr_value access.op (read_virtual hideleg csrs.old lines csr) access.operand) else csrs.old)) }
+    ensures refused { result ≡ None → csrs.new ≡ csrs.old }
+    ensures course { SameCourse csrs.old csrs.new }
+{
+    let old = kept_value(csrs, hideleg, csr)?;
+    if !access.writes
+        || write(
+            csrs,
+            hideleg,
+            csr,
+            csr_value(access.op, old, access.operand),
+        )
+    {
+        Some(old)
+    } else {
+        None
+    }
+}
+
+/// An access to a supervisor register, where the mode has it and neither the wires nor later turns go by it.
+#[tactic(auto, unfolding(processor::specs::HardwareAttempt::csr_reached, processor::specs::HardwareAttempt::after_csr))]
+#[inline(always)]
+pub(crate) fn csr(core: &mut Core, regs: &HRegs, access: CsrAccess) -> Tried
+    requires ready { MayStep core.old regs.now }
+    requires free { core.old.reservation ≡ None }
+    requires register { access.rd < 32 }
+    ensures comes { (r : Region) → (lines : Lines) → (word : ℕ) → Comes result (with_region r (after_csr (core_of core.old regs.now) lines access.rd access.op access.operand access.writes (csr_reached (core_of core.old regs.now) word access.number access.writes))) r r (core_of core.old regs.now) (core_of core.new regs.now) }
+    ensures pc { core.new.pc % 4 ≡ 0 }
+    ensures free { core.new.reservation ≡ None }
+    ensures course { SameCourse core.old.csrs core.new.csrs }
+{
+    let Ok(csr) = core.csrs.access(regs.mode, access.number, access.writes) else {
+        return Tried::Stopped;
+    };
+    match exchange(&mut core.csrs, regs.hideleg, access, csr) {
+        Some(old) => {
+            core.regs.set(access.rd, old);
+            core.pc = core.pc.wrapping_add(4);
+            Tried::Retired
+        }
+        None => Tried::Stopped,
+    }
+}
