@@ -32,7 +32,7 @@ pub record Begins (ready : LiveReady) : Type 0 where
 pub begins : (reached : Option Due) (ready : LiveReady) → IsLiveReadyWhere reached (Ok ready) → Begins ready
 begins None ready it = absurd (cc it)
 begins (Some (Refuse refusal)) ready it = absurd it
-begins (Some (Make name rules made)) ready it = absurd it
+begins (Some (Make name rules line)) ready it = absurd it
 begins (Some (RunFrom start events save)) ready it = record { fresh = it.2; start = start; new = it.0 }
 
 pub may_under : (name other : List ℕ) (f0 f1 : FilesState) → f1.permits_save ≡ f0.permits_save → other ≡ name → MaySaveUnder name f0 → MaySaveUnder other f1
@@ -44,7 +44,7 @@ ready_answers : (reached : Option Due) (ready : LiveReady) (name : List ℕ) (ol
     ((start : State) → IsNew ready.live.machine start → RunsLive start (first_events ready.live.events ready.live.script) ready.out.now old new result) → AnswersLiveReached name reached old new result
 ready_answers None ready name old new result it is a = absurd (cc it)
 ready_answers (Some (Refuse refusal)) ready name old new result it is a = absurd it
-ready_answers (Some (Make out rules made)) ready name old new result it is a = absurd it
+ready_answers (Some (Make out rules line)) ready name old new result it is a = absurd it
 ready_answers (Some (RunFrom start asked save)) ready name old new result it is a =
     subst (λ (n : List ℕ). RunsLive start asked n old new result) is (subst (λ (es : List Event). RunsLive start es ready.out.now old new result) it.1 (a start it.0))
 
@@ -64,7 +64,7 @@ refused_where None given name files old new keys bench result it w wants quiet =
 refused_where (Some (Refuse refusal)) given name files old new keys bench result it w wants quiet =
     (refused_answers (Some (Refuse refusal)) given files old new bench result it w wants quiet, refl)
 refused_where (Some (RunFrom start events save)) given name files old new keys bench result it w wants quiet = absurd it
-refused_where (Some (Make out rules made)) given name files old new keys bench result it w wants quiet = absurd it
+refused_where (Some (Make out rules line)) given name files old new keys bench result it w wants quiet = absurd it
 
 pub refused_performs : (words : Result LiveWords Refusal) (f0 f1 : FilesState) (old new : SinkState) (keys : KeysState) (bench : Option Machine) (given : Refusal) (result : Result Status Trouble) →
     PreparesLive (live_plan words) f0 f1 (Err (Refused given)) → Writes (refusal_status given) (refusal_line given) old new result → (IsErrOf result Memory → IsTrue (takes_memory given)) →
@@ -76,7 +76,7 @@ wanting_where : (reached : Option Due) (name : List ℕ) (old : LiveOutside) →
 wanting_where None name old it = (refl, refl)
 wanting_where (Some (Refuse refusal)) name old it = absurd it
 wanting_where (Some (RunFrom start events save)) name old it = absurd it
-wanting_where (Some (Make out rules made)) name old it = absurd it
+wanting_where (Some (Make out rules line)) name old it = absurd it
 
 pub wanting_performs : (words : Result LiveWords Refusal) (f0 f1 : FilesState) (sink : SinkState) (keys : KeysState) (bench : Option Machine) →
     PreparesLive (live_plan words) f0 f1 (Err stop.Memory) → PerformsLive words (live_outside f0 sink keys bench) (live_outside f1 sink keys bench) (Err Memory)

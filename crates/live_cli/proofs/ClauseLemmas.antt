@@ -161,7 +161,7 @@ reached_replays : (line : LiveLine) (words : Result LiveWords Refusal) (reached 
 unfolding live_plan
 reached_replays line words None old new read answer is follows a ended = absurd (cc a.0)
 reached_replays line words (Some (Refuse refusal)) old new read answer is follows a ended = absurd (refused_unended refusal (live_outside read old.sink old.keys old.bench) new answer a ended)
-reached_replays line words (Some (Make out rules made)) old new read answer is follows a ended = absurd a
+reached_replays line words (Some (Make out rules line)) old new read answer is follows a ended = absurd a
 reached_replays line (Err refusal) (Some (RunFrom start asked save)) old new read answer is follows a ended = absurd (cc follows.0)
 reached_replays line (Ok words) (Some (RunFrom start asked save)) old new read answer is follows a ended =
     run_replays line words old new read start asked save answer (line_good line words is) follows a
@@ -212,7 +212,7 @@ reached_writes : (name : List ℕ) (reached : Option Due) (old new : LiveOutside
 reached_writes name None old new result a = let same : new.sink.faults ≡ old.sink.faults = ap (λ (o : LiveOutside). o.sink.faults) a.1 in omega arith
 reached_writes name (Some (Refuse refusal)) old new result a = writes_faults _ _ old.sink new.sink a.0.written a.0.writes
 reached_writes name (Some (RunFrom start asked save)) old new result a = writes_faults _ _ old.sink new.sink a.written a.writes
-reached_writes name (Some (Make out rules made)) old new result a = absurd a
+reached_writes name (Some (Make out rules line)) old new result a = absurd a
 
 pub live_writes : (words : Result LiveWords Refusal) (old new : LiveOutside) (result : Result Status Trouble) → PerformsLive words old new result → old.sink.faults ≤ new.sink.faults
 live_writes words old new result p = reached_writes (out_of words) p.reached (live_outside p.read old.sink old.keys old.bench) new result p.answers
@@ -228,7 +228,7 @@ reached_keys : (name : List ℕ) (reached : Option Due) (old new : LiveOutside) 
 reached_keys name None old new result a = same_keys old.keys new.keys (ap (λ (o : LiveOutside). o.keys) a.1)
 reached_keys name (Some (Refuse refusal)) old new result a = same_keys old.keys new.keys a.1
 reached_keys name (Some (RunFrom start asked save)) old new result a = read_faults old.keys new.keys a.keys.bytes a.ended.read_failed a.keys.read
-reached_keys name (Some (Make out rules made)) old new result a = absurd a
+reached_keys name (Some (Make out rules line)) old new result a = absurd a
 
 pub live_keys : (words : Result LiveWords Refusal) (old new : LiveOutside) (result : Result Status Trouble) → PerformsLive words old new result → old.keys.faults ≤ new.keys.faults
 live_keys words old new result p = reached_keys (out_of words) p.reached (live_outside p.read old.sink old.keys old.bench) new result p.answers
@@ -239,7 +239,7 @@ reached_keyless : (name : List ℕ) (reached : Option Due) (old new : LiveOutsid
 reached_keyless name None old new result a refused = ap (λ (o : LiveOutside). o.keys) a.1
 reached_keyless name (Some (Refuse refusal)) old new result a refused = a.1
 reached_keyless name (Some (RunFrom start asked save)) old new result a refused = absurd (run_unrefused start asked name old new result a refused)
-reached_keyless name (Some (Make out rules made)) old new result a refused = absurd a
+reached_keyless name (Some (Make out rules line)) old new result a refused = absurd a
 
 pub live_keyless : (words : Result LiveWords Refusal) (old new : LiveOutside) (result : Result Status Trouble) → PerformsLive words old new result → is_refusal (settled result) ≡ true → new.keys ≡ old.keys
 live_keyless words old new result p = reached_keyless (out_of words) p.reached (live_outside p.read old.sink old.keys old.bench) new result p.answers
@@ -262,7 +262,7 @@ reached_changes : (name : List ℕ) (reached : Option Due) (old new : LiveOutsid
 reached_changes name None old new result a = changes_none name old.files new.files (ap (λ (o : LiveOutside). o.files) a.1)
 reached_changes name (Some (Refuse refusal)) old new result a = changes_none name old.files new.files a.0.saves.0
 reached_changes name (Some (RunFrom start asked save)) old new result a = script_changes start.rules.harts a.journal name old.files new.files a.written a.saved a.saves
-reached_changes name (Some (Make out rules made)) old new result a = absurd a
+reached_changes name (Some (Make out rules line)) old new result a = absurd a
 
 -- what the whole changes of the files
 pub record LiveEffect (name : List ℕ) (old new : FilesState) : Type 0 where
@@ -315,7 +315,7 @@ reached_unsaved name None old new result a is = ap (λ (o : LiveOutside). o.file
 reached_unsaved name (Some (Refuse refusal)) old new result a is = a.0.saves.0
 reached_unsaved name (Some (RunFrom start asked save)) old new result a (inl refused) = absurd (run_unrefused start asked name old new result a refused)
 reached_unsaved name (Some (RunFrom start asked save)) old new result a (inr memory) = run_unsaved start asked name old new result a memory
-reached_unsaved name (Some (Make out rules made)) old new result a is = absurd a
+reached_unsaved name (Some (Make out rules line)) old new result a is = absurd a
 
 pub live_unsaved : (words : Result LiveWords Refusal) (old new : LiveOutside) (result : Result Status Trouble) → PerformsLive words old new result →
     (is_refusal (settled result) ≡ true) ⊎ (settled result ≡ Status.Memory) → (new.files.held ≡ old.files.held) × (new.files.save_faults ≡ old.files.save_faults)
@@ -379,7 +379,7 @@ reached_fault plan name None old new read (Err Memory) never follows a is = absu
 reached_fault plan name (Some (Refuse refusal)) old new read result never follows a is = inl (refused_fault plan refusal old new read result never follows a.0 is)
 reached_fault plan name (Some (RunFrom start asked save)) old new read result never follows a is =
     inr (run_fault start asked name (live_outside read old.sink old.keys old.bench) new result a is)
-reached_fault plan name (Some (Make out rules made)) old new read result never follows a is = absurd a
+reached_fault plan name (Some (Make out rules line)) old new read result never follows a is = absurd a
 
 pub live_fault : (words : List (List ℕ)) (old new : LiveOutside) (result : Result Status Trouble) → PerformsLive (live_judged words) old new result → settled result ≡ Status.ReadFault →
     LiveFault (live_plan (live_judged words)) old new

@@ -46,10 +46,10 @@ stopped_where None (Refused given) it = absurd (cc it)
 stopped_where None Memory it = refl
 stopped_where (Some (Refuse refusal)) (Refused given) it = it
 stopped_where (Some (RunFrom start events save)) (Refused given) it = it
-stopped_where (Some (Make name rules made)) (Refused given) it = it
+stopped_where (Some (Make name rules line)) (Refused given) it = it
 stopped_where (Some (Refuse refusal)) Memory it = absurd it
 stopped_where (Some (RunFrom start events save)) Memory it = absurd it
-stopped_where (Some (Make name rules made)) Memory it = absurd it
+stopped_where (Some (Make name rules line)) Memory it = absurd it
 
 pub live_stopped : (asked : Result LiveWords Refusal) (words : LiveWords) (old new : FilesState) (stop : Stop) → asked ≡ Ok words → Prepares (run_plan words.run) old new (Err stop) →
     PreparesLive (live_plan asked) old new (Err stop)
@@ -87,7 +87,7 @@ pub record IsTakenOver (booted : Booted) (ready : LiveReady) : Type 0 where
 booted_where : (reached : Option Due) (booted : Booted) (ready : LiveReady) → IsReadyWhere reached (Ok (Run booted)) → IsTakenOver booted ready → IsLiveReadyWhere reached (Ok ready)
 booted_where None booted ready it over = absurd (cc it)
 booted_where (Some (Refuse refusal)) booted ready it over = absurd it
-booted_where (Some (Make name rules made)) booted ready it over = absurd it
+booted_where (Some (Make name rules line)) booted ready it over = absurd it
 booted_where (Some (RunFrom start events save)) booted ready it over = (
   subst (λ (m : Machine). IsNew m start) (sym over.machine) it.0,
   ap (λ (n : ℕ). first_events n ready.live.script) over.events ∙ ap (λ (s : Schedule). first_events booted.events s) over.script ∙ it.1,

@@ -120,7 +120,7 @@ abbrev pub AnswersLive : (name : List ℕ) → Due → LiveOutside → LiveOutsi
 AnswersLive name (Refuse refusal) old new result =
     WritesAndSaves (Refuse refusal) (outside old.files old.sink old.bench) (outside new.files new.sink new.bench) result × (new.keys ≡ old.keys)
 AnswersLive name (RunFrom start asked save) old new result = RunsLive start asked name old new result
-AnswersLive name (Make out rules made) old new result = ⊥
+AnswersLive name (Make out rules line) old new result = ⊥
 
 -- the same where memory was wanting before what is due was ready: nothing happened
 abbrev pub AnswersLiveReached : (name : List ℕ) → Option Due → LiveOutside → LiveOutside → Result Status Trouble → Type 0

@@ -27,11 +27,11 @@ pub record IsLiveFresh (ready : LiveReady) : Type 0 where
 abbrev pub IsLiveReady : Due → Result LiveReady Stop → Type 0
 IsLiveReady (RunFrom start events save) (Ok ready) =
     IsNew ready.live.machine start × (first_events ready.live.events ready.live.script ≡ events) × IsLiveFresh ready
-IsLiveReady (Make name rules made) (Ok ready) = ⊥
+IsLiveReady (Make name rules line) (Ok ready) = ⊥
 IsLiveReady (Refuse refusal) (Ok ready) = ⊥
 IsLiveReady (Refuse refusal) (Err (Refused given)) = given ≡ refusal
 IsLiveReady (RunFrom start events save) (Err (Refused given)) = ⊥
-IsLiveReady (Make name rules made) (Err (Refused given)) = ⊥
+IsLiveReady (Make name rules line) (Err (Refused given)) = ⊥
 IsLiveReady due (Err Memory) = ⊥
 
 -- where memory was wanting, the end of the plan wasn't reached

@@ -1,4 +1,4 @@
-use Rattle.std.proofs.Common.{◌≡◌, List, ℕ, true, ap, sym, subst}
+use Rattle.std.proofs.Common.{◌≡◌, List, ℕ, true, ap, sym, subst, rules}
 use Rattle.sv_types.specs.Policies.{rules_of}
 use Rattle.elf64_load.specs.Images.{segments_of}
 use Rattle.secvisor_cli.specs.declared.ready.Stop.TheVariants.{Memory}
@@ -18,7 +18,7 @@ returns-in_err-image g c = λ files.
     (kernel_stopped (rules_of c.args.policy) c.args.file.now _ files c.in_err-image.field-0.0 c.in_err-image.ensures)
 
 pub bind-requires : goal.bind-requires
-bind-requires g c = record { kernel = of_kernel c.args.file.now c.args.policy.ram_pages c.in_ok-image.image c.in_ok-image.ensures }
+bind-requires g c = (search rules, of_kernel c.args.file.now c.args.policy.ram_pages c.in_ok-image.image c.in_ok-image.ensures)
 
 pub returns-in_err-bound : goal.returns-in_err-bound
 returns-in_err-bound g c = λ files.
