@@ -1,1 +1,5 @@
+pub mod ModuleSites
+pub mod SameProtections
 pub mod Spans
+pub mod TakenLoops
+pub mod TakenSpans

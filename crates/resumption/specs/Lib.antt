@@ -1,2 +1,4 @@
 pub mod Judgements
+pub mod ModuleSites
 pub mod ResumedStates
+pub mod Taking

@@ -2,10 +2,16 @@
 //! stand the judgements and the state in which the machine goes on.
 #![tactic(auto)]
 
+mod judgement;
+mod modules;
+mod pages;
 mod policy;
 mod refusal;
 mod text;
 
+pub use judgement::resume_refusal;
+pub use modules::has_modules;
+pub use pages::is_guarded_right;
 pub use policy::is_of_policy;
 pub use refusal::ResumeRefusal;
 pub use text::{has_text, joins};

@@ -19,6 +19,8 @@ How secvisor is used:
       OUT, a script for run
   secvisor flat FILE MEASURE EVENTS
       runs 1 to 16 plain pages, all of them approved
+  secvisor show SNAPSHOT
+      prints what a snapshot says of its machine: harts, pages, modules, devices, journal
   secvisor gen N
       runs a guest that is made for N calls of its user
 

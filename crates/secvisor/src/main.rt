@@ -14,6 +14,7 @@ use secvisor_cli::{
     Bench, MOST_DISK_BYTES, MOST_FLAT_BYTES, MOST_IMAGE_BYTES, MOST_OBJECT_BYTES,
     MOST_POLICY_BYTES, MOST_SCRIPT_BYTES, Status, secvisor,
 };
+use show_cli::secvisor_show;
 use std::alloc::AllocError;
 use std::env;
 use std::io::{ErrorKind, IsTerminal};
@@ -34,7 +35,7 @@ fn main(rt: HostRuntime) -> ExitCode {
     let mut files = RealFiles::new(reading, rt.stderr().is_terminal());
     let mut out = StdSink::new(printing);
     let mut bench = Bench { machine: None };
-    let status = if asks_live(&words) {
+    let status = if asks(&words, "live") {
         let mut keys = ReaderKeys::new(rt.reader());
         secvisor_live(
             &rt,
@@ -46,6 +47,8 @@ fn main(rt: HostRuntime) -> ExitCode {
             &Still,
             &mut bench,
         )
+    } else if asks(&words, "show") {
+        secvisor_show(rt.alloc(), &words, &mut files, &mut out)
     } else {
         secvisor(&rt, rt.alloc(), &words, &mut files, &mut out, &mut bench)
     };
@@ -55,10 +58,10 @@ fn main(rt: HostRuntime) -> ExitCode {
     ExitCode::from(status.number())
 }
 
-// The first word is `live`.
-fn asks_live(words: &[String]) -> bool {
+// The first word is this command.
+fn asks(words: &[String], command: &str) -> bool {
     match words {
-        [name, ..] => name.as_str() == "live",
+        [name, ..] => name.as_str() == command,
         [] => false,
     }
 }

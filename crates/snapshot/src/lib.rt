@@ -16,4 +16,4 @@ mod verdict;
 mod whole;
 
 pub use read_error::ReadError;
-pub use whole::{read, write};
+pub use whole::{MOST_SNAPSHOT_BYTES, read, write};

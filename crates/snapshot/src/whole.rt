@@ -25,7 +25,8 @@ use sv_types::{MOST_EVENTS, MOST_HARTS, PortState};
 
 const MAGIC: &[u8; 8] = b"SVSNAP01";
 
-const MOST_BYTES: usize = 1300 << 20;
+/// The most bytes that a snapshot has.
+pub const MOST_SNAPSHOT_BYTES: usize = 1300 << 20;
 
 /// The bytes of a snapshot, of a machine with a block device. Want of memory is the one refusal.
 #[tactic(auto, unfolding(snapshot_form::specs::Snapshots::snapshot))]
@@ -82,7 +83,7 @@ pub fn read(alloc: Global, bytes: &[u8]) -> Result<Snapshot, ReadError>
 fn read_all(alloc: Global, bytes: &[u8]) -> Result<Snapshot, ReadError>
     ensures { Reads contents result (snapshot_read bytes.now) }
 {
-    if bytes.len() > MOST_BYTES {
+    if bytes.len() > MOST_SNAPSHOT_BYTES {
         return Err(ReadError::Refused(SnapRefusal::TooLong));
     }
     let (snapshot, rest) = read_snapshot(alloc, bytes)?;

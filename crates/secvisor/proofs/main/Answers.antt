@@ -1,10 +1,11 @@
-use Rattle.std.proofs.Common.{ℕ, List, IsTrue, refl}
+use Rattle.std.proofs.Common.{ℕ, List, IsTrue, refl, Option, Some, None}
 use Rattle.outside.specs.Outside.{FilesState}
 use Rattle.secvisor_cli.specs.CommandLine.{judged}
 use Rattle.secvisor_cli.specs.Plans.{plan_of}
 use Rattle.secvisor_cli.specs.Reading.{MayFollow}
 use Rattle.secvisor_cli.proofs.PlanLemmas.{may_follow}
 use Rattle.live_cli.specs.LiveWords.{live_judged, live_plan}
+use Rattle.show_cli.specs.Answers.{MayAsk}
 use Rattle.secvisor.proofs.main.Goals as goal
 
 words_follow : (words : List (List ℕ)) (files : FilesState) → ((asked : List (List ℕ × ℕ)) → IsTrue (files.permits asked)) →
@@ -20,3 +21,10 @@ live_follows words files all saves = may_follow (live_plan (live_judged words)) 
 
 pub secvisor_live-status-requires-clause-permitted : goal.secvisor_live-status-requires-clause-permitted
 secvisor_live-status-requires-clause-permitted g c = λ κs. live_follows _ _ (λ asked. refl) (λ saves. refl)
+
+file_asked : (name : Option (List ℕ)) (files : FilesState) → ((asked : List (List ℕ × ℕ)) → IsTrue (files.permits asked)) → MayAsk name files
+file_asked None files all = tt
+file_asked (Some name) files all = all _
+
+pub secvisor_show-status-requires-clause-permitted : goal.secvisor_show-status-requires-clause-permitted
+secvisor_show-status-requires-clause-permitted g c = λ κs. file_asked _ _ (λ asked. refl)

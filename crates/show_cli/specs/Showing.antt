@@ -1,0 +1,71 @@
+-- What `show` owes to what is asked of it: the text of a snapshot's file, or the line that says why there is none. This
+-- project's own.
+use Rattle.std.specs.Prelude.{ℕ, ◌==◌, ◌&&◌, not, List, [], ◌∷◌, ◌++◌, Bool, false, Option, Some, None, Result, Ok, Err, codes, if◌then◌else◌}
+use Rattle.std.specs.Str.{bytes_eq}
+use Rattle.sv_types.specs.Output.{line_feed}
+use Rattle.sv_types.specs.declared.status.Status.{Status}
+use Rattle.snapshot_form.specs.Snapshots.{Contents, snapshot_read}
+use Rattle.snapshot_form.specs.declared.refusal.SnapRefusal.{SnapRefusal}
+use Rattle.snapshot_text.specs.SnapshotTexts.{snapshot_text}
+use Rattle.show_cli.specs.declared.refusal.ShowRefusal.{ShowRefusal}
+use Rattle.show_cli.specs.declared.refusal.ShowRefusal.TheVariants.{NoCommand, ReadFault, NoSnapshot}
+
+-- ---- show SNAPSHOT
+
+-- a word that begins with a dash is no name
+abbrev pub has_dash : List ℕ → Bool
+has_dash [] = false
+has_dash (first ∷ rest) = first == 45
+
+abbrev pub name_behind : (command name : List ℕ) → Option (List ℕ)
+name_behind command name = if bytes_eq command (codes "show") && not (has_dash name) then Some name else None
+
+-- the name of the file, where the words are those of the command
+abbrev pub name_in : List (List ℕ) → Option (List ℕ)
+name_in (command ∷ name ∷ []) = name_behind command name
+name_in _ = None
+
+-- ---- what is due
+
+-- a text that is printed, or why there is none
+abbrev pub Due : Type 0
+Due = Result (List ℕ) ShowRefusal
+
+abbrev pub read_shown : Result Contents SnapRefusal → Due
+read_shown (Ok s) = Ok (snapshot_text s)
+read_shown (Err refusal) = Err (NoSnapshot refusal)
+
+-- what is due for a file of these bytes
+unfoldable pub shown : List ℕ → Due
+shown bytes = read_shown (snapshot_read bytes)
+
+-- what is due for a name that holds this
+abbrev pub held_shown : Option (List ℕ) → Due
+held_shown None = Err ReadFault
+held_shown (Some bytes) = shown bytes
+
+-- a snapshot's refusal by its number
+unfoldable pub no_snapshot_line : SnapRefusal → List ℕ
+no_snapshot_line SnapRefusal.TooLong = codes "refused snapshot 0" ++ line_feed
+no_snapshot_line SnapRefusal.OtherLength = codes "refused snapshot 1" ++ line_feed
+no_snapshot_line SnapRefusal.OtherBeginning = codes "refused snapshot 2" ++ line_feed
+no_snapshot_line SnapRefusal.OutOfRange = codes "refused snapshot 3" ++ line_feed
+
+unfoldable pub refusal_line : ShowRefusal → List ℕ
+refusal_line NoCommand = codes "usage" ++ line_feed
+refusal_line ReadFault = codes "read fault snapshot" ++ line_feed
+refusal_line (NoSnapshot refusal) = no_snapshot_line refusal
+
+abbrev pub refusal_status : ShowRefusal → Status
+refusal_status NoCommand = Status.Usage
+refusal_status ReadFault = Status.ReadFault
+refusal_status (NoSnapshot refusal) = Status.Refused
+
+-- all bytes that are due, and the status
+abbrev pub bytes_due : Due → List ℕ
+bytes_due (Ok text) = text
+bytes_due (Err refusal) = refusal_line refusal
+
+abbrev pub status_due : Due → Status
+status_due (Ok text) = Status.Done
+status_due (Err refusal) = refusal_status refusal

@@ -1,0 +1,10 @@
+//! The command `show`: what a snapshot's file says of the machine, as text.
+#![tactic(auto)]
+
+mod answer;
+mod refusal;
+#[cfg(test)]
+mod tests;
+mod words;
+
+pub use answer::secvisor_show;

@@ -1,0 +1,34 @@
+// The words of `show`.
+ghost use Rattle.std.specs.Prelude.{◌≡◌, map, string_bytes};
+ghost use Rattle.std.specs.Option.{option_copied};
+ghost use Rattle.show_cli.specs.Showing as spec;
+
+/// The name of the file that is shown, where the words are `show SNAPSHOT`. It takes no memory.
+#[tactic(auto, using(crate::proofs::WordLemmas::no_command))]
+pub fn name_in(words: &[String]) -> Option<&str>
+    ensures { option_copied result ≡ spec.name_in (map string_bytes words.now) }
+{
+    match words {
+        [command, name] => name_behind(command.as_str(), name.as_str()),
+        _ => None,
+    }
+}
+
+fn name_behind<'a>(command: &str, name: &'a str) -> Option<&'a str>
+    ensures { option_copied result ≡ spec.name_behind command.now name.now }
+{
+    if command == "show" && !has_dash(name) {
+        Some(name)
+    } else {
+        None
+    }
+}
+
+fn has_dash(word: &str) -> bool
+    ensures { result ≡ spec.has_dash word.now }
+{
+    match word.as_bytes() {
+        [first, ..] => *first == b'-',
+        [] => false,
+    }
+}
