@@ -28,7 +28,7 @@ struct Row {
     said: &'static str,
 }
 
-static ROWS: [Row; 10] = [
+static ROWS: [Row; 12] = [
     Row {
         words: &["flat", "one", "00", "5"],
         said: "one: no whole pages of 4096 bytes",

@@ -1,5 +1,5 @@
 -- What stands where `convert` is done.
-use Rattle.std.proofs.Common.{◌≡◌, ◌∙◌, ℕ, Bool, true, List, length, Option, Some, None, Ok, Err, refl, sym, ap, subst, inl, inr}
+use Rattle.std.proofs.Common.{◌≡◌, ◌∙◌, ℕ, true, List, Option, Some, None, Ok, Err, refl, sym, ap, subst, inl, inr}
 use Rattle.std.specs.List.{list_all}
 use Rattle.sv_types.specs.declared.image_fault.ImageFault.{ImageFault}
 use Rattle.sv_types.specs.declared.status.Status.{Status}
@@ -14,13 +14,13 @@ use Rattle.entry_binding.specs.InText.{is_in_text}
 use Rattle.entry_binding.specs.declared.fault.BindFault.{BindFault}
 use Rattle.entry_binding.specs.declared.fault.BindFault.TheVariants as binding
 use Rattle.entry_binding.proofs.BoundWithin.{law_in_text}
-use Rattle.outside.specs.Outside.{FilesState, SinkState, after_taking}
+use Rattle.outside.specs.Outside.{FilesState}
 use Rattle.secvisor_cli.specs.declared.file_fault.FileFault.{FileFault}
 use Rattle.secvisor_cli.specs.Answers.{Headline, Meets, MeetsReached, Outside, outside}
 use Rattle.secvisor_cli.specs.CommandLine.{Convert, ConvertWords}
 use Rattle.secvisor_cli.specs.Converted.{IsConverted}
-use Rattle.secvisor_cli.specs.Plans.{Due, Refuse, Plan, End, Read, Judge, Found, Faulty, Missing, Longer, Held, binding_plan, binding_refusal, bound_plan, bytes_due, command_plan, convert_plan, converted, converted_judged, converted_line, found_plan, kernel_part, part_judged, plan_of, policy_judged, policy_part, policy_saving, saves_due, status_due}
-use Rattle.secvisor_cli.specs.Reading.{Follows, Saved}
+use Rattle.secvisor_cli.specs.Plans.{Due, Refuse, Plan, End, Read, Judge, Found, Faulty, Missing, Longer, Held, binding_plan, binding_refusal, bound_plan, command_plan, convert_plan, converted, converted_judged, found_plan, kernel_part, part_judged, plan_of, policy_judged, policy_part, status_due}
+use Rattle.secvisor_cli.specs.Reading.{Follows}
 
 -- this holds of what is due at each end of a plan, where that is done
 abbrev DoneAs : (Due → Type 0) → Plan → Type 0

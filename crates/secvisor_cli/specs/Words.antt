@@ -1,5 +1,5 @@
 -- What judging and reading the words answers.
-use Rattle.std.specs.Prelude.{◌≡◌, ◌≤◌, ◌^◌, IsTrue, map, Result, Ok, Err}
+use Rattle.std.specs.Prelude.{◌≡◌, ◌≤◌, IsTrue, map, Result, Ok, Err}
 use Rattle.std.specs.Option.{option_copied}
 use Rattle.std.specs.Result.{is_ok}
 use Rattle.sv_types.specs.Limits.{most_events}

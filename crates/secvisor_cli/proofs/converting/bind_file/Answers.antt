@@ -1,4 +1,4 @@
-use Rattle.std.proofs.Common.{◌≡◌, List, ℕ, true, ap, sym, subst, rules}
+use Rattle.std.proofs.Common.{rules}
 use Rattle.sv_types.specs.Policies.{rules_of}
 use Rattle.elf64_load.specs.Images.{segments_of}
 use Rattle.secvisor_cli.specs.declared.ready.Stop.TheVariants.{Memory}

@@ -1,0 +1,61 @@
+-- Lines that are held, and one more.
+use Rattle.std.proofs.Common.{◌≡◌, ℕ, zero, suc, ◌+◌, ◌*◌, ◌/◌, ◌%◌, ◌<◌, ◌⊎◌, inl, inr, List, length, get_or, set, replicate, refl, sym, ◌∙◌, ap, subst, arith}
+use Rattle.std.specs.Prelude.{Option, Some, None}
+use Rattle.std.proofs.lemmas.Bool.Decides.{eqb_tells}
+use Rattle.std.proofs.lemmas.List.{get_or-set_same, get_or-set_other}
+use Rattle.processor.specs.Regions.{Region}
+use Rattle.processor.specs.declared.access.Access.{Access}
+use Rattle.processor.specs.declared.access.Access.TheVariants.{Fetch, Load, Store}
+use Rattle.reach.specs.declared.line.Line.{Line}
+use Rattle.reach.specs.Kept.{no_lines, line_place, AreThere, LineAgrees, ReachAgrees, IsKept, leads_under}
+
+-- ---- what a line answers
+
+pub line_leads : (r : Region) (line : Line) (va : ℕ) → LineAgrees r.tables line → AreThere r line.entries → line.page ≡ va / 4096
+    → leads_under r line.regime line.access va ≡ Some (line.host + va % 4096)
+line_leads r line va agrees there same =
+    let place : 4096 * line.page + va % 4096 ≡ va = omega arith in
+    let small : va % 4096 < 4096 = omega arith in
+    ap (λ (a : ℕ). leads_under r line.regime line.access a) (sym place) ∙ agrees.leads r refl there (va % 4096) small
+
+-- ---- one line more
+
+place_inside : (access : Access) (page : ℕ) → line_place access page < 384
+place_inside Fetch page = omega arith
+place_inside Load page = omega arith
+place_inside Store page = omega arith
+
+-- line j behind a change of line i
+set_at : (lines : List (Option Line)) (i j : ℕ) (o : Option Line) → i < length lines
+    → ((j ≡ i) × (get_or (set lines i o) j None ≡ o)) ⊎ ((j ≡ i → ⊥) × (get_or (set lines i o) j None ≡ get_or lines j None))
+set_at lines i j o fits = elim (eqb_tells j i) [
+  | inl same ↦ inl (same.1, ap (λ (k : ℕ). get_or (set lines i o) k None) same.1 ∙ get_or-set_same lines i o None fits)
+  | inr other ↦ inr (other.1, get_or-set_other lines i j o None other.1)
+]
+
+some_same : (line found : Line) → Some line ≡ Some found → line ≡ found
+some_same line found e = cc
+
+pub kept_agrees : (tables : List ℕ) (before after : List (Option Line)) (line : Line) → IsKept before after line → LineAgrees tables line
+    → ReachAgrees tables before → ReachAgrees tables after
+kept_agrees tables before after line kept agrees all = record {
+  held = λ j found e.
+      let i : ℕ = line_place line.access line.page in
+      let fits : i < length before = subst (λ (n : ℕ). i < n) (sym kept.size) (place_inside line.access line.page) in
+      let at : get_or (set before i (Some line)) j None ≡ Some found = ap (λ (lines : List (Option Line)). get_or lines j None) (sym kept.is) ∙ e in
+      elim (set_at before i j (Some line) fits) [
+        | inl same ↦ subst (λ (l : Line). LineAgrees tables l) (some_same line found (sym same.1 ∙ at)) agrees
+        | inr other ↦ all.held j found (sym other.1 ∙ at)
+      ];
+}
+
+-- ---- empty lines
+
+none_at : (n i : ℕ) → get_or (replicate {A = Option Line} n None) i None ≡ None
+none_at zero i = refl
+none_at (suc n) zero = refl
+none_at (suc n) (suc i) = none_at n i
+
+-- lines of which none is held agree with every table
+pub none_agrees : (tables : List ℕ) → ReachAgrees tables no_lines
+none_agrees tables = record { held = λ i line e. let none = none_at 384 i in absurd (cc) }

@@ -1,0 +1,147 @@
+-- Both stages of the addresses of a page.
+use Rattle.std.proofs.Common.{◌≡◌, ℕ, zero, suc, ◌+◌, ◌-◌, ◌*◌, ◌/◌, ◌%◌, ◌^◌, ◌<◌, List, refl, ◌∙◌, sym, ap, subst, arith, Bool, true, false, ◌&&◌, ◌||◌}
+use Rattle.std.specs.Prelude.{Option, Some, None, ◌==◌, if◌then◌else◌}
+use Rattle.std.proofs.lemmas.Bool.Decides.{nat_tests}
+use Rattle.processor.specs.Regions.{Region}
+use Rattle.processor.specs.Translation.{Destination, At, PageFault, Unreadable, Settings, walk, at_leaf, is_leaf, leaf_address, first_stage, permits_access, is_canonical, root_of}
+use Rattle.processor.specs.SecondStage.{walk_guest, address_at, entry_in_region, entry_in_tables, entry_through, guest_destination, after_first_stage, place_through, two_stages, WalksApart}
+use Rattle.processor.specs.declared.access.Access.{Access}
+use Rattle.processor.specs.declared.mode.Mode.{Mode}
+use Rattle.processor_laws.proofs.Walks.{walk_guest_fits}
+use Rattle.sv39_walk.specs.Levels.{indices_of}
+use Rattle.sv39_walk.specs.Regimes.{settings_of}
+use Rattle.sv39_walk.specs.declared.first_stage.Regime.{Regime}
+use Rattle.gstage_cache.proofs.Walks.{IsReadable, moved, leads_in_region, region_readable, page_moves, answer_near, answer_is}
+use Rattle.reach.specs.declared.line.Entries.{Entries}
+use Rattle.reach.specs.declared.line.Line.{Line}
+use Rattle.reach.specs.Kept.{AreThere, ArePlaces, EndsAt, LineAgrees, host_of, leads_under}
+
+-- ---- the second stage
+
+moved_address : (place x : ℕ) (d : Destination) → address_at d ≡ Some x → address_at (moved place d) ≡ Some (x - x % 4096 + place)
+moved_address place x (At found) e = let same : found ≡ x = cc in rw same refl
+moved_address place x PageFault e = absurd (cc)
+moved_address place x (Unreadable entry) e = absurd (cc)
+
+-- regions of the same tables lead the addresses of a page to one host page
+pub second_moves : (r other : Region) (hgatp gpa b x : ℕ) (access : Access) → other.tables ≡ r.tables → WalksApart r hgatp → walk_guest r hgatp gpa access ≡ Some x
+    → b / 4096 ≡ gpa / 4096 → walk_guest other hgatp b access ≡ Some (x - x % 4096 + b % 4096)
+second_moves r other hgatp gpa b x access tables apart walked same =
+    let near : gpa < 2 ^ 41 = answer_near r hgatp gpa x access walked in
+    let near_too : b < 2 ^ 41 = omega arith in
+    let answer : address_at (guest_destination (entry_in_region r) hgatp gpa access) ≡ Some x = sym (answer_is r hgatp gpa access near) ∙ walked in
+    let leads : guest_destination (entry_in_tables other.tables) hgatp gpa access ≡ guest_destination (entry_in_region r) hgatp gpa access =
+    ap (λ (t : List ℕ). guest_destination (entry_in_tables t) hgatp gpa access) tables ∙ apart.reads gpa access near in
+    let readable : IsReadable (guest_destination (entry_in_tables other.tables) hgatp gpa access) =
+    subst (λ (d : Destination). IsReadable d) (sym leads) (region_readable r hgatp gpa access) in
+    answer_is other hgatp b access near_too
+    ∙ ap address_at (page_moves (entry_in_region other) hgatp gpa b access (sym same) ∙ ap (moved (b % 4096)) (leads_in_region other hgatp gpa access readable ∙ leads))
+    ∙ moved_address (b % 4096) x (guest_destination (entry_in_region r) hgatp gpa access) answer
+
+back_together : (x gpa : ℕ) → x % 4096 ≡ gpa % 4096 → x - x % 4096 + gpa % 4096 ≡ x
+back_together x gpa same = omega arith
+
+pub second_same : (r other : Region) (hgatp gpa x : ℕ) (access : Access) → other.tables ≡ r.tables → WalksApart r hgatp → walk_guest r hgatp gpa access ≡ Some x
+    → walk_guest other hgatp gpa access ≡ Some x
+second_same r other hgatp gpa x access tables apart walked =
+    second_moves r other hgatp gpa gpa x access tables apart walked refl
+    ∙ ap Some (back_together x gpa (walk_guest_fits r hgatp gpa x access walked).0)
+
+-- ---- the first stage
+
+mapped_test : (n : ℕ) → (n ≡ 0 → ⊥) → (n == 0) ≡ false
+mapped_test n h = grind (arith, nat_tests)
+
+-- where the walk ends at an entry
+first_ends : (read : ℕ → Option ℕ) (s : Settings) (mode : Mode) (va below entry : ℕ) (access : Access) → (s.satp / 2 ^ 60 ≡ 0 → ⊥)
+    → walk read (permits_access s mode access) (indices_of 3 va) (root_of s.satp) va ≡ at_leaf (permits_access s mode access) below entry va
+    → first_stage read s mode va access
+    ≡ (if is_canonical va then (if is_leaf below entry && permits_access s mode access entry then At (leaf_address below entry va) else PageFault) else PageFault)
+unfolding first_stage
+first_ends read s mode va below entry access paged ends = rw (mapped_test (s.satp / 2 ^ 60) paged, ends) refl
+
+same_canonical : (a b : ℕ) → a / 4096 ≡ b / 4096 → is_canonical a ≡ is_canonical b
+same_canonical a b same =
+    let high : a / 2 ^ 38 ≡ b / 2 ^ 38 = omega arith in
+    ap (λ (n : ℕ). n == 0 || n == 2 ^ 26 - 1) high
+
+leaf_page : (below e a b : ℕ) → below < 3 → a / 4096 ≡ b / 4096 → leaf_address below e a / 4096 ≡ leaf_address below e b / 4096
+leaf_page zero e a b few same = omega arith
+leaf_page (suc zero) e a b few same = omega arith
+leaf_page (suc (suc zero)) e a b few same = omega arith
+leaf_page (suc (suc (suc n))) e a b few same = absurd (omega arith)
+
+leaf_place : (below e a : ℕ) → below < 3 → leaf_address below e a % 4096 ≡ a % 4096
+leaf_place zero e a few = omega arith
+leaf_place (suc zero) e a few = omega arith
+leaf_place (suc (suc zero)) e a few = omega arith
+leaf_place (suc (suc (suc n))) e a few = absurd (omega arith)
+
+-- ---- both
+
+host_through : (gpa hpa : ℕ) (walked : Option ℕ) → host_of (place_through gpa walked) ≡ Some hpa → walked ≡ Some hpa
+host_through gpa hpa None e = absurd (cc)
+host_through gpa hpa (Some x) e = e
+
+-- a leaf led somewhere: the address is canonical, the leaf permits the access, and the second stage led there
+led : (canonical permits : Bool) (r : Region) (hgatp gpa hpa : ℕ) (access : Access)
+    → host_of (after_first_stage r hgatp access (if canonical then (if permits then At gpa else PageFault) else PageFault)) ≡ Some hpa
+    → (canonical ≡ true) × ((permits ≡ true) × (walk_guest r hgatp gpa access ≡ Some hpa))
+unfolding after_first_stage
+led true true r hgatp gpa hpa access e = (refl, (refl, host_through gpa hpa (walk_guest r hgatp gpa access) e))
+led true false r hgatp gpa hpa access e = absurd (cc)
+led false permits r hgatp gpa hpa access e = absurd (cc)
+
+leads_there : (r : Region) (hgatp gpa hpa : ℕ) (access : Access) (d : Destination) → d ≡ At gpa → walk_guest r hgatp gpa access ≡ Some hpa
+    → host_of (after_first_stage r hgatp access d) ≡ Some hpa
+unfolding after_first_stage
+leads_there r hgatp gpa hpa access d at walked = rw (at, walked) refl
+
+two_of : (r : Region) (hgatp : ℕ) (s : Settings) (mode : Mode) (va : ℕ) (access : Access) (d : Destination) → first_stage (entry_through r hgatp) s mode va access ≡ d
+    → host_of (two_stages r hgatp s mode va access) ≡ host_of (after_first_stage r hgatp access d)
+unfolding two_stages
+two_of r hgatp s mode va access d e = ap (λ (x : Destination). host_of (after_first_stage r hgatp access x)) e
+
+-- another address of the page, in another region of the same tables
+pub page_led : (r other : Region) (regime : Regime) (access : Access) (va b hpa : ℕ) (entries : Entries) → WalksApart r regime.hgatp → (regime.vsatp / 2 ^ 60 ≡ 0 → ⊥)
+    → leads_under r regime access va ≡ Some hpa → EndsAt r.tables regime.hgatp (root_of regime.vsatp) va entries → AreThere r entries → other.tables ≡ r.tables
+    → AreThere other entries → b / 4096 ≡ va / 4096 → leads_under other regime access b ≡ Some (hpa - hpa % 4096 + b % 4096)
+page_led r other regime access va b hpa entries apart paged leads ends there tables there_too page =
+    let s : Settings = settings_of regime in
+    let grants : ℕ → Bool = permits_access s regime.mode access in
+    let first = first_ends (entry_through r regime.hgatp) s regime.mode va ends.below ends.entry access paged (ends.ends r refl there grants va refl) in
+    let second = first_ends (entry_through other regime.hgatp) s regime.mode b ends.below ends.entry access paged (ends.ends other tables there_too grants b page) in
+    let was = led (is_canonical va) (is_leaf ends.below ends.entry && grants ends.entry) r regime.hgatp (leaf_address ends.below ends.entry va) hpa access
+    (sym (two_of r regime.hgatp s regime.mode va access _ first) ∙ leads) in
+    let canonical : is_canonical b ≡ true = same_canonical b va page ∙ was.0 in
+    two_of other regime.hgatp s regime.mode b access _ second
+    ∙ leads_there other regime.hgatp (leaf_address ends.below ends.entry b) (hpa - hpa % 4096 + b % 4096) access _ (rw (canonical, was.1.0) refl)
+    (second_moves r other regime.hgatp (leaf_address ends.below ends.entry va) (leaf_address ends.below ends.entry b) hpa access tables apart was.1.1
+    (leaf_page ends.below ends.entry b va ends.few page)
+    ∙ ap (λ (n : ℕ). Some (hpa - hpa % 4096 + n)) (leaf_place ends.below ends.entry b ends.few))
+
+pub line_agrees : (r : Region) (regime : Regime) (access : Access) (va hpa : ℕ) (entries : Entries) → WalksApart r regime.hgatp → (regime.vsatp / 2 ^ 60 ≡ 0 → ⊥)
+    → leads_under r regime access va ≡ Some hpa → EndsAt r.tables regime.hgatp (root_of regime.vsatp) va entries → AreThere r entries
+    → ArePlaces r.tables regime.hgatp entries
+    → LineAgrees r.tables (record { regime = regime; access = access; page = va / 4096; host = hpa - hpa % 4096; entries = entries })
+line_agrees r regime access va hpa entries apart paged leads ends there places = record {
+  places = places;
+  leads = λ other tables there_too place small.
+      let b : ℕ = 4096 * (va / 4096) + place in
+      let page : b / 4096 ≡ va / 4096 = omega arith in
+      let inside : b % 4096 ≡ place = omega arith in
+      page_led r other regime access va b hpa entries apart paged leads ends there tables there_too page
+      ∙ ap (λ (n : ℕ). Some (hpa - hpa % 4096 + n)) inside;
+}
+
+after_fits : (r : Region) (hgatp hpa : ℕ) (access : Access) (d : Destination) → host_of (after_first_stage r hgatp access d) ≡ Some hpa → hpa < 2 ^ 64
+unfolding after_first_stage
+after_fits r hgatp hpa access (At gpa) e = (walk_guest_fits r hgatp gpa hpa access (host_through gpa hpa (walk_guest r hgatp gpa access) e)).1
+after_fits r hgatp hpa access PageFault e = absurd (cc)
+after_fits r hgatp hpa access (Unreadable entry) e = absurd (cc)
+
+-- what a line answers fits into 64 bits
+pub led_fits : (r : Region) (regime : Regime) (access : Access) (va hpa : ℕ) → leads_under r regime access va ≡ Some hpa → hpa < 2 ^ 64
+unfolding two_stages
+led_fits r regime access va hpa leads =
+    after_fits r regime.hgatp hpa access (first_stage (entry_through r regime.hgatp) (settings_of regime) regime.mode va access) leads

@@ -1,0 +1,16 @@
+use Rattle.processor.specs.CachedWalks.{CacheAgrees, FilledUnder}
+use Rattle.sv39_walk.specs.Levels.{IsTable}
+use Rattle.reach.specs.Kept.{Above, IsThere, IsPlace}
+use Rattle.reach.proofs.Levels.{GoOn}
+use Rattle.reach.proofs.walk.entries.Given as goal
+
+-- the walk goes on from the table as it would from the root, and the entries above it were read
+abbrev pub invariant-levels : goal.invariant-levels
+invariant-levels l = record {
+  table : IsTable l.table;
+  same : GoOn l.mem.tables l.hgatp l.root l.va l.below l.table l.entries;
+  there : Above l.below (IsThere l.mem) l.entries;
+  places : Above l.below (IsPlace l.mem.tables l.hgatp) l.entries;
+  agrees : CacheAgrees l.mem.tables l.cache;
+  filled : FilledUnder l.mem.tables l.hgatp l.initial.cache l.cache;
+}

@@ -1,0 +1,10 @@
+//! Translations through both stages that are kept with the table words that they read, and are right while these stand.
+#![tactic(auto)]
+
+mod entry;
+mod line;
+mod lines;
+mod walk;
+
+pub use line::{Entries, Line, Seen};
+pub use lines::Reach;

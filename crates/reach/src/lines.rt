@@ -1,0 +1,213 @@
+// All translations that are kept: 256 for fetches, 64 for loads and 64 for stores, by the number of the page.
+
+ghost use Rattle.std.specs.Prelude.{◌≡◌, ◌⊎◌, ◌+◌, ◌/◌, ◌%◌, ◌^◌, ◌<◌, IfSome, Some, length};
+ghost use Rattle.processor.specs.Bytes.{page_size};
+ghost use Rattle.processor.specs.SecondStage.{WalksApart};
+ghost use Rattle.processor.specs.CachedWalks.{CacheAgrees, FilledUnder};
+ghost use Rattle.reach.specs.declared.line.Line.{Line as Kept};
+ghost use Rattle.reach.specs.Kept.{no_lines, line_at, line_place, leads_under, IsFor, IsKept, AreThere, LineAgrees, ReachAgrees};
+
+use crate::entry::root_table;
+use crate::line::{Line, are_there, is_for};
+use crate::walk::entries;
+use gstage_cache::Cache;
+use host_mem::HostMem;
+use processor::{Access, PAGE_BYTES};
+use std::marker::Model;
+use sv39_walk::{Regime, translate_through};
+
+/// The lines for each kind of access. Kernels have wide texts.
+const FETCH_LINES: u64 = 256;
+
+const LOAD_LINES: u64 = 64;
+
+const STORE_LINES: u64 = 64;
+
+/// All lines.
+const LINES: usize = 384;
+
+/// Translations through both stages under Sv39 that were made. Contracts see the lines, each held or empty.
+#[derive(Drop)]
+pub struct Reach {
+    lines: [Option<Line>; LINES],
+}
+
+impl Model for Reach {
+    ghost use Rattle.std.specs.Prelude.{List, Option};
+    ghost use Rattle.reach.specs.declared.line.Line.{Line as Kept};
+
+    ghost Value = { List (Option Kept) };
+
+    ghost use Rattle.std.specs.Prelude.{◌≡◌, length};
+    ghost use Rattle.reach.specs.Kept.{lines_of_reach};
+
+    ghost view = { λ r. r.lines };
+
+    ghost invariant = { λ r. length r.lines ≡ lines_of_reach };
+}
+
+// Where the line of an access to a page is kept: those for loads stand behind those for fetches, and those for stores
+// behind these.
+#[inline(always)]
+fn line_place(access: Access, page: u64) -> usize
+    ensures value { result ≡ line_place access page }
+    ensures inside { result < 384 }
+{
+    let place = match access {
+        Access::Fetch => page % FETCH_LINES,
+        Access::Load => FETCH_LINES + page % LOAD_LINES,
+        Access::Store => FETCH_LINES + LOAD_LINES + page % STORE_LINES,
+    };
+    place as usize
+}
+
+// Where a line of the address's page leads, if the words that it read still stand.
+#[inline(always)]
+fn place_by(mem: &HostMem, line: &Line, va: u64) -> Option<u64>
+    requires page { line.now.page ≡ va / page_size }
+    requires apart { WalksApart mem.now line.now.regime.hgatp }
+    requires agrees { LineAgrees mem.now.tables line.now }
+    ensures leads { IfSome result (λ hpa. leads_under mem.now line.now.regime line.now.access va ≡ Some hpa) }
+    ensures kept { AreThere mem.now line.now.entries → result ≡ Some (line.now.host + va % page_size) }
+{
+    if are_there(mem, line.regime.hgatp, &line.entries) {
+        Some(line.host + va % PAGE_BYTES)
+    } else {
+        None
+    }
+}
+
+impl Reach {
+    /// No translation is held.
+    pub fn new() -> Reach
+        ensures { result ≡ no_lines }
+    {
+        Reach {
+            lines: [None; LINES],
+        }
+    }
+
+    /// Empties all lines.
+    pub fn empty(&mut self)
+        ensures { self.new ≡ no_lines }
+    {
+        self.lines = empty();
+    }
+
+    // The line of such accesses to a page, if it is held.
+    #[inline(always)]
+    fn line(&self, regime: &Regime, access: Access, page: u64) -> Option<Line>
+        ensures held { IfSome result (λ line. line_at self.now (line_place access page) ≡ Some line) }
+        ensures tags { IfSome result (λ line. IsFor regime.now access page line) }
+        ensures kept { (line : Kept) → line_at self.now (line_place access page) ≡ Some line → IsFor regime.now access page line → result ≡ Some line }
+    {
+        let held = self.lines[line_place(access, page)];
+        match held {
+            Some(line) => {
+                if is_for(&line, regime, access, page) {
+                    Some(line)
+                } else {
+                    None
+                }
+            }
+            None => None,
+        }
+    }
+
+    /// The host place of a virtual address, where its translation is held and the words that it read still stand. It is
+    /// where both stages lead the access.
+    ///
+    /// Every line agrees with the tables, and walks under the regime's `hgatp` read these alone.
+    #[inline(always)]
+    pub fn held(&self, mem: &HostMem, regime: &Regime, va: u64, access: Access) -> Option<u64>
+        requires apart { WalksApart mem.now regime.now.hgatp }
+        requires agrees { ReachAgrees mem.now.tables self.now }
+        ensures leads { IfSome result (λ hpa. leads_under mem.now regime.now access va ≡ Some hpa) }
+        ensures kept { (line : Kept) → line_at self.now (line_place access (va / page_size)) ≡ Some line → IsFor regime.now access (va / page_size) line → AreThere mem.now line.entries → result ≡ Some (line.host + va % page_size) }
+    {
+        match self.line(regime, access, va / PAGE_BYTES) {
+            Some(line) => place_by(mem, &line, va),
+            None => None,
+        }
+    }
+
+    /// The host place of a virtual address by a walk of both stages, none exactly where one of them refuses the access.
+    /// What the walk read is kept, where there is a first stage.
+    ///
+    /// The regime has mode 8 (Sv39x4) in `hgatp`, and mode 0 (bare) or 8 (Sv39) in `vsatp`. Walks under `hgatp` read the
+    /// tables alone, and all lines agree with these.
+    #[inline(never)]
+    pub fn fill(
+        &mut self,
+        cache: &mut Cache,
+        mem: &HostMem,
+        regime: &Regime,
+        va: u64,
+        access: Access,
+    ) -> Option<u64>
+        requires second { regime.now.hgatp / 2 ^ 60 ≡ 8 }
+        requires first { (regime.now.vsatp / 2 ^ 60 ≡ 0) ⊎ (regime.now.vsatp / 2 ^ 60 ≡ 8) }
+        requires apart { WalksApart mem.now regime.now.hgatp }
+        requires cached { CacheAgrees mem.now.tables cache.old }
+        requires agrees { ReachAgrees mem.now.tables self.old }
+        ensures value { result ≡ leads_under mem.now regime.now access va }
+        ensures agrees { ReachAgrees mem.now.tables self.new }
+        ensures cached { CacheAgrees mem.now.tables cache.new }
+        ensures filled { FilledUnder mem.now.tables regime.now.hgatp cache.old cache.new }
+    {
+        match translate_through(cache, mem, regime, va, access) {
+            Ok(place) => {
+                self.keep_walk(cache, mem, regime, va, access, place.hpa);
+                Some(place.hpa)
+            }
+            Err(_fault) => None,
+        }
+    }
+
+    // Keeps where an address was led, with the entries that its first stage reads, if it has one.
+    fn keep_walk(
+        &mut self,
+        cache: &mut Cache,
+        mem: &HostMem,
+        regime: &Regime,
+        va: u64,
+        access: Access,
+        hpa: u64,
+    )
+        requires second { regime.now.hgatp / 2 ^ 60 ≡ 8 }
+        requires apart { WalksApart mem.now regime.now.hgatp }
+        requires leads { leads_under mem.now regime.now access va ≡ Some hpa }
+        requires cached { CacheAgrees mem.now.tables cache.old }
+        requires agrees { ReachAgrees mem.now.tables self.old }
+        ensures agrees { ReachAgrees mem.now.tables self.new }
+        ensures cached { CacheAgrees mem.now.tables cache.new }
+        ensures filled { FilledUnder mem.now.tables regime.now.hgatp cache.old cache.new }
+    {
+        if regime.vsatp >> 60 == 0 {
+            return;
+        }
+        let root = root_table(regime.vsatp);
+        if let Some(entries) = entries(cache, mem, regime.hgatp, root, va) {
+            self.keep(Line {
+                regime: *regime,
+                access,
+                page: va / PAGE_BYTES,
+                host: hpa - hpa % PAGE_BYTES,
+                entries,
+            });
+        }
+    }
+
+    // Keeps a line at its place.
+    fn keep(&mut self, line: Line)
+        ensures { IsKept self.old self.new line }
+    {
+        self.lines[line_place(line.access, line.page)] = Some(line);
+    }
+}
+
+fn empty() -> [Option<Line>; LINES]
+    ensures { result ≡ no_lines }
+{
+    [None; LINES]
+}

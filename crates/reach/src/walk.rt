@@ -1,0 +1,71 @@
+// The entries that a walk of the first stage reads.
+
+ghost use Rattle.std.specs.Prelude.{◌≡◌, ◌/◌, ◌%◌, ◌^◌, IfSome, Some};
+ghost use Rattle.processor.specs.Regions.{Region};
+ghost use Rattle.processor.specs.SecondStage.{walk_guest, WalksApart};
+ghost use Rattle.processor.specs.CachedWalks.{CacheAgrees, FilledUnder};
+ghost use Rattle.processor.specs.declared.access.Access.TheVariants as Access;
+ghost use Rattle.sv39_walk.specs.Levels.{IsTable};
+ghost use Rattle.reach.specs.Kept.{IsThere, AreThere, ArePlaces, EndsAt};
+
+use crate::entry::{index, is_pointer, next_table};
+use crate::line::{Entries, Seen};
+use gstage_cache::Cache;
+use host_mem::HostMem;
+use processor::Access;
+use sv39_walk::SecondStage;
+
+// The entry at a guest-physical address, read where the second stage leads as a load.
+fn entry(cache: &mut Cache, mem: &HostMem, hgatp: u64, gpa: u64) -> Option<Seen>
+    requires second { hgatp / 2 ^ 60 ≡ 8 }
+    requires apart { WalksApart mem.now hgatp }
+    requires agrees { CacheAgrees mem.now.tables cache.old }
+    requires aligned { gpa % 8 ≡ 0 }
+    ensures there { IfSome result (λ seen. IsThere mem.now seen) }
+    ensures leads { IfSome result (λ seen. (r : Region) → r.tables ≡ mem.now.tables → walk_guest r hgatp gpa Access.Load ≡ Some seen.at) }
+    ensures agrees { CacheAgrees mem.now.tables cache.new }
+    ensures filled { FilledUnder mem.now.tables hgatp cache.old cache.new }
+{
+    let Some(at) = cache.lead(mem, hgatp, gpa, Access::Load) else {
+        return None;
+    };
+    let _table_bytes = mem.table_bytes();
+    Some(Seen {
+        at,
+        word: mem.read(at as usize, 8),
+    })
+}
+
+/// The entries that the walk of an address from a table with three levels, its own counted, reads. None where one of them
+/// can't be read, or the last one names a table.
+pub(crate) fn entries(
+    cache: &mut Cache,
+    mem: &HostMem,
+    hgatp: u64,
+    root: u64,
+    va: u64,
+) -> Option<Entries>
+    requires second { hgatp / 2 ^ 60 ≡ 8 }
+    requires table { IsTable root }
+    requires apart { WalksApart mem.now hgatp }
+    requires agrees { CacheAgrees mem.now.tables cache.old }
+    ensures ends { IfSome result (λ entries. EndsAt mem.now.tables hgatp root va entries) }
+    ensures there { IfSome result (λ entries. AreThere mem.now entries) }
+    ensures places { IfSome result (λ entries. ArePlaces mem.now.tables hgatp entries) }
+    ensures agrees { CacheAgrees mem.now.tables cache.new }
+    ensures filled { FilledUnder mem.now.tables hgatp cache.old cache.new }
+{
+    let mut table = root;
+    let mut entries = Entries::none();
+    'levels: for below in (0..3).rev() {
+        let Some(seen) = entry(cache, mem, hgatp, table + 8 * index(va, below)) else {
+            return None;
+        };
+        entries = entries.with_entry(below, seen);
+        if !is_pointer(seen.word) {
+            return Some(entries);
+        }
+        table = next_table(seen.word);
+    }
+    None
+}
