@@ -161,7 +161,7 @@ reached_replays : (line : LiveLine) (words : Result LiveWords Refusal) (reached 
 unfolding live_plan
 reached_replays line words None old new read answer is follows a ended = absurd (cc a.0)
 reached_replays line words (Some (Refuse refusal)) old new read answer is follows a ended = absurd (refused_unended refusal (live_outside read old.sink old.keys old.bench) new answer a ended)
-reached_replays line words (Some (Make out rules line)) old new read answer is follows a ended = absurd a
+reached_replays line words (Some (Make out rules printed)) old new read answer is follows a ended = absurd a
 reached_replays line (Err refusal) (Some (RunFrom start asked save)) old new read answer is follows a ended = absurd (cc follows.0)
 reached_replays line (Ok words) (Some (RunFrom start asked save)) old new read answer is follows a ended =
     run_replays line words old new read start asked save answer (line_good line words is) follows a

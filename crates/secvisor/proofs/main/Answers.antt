@@ -12,8 +12,8 @@ words_follow : (words : List (List ℕ)) (files : FilesState) → ((asked : List
     ((saves : List (List ℕ × List ℕ)) → IsTrue (files.permits_save saves)) → MayFollow (plan_of (judged words)) files
 words_follow words files all saves = may_follow (plan_of (judged words)) files all saves
 
-pub secvisor-status-requires-clause-permitted : goal.secvisor-status-requires-clause-permitted
-secvisor-status-requires-clause-permitted g c = λ κs. words_follow _ _ (λ asked. refl) (λ saves. refl)
+pub secvisor-requires-clause-permitted : goal.secvisor-requires-clause-permitted
+secvisor-requires-clause-permitted g c = λ κs. words_follow _ _ (λ asked. refl) (λ saves. refl)
 
 live_follows : (words : List (List ℕ)) (files : FilesState) → ((asked : List (List ℕ × ℕ)) → IsTrue (files.permits asked)) →
     ((saves : List (List ℕ × List ℕ)) → IsTrue (files.permits_save saves)) → MayFollow (live_plan (live_judged words)) files
@@ -26,5 +26,5 @@ file_asked : (name : Option (List ℕ)) (files : FilesState) → ((asked : List 
 file_asked None files all = tt
 file_asked (Some name) files all = all _
 
-pub secvisor_show-status-requires-clause-permitted : goal.secvisor_show-status-requires-clause-permitted
-secvisor_show-status-requires-clause-permitted g c = λ κs. file_asked _ _ (λ asked. refl)
+pub secvisor_show-requires-clause-permitted : goal.secvisor_show-requires-clause-permitted
+secvisor_show-requires-clause-permitted g c = file_asked _ _ (λ asked. refl)

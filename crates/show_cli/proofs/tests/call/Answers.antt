@@ -7,5 +7,5 @@ may_ask : (asked : Option (List ℕ)) (files : FilesState) → ((names : List (L
 may_ask None files all = tt
 may_ask (Some name) files all = all _
 
-pub secvisor_show-result-requires-clause-permitted : goal.secvisor_show-result-requires-clause-permitted
-secvisor_show-result-requires-clause-permitted g c = may_ask _ _ c.requires.names
+pub secvisor_show-requires-clause-permitted : goal.secvisor_show-requires-clause-permitted
+secvisor_show-requires-clause-permitted g c = may_ask _ _ c.requires.names
