@@ -13,7 +13,7 @@ fn binds_the_entries_of_the_generated_guest(rt: HostRuntime) -> Result<(), Fail>
     assert!(rt; left.taken.as_slice() == b"converted 2\n".as_slice());
     assert!(rt; !left.is_booted);
     match &left.saved {
-        Some(saved) => assert!(rt; saved.starts_with(b"format = 2\n")),
+        Some(saved) => assert!(rt; saved.starts_with(b"entries = [[")),
         None => assert!(rt; false),
     }
     Ok(())
