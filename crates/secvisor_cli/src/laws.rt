@@ -7,8 +7,8 @@ ghost use Rattle.secvisor_cli.specs.CommandLine.{Convert, ConvertWords};
 ghost use Rattle.secvisor_cli.specs.Converted.{IsConverted};
 ghost use Rattle.secvisor_cli.specs.Plans.{plan_of};
 
-/// Where `convert` ends with status 0, a policy was saved and its line was written, and each of its entries is bound to an
-/// address in the text of the kernel.
+/// Where `convert` ends with status 0, the policy that its name holds was saved with its entries bound to their places in the
+/// kernel that its name holds, each to an address in the kernel's text, and its line was written.
 pub fn law_converted()
-    ensures { (words : ConvertWords) (old new : Outside) → Headline (plan_of (Ok (Convert words))) old new Status.Done → IsConverted words.out old new }
+    ensures { (words : ConvertWords) (old new : Outside) → Headline (plan_of (Ok (Convert words))) old new Status.Done → IsConverted words old new }
 {}
