@@ -1,6 +1,6 @@
 -- Exceptions: delegated ones in kernel mode, exits in user mode.
 use Rattle.std.proofs.Common.{◌≡◌, ℕ, length, refl, sym, ◌∙◌, ap, subst, Bool, true, false, ◌&&◌}
-use Rattle.std.specs.Prelude.{Option, Some, None, not, if◌then◌else◌, ◌==◌}
+use Rattle.std.specs.Prelude.{Option, Some, None, not, ◌==◌}
 use Rattle.sv_types.specs.Policies.{Rules}
 use Rattle.processor.specs.Bits.{bit}
 use Rattle.processor.specs.Causes.{cause_number}

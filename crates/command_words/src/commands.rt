@@ -1,8 +1,8 @@
 // The commands, as `clap` is told them.
-ghost use Rattle.std.specs.Prelude.{◌≡◌, IfOk, false, fold, map, take, drop};
+ghost use Rattle.std.specs.Prelude.{◌≡◌, IfOk, false, map};
 ghost use Rattle.clap.specs.Words.{app_of, rule_of};
 ghost use Rattle.clap.specs.declared.builder.Command.TheViews.{out-Command};
-ghost use Rattle.command_words.specs.Parsing.{wanted_rule, list_rule, with_wanted, wanting, measure_app, bare_app, whole_app, flat_app, gen_app, run_app, vrun_app};
+ghost use Rattle.command_words.specs.Parsing.{wanted_rule, list_rule, wanting, measure_app, bare_app, whole_app};
 
 use clap::{Arg, ArgAction, Command};
 use std::alloc::{AllocError, Global};

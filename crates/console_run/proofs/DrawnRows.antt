@@ -1,5 +1,5 @@
 -- Events that are drawn in rows.
-use Rattle.std.proofs.Common.{◌≡◌, ℕ, zero, suc, [], ◌++◌, replicate, refl, sym, ◌∙◌, ap, Option, None}
+use Rattle.std.proofs.Common.{◌≡◌, ℕ, [], ◌++◌, replicate, sym, ◌∙◌, ap, None}
 use Rattle.sv_types.specs.declared.event.Event.{Event}
 use Rattle.sv_types.specs.Schedule.{Schedule, first_events, next_event}
 use Rattle.script.proofs.FirstEvents.{begun_none}

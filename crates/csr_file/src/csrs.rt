@@ -2,7 +2,7 @@
 
 ghost use Rattle.std.specs.Prelude.{◌≡◌, true};
 ghost use Rattle.std.specs.Result.{result_err};
-ghost use Rattle.processor.specs.HypervisorRegisters.{registers_at_boot, virtual_interrupt_bits, hip_value, aliased, with_alias, is_hypervisor_number, refusal, csr_access, read_virtual, write_virtual, read_answer, after_write};
+ghost use Rattle.processor.specs.HypervisorRegisters.{registers_at_boot, hip_value, aliased, with_alias, is_hypervisor_number, refusal, csr_access, read_virtual, write_virtual, read_answer, after_write};
 ghost use Rattle.processor.specs.Registers.{legal_satp};
 
 use crate::masks::{
@@ -144,6 +144,7 @@ impl Csrs {
     /// The register that an access by a number reaches. An access that also writes is judged as a write. The fault is
     /// `Virtual` where supervisor mode without V would have the access, and else `Illegal`.
     #[tactic(auto, unfolding(processor::specs::HypervisorRegisters::csr_access, processor::specs::HypervisorRegisters::reached_csr))]
+    #[inline(always)]
     pub fn access(&self, mode: Mode, number: u16, writes: bool) -> Result<Csr, CsrFault>
         ensures { result ≡ csr_access mode self.now number writes }
     {
@@ -192,6 +193,7 @@ impl Csrs {
 
     /// Writes a register that an access reaches, as the guest writes it. No access writes the time.
     #[tactic(auto, unfolding(processor::specs::HypervisorRegisters::write_virtual))]
+    #[inline(always)]
     pub fn set(&mut self, hideleg: u64, csr: Csr, value: u64)
         ensures { self.new ≡ write_virtual hideleg self.old csr value }
     {

@@ -7,9 +7,13 @@ pub const SPIE: u64 = 1 << 5;
 /// SPP of a status: the mode before the trap was kernel mode.
 pub const SPP: u64 = 1 << 8;
 /// SUM of a status: kernel mode may reach pages of user mode.
-const SUM: u64 = 1 << 18;
+const SUM: u64 = 1 << SUM_PLACE;
+/// The place of SUM.
+pub const SUM_PLACE: u8 = 18;
 /// MXR of a status: what is executable may be read.
-const MXR: u64 = 1 << 19;
+const MXR: u64 = 1 << MXR_PLACE;
+/// The place of MXR.
+pub const MXR_PLACE: u8 = 19;
 /// The bits of a status that a guest writes.
 pub const STATUS_BITS: u64 = SIE | SPIE | SPP | SUM | MXR;
 /// UXL of `vsstatus`, as it is read: user mode has 64-bit registers.

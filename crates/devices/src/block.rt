@@ -2,7 +2,7 @@
 
 ghost use Rattle.std.specs.Prelude.{◌≡◌, ◌+◌, ◌%◌, ◌^◌, ◌<◌, ◌≤◌, Some, length, true, false};
 ghost use Rattle.processor.specs.Bytes.{overwrite};
-ghost use Rattle.reference.specs.BlockDisk.{is_busy, can_begin, block_ended, block_told, block_value, block_stored, block_after_beat, beat_gpa, beat_place, beat_size, beats_done, is_under_way, sector_size};
+ghost use Rattle.reference.specs.BlockDisk.{is_busy, can_begin, block_ended, block_told, block_stored, block_after_beat, beat_gpa, beat_place, beat_size, beats_done, is_under_way, sector_size};
 ghost use Rattle.reference.specs.Disk.{is_writable};
 ghost use Rattle.reference.specs.States.{BlockDisk};
 ghost use Rattle.sv_types.specs.declared.block.BlockCommand.TheVariants.{DiskToMemory, MemoryToDisk};

@@ -2,7 +2,7 @@
 
 ghost use Rattle.std.specs.Prelude.{◌≡◌, ◌<◌};
 ghost use Rattle.sv_types.specs.Limits.{most_harts};
-ghost use Rattle.sv_types.specs.Clock.{latest, clock_at_boot, after_tick, timer_of, with_timer, is_due};
+ghost use Rattle.sv_types.specs.Clock.{clock_at_boot, after_tick, timer_of, with_timer, is_due};
 
 use std::marker::Model;
 use sv_types::MOST_HARTS;

@@ -1,9 +1,8 @@
 //! What a device may do to memory: a guard with one bit for each page of RAM, and what a block device is to the machine.
 #![tactic(auto)]
 
-ghost use Rattle.std.specs.Prelude.{◌≡◌, ◌+◌, ◌<◌, ◌≤◌, ◌%◌, length, replicate, slice_set, IfOk, IsTrue, true};
-ghost use Rattle.processor.specs.Bytes.{page_size, in_ram, ram_base, ram_place};
-ghost use Rattle.processor.specs.Regions.{IsRegion};
+ghost use Rattle.std.specs.Prelude.{◌≡◌, ◌+◌, ◌<◌, ◌≤◌, ◌%◌, length, replicate, slice_set, IfOk, true};
+ghost use Rattle.processor.specs.Bytes.{page_size};
 ghost use Rattle.reference.specs.Disk.{is_writable};
 ghost use Rattle.dma_guard.specs.Transfers.{write_answer, after_write, read_answer, after_read};
 

@@ -1,5 +1,5 @@
 -- The addresses of the kernel's functions that modules call. ELF-64 Object File Format, "Symbol Table".
-use Rattle.std.specs.Prelude.{ℕ, ◌/◌, Bool, false, ◌&&◌, not, ◌==◌, nat_lt, List, [], length, find, if◌then◌else◌, option_map, Option, Some, None, Ok, Err}
+use Rattle.std.specs.Prelude.{ℕ, Bool, false, ◌&&◌, not, ◌==◌, nat_lt, List, [], length, find, if◌then◌else◌, option_map, Option, Some, None, Ok, Err}
 use Rattle.std.specs.Str.{bytes_eq}
 use Rattle.sv_types.specs.Kernel.{first_refusal, file_checks}
 use Rattle.sv_types.specs.declared.image_fault.HeaderFault.{HeaderFault}

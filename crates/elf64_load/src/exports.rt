@@ -6,7 +6,7 @@ ghost use Rattle.elf64_load.specs.Addresses.{found};
 ghost use Rattle.elf64_load.specs.Exports as spec;
 ghost use Rattle.elf64_load.specs.Refusals.{Refuses};
 ghost use Rattle.elf64_sections.specs.Judged.{each};
-ghost use Rattle.elf64_sections.specs.Sections.{sections_in_file, sections_of, tables_of};
+ghost use Rattle.elf64_sections.specs.Sections.{sections_in_file};
 ghost use Rattle.elf64_sections.specs.Views.{tables_view};
 
 use crate::read::ElfRefusal;

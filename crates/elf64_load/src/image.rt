@@ -1,6 +1,6 @@
 // The image of a kernel.
 
-ghost use Rattle.std.specs.Prelude.{◌≡◌, ℕ, ◌≤◌, ◌<◌, ◌&&◌, ◌++◌, nat_le, nat_lt, map, Some, length, replicate, slice_index, if◌then◌else◌, IfOk, OnOk};
+ghost use Rattle.std.specs.Prelude.{◌≡◌, ℕ, ◌≤◌, ◌<◌, ◌&&◌, ◌++◌, nat_le, nat_lt, map, Some, length, slice_index, if◌then◌else◌, IfOk, OnOk};
 ghost use Rattle.sv_types.specs.Kernel.{is_text_of, filled_part, text_page, text_page_in, text_of};
 ghost use Rattle.processor.specs.Regions.{most_ram_pages};
 ghost use Rattle.processor.specs.Bytes.{page_size};

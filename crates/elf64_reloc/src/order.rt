@@ -1,6 +1,6 @@
 // Fields in the order of their places.
 
-ghost use Rattle.std.specs.Prelude.{◌≡◌, map, IfOk};
+ghost use Rattle.std.specs.Prelude.{◌≡◌, IfOk};
 ghost use Rattle.std.specs.BTreeMap.{values};
 ghost use Rattle.elf64_reloc.specs.Modules as spec;
 

@@ -1,7 +1,6 @@
 // What symbols stand for.
 
-ghost use Rattle.std.specs.Prelude.{◌≡◌, ◌≤◌, ◌<◌, ℕ, List, length, if◌then◌else◌, Some, IfOk, OnOk, option_map};
-ghost use Rattle.std.specs.Str.{bytes_eq};
+ghost use Rattle.std.specs.Prelude.{◌≡◌, ◌≤◌, ◌<◌, ℕ, List, length, Some, IfOk, option_map};
 ghost use Rattle.sv_types.specs.Limits.{most_exports};
 ghost use Rattle.elf64_reloc.specs.Symbols as spec;
 ghost use Rattle.elf64_reloc.specs.Bases.{found};

@@ -1,6 +1,6 @@
 // The text of an object, as it is measured.
 
-ghost use Rattle.std.specs.Prelude.{◌≡◌, ◌≤◌, IsTrue, length, IfOk, OnOk};
+ghost use Rattle.std.specs.Prelude.{◌≡◌, IsTrue, IfOk, OnOk};
 ghost use Rattle.std.specs.List.{list_all};
 ghost use Rattle.elf64_reloc.specs.Layouts.{is_good_alignment};
 ghost use Rattle.elf64_reloc.specs.Modules as spec;

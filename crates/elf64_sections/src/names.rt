@@ -1,6 +1,6 @@
 // Names of symbols.
 
-ghost use Rattle.std.specs.Prelude.{◌≡◌, ◌≤◌, ◌==◌, Some, None, if◌then◌else◌, ◌<◌, IfSome, length, take, position, option_map};
+ghost use Rattle.std.specs.Prelude.{◌≡◌, ◌≤◌, ◌==◌, Some, None, if◌then◌else◌, ◌<◌, IfSome, length, position, option_map};
 ghost use Rattle.std.specs.Str.{is_utf8};
 ghost use Rattle.sv_types.specs.Limits.{most_name_bytes};
 ghost use Rattle.elf64_sections.specs.Sections as spec;

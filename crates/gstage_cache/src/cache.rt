@@ -1,6 +1,6 @@
 // The cache: 256 lines, one for each number of a page modulo 256.
 
-ghost use Rattle.std.specs.Prelude.{◌≡◌, ℕ, ◌+◌, ◌*◌, ◌/◌, ◌%◌, ◌^◌, ◌<◌, ◌≤◌, Some, None, IfOk, IfSome, true, slice_set};
+ghost use Rattle.std.specs.Prelude.{◌≡◌, ◌+◌, ◌/◌, ◌%◌, ◌^◌, ◌<◌, ◌≤◌, Some, None, IfOk, IfSome, true};
 ghost use Rattle.std.specs.Option.{ok_or};
 ghost use Rattle.processor.specs.SecondStage.{walk_guest, WalksApart};
 ghost use Rattle.processor.specs.CachedWalks.{line_permits, no_lines, LineAgrees, CacheAgrees, FilledUnder};

@@ -3,7 +3,7 @@
 -- mode's, and tree 2 + i what is seen in entry i. A block of 2 MiB whose pages are all free is one leaf of level 1; its
 -- level-0 table is kept right while it isn't used.
 -- RISC-V Privileged manual, H extension, "Guest Physical Address Translation"; the places are this project's own.
-use Rattle.std.specs.Prelude.{◌≡◌, ℕ, ◌+◌, ◌-◌, ◌*◌, ◌/◌, ◌<◌, ◌≤◌, ◌==◌, Bool, if◌then◌else◌, nat_lt, List, length, slice_index_or}
+use Rattle.std.specs.Prelude.{◌≡◌, ℕ, ◌+◌, ◌-◌, ◌*◌, ◌/◌, ◌^◌, ◌<◌, ◌≤◌, ◌==◌, Bool, if◌then◌else◌, nat_lt, List, length, slice_index_or}
 use Rattle.processor.specs.Bytes.{word, page_size}
 use Rattle.processor.specs.Regions.{most_ram_pages}
 use Rattle.processor.specs.Translation.{is_leaf}
@@ -28,6 +28,10 @@ pub record Shape : Type 0 where
   pub ram_pages : ℕ
   pub bound : List ℕ
   pub counts : List ℕ
+
+-- the most trees
+abbrev pub most_trees : ℕ
+most_trees = 2 + most_bound
 
 -- the trees for so many entries
 abbrev pub tree_count : ℕ → ℕ
@@ -61,6 +65,13 @@ root_pages = 4
 abbrev pub root_words : ℕ
 root_words = root_pages * table_words
 
+-- the pages of a tree above its level-0 tables, those of its root and its level-1 table, and their words
+abbrev pub upper_pages : ℕ
+upper_pages = root_pages + 1
+
+abbrev pub upper_words : ℕ
+upper_words = upper_pages * table_words
+
 -- the root of a tree
 abbrev pub root_table : (tree : ℕ) → ℕ
 root_table tree = root_pages * tree
@@ -71,7 +82,7 @@ middle_table trees tree = root_pages * trees + tree
 
 -- the first level-0 table of a tree, where each tree has so many
 abbrev pub leaf_table : (trees leaf_tables tree : ℕ) → ℕ
-leaf_table trees leaf_tables tree = 5 * trees + tree * leaf_tables
+leaf_table trees leaf_tables tree = upper_pages * trees + tree * leaf_tables
 
 -- the pages of all tables, and of what lies behind them up to the next 2 MiB, so that a block of RAM lies at a multiple of
 -- its size
@@ -82,11 +93,22 @@ table_pages ram_pages bound =
 abbrev pub table_size : (ram_pages bound : ℕ) → ℕ
 table_size ram_pages bound = page_size * table_pages ram_pages bound
 
+-- the most pages of all tables, and the most with those behind them up to a whole block
+abbrev pub most_table_pages : ℕ
+most_table_pages = upper_pages * most_trees + most_trees * table_words
+
+abbrev pub most_block_pages : ℕ
+most_block_pages = block_pages * ((most_table_pages + last_in_block) / block_pages)
+
 -- ---- entries
+
+-- what the number of a page counts in an entry: it stands from bit 10 on
+abbrev pub page_number_unit : ℕ
+page_number_unit = 2 ^ 10
 
 -- an entry that names the next table: V
 abbrev pub pointer : ℕ → ℕ
-pointer page = 1024 * page + 1
+pointer page = page_number_unit * page + 1
 
 -- V, R, U and A; W and D for what may be written; X for what may be fetched
 abbrev pub flags : (store fetch : Bool) → ℕ
@@ -94,7 +116,7 @@ flags store fetch = 0x53 + ((if store then 0x84 else 0) + (if fetch then 8 else 
 
 -- the entry that maps a page of RAM to a host page, by what the tree shows
 abbrev pub leaf : Sight → (page : ℕ) → Protection → (host : ℕ) → ℕ
-leaf sight page protection host = 1024 * host + flags (view_permits sight page protection Store) (view_permits sight page protection Fetch)
+leaf sight page protection host = page_number_unit * host + flags (view_permits sight page protection Store) (view_permits sight page protection Fetch)
 
 -- entry i of a root: entry 2 is for the gigabyte in which RAM lies
 unfoldable pub root_word : (trees tree i : ℕ) → ℕ

@@ -2,14 +2,14 @@
 //! page.
 #![tactic(auto)]
 
-ghost use Rattle.std.specs.Prelude.{◌≡◌, ℕ, ◌+◌, ◌*◌, ◌/◌, ◌%◌, ◌<◌, ◌≤◌, ◌^◌, ◌≢◌, ◌==◌, ◌&&◌, length, replicate, slice_set, slice_index_or, Some, true};
+ghost use Rattle.std.specs.Prelude.{◌≡◌, ℕ, ◌+◌, ◌*◌, ◌/◌, ◌%◌, ◌<◌, ◌≤◌, ◌^◌, ◌≢◌, ◌==◌, ◌&&◌, length, replicate, true};
 ghost use Rattle.processor.specs.Bytes.{page_size, word};
 ghost use Rattle.processor.specs.Regions.{most_ram_pages};
 ghost use Rattle.sv_types.specs.Views.{AreViews, view_hgatp, view_permits, protect, all_free};
 ghost use Rattle.processor.specs.declared.access.Access.TheVariants.{Fetch};
 ghost use Rattle.sv_types.specs.declared.protection.Protection.{Protection as Kind};
 ghost use Rattle.gstage_tables.specs.Blocks.{is_free, lies_in_ram, is_whole_by, recounted, table_words, block_pages};
-ghost use Rattle.gstage_tables.specs.Layout.{most_bound, tree_count, sight_in, leaf_tables, middle_table, leaf_table, table_pages, table_size, leaf, middle_word, leaf_word, HoldsTrees, AreDrawn, MapsBlocks, root_words};
+ghost use Rattle.gstage_tables.specs.Layout.{most_bound, tree_count, sight_in, leaf_tables, middle_table, leaf_table, table_pages, table_size, leaf, middle_word, leaf_word, HoldsTrees, AreDrawn, MapsBlocks, root_words, most_trees, most_table_pages, most_block_pages, upper_words};
 ghost use Rattle.gstage_tables.specs.Written.{Wrote};
 
 mod fill;
@@ -194,7 +194,7 @@ impl Trees {
     // How many trees there are.
     fn count(&self) -> u64
         ensures value { result ≡ tree_count (length self.now.bound) }
-        ensures few { result ≤ 66 }
+        ensures few { result ≤ most_trees }
     {
         2 + self.bound.len() as u64
     }
@@ -211,7 +211,7 @@ impl Trees {
     fn leaf_table(&self, tree: u64) -> u64
         requires { tree ≤ tree_count (length self.now.bound) }
         ensures value { result ≡ leaf_table (tree_count (length self.now.bound)) (leaf_tables self.now.ram_pages) tree }
-        ensures few { result ≤ 34122 }
+        ensures few { result ≤ most_table_pages }
     {
         leaf_table(self.count(), self.leaf_tables(), tree)
     }
@@ -219,7 +219,7 @@ impl Trees {
     // The pages of the table part.
     fn table_pages(&self) -> u64
         ensures value { result ≡ table_pages self.now.ram_pages (length self.now.bound) }
-        ensures few { result ≤ 34304 }
+        ensures few { result ≤ most_block_pages }
     {
         up_to_blocks(self.leaf_table(self.count()))
     }
@@ -368,7 +368,7 @@ impl Trees {
         requires size { length mem.old.tables ≡ table_size self.now.ram_pages (length self.now.bound) }
         ensures ram { mem.new.ram ≡ mem.old.ram }
         ensures size { length mem.new.tables ≡ length mem.old.tables }
-        ensures below { (k : ℕ) → k < 2560 * tree_count (length self.now.bound) → word mem.new.tables (8 * k) 8 ≡ word mem.old.tables (8 * k) 8 }
+        ensures below { (k : ℕ) → k < upper_words * tree_count (length self.now.bound) → word mem.new.tables (8 * k) 8 ≡ word mem.old.tables (8 * k) 8 }
         ensures leaves { (tree p : ℕ) → tree < tree_count (length self.now.bound) → p < block_pages * leaf_tables self.now.ram_pages
             → word mem.new.tables (8 * (table_words * leaf_table (tree_count (length self.now.bound)) (leaf_tables self.now.ram_pages) tree + p)) 8
             ≡ leaf_word self.now.ram_pages (table_pages self.now.ram_pages (length self.now.bound)) (sight_in self.now.bound tree) all_free p }

@@ -3,7 +3,7 @@
 ghost use Rattle.std.specs.Prelude.{◌≡◌, ◌+◌, ◌*◌, ◌/◌, ◌<◌, ◌≤◌, ◌^◌};
 ghost use Rattle.processor.specs.Regions.{most_ram_pages};
 ghost use Rattle.gstage_tables.specs.Blocks.{table_words, block_pages};
-ghost use Rattle.gstage_tables.specs.Layout.{leaf_tables, leaf_table, pointer, flags, root_word, last_in_block};
+ghost use Rattle.gstage_tables.specs.Layout.{leaf_tables, leaf_table, pointer, flags, root_word, last_in_block, most_trees, most_table_pages, most_block_pages, page_number_unit};
 
 use bitflags::Flags;
 use processor::PteBits;
@@ -19,6 +19,12 @@ pub(crate) const ROOT_PAGES: u64 = 4;
 
 pub(crate) const ROOT_WORDS: u64 = ROOT_PAGES * TABLE_WORDS;
 
+/// The pages of a tree above its level-0 tables.
+const UPPER_PAGES: u64 = ROOT_PAGES + 1;
+
+/// What the number of a page counts in an entry.
+const PAGE_NUMBER_UNIT: u64 = 1 << 10;
+
 /// The level-0 tables of one tree.
 pub(crate) fn leaf_tables(ram_pages: u64) -> u64
     requires { ram_pages ≤ most_ram_pages }
@@ -31,20 +37,20 @@ pub(crate) fn leaf_tables(ram_pages: u64) -> u64
 
 /// The first level-0 table of a tree, or where the last tree's end, in pages of the table part.
 pub(crate) fn leaf_table(trees: u64, tables: u64, tree: u64) -> u64
-    requires trees { trees ≤ 66 }
+    requires trees { trees ≤ most_trees }
     requires tables { tables ≤ table_words }
     requires tree { tree ≤ trees }
     ensures value { result ≡ leaf_table trees tables tree }
-    ensures few { result ≤ 34122 }
+    ensures few { result ≤ most_table_pages }
 {
-    5 * trees + tree * tables
+    UPPER_PAGES * trees + tree * tables
 }
 
 /// So many pages and those behind them up to a whole number of blocks.
 pub(crate) fn up_to_blocks(pages: u64) -> u64
-    requires { pages ≤ 34122 }
+    requires { pages ≤ most_table_pages }
     ensures value { result ≡ block_pages * ((pages + last_in_block) / block_pages) }
-    ensures few { result ≤ 34304 }
+    ensures few { result ≤ most_block_pages }
 {
     BLOCK_PAGES * pages.div_ceil(BLOCK_PAGES)
 }
@@ -69,7 +75,7 @@ fn writable() -> PteBits
 // The flags of a page that may be read, and stored to or fetched from where that is permitted.
 fn flags(store: bool, fetch: bool) -> PteBits
     ensures value { result.0 ≡ flags store fetch }
-    ensures small { result.0 < 1024 }
+    ensures small { result.0 < page_number_unit }
 {
     match (store, fetch) {
         (false, false) => readable(),
@@ -82,9 +88,9 @@ fn flags(store: bool, fetch: bool) -> PteBits
 /// The entry that maps a host page.
 pub(crate) fn mapping(host: u64, store: bool, fetch: bool) -> u64
     requires { host < 2 ^ 44 }
-    ensures { result ≡ 1024 * host + flags store fetch }
+    ensures { result ≡ page_number_unit * host + flags store fetch }
 {
-    1024 * host + flags(store, fetch).bits()
+    PAGE_NUMBER_UNIT * host + flags(store, fetch).bits()
 }
 
 /// The entry that names the next table.
@@ -92,13 +98,13 @@ pub(crate) fn pointer(page: u64) -> u64
     requires { page < 2 ^ 44 }
     ensures { result ≡ pointer page }
 {
-    1024 * page + PteBits::VALID.bits()
+    PAGE_NUMBER_UNIT * page + PteBits::VALID.bits()
 }
 
 /// Entry `i` of a tree's root.
 #[tactic(auto, unfolding(crate::specs::Layout::root_word))]
 pub(crate) fn root_word(trees: u64, tree: u64, i: u64) -> u64
-    requires trees { trees ≤ 66 }
+    requires trees { trees ≤ most_trees }
     requires tree { tree < trees }
     ensures { result ≡ root_word trees tree i }
 {

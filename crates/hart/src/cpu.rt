@@ -7,10 +7,10 @@ ghost use Rattle.processor.specs.HardwareAttempt.{attempt, OnlyWrites};
 ghost use Rattle.hart.specs.Cores.{core_of, attempted_of};
 ghost use Rattle.hart.specs.Conditions.{KeepsMode};
 
-use crate::decoder::Decoder;
 use crate::execution::attempt;
 use crate::hart::Core;
 use crate::wires::Wires;
+use crate::words::Words;
 use gstage_cache::Cache;
 use host_mem::HostMem;
 use processor::{HRegs, Outcome};
@@ -21,7 +21,7 @@ use std::marker::Model;
 #[derive(Drop)]
 pub struct Cpu {
     count: u64,
-    decoder: Decoder,
+    words: Words,
 }
 
 impl Model for Cpu {
@@ -37,8 +37,8 @@ impl Cpu {
     pub fn new(alloc: Global) -> Result<Cpu, AllocError>
         ensures { IfOk result (λ count. count ≡ 0) }
     {
-        let decoder = Decoder::new(alloc)?;
-        Ok(Cpu { count: 0, decoder })
+        let words = Words::new(alloc)?;
+        Ok(Cpu { count: 0, words })
     }
 
     /// The attempts that were made.
@@ -77,6 +77,6 @@ impl Cpu {
         ensures written { OnlyWrites mem.old mem.new result }
     {
         self.count += 1;
-        attempt(&mut self.decoder, core, regs, cache, mem, wires)
+        attempt(&mut self.words, core, regs, cache, mem, wires)
     }
 }

@@ -1,15 +1,14 @@
 // One attempt of a hart.
 
-ghost use Rattle.std.specs.Prelude.{◌≡◌, ◌<◌, ◌/◌, ◌%◌, ◌^◌, IsTrue, IfOk, Some, None};
+ghost use Rattle.std.specs.Prelude.{◌≡◌, ◌<◌, ◌/◌, Some, None};
 ghost use Rattle.processor.specs.Effects.{set_register};
 ghost use Rattle.processor.specs.HypervisorRegisters.{pending};
 ghost use Rattle.processor.specs.HardwareMemory.{translated};
 ghost use Rattle.processor.specs.declared.access.Access.TheVariants as Access;
 ghost use Rattle.processor.specs.HardwareAttempt.{after_word, after_fetch, attempt, OnlyWrites};
-ghost use Rattle.hart.specs.Cores.{core_of, step_of, attempted_of};
+ghost use Rattle.hart.specs.Cores.{core_of, attempted_of};
 ghost use Rattle.hart.specs.Conditions.{MayAttempt, StaysReady};
 
-use crate::decoder::{Decoded, Decoder};
 use crate::hart::Core;
 use crate::memory::{Request, reached, translated};
 use crate::requests::{
@@ -20,6 +19,7 @@ use crate::system::{
 };
 use crate::trap::{interrupt, plain_exception, raise};
 use crate::wires::Wires;
+use crate::words::{Decoded, Words};
 use gstage_cache::Cache;
 use host_mem::HostMem;
 use processor::{Access, Cause, Effect, HRegs, Interrupt, Outcome};
@@ -30,7 +30,7 @@ use trap_entry::pending;
 #[tactic(auto, using(gstage_cache::specs::Fills::nothing_filled, gstage_cache::specs::Fills::filled_further), unfolding(processor::specs::HardwareAttempt::attempt, processor::specs::HardwareAttempt::after_pending))]
 #[inline(always)]
 pub(crate) fn attempt<W: Wires>(
-    decoder: &mut Decoder,
+    words: &mut Words,
     core: &mut Core,
     regs: &HRegs,
     cache: &mut Cache,
@@ -44,7 +44,7 @@ pub(crate) fn attempt<W: Wires>(
 {
     match interrupt_due(core, regs, wires) {
         Some(taken) => interrupt(core, regs, taken),
-        None => fetch(decoder, core, regs, cache, mem, wires),
+        None => fetch(words, core, regs, cache, mem, wires),
     }
 }
 
@@ -64,7 +64,7 @@ fn interrupt_due<W: Wires>(core: &Core, regs: &HRegs, wires: &W) -> Option<Inter
 #[tactic(auto, using(gstage_cache::specs::Fills::nothing_filled, gstage_cache::specs::Fills::filled_further), unfolding(processor::specs::HardwareAttempt::after_fetch))]
 #[inline(always)]
 fn fetch<W: Wires>(
-    decoder: &mut Decoder,
+    words: &mut Words,
     core: &mut Core,
     regs: &HRegs,
     cache: &mut Cache,
@@ -78,7 +78,7 @@ fn fetch<W: Wires>(
     match translated(core, regs, cache, mem, Request::fetch(core.pc)) {
         Ok(hpa) => {
             let word = mem.read(hpa as usize, 4) as u32;
-            let decoded = decoder.decoded(core.pc, word);
+            let decoded = words.decoded(core.pc, word);
             carry_out(core, regs, cache, mem, wires, decoded)
         }
         Err(exception) => raise(core, regs, exception),

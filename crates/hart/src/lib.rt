@@ -3,7 +3,6 @@
 
 mod call_registers;
 mod cpu;
-mod decoder;
 mod execution;
 mod hart;
 mod memory;
@@ -11,10 +10,13 @@ mod requests;
 mod system;
 mod trap;
 mod wires;
+mod words;
 
 pub use call_registers::{A0, A1, A2, A3, A6, A7};
 pub use cpu::Cpu;
 pub use hart::{Core, Hart};
-pub use memory::IMPLICIT_READ;
+pub use memory::{IMPLICIT_READ, regime};
 pub use processor::{Outcome, Wrote};
+pub use system::csr_value;
 pub use wires::Wires;
+pub use words::{Decoded, Words};

@@ -12,6 +12,7 @@ ghost use Rattle.sv39_walk.specs.Regimes.{settings_of};
 
 use crate::hart::Core;
 use crate::trap::plain_exception;
+use csr_file::{MXR_PLACE, SUM_PLACE};
 use gstage_cache::Cache;
 use host_mem::HostMem;
 use processor::{Access, Cause, Exception, Fault, HRegs, has_bit};
@@ -122,8 +123,8 @@ fn fault_exception(request: Request, fault: Fault) -> Exception
     }
 }
 
-// What the hart's translation goes by.
-fn regime(core: &Core, regs: &HRegs) -> Regime
+/// What the hart's translation goes by.
+pub fn regime(core: &Core, regs: &HRegs) -> Regime
     ensures hgatp { result.hgatp ≡ regs.now.hgatp }
     ensures mode { result.mode ≡ regs.now.mode }
     ensures settings { settings_of result ≡ settings_at (core_of core.now regs.now) }
@@ -134,8 +135,8 @@ fn regime(core: &Core, regs: &HRegs) -> Regime
         hgatp: regs.hgatp,
         vsatp: core.csrs.vsatp,
         mode: regs.mode,
-        sum: has_bit(status, 18),
-        mxr: has_bit(status, 19),
+        sum: has_bit(status, SUM_PLACE),
+        mxr: has_bit(status, MXR_PLACE),
     }
 }
 

@@ -1,10 +1,9 @@
 // Loads, stores and atomic instructions, by the host place that they reached.
 
-ghost use Rattle.std.specs.Prelude.{true, ◌≡◌, ◌⊎◌, ◌<◌, ◌≤◌, ◌%◌, ◌^◌, length, IfOk};
+ghost use Rattle.std.specs.Prelude.{true, ◌≡◌, ◌⊎◌, ◌<◌, ◌≤◌, ◌%◌, length, IfOk};
 ghost use Rattle.processor.specs.Effects.{set_register, next_pc};
 ghost use Rattle.processor.specs.Regions.{IsWidth, IsHostPlace};
-ghost use Rattle.processor.specs.Requests.{loaded_value, reserved_at, covers};
-ghost use Rattle.processor.specs.Hardware.{with_region};
+ghost use Rattle.processor.specs.Requests.{loaded_value, covers};
 ghost use Rattle.processor.specs.HardwareMemory.{retire, retire_with, after_load, after_load_reserved, after_store, after_store_conditional, after_amo};
 ghost use Rattle.hart.specs.Cores.{core_of, step_of, attempted_of};
 ghost use Rattle.hart.specs.Conditions.{MayStep};
@@ -13,7 +12,7 @@ use crate::hart::Core;
 use crate::trap::raise;
 use host_mem::HostMem;
 use processor::{AmoOp, Exception, HRegs, Outcome, Wrote};
-use rv64_exec::amo;
+use rv64_exec::{amo, loaded_value};
 
 /// The hart goes on behind an instruction that is done.
 #[inline(always)]
@@ -43,35 +42,6 @@ pub(crate) struct Format {
     pub(crate) signed: bool,
 }
 
-impl Format {
-    fn signed(width: u8) -> Format
-        ensures { result ≡ record { width = width; signed = true } }
-    {
-        Format {
-            width,
-            signed: true,
-        }
-    }
-}
-
-// A word that was read as a register takes it.
-#[tactic(auto, unfolding(processor::specs::Requests::loaded_value))]
-fn loaded_value(format: Format, word: u64) -> u64
-    requires width { IsWidth format.width }
-    requires small { word < 256 ^ format.width }
-    ensures { result ≡ loaded_value format.signed format.width word }
-{
-    if !format.signed {
-        return word;
-    }
-    match format.width {
-        1 => i64::from((word as u8).cast_signed()).cast_unsigned(),
-        2 => i64::from((word as u16).cast_signed()).cast_unsigned(),
-        4 => i64::from((word as u32).cast_signed()).cast_unsigned(),
-        _ => word,
-    }
-}
-
 /// A load.
 #[tactic(auto, unfolding(processor::specs::HardwareMemory::after_load))]
 #[inline(always)]
@@ -93,7 +63,12 @@ pub(crate) fn load(
     match place {
         Ok(hpa) => {
             let word = mem.read(hpa as usize, format.width);
-            retire_with(core, rd, loaded_value(format, word), None)
+            retire_with(
+                core,
+                rd,
+                loaded_value(format.signed, format.width, word),
+                None,
+            )
         }
         Err(exception) => raise(core, regs, exception),
     }
@@ -121,7 +96,7 @@ pub(crate) fn load_reserved(
         Ok(hpa) => {
             let word = mem.read(hpa as usize, width);
             core.reservation = Some(hpa - hpa % 8);
-            retire_with(core, rd, loaded_value(Format::signed(width), word), None)
+            retire_with(core, rd, loaded_value(true, width, word), None)
         }
         Err(exception) => raise(core, regs, exception),
     }
@@ -259,7 +234,7 @@ pub(crate) fn atomic(
             retire_with(
                 core,
                 rd,
-                loaded_value(Format::signed(operation.width), word),
+                loaded_value(true, operation.width, word),
                 Some(Wrote {
                     hpa,
                     width: u64::from(operation.width),

@@ -52,9 +52,9 @@ pub(crate) fn csr_reached(
     }
 }
 
-// What an access makes of the old value and its operand.
+/// What an access makes of the old value and its operand.
 #[tactic(auto, unfolding(processor::specs::Requests::csr_value))]
-fn csr_value(op: CsrOp, old: u64, operand: u64) -> u64
+pub fn csr_value(op: CsrOp, old: u64, operand: u64) -> u64
     ensures { result ≡ csr_value op old operand }
 {
     match op {

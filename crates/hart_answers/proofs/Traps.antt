@@ -9,8 +9,7 @@ use Rattle.processor.specs.declared.mode.Mode.TheVariants.{Kernel, User}
 use Rattle.reference.specs.Trapping.{entry_in}
 use Rattle.hart.specs.Cores.{core_of}
 use Rattle.hart.specs.declared.hart.Hart.{Hart}
-use Rattle.machine_model.specs.HostHarts.{host_entered, host_at_trap, host_at_return, host_stopped, host_outside}
-use Rattle.machine_model.specs.Machine.{HostHart}
+use Rattle.machine_model.specs.HostHarts.{host_at_trap, host_at_return, host_stopped, host_outside}
 use Rattle.machine_model.specs.StandsFor.{hregs_in, kernel_view}
 use Rattle.page_guard.specs.Sides.{mode_of, entry_of, registers_of, view_at_trap, view_at_return, view_outside}
 use Rattle.hart_answers.specs.Hosts.{host_of}

@@ -5,7 +5,7 @@ ghost use Rattle.processor.specs.HypervisorRegisters.{virtual_software_bit};
 ghost use Rattle.reference.specs.Calls.{mask_names};
 ghost use Rattle.machine_model.specs.Machine.{forgets};
 ghost use Rattle.machine_model.specs.HardwareEvent.{interrupted_hosts};
-ghost use Rattle.hart_answers.specs.Hosts.{host_at, hosts_of};
+ghost use Rattle.hart_answers.specs.Hosts.{hosts_of};
 ghost use Rattle.hart_answers.specs.Seats.{forgotten, notified};
 
 use csr_file::{Csrs, VIRTUAL_SOFTWARE};

@@ -2,7 +2,7 @@
 // from the later ones that begin or end in it, so that segments over one another aren't each written.
 
 ghost use Rattle.std.specs.List.{All};
-ghost use Rattle.std.specs.Prelude.{◌≡◌, ℕ, ◌+◌, ◌-◌, ◌*◌, ◌/◌, ◌<◌, ◌≤◌, ◌==◌, ◌&&◌, false, nat_le, nat_lt, map, length, replicate, slice_index, slice_index_or, if◌then◌else◌, IfOk, OnErr, OnOk};
+ghost use Rattle.std.specs.Prelude.{◌≡◌, ℕ, ◌+◌, ◌-◌, ◌*◌, ◌/◌, ◌<◌, ◌≤◌, ◌==◌, ◌&&◌, false, nat_le, nat_lt, map, length, replicate, slice_index, slice_index_or, if◌then◌else◌, OnErr, OnOk};
 ghost use Rattle.processor.specs.Bytes.{page_size, overwrite, padded, part, ram_place};
 ghost use Rattle.sv_types.specs.Kernel.{segments_ram};
 ghost use Rattle.processor.specs.Regions.{most_ram_pages};

@@ -1,12 +1,11 @@
 // The pages of an image's text.
 
-ghost use Rattle.std.specs.Prelude.{◌≡◌, ℕ, ◌+◌, ◌*◌, ◌<◌, ◌≤◌, length, replicate, slice_get, slice_set, slice_index, Some, OnOk, OnErr, nat_lt, if◌then◌else◌};
-ghost use Rattle.processor.specs.Bytes.{page_size};
+ghost use Rattle.std.specs.Prelude.{◌≡◌, ◌<◌, length, replicate, slice_get, slice_set, Some, OnOk, OnErr, if◌then◌else◌};
 ghost use Rattle.sv_types.specs.Kernel.{text_pages};
-ghost use Rattle.sv_types.specs.declared.protection.Protection.TheVariants.{Free, Held, Approved};
+ghost use Rattle.sv_types.specs.declared.protection.Protection.TheVariants.{Free, Approved};
 ghost use Rattle.reference.specs.Protections.{with_each};
 ghost use Rattle.page_guard.specs.Guarded.{IsTheirs, StaysTheirs};
-ghost use Rattle.elf64_load.specs.Images.{segments_of, text_owner};
+ghost use Rattle.elf64_load.specs.Images.{segments_of};
 ghost use Rattle.image_loader.specs.Placed.{ArePlaced};
 
 use elf64_load::KernelImage;

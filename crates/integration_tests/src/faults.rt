@@ -1,5 +1,5 @@
 // Each call of the outside that fails, in turn.
-ghost use Rattle.std.specs.Prelude.{◌≡◌, ◌<◌, ◌≤◌};
+ghost use Rattle.std.specs.Prelude.{◌<◌};
 
 use crate::generated::run;
 use crate::program::{GOOD, Outside};

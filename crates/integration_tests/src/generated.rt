@@ -1,5 +1,4 @@
 // Runs of the generated guest: by `gen`, and by `run` over its files.
-ghost use Rattle.std.specs.Prelude.{◌≡◌, ◌≤◌, IfOk};
 
 use crate::program::{GOOD, Handed, Left, Outside, PRINTED, Printed, call, text_of};
 use guest_gen::generate;

@@ -1,5 +1,4 @@
 // Kernel images: one that is as small as can be, and others that are wrong in one place.
-ghost use Rattle.std.specs.Prelude.{◌≡◌, ◌≤◌, IfOk};
 
 use crate::flat::{PRINTS_A_AND_SHUTS_DOWN, measure_text, page, push_words};
 use crate::generated::{WORDS, files};

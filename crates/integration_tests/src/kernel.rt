@@ -1,5 +1,5 @@
 // Kernels under test: their files, their policies, and their runs.
-ghost use Rattle.std.specs.Prelude.{◌≡◌, ◌≤◌, IfOk, length, vec_len};
+ghost use Rattle.std.specs.Prelude.{◌≡◌, IfOk, vec_len};
 
 use crate::flat::{fill, push_words};
 use crate::program::{GOOD, Handed, Left, PRINTED, Printed, call, text_of};

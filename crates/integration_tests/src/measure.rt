@@ -1,5 +1,4 @@
 // Runs of `measure`: the generated guest's policy, and what is refused.
-ghost use Rattle.std.specs.Prelude.{◌≡◌};
 
 use crate::generated::files;
 use crate::program::{GOOD, Outside, call};

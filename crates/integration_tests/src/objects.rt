@@ -1,5 +1,4 @@
 // Module objects that are wrong in one place.
-ghost use Rattle.std.specs.Prelude.{◌≡◌};
 
 use crate::generated::files;
 use crate::images::{Bad, Field, put_fields};

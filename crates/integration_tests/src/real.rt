@@ -1,5 +1,4 @@
 // The files of the operating system and standard output.
-ghost use Rattle.std.specs.Prelude.{◌≡◌};
 
 use outside::{FileRefusal, Files, RealFiles, Sink, StdSink};
 use std::test::Fail;

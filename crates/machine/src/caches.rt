@@ -1,7 +1,7 @@
 // The caches of second-stage walks, where protections change.
 
 ghost use Rattle.std.specs.Prelude.{◌≡◌, true, false, ℕ, List, length};
-ghost use Rattle.machine.specs.Attempts.{AreUsable, first_emptied};
+ghost use Rattle.machine.specs.Attempts.{AreUsable};
 
 use gstage_cache::Cache;
 

@@ -1,6 +1,6 @@
 // What SecVisor answers where a hart exits.
 
-ghost use Rattle.std.specs.Prelude.{◌≡◌, ◌<◌, ◌*◌, length};
+ghost use Rattle.std.specs.Prelude.{◌≡◌, ◌<◌, length};
 ghost use Rattle.reference.specs.Calls.{asked_by};
 ghost use Rattle.reference.specs.Counting.{MayCount};
 ghost use Rattle.reference.specs.ModuleCalls.{answer_of};

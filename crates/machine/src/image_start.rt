@@ -1,6 +1,6 @@
 // The machine of a kernel's image before its first event.
 
-ghost use Rattle.std.specs.Prelude.{◌≡◌, ℕ, ◌≤◌, ◌*◌, ◌%◌, List, length, true, IfOk, OnOk, IfErr, IsTrue};
+ghost use Rattle.std.specs.Prelude.{◌≡◌, ℕ, ◌≤◌, ◌*◌, List, length, true, IfOk, OnOk, IfErr, IsTrue};
 ghost use Rattle.processor.specs.Bytes.{page_size};
 ghost use Rattle.sv_types.specs.Kernel.{segments_ram};
 ghost use Rattle.sv_types.specs.Measure.{measure};

@@ -2,7 +2,6 @@
 
 ghost use Rattle.std.specs.Prelude.{◌≡◌, ◌≤◌, length, IfOk, option_map};
 ghost use Rattle.sv_types.specs.Limits.{most_harts};
-ghost use Rattle.sv_types.specs.Clock.{timer_of};
 ghost use Rattle.reference.specs.States.{State};
 ghost use Rattle.machine_model.specs.StandsFor.{StandsFor};
 ghost use Rattle.hart_answers.specs.Hosts.{host_at, hosts_of};

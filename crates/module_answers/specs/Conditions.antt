@@ -1,5 +1,5 @@
 -- What holds of modules and their pages before each answer. This project's own.
-use Rattle.std.specs.Prelude.{◌≡◌, ◌≤◌, List, length, Option, Some, None, IfSome, slice_get, is_some}
+use Rattle.std.specs.Prelude.{◌≡◌, ◌≤◌, List, length, Option, None, IfSome, slice_get, is_some}
 use Rattle.sv_types.specs.Policies.{Rules}
 use Rattle.processor.specs.Regions.{Region}
 use Rattle.sv_types.specs.declared.saved.SavedModule.{SavedModule}

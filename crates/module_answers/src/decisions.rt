@@ -1,10 +1,9 @@
 // What a call about modules is answered: the first check that fails gives the code.
 
-ghost use Rattle.std.specs.Prelude.{◌≡◌, ℕ, Bool, List, not, slice_get, is_some};
+ghost use Rattle.std.specs.Prelude.{◌≡◌, ℕ, Bool, List, slice_get, is_some};
 ghost use Rattle.sv_types.specs.Policies.{rules_of};
 ghost use Rattle.reference.specs.Calls.{Facts};
 ghost use Rattle.reference.specs.ModuleCalls.{module_asked, load_refused, load_call, load_decision, unload_refused, unload_call, retire_refused, retire_call, module_call};
-ghost use Rattle.reference.specs.Protections.{is_free, protection_at};
 ghost use Rattle.reference.specs.States.{find_module};
 ghost use Rattle.page_guard.specs.Guarded.{IsTheirs};
 ghost use Rattle.module_answers.specs.Parts.{loading_of, facts_in};

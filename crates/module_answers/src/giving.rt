@@ -1,6 +1,6 @@
 // What an answer does to pages and modules.
 
-ghost use Rattle.std.specs.Prelude.{◌≡◌, [], false, true, Some, None, length, IsTrue, IsSome, IfSome, slice_get};
+ghost use Rattle.std.specs.Prelude.{◌≡◌, [], false, true, Some, None, IsTrue, IsSome, IfSome, slice_get};
 ghost use Rattle.sv_types.specs.Policies.{rules_of, rules_within};
 ghost use Rattle.sv_types.specs.declared.protection.Protection.TheVariants.{Free, Held, Approved};
 ghost use Rattle.reference.specs.States.{with_module, pages_in_rule};

@@ -8,7 +8,7 @@ ghost use Rattle.reference.specs.ModuleCalls.{load_decision};
 ghost use Rattle.reference.specs.States.{pages_in_rule};
 ghost use Rattle.machine_model.specs.GivenAnswers.{IsOfLoad};
 ghost use Rattle.machine_model.specs.HostCalls.{host_given};
-ghost use Rattle.machine_model.specs.HostExits.{host_is_good, load_counted, served_load_turn};
+ghost use Rattle.machine_model.specs.HostExits.{load_counted, served_load_turn};
 ghost use Rattle.machine_model.specs.Machine.{Machine};
 ghost use Rattle.module_gate.specs.Gates.{host_load};
 ghost use Rattle.module_answers.specs.Conditions.{AreJoined, IsReadable};

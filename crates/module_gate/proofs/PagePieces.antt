@@ -1,12 +1,11 @@
 -- The sites of a page are those of the piece at its place.
-use Rattle.std.proofs.Common.{◌≡◌, ℕ, ◌-◌, ◌*◌, ◌/◌, ◌%◌, ◌<◌, ◌≤◌, List, [], ◌∷◌, ◌++◌, refl, sym, ◌∙◌, ap, subst, Bool, true, false, ◌&&◌, ◌||◌, arith}
+use Rattle.std.proofs.Common.{◌≡◌, ℕ, ◌-◌, ◌*◌, ◌/◌, ◌%◌, ◌<◌, ◌≤◌, List, [], ◌∷◌, ◌++◌, refl, sym, ◌∙◌, ap, subst, Bool, true, false, ◌&&◌, arith}
 use Rattle.std.specs.Prelude.{All, nat_le, nat_lt, ◌==◌, if◌then◌else◌}
 use Rattle.std.proofs.lemmas.Bool.{and_parts, eqb-true, eq-eqb}
 use Rattle.std.proofs.lemmas.Bool.Decides.{nat_tests}
 use Rattle.std.proofs.lemmas.List.Elements.{All-nil, All-cons}
 use Rattle.sv_types.specs.Policies.{each_within, next_site_within, site_within, is_behind, place_within, is_aligned, base_within, anchor_within, site_size}
 use Rattle.sv_types.specs.declared.module.Site.{Site}
-use Rattle.reference.specs.Relocations.{field_width, field_of}
 use Rattle.reference.proofs.FieldWidths.{width_by}
 use Rattle.machine_model.specs.HostExits.{page_sites, moved_site, is_site_in}
 use Rattle.relocated_fields.specs.Pieces.{piece_sites, lies_in, IsAligned}

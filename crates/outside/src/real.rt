@@ -1,5 +1,5 @@
 // Real files and standard output. They tell nothing of content.
-ghost use Rattle.std.specs.Prelude.{◌≡◌, None, false, true};
+ghost use Rattle.std.specs.Prelude.{◌≡◌};
 ghost use Rattle.outside.specs.Held.{real_state, real_sink};
 
 use crate::{Failed, FileRefusal, Files, SaveFailed, Sink};

@@ -1,11 +1,10 @@
 // The guard of pages.
 
-ghost use Rattle.std.specs.Prelude.{◌≡◌, ◌+◌, ◌*◌, ◌/◌, ◌<◌, ◌≤◌, length, map, replicate, slice_set, slice_get, Some, None, IfOk, OnOk, IfErr, OnErr};
+ghost use Rattle.std.specs.Prelude.{◌≡◌, ◌+◌, ◌/◌, ◌<◌, ◌≤◌, length, map, replicate, slice_set, slice_get, Some, None, IfOk, OnOk, IfErr, OnErr};
 ghost use Rattle.processor.specs.Bytes.{page_size};
 ghost use Rattle.sv_types.specs.Views.{view_hgatp};
 ghost use Rattle.sv_types.specs.declared.protection.Protection.TheVariants.{Free, Held, Approved};
 ghost use Rattle.gstage_tables.specs.Layout.{most_bound, table_size};
-ghost use Rattle.reference.specs.Protections.{with_pages};
 ghost use Rattle.reference.specs.Protections.{is_free};
 ghost use Rattle.page_guard.specs.Guarded.{with_span, IsInRam, AllAre, first_taken, IsTheirs, StaysTheirs};
 

@@ -2,7 +2,7 @@
 //! digested side by side, each in a thread of its own where one can be made.
 #![tactic(auto)]
 
-ghost use Rattle.std.specs.Prelude.{◌≡◌, ◌*◌, ◌%◌, ◌<◌, length, IfOk, vec_len};
+ghost use Rattle.std.specs.Prelude.{◌≡◌, ◌*◌, ◌%◌, ◌<◌, length, IfOk};
 ghost use Rattle.processor.specs.Bytes.{page_size};
 ghost use Rattle.sv_types.specs.Measure.{digests_of};
 ghost use Rattle.sv_types.specs.Measure as spec;

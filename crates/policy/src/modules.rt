@@ -1,7 +1,7 @@
 // The modules that may be loaded.
 
 ghost use Rattle.std.specs.Prelude.{◌≡◌, ◌+◌, ◌≤◌, [], IfOk, IfErr, option_map, map, length};
-ghost use Rattle.sv_types.specs.Limits.{most_exports};
+ghost use Rattle.sv_types.specs.Limits.{most_exports, most_module_pages, most_sites};
 ghost use Rattle.sv_types.specs.Policies as limits;
 ghost use Rattle.toml.specs.View.{view, table_view, items_view};
 ghost use Rattle.policy.specs.Refusals.{Refuses, judged_map};
@@ -20,7 +20,7 @@ pub(crate) const MODULE_KEYS: [&str; 4] = ["name", "pages", "measure", "sites"];
 
 fn module_pages(value: &Value) -> Result<u32, PolicyFault>
     ensures value { result ≡ spec.module_pages_of (view value.now) }
-    ensures within { IfOk result (λ pages. pages ≤ 1024) }
+    ensures within { IfOk result (λ pages. pages ≤ most_module_pages) }
 {
     let pages = natural(value)?;
     if pages < 1 || pages > u64::from(MOST_MODULE_PAGES) {
@@ -38,7 +38,7 @@ pub(crate) fn key_name(table: &Table) -> Result<Name, PolicyFault>
 
 pub(crate) fn key_pages(table: &Table) -> Result<u32, PolicyFault>
     ensures value { result ≡ spec.key_pages (table_view table.now) }
-    ensures within { IfOk result (λ pages. pages ≤ 1024) }
+    ensures within { IfOk result (λ pages. pages ≤ most_module_pages) }
 {
     let value = required(table, "pages")?;
     module_pages(value)
@@ -70,12 +70,12 @@ fn module_of_members(
 ) -> Result<ModulePolicy, PolicyRefusal>
     requires few_exports { exports ≤ most_exports }
     requires sites_of { sites_before ≡ limits.sites_of (map limits.module_rule before.now) }
-    requires few_sites { sites_before ≤ 131072 }
+    requires few_sites { sites_before ≤ most_sites }
     ensures ok { IfOk result (λ m.
         spec.module_of_members exports (map limits.module_rule before.now) (table_view table.now)
         ≡ Ok (limits.module_rule m)) }
     ensures refused { IfErr result (Refuses (spec.module_of_members exports (map limits.module_rule before.now) (table_view table.now))) }
-    ensures few { IfOk result (λ m. sites_before + length m.sites.items ≤ 131072) }
+    ensures few { IfOk result (λ m. sites_before + length m.sites.items ≤ most_sites) }
 {
     let name = key_name(table)?;
     let pages = key_pages(table)?;
@@ -100,11 +100,11 @@ fn module(
 ) -> Result<ModulePolicy, PolicyRefusal>
     requires few_exports { exports ≤ most_exports }
     requires sites_of { sites_before ≡ limits.sites_of (map limits.module_rule before.now) }
-    requires few_sites { sites_before ≤ 131072 }
+    requires few_sites { sites_before ≤ most_sites }
     ensures ok { IfOk result (λ m.
         spec.module_of exports (map limits.module_rule before.now) (view value.now) ≡ Ok (limits.module_rule m)) }
     ensures refused { IfErr result (Refuses (spec.module_of exports (map limits.module_rule before.now) (view value.now))) }
-    ensures few { IfOk result (λ m. sites_before + length m.sites.items ≤ 131072) }
+    ensures few { IfOk result (λ m. sites_before + length m.sites.items ≤ most_sites) }
 {
     let table = members(value)?;
     let table = with_known(MODULE_KEYS.as_slice(), table)?;

@@ -1,7 +1,7 @@
 // The printing of a policy's text.
 
 ghost use Rattle.std.specs.Prelude.{◌≡◌, IfOk, OnOk, Some, true, map, length, string_bytes};
-ghost use Rattle.toml.specs.Data.{string, array, no_members};
+ghost use Rattle.toml.specs.Data.{string, array};
 ghost use Rattle.toml.specs.Parse.{parse_document};
 ghost use Rattle.toml.specs.View.{view, items_of, table_view};
 ghost use Rattle.sv_types.specs.Policies as limits;

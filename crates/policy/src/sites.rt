@@ -1,7 +1,7 @@
 // The relocated fields of a module.
 
 ghost use Rattle.std.specs.Prelude.{◌≡◌, ◌≤◌, [], ◌+◌, length, IfOk, IfErr};
-ghost use Rattle.sv_types.specs.Limits.{most_exports};
+ghost use Rattle.sv_types.specs.Limits.{most_exports, most_module_pages, most_sites};
 ghost use Rattle.toml.specs.View.{view, items_view};
 ghost use Rattle.policy.specs.Refusals.{Refuses};
 ghost use Rattle.policy.specs.Text as spec;
@@ -20,12 +20,12 @@ use toml::Value;
 pub struct Bounds {
     pub pages: u32,
     pub exports: usize,
-    ghost few_pages: { pages ≤ 1024 },
+    ghost few_pages: { pages ≤ most_module_pages },
     ghost few_exports: { exports ≤ most_exports },
 }
 
 fn offset(pages: u32, value: &Value) -> Result<u32, PolicyFault>
-    requires { pages ≤ 1024 }
+    requires { pages ≤ most_module_pages }
     ensures { result ≡ spec.offset_of pages (view value.now) }
 {
     let offset = natural(value)?;
@@ -66,7 +66,7 @@ fn base(exports: usize, value: &Value) -> Result<u16, PolicyFault>
 }
 
 fn anchor(pages: u32, kind: RelocationKind, offset: u32, value: &Value) -> Result<u32, PolicyFault>
-    requires { pages ≤ 1024 }
+    requires { pages ≤ most_module_pages }
     ensures { result ≡ spec.anchor_of pages kind offset (view value.now) }
 {
     let anchor = natural(value)?;
@@ -160,9 +160,9 @@ pub fn sites(
     before: usize,
     value: &Value,
 ) -> Result<Vec<Site>, PolicyRefusal>
-    requires { before ≤ 131072 }
+    requires { before ≤ most_sites }
     ensures ok { IfOk result (λ sites. spec.sites_in bounds.pages bounds.exports before (view value.now) ≡ Ok sites.items) }
-    ensures few { IfOk result (λ sites. before + length sites.items ≤ 131072) }
+    ensures few { IfOk result (λ sites. before + length sites.items ≤ most_sites) }
     ensures refused { IfErr result (Refuses (spec.sites_in bounds.pages bounds.exports before (view value.now))) }
 {
     let items = items(value)?;

@@ -2,7 +2,7 @@
 
 ghost use Rattle.std.specs.Prelude.{◌≡◌, ◌==◌, ◌+◌, ◌≤◌, IsTrue, [], map, length};
 ghost use Rattle.std.specs.List.{list_any};
-ghost use Rattle.sv_types.specs.Limits.{most_exports};
+ghost use Rattle.sv_types.specs.Limits.{most_exports, most_sites};
 ghost use Rattle.sv_types.specs.Policies as limits;
 
 use crate::names::{is_exported, is_module};
@@ -106,9 +106,9 @@ fn sites_within(pages: u32, exports: usize, sites: &[Site]) -> bool
 }
 
 fn sites_count_within(before: usize, count: usize) -> bool
-    requires { before ≤ 131072 }
+    requires { before ≤ most_sites }
     ensures value { result ≡ limits.sites_count_within before count }
-    ensures few { IsTrue result → before + count ≤ 131072 }
+    ensures few { IsTrue result → before + count ≤ most_sites }
 {
     count <= MOST_MODULE_SITES && before + count <= MOST_SITES
 }
@@ -121,9 +121,9 @@ fn module_within(
 ) -> bool
     requires few_exports { exports ≤ most_exports }
     requires sites_of { sites_before ≡ limits.sites_of (map limits.module_rule before.now) }
-    requires few_sites { sites_before ≤ 131072 }
+    requires few_sites { sites_before ≤ most_sites }
     ensures value { result ≡ limits.module_within exports (map limits.module_rule before.now) (limits.module_rule m.now) }
-    ensures few { IsTrue result → sites_before + length m.now.sites.items ≤ 131072 }
+    ensures few { IsTrue result → sites_before + length m.now.sites.items ≤ most_sites }
 {
     1 <= m.pages
         && m.pages <= MOST_MODULE_PAGES

@@ -27,6 +27,7 @@ pub enum Cause {
 
 impl Cause {
     /// The cause's number in the Privileged manual.
+    #[inline(always)]
     pub fn number(self) -> u64
         ensures { result ≡ cause_number self }
     {

@@ -8,7 +8,6 @@ mod requests;
 mod row;
 mod tried;
 mod window;
-mod words;
 
+pub use hart::Words;
 pub use row::quick_turns;
-pub use words::Words;

@@ -1,19 +1,18 @@
 // Where a quick turn's accesses lead.
 
-ghost use Rattle.std.specs.Prelude.{◌≡◌, ◌⊎◌, ◌≤◌, ℕ, ◌/◌, ◌%◌, ◌^◌, length, IfSome, Ok};
+ghost use Rattle.std.specs.Prelude.{◌≡◌, ◌≤◌, ℕ, ◌/◌, ◌%◌, length, IfSome, Ok};
 ghost use Rattle.processor.specs.Regions.{IsWidth, IsHostPlace};
 ghost use Rattle.processor.specs.SecondStage.{WalksApart};
 ghost use Rattle.processor.specs.CachedWalks.{CacheAgrees};
-ghost use Rattle.processor.specs.HardwareMemory.{settings_at, translated, reached};
+ghost use Rattle.processor.specs.HardwareMemory.{translated, reached};
 ghost use Rattle.hart.specs.Cores.{core_of};
 ghost use Rattle.hart.specs.Conditions.{MayWalk, Walked};
-ghost use Rattle.sv39_walk.specs.Regimes.{settings_of};
 
 use gstage_cache::Cache;
-use hart::Core;
+use hart::{Core, regime};
 use host_mem::HostMem;
-use processor::{Access, HRegs, has_bit};
-use sv39_walk::{Regime, translate_through};
+use processor::{Access, HRegs};
+use sv39_walk::translate_through;
 
 /// An access to so many bytes at a virtual address.
 #[derive(Clone, Copy, Drop)]
@@ -21,23 +20,6 @@ pub(crate) struct Reach {
     pub(crate) access: Access,
     pub(crate) address: u64,
     pub(crate) width: u8,
-}
-
-// What the hart's translation goes by.
-fn regime(core: &Core, regs: &HRegs) -> Regime
-    ensures hgatp { result.hgatp ≡ regs.now.hgatp }
-    ensures mode { result.mode ≡ regs.now.mode }
-    ensures settings { settings_of result ≡ settings_at (core_of core.now regs.now) }
-    ensures first { (result.vsatp / 2 ^ 60 ≡ 0) ⊎ (result.vsatp / 2 ^ 60 ≡ 8) }
-{
-    let status = core.csrs.vsstatus;
-    Regime {
-        hgatp: regs.hgatp,
-        vsatp: core.csrs.vsatp,
-        mode: regs.mode,
-        sum: has_bit(status, 18),
-        mxr: has_bit(status, 19),
-    }
 }
 
 // `place` by a walk, kept out of the way of addresses whose translation is held.

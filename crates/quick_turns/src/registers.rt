@@ -13,7 +13,7 @@ ghost use Rattle.quick_turns.specs.Quick.{Comes, SameCourse};
 
 use crate::tried::Tried;
 use csr_file::Csrs;
-use hart::Core;
+use hart::{Core, csr_value};
 use processor::{Csr, CsrOp, HRegs, Lines};
 
 // Some wires, for registers that are read without them.
@@ -56,18 +56,6 @@ fn write(csrs: &mut Csrs, hideleg: u64, csr: Csr, value: u64) -> bool
             true
         }
         _ => false,
-    }
-}
-
-// What an access makes of the old value and its operand.
-#[tactic(auto, unfolding(processor::specs::Requests::csr_value))]
-fn csr_value(op: CsrOp, old: u64, operand: u64) -> u64
-    ensures { result ≡ csr_value op old operand }
-{
-    match op {
-        CsrOp::Csrrw | CsrOp::Csrrwi => operand,
-        CsrOp::Csrrs | CsrOp::Csrrsi => old | operand,
-        CsrOp::Csrrc | CsrOp::Csrrci => old & !operand,
     }
 }
 

@@ -1,12 +1,11 @@
 // The effects of instructions that quick turns carry out.
 
-ghost use Rattle.std.specs.Prelude.{◌≡◌, ◌<◌, ◌≤◌, ◌%◌, ◌^◌, ℕ, length, None};
-ghost use Rattle.processor.specs.Effects.{set_register, next_pc};
+ghost use Rattle.std.specs.Prelude.{◌≡◌, ◌<◌, ℕ, None};
 ghost use Rattle.processor.specs.Regions.{IsWidth};
 ghost use Rattle.processor.specs.Requests.{loaded_value};
 ghost use Rattle.processor.specs.Hardware.{with_region};
-ghost use Rattle.processor.specs.HardwareAttempt.{after_word, after_set};
-ghost use Rattle.processor.specs.HardwareMemory.{retire, reached, after_load, after_store};
+ghost use Rattle.processor.specs.HardwareAttempt.{after_word};
+ghost use Rattle.processor.specs.HardwareMemory.{reached, after_load, after_store};
 ghost use Rattle.processor.specs.declared.access.Access.TheVariants as Access;
 ghost use Rattle.processor.specs.declared.lines.Lines.{Lines};
 ghost use Rattle.hart.specs.Cores.{core_of};
@@ -16,30 +15,11 @@ ghost use Rattle.quick_turns.specs.Quick.{Comes, GoesOn};
 use crate::memory::{Reach, reached};
 use crate::registers::{CsrAccess, csr};
 use crate::tried::Tried;
-use crate::words::Decoded;
 use gstage_cache::Cache;
-use hart::Core;
+use hart::{Core, Decoded};
 use host_mem::HostMem;
 use processor::{Access, Effect, HRegs};
-use rv64_exec::effect;
-
-// A word that was read as a register takes it.
-#[tactic(auto, unfolding(processor::specs::Requests::loaded_value))]
-fn loaded_value(signed: bool, width: u8, word: u64) -> u64
-    requires width { IsWidth width }
-    requires small { word < 256 ^ width }
-    ensures { result ≡ loaded_value signed width word }
-{
-    if !signed {
-        return word;
-    }
-    match width {
-        1 => i64::from((word as u8).cast_signed()).cast_unsigned(),
-        2 => i64::from((word as u16).cast_signed()).cast_unsigned(),
-        4 => i64::from((word as u32).cast_signed()).cast_unsigned(),
-        _ => word,
-    }
-}
+use rv64_exec::{effect, loaded_value};
 
 // A load into a register.
 #[derive(Clone, Copy, Drop)]

@@ -1,6 +1,6 @@
 // Turns in a row.
 
-ghost use Rattle.std.specs.Prelude.{◌≡◌, ◌≤◌, None, List, Option};
+ghost use Rattle.std.specs.Prelude.{◌≡◌, ◌≤◌, None};
 ghost use Rattle.processor.specs.HardwareAttempt.{attempt};
 ghost use Rattle.processor.specs.HypervisorRegisters.{pending};
 ghost use Rattle.processor.specs.declared.lines.Lines.{Lines};
@@ -12,9 +12,8 @@ ghost use Rattle.quick_turns.specs.Rows.{RetiresThrough};
 use crate::requests::carry_out;
 use crate::tried::Tried;
 use crate::window::{Window, at_pc};
-use crate::words::Words;
 use gstage_cache::Cache;
-use hart::Core;
+use hart::{Core, Words};
 use host_mem::HostMem;
 use processor::HRegs;
 

@@ -3,7 +3,6 @@
 ghost use Rattle.std.specs.Prelude.{◌≡◌, ◌/◌, ◌%◌, ◌+◌, ◌^◌, IfSome};
 ghost use Rattle.processor.specs.Bytes.{page_size};
 ghost use Rattle.processor.specs.Regions.{host_word};
-ghost use Rattle.processor.specs.SecondStage.{WalksApart};
 ghost use Rattle.hart.specs.Cores.{core_of};
 ghost use Rattle.hart.specs.Conditions.{MayWalk, Walked};
 ghost use Rattle.quick_turns.specs.Quick.{Leads};

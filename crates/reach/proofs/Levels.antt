@@ -1,8 +1,8 @@
 -- The levels of a walk whose entries are kept.
-use Rattle.std.proofs.Common.{◌≡◌, ℕ, zero, suc, ◌+◌, ◌*◌, ◌/◌, ◌%◌, ◌<◌, refl, ◌∙◌, sym, ap, subst, arith, Bool, true, false, List}
-use Rattle.std.specs.Prelude.{Option, Some}
+use Rattle.std.proofs.Common.{◌≡◌, ℕ, zero, suc, ◌+◌, ◌*◌, ◌/◌, ◌<◌, refl, ◌∙◌, sym, ap, subst, arith, Bool, true, false, List}
+use Rattle.std.specs.Prelude.{Some}
 use Rattle.processor.specs.Instructions.{bits}
-use Rattle.processor.specs.Regions.{Region, IsRegion, IsHostPlace, host_word}
+use Rattle.processor.specs.Regions.{Region, IsRegion, IsHostPlace}
 use Rattle.processor.specs.Translation.{walk, is_pointer, entry_page}
 use Rattle.processor.specs.SecondStage.{walk_guest, entry_through, WalksApart, WalksInside}
 use Rattle.processor.specs.declared.access.Access.TheVariants.{Load}
@@ -10,7 +10,7 @@ use Rattle.sv39_walk.specs.Levels.{indices_of}
 use Rattle.sv39_walk.proofs.Steps.{first_at, walk_pointer, walk_ends, entry_found, entry_place}
 use Rattle.reach.specs.declared.line.Seen.{Seen}
 use Rattle.reach.specs.declared.line.Entries.{Entries}
-use Rattle.reach.specs.Kept.{with_entry, Above, IsThere, IsPlace, AreThere, EndsAt}
+use Rattle.reach.specs.Kept.{with_entry, Above, IsThere, IsPlace, EndsAt}
 
 -- ---- where entries are read
 

@@ -13,7 +13,6 @@ use Rattle.sv39_walk.specs.Regimes.{settings_of}
 use Rattle.sv39_walk.specs.declared.first_stage.Regime.{Regime}
 use Rattle.gstage_cache.proofs.Walks.{IsReadable, moved, leads_in_region, region_readable, page_moves, answer_near, answer_is}
 use Rattle.reach.specs.declared.line.Entries.{Entries}
-use Rattle.reach.specs.declared.line.Line.{Line}
 use Rattle.reach.specs.Kept.{AreThere, ArePlaces, EndsAt, LineAgrees, host_of, leads_under}
 
 -- ---- the second stage

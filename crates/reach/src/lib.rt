@@ -1,7 +1,6 @@
 //! Translations through both stages that are kept with the table words that they read, and are right while these stand.
 #![tactic(auto)]
 
-mod entry;
 mod line;
 mod lines;
 mod walk;

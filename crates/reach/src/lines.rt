@@ -7,14 +7,13 @@ ghost use Rattle.processor.specs.CachedWalks.{CacheAgrees, FilledUnder};
 ghost use Rattle.reach.specs.declared.line.Line.{Line as Kept};
 ghost use Rattle.reach.specs.Kept.{no_lines, line_at, line_place, leads_under, IsFor, IsKept, AreThere, LineAgrees, ReachAgrees};
 
-use crate::entry::root_table;
 use crate::line::{Line, are_there, is_for};
 use crate::walk::entries;
 use gstage_cache::Cache;
 use host_mem::HostMem;
 use processor::{Access, PAGE_BYTES};
 use std::marker::Model;
-use sv39_walk::{Regime, translate_through};
+use sv39_walk::{Regime, root_table, translate_through};
 
 /// The lines for each kind of access. Kernels have wide texts.
 const FETCH_LINES: u64 = 256;

@@ -8,12 +8,11 @@ ghost use Rattle.processor.specs.declared.access.Access.TheVariants as Access;
 ghost use Rattle.sv39_walk.specs.Levels.{IsTable};
 ghost use Rattle.reach.specs.Kept.{IsThere, AreThere, ArePlaces, EndsAt};
 
-use crate::entry::{index, is_pointer, next_table};
 use crate::line::{Entries, Seen};
 use gstage_cache::Cache;
 use host_mem::HostMem;
-use processor::Access;
-use sv39_walk::SecondStage;
+use processor::{Access, PteBits};
+use sv39_walk::{SecondStage, entry_page, index, is_pointer};
 
 // The entry at a guest-physical address, read where the second stage leads as a load.
 fn entry(cache: &mut Cache, mem: &HostMem, hgatp: u64, gpa: u64) -> Option<Seen>
@@ -62,10 +61,11 @@ pub(crate) fn entries(
             return None;
         };
         entries = entries.with_entry(below, seen);
-        if !is_pointer(seen.word) {
+        let pte = PteBits(seen.word);
+        if !is_pointer(pte) {
             return Some(entries);
         }
-        table = next_table(seen.word);
+        table = entry_page(pte);
     }
     None
 }

@@ -1,10 +1,10 @@
 -- A beat: one move of the request under way, or a look for the next request. VIRTIO 1.2, "Split Virtqueues" and "Device
--- Operation" of the block device; that a beat moves at most 64 bytes is this project's own. The chain is read at the
+-- Operation" of the block device; that a beat moves so few bytes (`beat_size`) is this project's own. The chain is read at the
 -- beat that accepts it, and every other word at the beat that reads it. A beat is told RAM and which pages may be written.
 use Rattle.std.specs.Prelude.{ℕ, ◌+◌, ◌%◌, ◌^◌, Bool, true, false, not, ◌&&◌, ◌==◌, bit_or, List, [], ◌∷◌, ◌++◌, length, filter, nat_lt, if◌then◌else◌, Option, Some, None}
 use Rattle.processor.specs.Bytes.{part, overwrite, low_bytes, in_ram, ram_place, page_of}
 use Rattle.reference.specs.Move.{Move, Idle, FromRam, IntoRam, DeniedAt, OutsideRam}
-use Rattle.reference.specs.VirtioDevice.{VirtioDevice, Request, driver_ok, is_broken}
+use Rattle.reference.specs.VirtioDevice.{VirtioDevice, Request, driver_ok, is_broken, index_values}
 use Rattle.reference.specs.VirtioStores.{needs_reset}
 use Rattle.reference.specs.VirtioQueue.{rings_in_ram, available_index, next_head, waiting}
 use Rattle.reference.specs.VirtioChain.{chain, most_parts, is_good, data_of, result_of}
@@ -97,7 +97,7 @@ request_by result sector d head accepted parts = record {
 }
 
 abbrev pub next_count : VirtioDevice → ℕ
-next_count d = (d.accepted + 1) % 65536
+next_count d = (d.accepted + 1) % index_values
 
 abbrev pub result_in : VirtioDevice → List ℕ → List VirtioPart → ℕ
 result_in d ram parts = result_by ram (length d.bytes) (type_of ram parts) (sector_of ram parts) (data_of parts)

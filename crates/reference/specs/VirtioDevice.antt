@@ -4,6 +4,14 @@ use Rattle.std.specs.Prelude.{ℕ, ◌-◌, ◌^◌, Bool, ◌==◌, bit_and, Li
 use Rattle.processor.specs.Bits.{bit}
 use Rattle.sv_types.specs.declared.virtio.VirtioMove.{VirtioMove}
 
+-- the most places of the queue
+abbrev pub most_places : ℕ
+most_places = 64
+
+-- an index of a ring, and a head, is a number of 16 bits
+abbrev pub index_values : ℕ
+index_values = 2 ^ 16
+
 -- a request that was accepted and whose moves aren't all made
 pub record Request : Type 0 where
   -- the moves that are left, the next one first
@@ -30,7 +38,7 @@ pub record VirtioDevice : Type 0 where
   pub used : ℕ
   pub interrupt : ℕ
   pub status : ℕ
-  -- how many requests were accepted, modulo 65,536
+  -- how many requests were accepted, modulo `index_values`
   pub accepted : ℕ
   pub request : Option Request
   -- the disk

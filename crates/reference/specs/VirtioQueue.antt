@@ -2,7 +2,7 @@
 -- place of the queue, the available ring 4 bytes and 2 for each place, the used ring 4 bytes and 8 for each place.
 use Rattle.std.specs.Prelude.{ℕ, ◌+◌, ◌-◌, ◌*◌, ◌%◌, Bool, ◌&&◌, List}
 use Rattle.processor.specs.Bytes.{word, in_ram, ram_place}
-use Rattle.reference.specs.VirtioDevice.{VirtioDevice}
+use Rattle.reference.specs.VirtioDevice.{VirtioDevice, index_values}
 
 -- the three parts lie in RAM
 unfoldable pub rings_in_ram : VirtioDevice → List ℕ → Bool
@@ -18,9 +18,9 @@ available_index d ram = word ram (ram_place d.available + 2) 2
 abbrev pub next_head : VirtioDevice → List ℕ → ℕ
 next_head d ram = word ram (ram_place d.available + 4 + 2 * (d.accepted % d.size)) 2
 
--- how many requests wait by the index, which counts modulo 65,536
+-- how many requests wait by the index, which counts modulo `index_values`
 abbrev pub waiting : VirtioDevice → List ℕ → ℕ
-waiting d ram = (available_index d ram + 65536 - d.accepted) % 65536
+waiting d ram = (available_index d ram + index_values - d.accepted) % index_values
 
 -- ---- the used ring: flags, index, and for each place a head and a length
 
@@ -29,4 +29,4 @@ used_index_gpa used = used + 2
 
 -- the place for a request, by the count of requests with it
 abbrev pub used_gpa : (used size accepted : ℕ) → ℕ
-used_gpa used size accepted = used + 4 + 8 * ((accepted + 65535) % 65536 % size)
+used_gpa used size accepted = used + 4 + 8 * ((accepted + (index_values - 1)) % index_values % size)

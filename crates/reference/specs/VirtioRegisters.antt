@@ -3,7 +3,7 @@
 use Rattle.std.specs.Prelude.{ℕ, ◌/◌, ◌%◌, ◌^◌, Bool, not, ◌&&◌, length, ◌==◌, if◌then◌else◌, Option, Some, None, option_map}
 use Rattle.processor.specs.Bits.{flag}
 use Rattle.reference.specs.BlockDisk.{sector_size}
-use Rattle.reference.specs.VirtioDevice.{VirtioDevice, is_selected}
+use Rattle.reference.specs.VirtioDevice.{VirtioDevice, is_selected, most_places}
 use Rattle.sv_types.specs.declared.virtio.VirtioRegister.{VirtioRegister}
 
 -- ---- where they lie
@@ -57,7 +57,7 @@ register_value d VirtioRegister.DeviceFeaturesSelect = 0
 register_value d VirtioRegister.DriverFeatures = 0
 register_value d VirtioRegister.DriverFeaturesSelect = 0
 register_value d VirtioRegister.QueueSelect = 0
-register_value d VirtioRegister.QueueSizeMax = if is_selected d then 64 else 0
+register_value d VirtioRegister.QueueSizeMax = if is_selected d then most_places else 0
 register_value d VirtioRegister.QueueSize = 0
 register_value d VirtioRegister.QueueReady = flag (is_selected d && d.ready)
 register_value d VirtioRegister.QueueNotify = 0

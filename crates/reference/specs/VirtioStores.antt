@@ -1,7 +1,7 @@
 -- What stores into the registers do. VIRTIO 1.2, "MMIO Device Register Layout", "Device Status Field", "Feature Bits".
 -- A store to a register that is only read has no effect.
 use Rattle.std.specs.Prelude.{ℕ, ◌+◌, ◌*◌, ◌/◌, ◌%◌, ◌^◌, Bool, false, not, ◌&&◌, ◌||◌, bit_or, List, ◌==◌, if◌then◌else◌, Option, None, option_map}
-use Rattle.reference.specs.VirtioDevice.{VirtioDevice, cleared, is_broken, is_selected}
+use Rattle.reference.specs.VirtioDevice.{VirtioDevice, cleared, is_broken, is_selected, most_places}
 use Rattle.reference.specs.VirtioRegisters.{register_at}
 use Rattle.sv_types.specs.declared.virtio.VirtioRegister.{VirtioRegister}
 
@@ -65,9 +65,9 @@ with_status d value = if value == 0 then reset d.bytes else record d { status = 
 abbrev pub can_set : VirtioDevice → Bool
 can_set d = is_selected d && not d.ready
 
--- a power of two, up to 64
+-- a power of two, up to the most places
 abbrev pub is_size : ℕ → Bool
-is_size size = size == 1 || size == 2 || size == 4 || size == 8 || size == 16 || size == 32 || size == 64
+is_size size = size == 1 || size == 2 || size == 4 || size == 8 || size == 16 || size == 32 || size == most_places
 
 -- "Split Virtqueues": the alignments of the three parts
 abbrev pub is_aligned : VirtioDevice → Bool

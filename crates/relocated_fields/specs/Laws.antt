@@ -6,10 +6,11 @@ use Rattle.sv_types.specs.declared.module.Site.{Site}
 use Rattle.sv_types.specs.declared.policy.Export.{Export}
 use Rattle.reference.specs.Relocations.{masked, fields_right}
 use Rattle.relocated_fields.specs.Pieces.{piece_sites, IsAligned}
+use Rattle.processor.specs.Bytes.{page_size}
 
 -- a text in pieces of whole pages, one behind the other, and sites whose fields begin in it, each at a multiple of its bytes
 pub record IsCut (pieces : List (List ℕ)) (sites : List Site) : Type 0 where
-  pub pages : All (λ piece. length piece % 4096 ≡ 0) pieces
+  pub pages : All (λ piece. length piece % page_size ≡ 0) pieces
   pub aligned : All IsAligned sites
   pub inside : All (λ site. site.offset < length (concat pieces)) sites
 

@@ -1,6 +1,6 @@
 // Pieces of a module's text.
 
-ghost use Rattle.std.specs.Prelude.{◌≡◌, ◌+◌, ◌%◌, ◌≤◌, length, All};
+ghost use Rattle.std.specs.Prelude.{◌≡◌, ◌%◌, ◌≤◌, length, All};
 ghost use Rattle.processor.specs.Bytes.{page_size};
 ghost use Rattle.reference.specs.Relocations as spec;
 ghost use Rattle.relocated_fields.specs.Pieces.{lies_in, moved, piece_sites, IsAligned};

@@ -1,5 +1,5 @@
 // The whole report.
-ghost use Rattle.std.specs.Prelude.{◌≡◌, ◌++◌, OnOk, IfOk, string_bytes};
+ghost use Rattle.std.specs.Prelude.{◌≡◌, IfOk, string_bytes};
 ghost use Rattle.sv_types.specs.Output.{report_lines};
 ghost use Rattle.reference.specs.Report as spec;
 ghost use Rattle.report.specs.Journals.{journal_with};

@@ -1,5 +1,5 @@
 -- Pages that are taken in order: a span of free ones, a page that isn't free, and some behind others.
-use Rattle.std.proofs.Common.{◌≡◌, ℕ, zero, suc, ◌+◌, ◌<◌, ◌≤◌, List, [], ◌∷◌, ◌++◌, length, refl, sym, ◌∙◌, ap, subst, Bool, true, false, not, ◌||◌, arith, slice_set}
+use Rattle.std.proofs.Common.{◌≡◌, ℕ, zero, suc, ◌+◌, ◌<◌, ◌≤◌, List, [], ◌∷◌, ◌++◌, length, refl, ◌∙◌, ap, subst, Bool, true, false, not, ◌||◌, arith, slice_set}
 use Rattle.std.specs.Prelude.{Option, Some, None, find, if◌then◌else◌, ◌==◌}
 use Rattle.std.proofs.lemmas.Bool.{eqb-true, eq-eqb}
 use Rattle.sv_types.specs.ApprovedPages.{numbers_from}

@@ -6,10 +6,12 @@ mod compute;
 mod compute_word;
 mod divide;
 mod effects;
+mod loaded;
 mod registers;
 mod word;
 
 pub use atomic::amo;
 pub use effects::effect;
+pub use loaded::loaded_value;
 pub use processor::Effect;
 pub use registers::Regs;

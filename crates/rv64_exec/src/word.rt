@@ -1,6 +1,6 @@
 // Machine words and their low 32 bits.
 
-ghost use Rattle.std.specs.Int.{w32, cast_signed};
+ghost use Rattle.std.specs.Int.{cast_signed};
 ghost use Rattle.std.specs.Prelude.{◌≡◌};
 ghost use Rattle.processor.specs.Effects as table;
 

@@ -1,5 +1,5 @@
 // The command `flat`.
-ghost use Rattle.std.specs.Prelude.{◌≡◌, ◌<◌, ◌≤◌, ◌-◌, ◌^◌, ◌%◌, IsTrue, length, true, false, OnOk, IfErr};
+ghost use Rattle.std.specs.Prelude.{◌≡◌, ◌<◌, ◌≤◌, ◌-◌, ◌^◌, ◌%◌, IsTrue, length};
 ghost use Rattle.processor.specs.Bytes.{page_size};
 ghost use Rattle.sv_types.specs.Boot.{most_flat_bytes};
 ghost use Rattle.secvisor_cli.specs.Plans.{flat_plan, flat_events, is_whole_pages, measure_judged};

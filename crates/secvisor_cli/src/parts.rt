@@ -1,5 +1,5 @@
 // The reading of files.
-ghost use Rattle.std.specs.Prelude.{◌≡◌, ◌<◌, ◌-◌, ◌^◌, [], ◌∷◌, IsTrue};
+ghost use Rattle.std.specs.Prelude.{◌<◌, ◌-◌, ◌^◌, [], ◌∷◌, IsTrue};
 ghost use Rattle.secvisor_cli.specs.Ready.{PartRead};
 
 use crate::file_fault::{FileFault, Part};

@@ -1,5 +1,5 @@
 // Why a command isn't carried out.
-ghost use Rattle.std.specs.Prelude.{◌≡◌, ◌<◌, ◌-◌, ◌^◌, IsTrue, IsErrOf, OnOk, IfOk, string_bytes};
+ghost use Rattle.std.specs.Prelude.{◌≡◌, ◌<◌, ◌-◌, IsTrue, IsErrOf, OnOk, IfOk, string_bytes};
 ghost use Rattle.outside.specs.Outside.{after_taking, BreaksOff, MayWrite};
 ghost use Rattle.secvisor_cli.specs.Refusals.{refusal_line, refusal_status, takes_memory};
 

@@ -1,5 +1,5 @@
 // The answer to the words of `show`.
-ghost use Rattle.std.specs.Prelude.{◌≡◌, ◌<◌, ◌≤◌, ◌-◌, ◌^◌, ℕ, List, Some, Ok, [], ◌∷◌, map, string_bytes, IsTrue};
+ghost use Rattle.std.specs.Prelude.{◌≡◌, ◌<◌, ◌≤◌, ◌-◌, ◌^◌, ℕ, List, Some, Ok, map, string_bytes, IsTrue};
 ghost use Rattle.outside.specs.Outside.{MayWrite};
 ghost use Rattle.snapshot_form.specs.Snapshots.{contents};
 ghost use Rattle.snapshot_text.specs.SnapshotTexts as text;

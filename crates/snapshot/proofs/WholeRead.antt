@@ -1,5 +1,5 @@
 -- What is read is spelled so, and what is spelled is read.
-use Rattle.std.proofs.Common.{◌≡◌, ℕ, List, true, Ok, Err, sym, ap, subst, ◌∙◌}
+use Rattle.std.proofs.Common.{◌≡◌, ℕ, List, true, Ok, Err, ap, subst, ◌∙◌}
 use Rattle.std.specs.Prelude.{IfOk, Result}
 use Rattle.snapshot_form.specs.FormLaw.{IsBytes}
 use Rattle.snapshot_form.specs.Snapshots.{Contents, contents, snapshot, snapshot_read}

@@ -1,5 +1,4 @@
 -- The parts that are read, as a form sees them. This project's own.
-use Rattle.std.specs.Prelude.{ℕ, List}
 use Rattle.sv_types.specs.declared.port.PortState.{PortState}
 use Rattle.snapshot.specs.declared.devices.Devices.{Devices}
 use Rattle.snapshot.specs.declared.journal.Recorded.{Recorded}

@@ -1,6 +1,6 @@
 // The bytes of harts.
 
-ghost use Rattle.std.specs.Prelude.{◌≡◌, ℕ, ◌*◌, ◌≤◌, ◌∷◌, ◌++◌, drop, length, OnOk, IfOk};
+ghost use Rattle.std.specs.Prelude.{◌≡◌, ℕ, ◌*◌, ◌∷◌, ◌++◌, drop, length, OnOk, IfOk};
 ghost use Rattle.snapshot_form.specs.HartForms.{hart, hart_parts, harts, mode, registers, reservation, side};
 ghost use Rattle.snapshot.specs.Reading.{Gives, Reads};
 

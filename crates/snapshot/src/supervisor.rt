@@ -1,6 +1,6 @@
 // The bytes of a hart's supervisor registers.
 
-ghost use Rattle.std.specs.Prelude.{◌≡◌, ℕ, ◌++◌, ◌==◌, ◌||◌, OnOk};
+ghost use Rattle.std.specs.Prelude.{◌≡◌, ◌++◌, ◌==◌, ◌||◌, OnOk};
 ghost use Rattle.processor.specs.Registers.{legal_counteren, legal_epc, legal_interrupts, legal_satp, legal_status, legal_tvec};
 ghost use Rattle.snapshot_form.specs.Forms.{number, within};
 ghost use Rattle.snapshot_form.specs.HartForms.{hart_parts, legal, status, trap_status};

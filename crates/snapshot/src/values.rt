@@ -1,6 +1,6 @@
 // Numbers, and what is spelled as one.
 
-ghost use Rattle.std.specs.Prelude.{◌≡◌, ℕ, ◌<◌, ◌++◌, true, Bool, Ok, Err, if◌then◌else◌, OnOk};
+ghost use Rattle.std.specs.Prelude.{◌≡◌, ◌<◌, ◌++◌, true, Ok, Err, if◌then◌else◌, OnOk};
 ghost use Rattle.snapshot_form.specs.Forms.{byte, measured, number, plain, spell_number};
 ghost use Rattle.snapshot_form.specs.HartForms.{address_number, aligned, flag, place};
 ghost use Rattle.snapshot_form.specs.JournalForms.{hart_number};

@@ -1,6 +1,6 @@
 // The bytes of a whole snapshot.
 
-ghost use Rattle.std.specs.Prelude.{◌≡◌, ◌≤◌, ◌*◌, ◌++◌, true, length, Ok, OnOk, IfOk};
+ghost use Rattle.std.specs.Prelude.{◌≡◌, ◌≤◌, ◌*◌, ◌++◌, true, Ok, OnOk, IfOk};
 ghost use Rattle.processor.specs.Bytes.{page_size};
 ghost use Rattle.sv_types.specs.Limits.{most_harts};
 ghost use Rattle.snapshot_form.specs.DeviceForms.{is_block};

@@ -1,7 +1,7 @@
 -- What a machine recorded has a form.
 use Rattle.std.proofs.Common.{◌≡◌, ℕ, zero, suc, Bool, true, false, List, [], ◌∷◌, eqb, leb, refl, ap, arith}
 use Rattle.std.specs.Prelude.{nat_lt, nat_le, ◌==◌, ◌||◌, if◌then◌else◌, min}
-use Rattle.std.proofs.lemmas.Bool.{eqb-true, leb-true, ltb-true}
+use Rattle.std.proofs.lemmas.Bool.{eqb-true, leb-true}
 use Rattle.sv_types.specs.Policies.{is_between}
 use Rattle.sv_types.specs.SbiCodes.{code_word}
 use Rattle.sv_types.specs.declared.sbi.SbiCode.{SbiCode}

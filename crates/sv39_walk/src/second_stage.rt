@@ -1,16 +1,19 @@
 // The second stage: Sv39x4.
 
-ghost use Rattle.std.specs.Prelude.{◌≡◌, ◌+◌, ◌*◌, ◌/◌, ◌%◌, ◌^◌, ◌<◌, ◌≤◌, length, Ok, Err, Some, None};
+ghost use Rattle.std.specs.Prelude.{◌≡◌, ◌+◌, ◌*◌, ◌/◌, ◌%◌, ◌^◌, ◌<◌, ◌≤◌, Some, None};
 ghost use Rattle.std.specs.Option.{ok_or};
 ghost use Rattle.processor.specs.Translation.{walk, root_of};
 ghost use Rattle.processor.specs.SecondStage.{host_entry, entry_in_region, permits_guest, address_at, walk_guest};
 ghost use Rattle.processor.specs.declared.access.Access.{Access as Kind};
 ghost use Rattle.sv39_walk.specs.Levels.{indices_of, IsTable};
 ghost use Rattle.sv39_walk.specs.Mappings.{mapping_answer, found_mapping};
+ghost use Rattle.processor.specs.Bytes.{page_size};
 
-use crate::entry::{entry_page, index, is_leaf, is_pointer, leaf_address, permits_guest};
+use crate::entry::{
+    PAGE_NUMBER, entry_page, index, is_leaf, is_pointer, leaf_address, permits_guest,
+};
 use host_mem::{HostMem, Steps};
-use processor::{Access, GuestFault, PteBits};
+use processor::{Access, GuestFault, PAGE_BYTES, PAGE_SIZE, PteBits};
 use std::marker::Brand;
 use std::sync::ledger::{Blank, Ledger};
 
@@ -124,10 +127,10 @@ pub fn find_mapping<L: Ledger>(
 // The root is four tables in one; bits 40 and 39 of the address choose among them.
 fn root_table(hgatp: u64, gpa: u64) -> u64
     requires { gpa < 2 ^ 41 }
-    ensures value { result ≡ root_of hgatp + 4096 * (gpa / 2 ^ 39) }
+    ensures value { result ≡ root_of hgatp + page_size * (gpa / 2 ^ 39) }
     ensures table { IsTable result }
 {
-    4096 * ((hgatp & 0xFFF_FFFF_FFFF) + (gpa >> 39))
+    PAGE_BYTES * ((hgatp & PAGE_NUMBER) + (gpa >> 39))
 }
 
 // The walk of an address from a table with three levels, its own counted.
@@ -175,7 +178,7 @@ fn host_entry<L: Ledger>(mem: &HostMem, at: u64, steps: &mut Steps<L>) -> PteBit
     ensures value { result.0 ≡ host_entry mem.now at }
     ensures steps { steps.new ≤ steps.old + 1 }
 {
-    let size = mem.table_bytes() + 4096 * mem.ram_pages();
+    let size = mem.table_bytes() + PAGE_SIZE * mem.ram_pages();
     let at = at as usize;
     if at + 8 <= size {
         PteBits(mem.word(at, steps))

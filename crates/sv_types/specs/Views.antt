@@ -13,8 +13,6 @@ use Rattle.sv_types.specs.declared.protection.Protection.TheVariants.{Free, Held
 use Rattle.processor.specs.declared.translation.Place.{Place}
 use Rattle.processor.specs.declared.translation.Fault.{Fault}
 use Rattle.processor.specs.SecondStage.{walk_guest, place_through, ReadsTablesAlone}
-use Rattle.processor.specs.declared.cached.CacheLine.{CacheLine}
-use Rattle.processor.specs.CachedWalks.{line_at}
 
 -- ---- views
 
@@ -90,16 +88,3 @@ protect protections page protection p = if p == page then protection else protec
 
 abbrev pub all_free : ℕ → Protection
 all_free page = Free
-
--- ---- caches
-
--- an hgatp value is a root's
-pub record IsRoot (bound : List ℕ) (hgatp : ℕ) : Type 0 where
-  pub view : View
-  pub sight : Sight
-  pub there : sight_of bound view ≡ Some sight
-  pub same : hgatp ≡ view_hgatp view
-
--- every line that is held was walked under one of the roots
-pub record UnderViews (bound : List ℕ) (lines : List (Option CacheLine)) : Type 0 where
-  pub root : (i : ℕ) (line : CacheLine) → line_at lines i ≡ Some line → IsRoot bound line.hgatp

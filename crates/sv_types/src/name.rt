@@ -1,6 +1,6 @@
 // The name of a file, of a module or of an export.
 ghost use Rattle.processor.specs.Bytes.{padded};
-ghost use Rattle.std.specs.Prelude.{◌≡◌, ◌<◌, ◌≤◌, ◌↔◌, length, IsSome, IfSome, IsUtf8};
+ghost use Rattle.std.specs.Prelude.{◌≡◌, ◌<◌, ◌≤◌, length, IsSome, IfSome};
 
 use std::marker::Model;
 use std::str;

@@ -69,6 +69,7 @@ fn answer_at(
 
 // The answer to an exit outside of an entry, or of one that is no fetch's.
 #[tactic(auto, unfolding(machine_model::specs::Served::plain_answer))]
+#[inline(always)]
 fn plain_answer(mem: &HostMem, hart: &Hart, mode: Mode, exit: &Exit) -> ExitAnswer
     requires aligned { hart.now.core.pc % 4 ≡ 0 }
     ensures answer { (entry : Option Binding) → result ≡ plain_answer (seen_on mem.now.ram hart.now mode entry exit.now) exit.now }

@@ -84,6 +84,7 @@ pub fn into_guest(csrs: &mut Csrs, from: Mode, cause: ExitCause, tval: u64, pc: 
 
 /// Leaves the fields of an exit for the hypervisor, and gives the exit. The guest's registers stay.
 #[tactic(auto, unfolding(processor::specs::HypervisorRegisters::registers_at_exit))]
+#[inline(always)]
 pub fn into_hypervisor(csrs: &mut Csrs, exit: Exit) -> Exit
     requires { exit.pc % 4 ≡ 0 }
     ensures exit { result ≡ exit }
@@ -99,6 +100,7 @@ pub fn into_hypervisor(csrs: &mut Csrs, exit: Exit) -> Exit
 
 /// Returns from the guest's trap handler, as SRET does. Gives the pc and the mode in which the hart goes on.
 #[tactic(auto, unfolding(processor::specs::HypervisorRegisters::registers_at_return))]
+#[inline(always)]
 pub fn return_to_guest(csrs: &mut Csrs) -> (u64, Mode)
     ensures pc { result.0 ≡ csrs.old.vsepc }
     ensures aligned { result.0 % 4 ≡ 0 }

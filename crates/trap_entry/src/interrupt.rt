@@ -1,7 +1,7 @@
 // Which interrupt is taken.
 
 ghost use Rattle.std.specs.Prelude.{◌≡◌};
-ghost use Rattle.processor.specs.HypervisorRegisters.{hip_value, is_taken, pending};
+ghost use Rattle.processor.specs.HypervisorRegisters.{is_taken, pending};
 ghost use Rattle.processor.specs.Traps.{takes_interrupts};
 
 use csr_file::Csrs;

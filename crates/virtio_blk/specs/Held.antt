@@ -1,8 +1,8 @@
 -- The device as the code holds it, and what holds of it at each moment.
-use Rattle.std.specs.Prelude.{◌≡◌, ℕ, ◌+◌, ◌-◌, ◌*◌, ◌%◌, ◌^◌, ◌<◌, ◌≤◌, true, false, ◌==◌, if◌then◌else◌, List, [], ◌∷◌, ◌++◌, length, drop, replicate, get_or, Option, Some, None, IfSome, option_map}
+use Rattle.std.specs.Prelude.{◌≡◌, ℕ, ◌+◌, ◌-◌, ◌*◌, ◌%◌, ◌^◌, ◌<◌, ◌≤◌, true, false, ◌==◌, if◌then◌else◌, List, [], ◌∷◌, ◌++◌, length, replicate, Option, Some, None, IfSome}
 use Rattle.processor.specs.Bytes.{page_size, ram_base, ram_place}
 use Rattle.reference.specs.BlockDisk.{beat_size}
-use Rattle.reference.specs.VirtioDevice.{VirtioDevice}
+use Rattle.reference.specs.VirtioDevice.{VirtioDevice, index_values, most_places}
 use Rattle.reference.specs.VirtioStores.{is_size}
 use Rattle.reference.specs.VirtioChain.{no_part, most_parts, header_of}
 use Rattle.reference.specs.VirtioRequests.{bytes_in}
@@ -56,7 +56,7 @@ pub record IsPlaced (q : VirtioRequest) : Type 0 where
   -- the addresses of bytes don't wrap
   pub addresses : (k : ℕ) → q.part ≤ k → k < last_place q → 0 < (part_at q k).len → (part_at q k).gpa + (part_at q k).len < 2 ^ 63
   pub size_some : 1 ≤ q.size
-  pub size_most : q.size ≤ 64
+  pub size_most : q.size ≤ most_places
   pub aligned : q.used % 4 ≡ 0
   pub used : q.used < 2 ^ 63
 
@@ -66,7 +66,7 @@ IsOnDisk disk_size q = q.part < last_place q → disk_place q + bytes_in (data_l
 
 -- the queue in use has a size and its three alignments; a request is in its chain and on the disk
 pub record IsSound (h : Held) : Type 0 where
-  pub accepted : h.state.accepted < 65536
+  pub accepted : h.state.accepted < index_values
   pub size : h.state.ready ≡ true → is_size h.state.size ≡ true
   pub descriptors : h.state.ready ≡ true → h.state.descriptors % 16 ≡ 0
   pub available : h.state.ready ≡ true → h.state.available % 2 ≡ 0

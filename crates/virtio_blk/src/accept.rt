@@ -11,6 +11,7 @@ ghost use Rattle.reference.specs.VirtioRequests.{type_of, sector_of, result_by, 
 ghost use Rattle.reference.specs.VirtioBeats.{accepted, accept, look};
 ghost use Rattle.saved_machine.specs.VirtioStates.{request_of};
 ghost use Rattle.virtio_blk.specs.Held.{HaveRings, HasHeader, IsPlaced, IsOnDisk, device_of, padded_parts, new_of};
+ghost use Rattle.reference.specs.VirtioDevice.{index_values};
 
 use crate::Virtio;
 use crate::chain::read_chain;
@@ -20,12 +21,12 @@ use host_mem::{HostMem, word_at};
 use processor::ram_place;
 use sv_types::{MOST_VIRTIO_PARTS, VirtioPart, VirtioRequest};
 
-/// Indices of the queue count modulo this.
-const INDICES: u64 = 65536;
+/// An index of a ring, and a head, is a number of 16 bits.
+pub(crate) const INDICES: u64 = 1 << 16;
 
 // So many parts as a chain may have, all of them empty.
 fn empty_parts() -> [VirtioPart; MOST_VIRTIO_PARTS]
-    ensures { result ≡ replicate 34 no_part }
+    ensures { result ≡ replicate most_parts no_part }
 {
     [VirtioPart {
         gpa: 0,
@@ -36,7 +37,7 @@ fn empty_parts() -> [VirtioPart; MOST_VIRTIO_PARTS]
 
 // The parts of a chain, with empty ones behind them.
 fn padded(parts: &[VirtioPart]) -> [VirtioPart; MOST_VIRTIO_PARTS]
-    requires { length parts.now ≤ 34 }
+    requires { length parts.now ≤ most_parts }
     ensures { result ≡ padded_parts parts.now }
 {
     let mut all = empty_parts();
@@ -54,8 +55,8 @@ fn new_request(
     parts: &[VirtioPart],
 ) -> VirtioRequest
     requires header { HasHeader ram.now parts.now }
-    requires most { length parts.now ≤ 34 }
-    requires head { head < 65536 }
+    requires most { length parts.now ≤ most_parts }
+    requires head { head < index_values }
     ensures { result ≡ new_of head (sector_of ram.now parts.now) size used (result_by ram.now disk_size (type_of ram.now parts.now) (sector_of ram.now parts.now) (data_of parts.now)) parts.now }
 {
     let last = parts.len() - 1;
@@ -93,8 +94,8 @@ fn next_request(
     parts: &[VirtioPart],
 ) -> VirtioRequest
     requires header { HasHeader ram.now parts.now }
-    requires most { length parts.now ≤ 34 }
-    requires head { head < 65536 }
+    requires most { length parts.now ≤ most_parts }
+    requires head { head < index_values }
     requires size { is_size size ≡ true }
     requires aligned { used % 4 ≡ 0 }
     requires used { used < 2 ^ 63 }
@@ -123,7 +124,7 @@ impl Virtio {
     fn available_index(&self, ram: &[u8]) -> u64
         requires { HaveRings (device_of self.now) ram.now }
         ensures value { result ≡ available_index (device_of self.now) ram.now }
-        ensures small { result < 65536 }
+        ensures small { result < index_values }
     {
         word_at(ram, ram_place(self.state.available) as usize + 2, 2)
     }
@@ -133,7 +134,7 @@ impl Virtio {
         requires rings { HaveRings (device_of self.now) ram.now }
         requires some { 1 ≤ self.now.state.size }
         ensures value { result ≡ next_head (device_of self.now) ram.now }
-        ensures small { result < 65536 }
+        ensures small { result < index_values }
     {
         let place = (self.state.accepted % self.state.size as u64) as usize;
         word_at(
@@ -145,8 +146,8 @@ impl Virtio {
 
     // How many requests wait.
     fn waiting(&self, index: u64) -> u64
-        requires { index < 65536 }
-        ensures { result ≡ (index + 65536 - self.now.state.accepted) % 65536 }
+        requires { index < index_values }
+        ensures { result ≡ (index + index_values - self.now.state.accepted) % index_values }
     {
         (index + INDICES - self.state.accepted) % INDICES
     }
@@ -155,8 +156,8 @@ impl Virtio {
     #[tactic(auto, unfolding(reference::specs::VirtioBeats::accepted))]
     fn begin(&mut self, ram: &[u8], head: u64, parts: &[VirtioPart])
         requires header { HasHeader ram.now parts.now }
-        requires most { length parts.now ≤ 34 }
-        requires head { head < 65536 }
+        requires most { length parts.now ≤ most_parts }
+        requires head { head < index_values }
         requires ready { self.old.state.ready ≡ true }
         requires rings { HaveRings (device_of self.old) ram.now }
         requires small { length ram.now < 2 ^ 62 }
@@ -171,7 +172,7 @@ impl Virtio {
     // The chain that begins at a head is accepted, where it is a request's; else the device breaks.
     #[tactic(auto, unfolding(reference::specs::VirtioBeats::accept))]
     fn accept(&mut self, ram: &[u8], head: u64) -> Beaten
-        requires head { head < 65536 }
+        requires head { head < index_values }
         requires ready { self.old.state.ready ≡ true }
         requires rings { HaveRings (device_of self.old) ram.now }
         requires small { length ram.now < 2 ^ 62 }

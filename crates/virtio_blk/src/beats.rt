@@ -1,6 +1,6 @@
 // Beats: the moves of the request under way.
 
-ghost use Rattle.std.specs.Prelude.{◌≡◌, ℕ, ◌+◌, ◌%◌, ◌^◌, ◌<◌, ◌≤◌, false, true, IsTrue, length, Some};
+ghost use Rattle.std.specs.Prelude.{◌≡◌, ℕ, ◌+◌, ◌%◌, ◌^◌, ◌≤◌, false, true, IsTrue, length, Some};
 ghost use Rattle.processor.specs.Bytes.{page_size, overwrite, low_bytes};
 ghost use Rattle.reference.specs.BlockDisk.{beat_size};
 ghost use Rattle.reference.specs.Disk.{is_writable};

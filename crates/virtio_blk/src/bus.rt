@@ -1,6 +1,6 @@
 // What registers read, and what stores into them do.
 
-ghost use Rattle.std.specs.Prelude.{◌≡◌, ◌+◌, ◌-◌, ◌*◌, ◌/◌, ◌%◌, ◌^◌, ◌<◌, ◌≤◌, length};
+ghost use Rattle.std.specs.Prelude.{◌≡◌, ◌+◌, ◌-◌, ◌*◌, ◌/◌, ◌%◌, ◌<◌, length};
 ghost use Rattle.reference.specs.BlockDisk.{sector_size};
 ghost use Rattle.reference.specs.VirtioDevice.{is_broken, is_selected};
 ghost use Rattle.reference.specs.VirtioRegisters.{register_value};

@@ -1,12 +1,14 @@
 // The moves that are left of a request, taken one by one.
 
-ghost use Rattle.std.specs.Prelude.{◌≡◌, ℕ, ◌+◌, ◌-◌, ◌^◌, ◌<◌, ◌≤◌, ◌∷◌, ◌%◌, false, true, length, drop, IfSome, IsSome};
+ghost use Rattle.std.specs.Prelude.{◌≡◌, ℕ, ◌+◌, ◌-◌, ◌^◌, ◌<◌, ◌∷◌, ◌%◌, false, true, drop, IfSome, IsSome};
 ghost use Rattle.reference.specs.VirtioQueue.{used_gpa};
 ghost use Rattle.reference.specs.VirtioRequests.{piece_size, piece};
 ghost use Rattle.reference.specs.VirtioBeats.{is_last};
 ghost use Rattle.saved_machine.specs.VirtioStates.{part_at, last_place, disk_place, last_left, moves_left};
 ghost use Rattle.virtio_blk.specs.Held.{IsPlaced, IsOnDisk, IsSame, CanBeMade, first_move};
+ghost use Rattle.reference.specs.VirtioDevice.{index_values};
 
+use crate::accept::INDICES;
 use crate::requests::bytes_in;
 use processor::PAGE_BYTES;
 use sv_types::{BEAT_BYTES, SECTOR_BYTES, VirtioMove, VirtioRequest};
@@ -78,19 +80,19 @@ fn take_data(q: &mut VirtioRequest) -> VirtioMove
 // The address of the used ring's place for a request.
 fn used_entry(q: &VirtioRequest, accepted: u64) -> u64
     requires placed { IsPlaced q.now }
-    requires accepted { accepted < 65536 }
+    requires accepted { accepted < index_values }
     ensures value { result ≡ used_gpa q.now.used q.now.size accepted }
     ensures aligned { result % 4 ≡ 0 }
     ensures small { result < 2 ^ 63 + 1024 }
 {
-    q.used + 4 + 8 * ((accepted + 65535) % 65536 % q.size as u64)
+    q.used + 4 + 8 * ((accepted + (INDICES - 1)) % INDICES % q.size as u64)
 }
 
 // The next of the last moves, if there is one.
 #[tactic(auto, using(crate::proofs::Places::first_at, crate::proofs::Places::word_in_page))]
 fn last_move(q: &VirtioRequest, accepted: u64) -> Option<VirtioMove>
     requires placed { IsPlaced q.now }
-    requires accepted { accepted < 65536 }
+    requires accepted { accepted < index_values }
     ensures first { result ≡ first_move (last_left accepted q.now) }
     ensures more { IsSome result → q.now.tail < 4 }
     ensures made { (disk_size : ℕ) → IfSome result (CanBeMade disk_size) }
@@ -118,7 +120,7 @@ fn last_move(q: &VirtioRequest, accepted: u64) -> Option<VirtioMove>
 fn take_last(q: &mut VirtioRequest, accepted: u64) -> Option<VirtioMove>
     requires placed { IsPlaced q.old }
     requires ends { q.old.part ≡ last_place q.old }
-    requires accepted { accepted < 65536 }
+    requires accepted { accepted < index_values }
     ensures first { result ≡ first_move (last_left accepted q.old) }
     ensures rest { last_left accepted q.new ≡ drop 1 (last_left accepted q.old) }
     ensures placed { IsPlaced q.new }
@@ -135,7 +137,7 @@ fn take_last(q: &mut VirtioRequest, accepted: u64) -> Option<VirtioMove>
 pub fn take_move(q: &mut VirtioRequest, accepted: u64) -> Option<VirtioMove>
     requires placed { IsPlaced q.old }
     requires on_disk { IsOnDisk (2 ^ 63) q.old }
-    requires accepted { accepted < 65536 }
+    requires accepted { accepted < index_values }
     ensures first { result ≡ first_move (moves_left accepted q.old) }
     ensures rest { moves_left accepted q.new ≡ drop 1 (moves_left accepted q.old) }
     ensures placed { IsPlaced q.new }

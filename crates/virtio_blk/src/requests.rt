@@ -3,7 +3,7 @@
 ghost use Rattle.std.specs.Prelude.{◌≡◌, ◌+◌, ◌*◌, ◌≤◌, IsTrue, length};
 ghost use Rattle.std.specs.List.{list_all};
 ghost use Rattle.processor.specs.Bytes.{in_ram, ram_base, ram_place};
-ghost use Rattle.reference.specs.VirtioChain.{header_of, result_of, is_header, is_result, is_good};
+ghost use Rattle.reference.specs.VirtioChain.{is_header, is_good};
 ghost use Rattle.virtio_blk.specs.Held.{HasHeader};
 ghost use Rattle.reference.specs.VirtioRequests.{bytes_in, lies_in, fits_type, are_sectors, can_move, result_by};
 

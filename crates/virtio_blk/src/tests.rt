@@ -1,5 +1,5 @@
 // Requests over a disk of two sectors and nine pages of RAM, of which page 1 may not be written.
-ghost use Rattle.std.specs.Prelude.{◌≡◌, ◌%◌, IfOk, length};
+ghost use Rattle.std.specs.Prelude.{◌%◌, length};
 
 use super::Virtio;
 use dma_guard::{Beaten, DiskPort, DmaGuard, DmaRefused};

@@ -1,5 +1,5 @@
 // The registers, by their offsets and widths.
-ghost use Rattle.std.specs.Prelude.{◌≡◌, ◌%◌, ◌^◌, ◌⊎◌, IfSome, option_map};
+ghost use Rattle.std.specs.Prelude.{◌≡◌, IfSome, option_map};
 ghost use Rattle.reference.specs.BlockDisk.{block_register};
 ghost use Rattle.devices.specs.BlockRegisters.{register_named, width_of};
 

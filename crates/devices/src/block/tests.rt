@@ -1,5 +1,5 @@
 // Transfers over a disk of two sectors and two pages of RAM, of which the second may not be written.
-ghost use Rattle.std.specs.Prelude.{◌≡◌, ◌%◌, IfOk, length};
+ghost use Rattle.std.specs.Prelude.{◌%◌};
 
 use super::Block;
 use dma_guard::{Beaten, DiskPort, DmaGuard};

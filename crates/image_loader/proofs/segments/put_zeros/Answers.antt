@@ -1,5 +1,5 @@
-use Rattle.std.proofs.Common.{◌≡◌, ◌+◌, ◌∙◌, List, ℕ, length, ap, sym, arith, length-append, length-take, replicate, take}
-use Rattle.std.proofs.lemmas.List.{take-replicate, length-replicate}
+use Rattle.std.proofs.Common.{◌≡◌, ◌+◌, ◌∙◌, List, ℕ, length, ap, sym, arith, length-append}
+use Rattle.std.proofs.lemmas.List.{length-replicate}
 use Rattle.processor.specs.Regions.{Region}
 use Rattle.image_loader.proofs.Written.{nothing_written, zeros_fit, zeros_put}
 use Rattle.image_loader.proofs.segments.put_zeros.Goals as goal

@@ -1,4 +1,4 @@
-use Rattle.std.proofs.Common.{◌≡◌, ◌∙◌, ◌<◌, ◌^◌, ℕ, arith, sym, ap, subst}
+use Rattle.std.proofs.Common.{◌∙◌, ◌<◌, ◌^◌, ℕ, arith, sym, ap, subst}
 use Rattle.processor.specs.Bytes.{page_of}
 use Rattle.sv_types.specs.Policies.{rules_of}
 use Rattle.machine.proofs.BoundPages.{page_fits}

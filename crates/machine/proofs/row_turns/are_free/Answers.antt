@@ -1,5 +1,5 @@
 use Rattle.std.proofs.Common.{◌∙◌, arith, sym}
-use Rattle.machine.proofs.Rows.{all_free, none_first, one_more_free}
+use Rattle.machine.proofs.Rows.{none_first, one_more_free}
 use Rattle.machine.proofs.row_turns.are_free.Goals as goal
 
 pub seats-init : goal.seats-init

@@ -1,7 +1,6 @@
-use Rattle.std.proofs.Common.{◌≡◌, ◌+◌, ap, ◌∙◌, arith, refl}
+use Rattle.std.proofs.Common.{◌≡◌, ◌+◌, ap, ◌∙◌, arith}
 use Rattle.reference.specs.States.{Journal}
-use Rattle.machine.specs.Rows.{counted_row}
-use Rattle.machine.proofs.Rows.{counted_more, row_retired, row_turns}
+use Rattle.machine.proofs.Rows.{row_retired, row_turns}
 use Rattle.machine.proofs.row_turns.count_row.Goals as goal
 
 pub count_turn-requires : goal.count_turn-requires

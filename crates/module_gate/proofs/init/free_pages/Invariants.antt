@@ -1,4 +1,4 @@
-use Rattle.std.proofs.Common.{◌≡◌, length}
+use Rattle.std.proofs.Common.{◌≡◌}
 use Rattle.sv_types.specs.Policies.{rules_of}
 use Rattle.reference.specs.Protections.{freed_by}
 use Rattle.page_guard.specs.Guarded.{StaysTheirs}

@@ -1,6 +1,5 @@
-use Rattle.std.proofs.Common.{rules, ◌≡◌, ◌<◌, ◌≤◌, arith, true, false, refl, get_or, length, sym, ◌∙◌}
+use Rattle.std.proofs.Common.{rules, ◌≡◌, ◌≤◌, arith, true, false, refl, get_or, length, sym}
 use Rattle.std.specs.Prelude.{◌==◌}
-use Rattle.std.proofs.lemmas.Bool.{eqb-true}
 use Rattle.page_guard.proofs.Places.{missed, missed_more, found_there, none_there}
 use Rattle.page_guard.proofs.entries.first_place.Goals as goal
 

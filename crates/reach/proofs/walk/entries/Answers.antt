@@ -38,11 +38,11 @@ levels-preserved c =
     let aligned : (c.levels.table + 8 * c.index.result) % 8 ≡ 0 = let whole = c.levels.invariant.table.aligned in omega arith in
     let place : IsPlace c.args.mem.now.tables c.args.hgatp c.in-Some.seen = (c.levels.table + 8 * c.index.result, (aligned, c.in-Some.ensures.leads)) in
     record {
-      table = c.next_table-table.ensures.table;
-      same = subst (λ (e : Entries). GoOn c.args.mem.now.tables c.args.hgatp c.args.root c.args.va (c.levels.below - 1) c.next_table-table.result e) (sym c.with_entry-entries.ensures)
-          (goes_on c.args.mem.now.tables c.args.hgatp c.args.root c.args.va c.levels.below (c.levels.below - 1) c.levels.table c.index.result c.next_table-table.result
+      table = record { aligned = c.entry_page-table.ensures.whole; small = (let small = c.entry_page-table.ensures.small in omega arith) };
+      same = subst (λ (e : Entries). GoOn c.args.mem.now.tables c.args.hgatp c.args.root c.args.va (c.levels.below - 1) c.entry_page-table.result e) (sym c.with_entry-entries.ensures)
+          (goes_on c.args.mem.now.tables c.args.hgatp c.args.root c.args.va c.levels.below (c.levels.below - 1) c.levels.table c.index.result c.entry_page-table.result
           c.levels.entries c.in-Some.seen more few c.index.ensures.value c.in-Some.ensures.leads (sym c.is_pointer.ensures ∙ c.if-not-is_pointer.false)
-          c.next_table-table.ensures.value c.levels.invariant.same);
+          c.entry_page-table.ensures.value c.levels.invariant.same);
       there = subst (λ (e : Entries). Above (c.levels.below - 1) (IsThere c.args.mem.now) e) (sym c.with_entry-entries.ensures)
           (with_more (IsThere c.args.mem.now) c.levels.below (c.levels.below - 1) c.levels.entries c.in-Some.seen more few c.levels.invariant.there c.in-Some.ensures.there);
       places = subst (λ (e : Entries). Above (c.levels.below - 1) (IsPlace c.args.mem.now.tables c.args.hgatp) e) (sym c.with_entry-entries.ensures)

@@ -1,4 +1,4 @@
-use Rattle.std.proofs.Common.{◌≡◌, ◌+◌, [], ap, ◌∙◌}
+use Rattle.std.proofs.Common.{◌+◌, [], ap, ◌∙◌}
 use Rattle.std.proofs.lemmas.List.{length-append}
 use Rattle.snapshot_form.specs.Forms.{all_taken}
 use Rattle.snapshot_form.specs.HartForms.{hart, harts}

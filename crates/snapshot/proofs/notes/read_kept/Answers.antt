@@ -1,5 +1,4 @@
-use Rattle.std.proofs.Common.{◌≡◌, ◌+◌, [], ap, ◌∙◌}
-use Rattle.std.proofs.lemmas.List.{length-append}
+use Rattle.std.proofs.Common.{[]}
 use Rattle.snapshot_form.specs.Forms.{all_taken}
 use Rattle.snapshot_form.specs.JournalForms.{note}
 use Rattle.snapshot.proofs.ReadLists.{goes_on, ends, is_done, reads_refusal}

@@ -1,4 +1,4 @@
-use Rattle.std.proofs.Common.{◌≡◌, ◌<◌, arith}
+use Rattle.std.proofs.Common.{arith}
 use Rattle.snapshot.proofs.WholeRead.{spelled, has, every}
 use Rattle.snapshot.proofs.whole.read.Goals as goal
 

@@ -1,9 +1,6 @@
-use Rattle.std.proofs.Common.{◌≡◌, ◌∙◌, sym, ap, refl}
-use Rattle.hart_answers.specs.Hosts.{host_at}
-use Rattle.machine_model.specs.HostHarts.{host_seen}
+use Rattle.std.proofs.Common.{◌∙◌, sym}
 use Rattle.machine_model.specs.Served.{exit_answer}
 use Rattle.page_guard.specs.Sides.{entry_of}
-use Rattle.processor.specs.declared.mode.Mode.{Mode}
 use Rattle.reference.specs.Turn.{bound_entry}
 use Rattle.trap_answers.proofs.Entered.{by_address}
 use Rattle.trap_answers.specs.Seen.{answer_at, seen_on}

@@ -1,7 +1,6 @@
 use Rattle.std.proofs.Common.{rules, ◌≡◌, length, ap, ◌∙◌, sym, subst, ℕ, List, slice_set, ◌<◌}
 use Rattle.std.proofs.lemmas.List.{map-set, length-set}
 use Rattle.sv_types.specs.Views.{protect, AreViews}
-use Rattle.sv_types.specs.declared.protection.Protection.{Protection}
 use Rattle.gstage_tables.specs.Blocks.{CountsTaken}
 use Rattle.gstage_tables.specs.Layout.{Shape}
 use Rattle.reference.specs.Protections.{is_free, protection_at}

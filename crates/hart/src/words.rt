@@ -9,19 +9,20 @@ use processor::Instr;
 use rv64_decode::decode;
 use std::alloc::{AllocError, Global};
 
-/// The places for words: one for each place of an instruction modulo 4,096.
-const PLACES: usize = 1024;
+/// The places for words: one for each place of an instruction modulo 64 KiB.
+const PLACES: usize = 16384;
 
 /// A word and its instruction, none where no row of the instruction table has the word.
 #[derive(Clone, Copy, Drop)]
-pub(crate) struct Decoded {
-    pub(crate) word: u32,
-    pub(crate) instr: Option<Instr>,
+pub struct Decoded {
+    pub word: u32,
+    pub instr: Option<Instr>,
     ghost decodes: { instr ≡ instruction_of word },
     ghost fields: { ForSome instr (λ i. IsTrue (fits i)) },
 }
 
 impl Decoded {
+    #[inline(never)]
     fn of(word: u32) -> Decoded
         ensures { result.word ≡ word }
     {
@@ -30,23 +31,23 @@ impl Decoded {
     }
 }
 
-/// Words that were decoded, each kept where its place leads until another one comes there, so that none is decoded in
-/// each turn. Contracts see nothing of it.
+/// Words that were decoded, each kept where its place leads until another one comes there. Contracts see nothing of it.
 #[derive(Drop)]
-pub(crate) struct Decoder {
+pub struct Words {
     places: Vec<Decoded>,
-    ghost size: { length places.items ≡ 1024 },
+    ghost size: { length places.items ≡ 2 ^ 14 },
 }
 
-impl Decoder {
-    pub(crate) fn new(alloc: Global) -> Result<Decoder, AllocError> {
+impl Words {
+    /// No word was decoded. Want of memory is the one refusal.
+    pub fn new(alloc: Global) -> Result<Words, AllocError> {
         let places = zero_words(alloc, PLACES)?;
-        Ok(Decoder { places })
+        Ok(Words { places })
     }
 
     /// A word with its instruction, by where the word was fetched.
     #[inline(always)]
-    pub(crate) fn decoded(&mut self, pc: u64, word: u32) -> &Decoded
+    pub fn decoded(&mut self, pc: u64, word: u32) -> &Decoded
         ensures { result.now.word ≡ word }
     {
         let place = (pc / 4) as usize % PLACES;
