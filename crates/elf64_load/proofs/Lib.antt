@@ -1,3 +1,4 @@
+pub mod WholeText
 pub mod FirstRefusals
 pub mod Pages
 pub mod Pairs

@@ -1,6 +1,8 @@
 -- What callers see of an image's segments.
-use Rattle.std.specs.Prelude.{ℕ, List, map}
+use Rattle.std.specs.Prelude.{◌≡◌, ℕ, ◌+◌, ◌/◌, ◌%◌, ◌≤◌, Bool, List, length, map}
 use Rattle.std.specs.List.{position_or_len}
+use Rattle.processor.specs.Bytes.{page_size, ram_place}
+use Rattle.processor.specs.Regions.{most_ram_pages}
 use Rattle.sv_types.specs.Kernel.{LoadedSegment, is_text_of}
 use Rattle.elf64_load.specs.declared.image.Segment.{Segment}
 use Rattle.elf64_load.specs.declared.image.KernelImage.{KernelImage}
@@ -21,3 +23,13 @@ segments_of image = map segment_of image.segments.items
 -- the place of the first executable segment in which a page lies, or the number of all segments where there is none
 abbrev pub text_owner : ℕ → List LoadedSegment → ℕ
 text_owner page ss = position_or_len (is_text_of page) ss
+
+abbrev pub is_text : LoadedSegment → Bool
+is_text s = s.executable
+
+-- a segment of whole pages of RAM, of which the file has all bytes
+pub record IsWhole (s : LoadedSegment) : Type 0 where
+  pub first : ram_place s.gpa % page_size ≡ 0
+  pub pages : s.memory % page_size ≡ 0
+  pub filled : length s.bytes ≡ s.memory
+  pub inside : ram_place s.gpa / page_size + s.memory / page_size ≤ most_ram_pages

@@ -10,6 +10,7 @@ mod read;
 mod shared_text;
 #[cfg(test)]
 mod tests;
+mod whole_text;
 
 pub use exports::read_exports;
 pub use image::{KernelImage, Segment};

@@ -17,7 +17,7 @@ ghost use Rattle.machine_model.specs.Reaches.{IsNew};
 ghost use Rattle.machine_model.specs.StandsFor.{bound_pages};
 ghost use Rattle.disk_port.specs.Ports.{port_disk};
 ghost use Rattle.standing_laws.specs.Starts.{image_machine, image_protections, journal_at_boot, IsGuarded};
-ghost use Rattle.machine.specs.Boot.{IsImageOf, image_text, RefusesImage};
+ghost use Rattle.machine.specs.Boot.{IsImageOf, image_text, RefusesFlat, RefusesImage};
 
 use crate::boot::BootRefusal;
 use crate::parts::Parts;
@@ -31,7 +31,7 @@ use page_guard::Guard;
 use processor::page_of;
 use std::alloc::{AllocError, Global};
 use std::thread::Threads;
-use sv_types::Policy;
+use sv_types::{Digest, Policy};
 
 impl Parts {
     /// A machine of a kernel's image under a policy: the image's segments in RAM, its text approved, and hart 0 at its
@@ -60,8 +60,8 @@ impl Parts {
     }
 }
 
-// The text, which is given back behind this, has the policy's measure, and the entry is permitted.
-#[tactic(auto, using(crate::proofs::ImageStarting::text_whole, crate::proofs::ImageStarting::image_refused))]
+// The text has the policy's measure, and the entry is permitted.
+#[tactic(auto, using(crate::proofs::ImageStarting::image_refused))]
 fn judge_image<R: Threads + Sync>(
     rt: &R,
     alloc: Global,
@@ -73,13 +73,31 @@ fn judge_image<R: Threads + Sync>(
     ensures words { OnOk result (AreWords policy.now.entries.items) }
     ensures refused { IfErr result (RefusesImage image.now (rules_of policy.now)) }
 {
-    let text = image.text(alloc)?;
-    judge_measure(rt, alloc, &text, policy.kernel)?;
+    judge_text(rt, alloc, image, policy.kernel)?;
     if is_permitted(&policy.entries, image.entry) {
         Ok(())
     } else {
         Err(BootRefusal::Entry { entry: image.entry })
     }
+}
+
+// Refuses text whose measure isn't the one that is wanted. It is measured where it lies in the file, or else in a copy, which
+// is given back behind this.
+#[tactic(auto, using(crate::proofs::ImageStarting::text_whole))]
+fn judge_text<R: Threads + Sync>(
+    rt: &R,
+    alloc: Global,
+    image: &KernelImage,
+    wanted: Digest,
+) -> Result<(), BootRefusal>
+    ensures measured { OnOk result (measure (image_text image.now) ≡ wanted) }
+    ensures refused { IfErr result (RefusesFlat (image_text image.now) wanted) }
+{
+    if let Some(text) = image.text_in_file() {
+        return judge_measure(rt, alloc, text, wanted);
+    }
+    let text = image.text(alloc)?;
+    judge_measure(rt, alloc, &text, wanted)
 }
 
 fn is_permitted(entries: &[u64], entry: u64) -> bool

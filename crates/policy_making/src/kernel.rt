@@ -23,6 +23,9 @@ pub fn text_digest<R: Threads + Sync>(
 ) -> Result<Digest, AllocError>
     ensures { IfOk result (λ digest. digest ≡ measures.measure (text_of (segments_of image.now))) }
 {
+    if let Some(text) = image.text_in_file() {
+        return measure(rt, alloc, text, &Silent);
+    }
     let text = image.text(alloc)?;
     measure(rt, alloc, &text, &Silent)
 }
