@@ -2,7 +2,6 @@
 use Rattle.std.proofs.Common.{◌≡◌, ℕ, zero, suc, ◌+◌, ◌-◌, ◌≤◌, Bool, true, false, List, [], ◌∷◌, ◌++◌, length, replicate, refl, sym, ◌∙◌, ap, arith, subst, not, drop}
 use Rattle.std.specs.Prelude.{find, is_some, Option, Some, None, IfSome, slice_get}
 use Rattle.std.proofs.lemmas.List.{drop-replicate, replicate_more}
-use Rattle.gstage_cache.proofs.Lines.{none_agrees}
 use Rattle.page_guard.specs.Guarded.{first_taken}
 use Rattle.page_guard.proofs.Spans.{all_free_at}
 use Rattle.hart_answers.specs.Hosts.{host_at, hosts_of}
@@ -23,9 +22,9 @@ use Rattle.sv_types.specs.Views.{with_ram}
 use Rattle.sv_types.specs.declared.module.Span.{Span}
 use Rattle.sv_types.specs.declared.protection.Protection.{Protection}
 use Rattle.sv_types.specs.declared.protection.Protection.TheVariants.{Free}
-use Rattle.processor.specs.CachedWalks.{CacheAgrees, no_lines}
-use Rattle.processor.specs.declared.cached.CacheLine.{CacheLine}
-use Rattle.machine.specs.Attempts.{AreUsable}
+use Rattle.machine.specs.Attempts.{nothing_kept, IsUsable, AreUsable}
+use Rattle.machine.specs.declared.caches.HartCaches.{HartCaches}
+use Rattle.machine.proofs.Emptied.{nothing_usable}
 
 -- ---- harts
 
@@ -50,24 +49,24 @@ next_seated seats next harts entry some before is =
 
 -- ---- caches
 
-of_empty : (n h : ℕ) (lines : List (Option CacheLine)) → slice_get (replicate {A = List (Option CacheLine)} n no_lines) h ≡ Some lines → no_lines ≡ lines
-of_empty zero h lines e = absurd (cc)
-of_empty (suc n) zero lines e = cc
-of_empty (suc n) (suc h) lines e = of_empty n h lines e
+of_empty : (n h : ℕ) (own : HartCaches) → slice_get (replicate {A = HartCaches} n nothing_kept) h ≡ Some own → nothing_kept ≡ own
+of_empty zero h own e = absurd (cc)
+of_empty (suc n) zero own e = cc
+of_empty (suc n) (suc h) own e = of_empty n h own e
 
-length_replicated : (n : ℕ) → length (replicate {A = List (Option CacheLine)} n no_lines) ≡ n
+length_replicated : (n : ℕ) → length (replicate {A = HartCaches} n nothing_kept) ≡ n
 length_replicated zero = refl
 length_replicated (suc n) = let k = length_replicated n in omega (arith, k)
 
 -- empty caches agree with any tables
-pub empty_usable : (tables : List ℕ) (n : ℕ) (caches : List (List (Option CacheLine))) → caches ≡ replicate n no_lines → AreUsable tables caches
-empty_usable tables n caches is = subst (λ (caches : List (List (Option CacheLine))). AreUsable tables caches) (sym is) (record {
-  each = λ h lines e. subst (λ (lines : List (Option CacheLine)). CacheAgrees tables lines) (of_empty n h lines e) (none_agrees tables);
+pub empty_usable : (tables : List ℕ) (n : ℕ) (caches : List HartCaches) → caches ≡ replicate n nothing_kept → AreUsable tables caches
+empty_usable tables n caches is = subst (λ (caches : List HartCaches). AreUsable tables caches) (sym is) (record {
+  each = λ h own e. subst (λ (own : HartCaches). IsUsable tables own) (of_empty n h own e) (nothing_usable tables);
 })
 
 -- as many as harts
-pub length_empty : (n : ℕ) (caches : List (List (Option CacheLine))) → caches ≡ replicate n no_lines → length caches ≡ n
-length_empty n caches is = ap (λ (caches : List (List (Option CacheLine))). length caches) is ∙ length_replicated n
+pub length_empty : (n : ℕ) (caches : List HartCaches) → caches ≡ replicate n nothing_kept → length caches ≡ n
+length_empty n caches is = ap (λ (caches : List HartCaches). length caches) is ∙ length_replicated n
 
 -- ---- modules
 

@@ -6,12 +6,13 @@ use Rattle.processor.specs.HardwareAttempt.{attempt}
 use Rattle.processor.specs.HypervisorRegisters.{registers_at_boot}
 use Rattle.processor.specs.Regions.{Region}
 use Rattle.processor.specs.SecondStage.{WalksApart}
-use Rattle.processor.specs.declared.cached.CacheLine.{CacheLine}
 use Rattle.processor.specs.declared.lines.Lines.{Lines}
 use Rattle.processor.specs.declared.mode.Mode.TheVariants.{Kernel}
 use Rattle.hart.specs.Conditions.{KeepsMode}
 use Rattle.machine_model.specs.Machine.{HostHart}
 use Rattle.machine_model.specs.StandsFor.{hregs_in}
+use Rattle.reach.specs.Kept.{no_lines as none_led, ReachAgrees}
+use Rattle.machine.specs.declared.caches.HartCaches.{HartCaches}
 
 -- a stopped hart, past the end of all harts
 abbrev pub nobody : HostHart
@@ -39,12 +40,20 @@ pub record IsReady (region : Region) (host : HostHart) (lines : Lines) : Type 0 
   pub apart : WalksApart region host.core.hregs.hgatp
   pub ram : length (attempt region host.core lines).region.ram ≡ length region.ram
 
--- each cache agrees with the tables
-pub record AreUsable (tables : List ℕ) (caches : List (List (Option CacheLine))) : Type 0 where
-  pub each : (h : ℕ) (lines : List (Option CacheLine)) → slice_get caches h ≡ Some lines → CacheAgrees tables lines
+-- what a hart keeps of walks agrees with the tables
+pub record IsUsable (tables : List ℕ) (own : HartCaches) : Type 0 where
+  pub second : CacheAgrees tables own.second
+  pub both : ReachAgrees tables own.both
+
+-- what each hart keeps does
+pub record AreUsable (tables : List ℕ) (caches : List HartCaches) : Type 0 where
+  pub each : (h : ℕ) (own : HartCaches) → slice_get caches h ≡ Some own → IsUsable tables own
+
+abbrev pub nothing_kept : HartCaches
+nothing_kept = record { second = no_lines; both = none_led }
 
 -- the first n caches emptied
-unfoldable pub first_emptied : ℕ → List (List (Option CacheLine)) → List (List (Option CacheLine))
+unfoldable pub first_emptied : ℕ → List HartCaches → List HartCaches
 first_emptied zero caches = caches
 first_emptied (suc n) [] = []
-first_emptied (suc n) (lines ∷ caches) = no_lines ∷ first_emptied n caches
+first_emptied (suc n) (own ∷ caches) = nothing_kept ∷ first_emptied n caches

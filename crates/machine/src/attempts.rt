@@ -1,30 +1,29 @@
 // One attempt of a hart, and what its write takes from the others.
 
 ghost use Rattle.std.specs.Prelude.{◌≡◌, ◌+◌, ◌-◌, ◌<◌, ◌%◌, ◌^◌, length};
-ghost use Rattle.processor.specs.CachedWalks.{CacheAgrees};
 ghost use Rattle.processor.specs.HardwareAttempt.{attempt};
 ghost use Rattle.machine_model.specs.Machine.{with_core, update, all_forget};
 ghost use Rattle.hart_answers.specs.Hosts.{host_at, hosts_of};
-ghost use Rattle.machine.specs.Attempts.{hart_in, IsReady, AreUsable};
+ghost use Rattle.machine.specs.Attempts.{hart_in, IsReady, IsUsable, AreUsable};
 
-use gstage_cache::Cache;
+use crate::caches::HartCaches;
 use hart::{Cpu, Wires};
 use hart_answers::{Seat, forget};
 use host_mem::HostMem;
 use processor::Outcome;
 
-// An attempt of a hart on its side, with its cache.
+// An attempt of a hart on its side, with its caches.
 #[inline(always)]
 fn attempt_in_seat<W: Wires>(
     cpu: &mut Cpu,
     seat: &mut Seat,
-    cache: &mut Cache,
+    own: &mut HartCaches,
     mem: &mut HostMem,
     wires: &W,
 ) -> Outcome
     requires count { cpu.old < 2 ^ 64 - 1 }
     requires ready { IsReady mem.old (host_at seat.old) (W.seen wires.now) }
-    requires agrees { CacheAgrees mem.old.tables cache.old }
+    requires usable { IsUsable mem.old.tables own.old }
     ensures counted { cpu.new ≡ cpu.old + 1 }
     ensures host { host_at seat.new ≡ with_core (attempt mem.old (host_at seat.old).core (W.seen wires.now)).core (host_at seat.old) }
     ensures region { mem.new ≡ (attempt mem.old (host_at seat.old).core (W.seen wires.now)).region }
@@ -32,19 +31,19 @@ fn attempt_in_seat<W: Wires>(
     ensures aligned { seat.new.hart.core.pc % 4 ≡ 0 }
     ensures tables { mem.new.tables ≡ mem.old.tables }
     ensures ram { length mem.new.ram ≡ length mem.old.ram }
-    ensures agrees { CacheAgrees mem.new.tables cache.new }
+    ensures usable { IsUsable mem.new.tables own.new }
 {
     let regs = seat.side.registers();
-    cpu.attempt(&mut seat.hart.core, regs, cache, mem, wires)
+    cpu.attempt(&mut seat.hart.core, regs, &mut own.second, mem, wires)
 }
 
-/// One attempt of a hart among all harts, each with its cache.
+/// One attempt of a hart among all harts, each with its caches.
 #[tactic(auto)]
 #[inline(always)]
 pub(crate) fn attempt<W: Wires>(
     cpu: &mut Cpu,
     seats: &mut [Seat],
-    caches: &mut [Cache],
+    caches: &mut [HartCaches],
     which: u8,
     mem: &mut HostMem,
     wires: &W,
@@ -66,8 +65,8 @@ pub(crate) fn attempt<W: Wires>(
     ensures usable { AreUsable mem.new.tables caches.new }
 {
     let seat = &mut seats[which as usize];
-    let cache = &mut caches[which as usize];
-    let outcome = attempt_in_seat(cpu, seat, cache, mem, wires);
+    let own = &mut caches[which as usize];
+    let outcome = attempt_in_seat(cpu, seat, own, mem, wires);
     forget_wrote(seats, outcome);
     outcome
 }

@@ -1,23 +1,50 @@
-// The caches of second-stage walks, where protections change.
+// What harts keep of walks, and where protections change.
 
 ghost use Rattle.std.specs.Prelude.{◌≡◌, true, false, ℕ, List, length};
-ghost use Rattle.machine.specs.Attempts.{AreUsable};
+ghost use Rattle.machine.specs.Attempts.{AreUsable, nothing_kept};
 
 use gstage_cache::Cache;
+use reach::Reach;
+
+/// What a hart keeps of walks: where the second stage leads, and where both lead.
+#[derive(Drop)]
+pub(crate) struct HartCaches {
+    pub(crate) second: Cache,
+    pub(crate) both: Reach,
+}
+
+impl HartCaches {
+    /// Nothing is kept.
+    pub(crate) fn new() -> HartCaches
+        ensures { result ≡ nothing_kept }
+    {
+        HartCaches {
+            second: Cache::new(),
+            both: Reach::new(),
+        }
+    }
+
+    fn clear(&mut self)
+        ensures { self.new ≡ nothing_kept }
+    {
+        self.second.fence_all();
+        self.both.clear();
+    }
+}
 
 // Empties all caches.
 #[tactic(auto, using(crate::proofs::Emptied::none_emptied, crate::proofs::Emptied::next_emptied, crate::proofs::Emptied::all_usable, crate::proofs::Emptied::emptied_number))]
-fn empty_all(caches: &mut [Cache])
+fn empty_all(caches: &mut [HartCaches])
     ensures usable { (tables : List ℕ) → AreUsable tables caches.new }
     ensures number { length caches.new ≡ length caches.old }
 {
-    for cache in caches.iter_mut() {
-        cache.fence_all();
+    for own in caches.iter_mut() {
+        own.clear();
     }
 }
 
 /// Empties all caches where a protection changed.
-pub(crate) fn fence(caches: &mut [Cache], changed: bool)
+pub(crate) fn fence(caches: &mut [HartCaches], changed: bool)
     ensures usable { changed ≡ true → (tables : List ℕ) → AreUsable tables caches.new }
     ensures kept { changed ≡ false → caches.new ≡ caches.old }
     ensures number { length caches.new ≡ length caches.old }

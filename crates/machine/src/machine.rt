@@ -90,7 +90,7 @@ impl Machine {
         made + 1
     }
 
-    // Turns that only carry out instructions, by a shorter way. For a single turn that way is longer.
+    // Turns that only carry out instructions, by a shorter way.
     #[inline(always)]
     fn row(&mut self, event: Event, most: u64) -> u64
         requires few { most ≤ most_counts }
@@ -103,7 +103,7 @@ impl Machine {
         let Event::Turn(which) = event else {
             return 0;
         };
-        if most < 2 || !self.parts.may_row(which) {
+        if !self.parts.may_row(which) {
             return 0;
         }
         self.parts.row(which, most)

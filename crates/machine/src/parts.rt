@@ -19,13 +19,13 @@ ghost use Rattle.machine.specs.Turns.{Concluded, ExitServed, Finished, IsGuarded
 
 use crate::attempts::attempt;
 use crate::beats::beat_disk;
+use crate::caches::HartCaches;
 use crate::exits::is_again;
 use crate::wires::HartWires;
 use call_answers::law_starts;
 use devices::Devices;
 use disk_port::Port;
 use dma_guard::Beaten;
-use gstage_cache::Cache;
 use hart::Cpu;
 use hart_answers::{Seat, forget};
 use host_mem::HostMem;
@@ -43,7 +43,7 @@ pub(crate) struct Parts {
     pub(crate) entries: Entries,
     pub(crate) mem: HostMem,
     pub(crate) seats: Vec<Seat>,
-    pub(crate) caches: Vec<Cache>,
+    pub(crate) caches: Vec<HartCaches>,
     pub(crate) guard: Guard,
     pub(crate) modules: Modules,
     pub(crate) devices: Devices<Port>,

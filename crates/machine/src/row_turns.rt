@@ -1,7 +1,6 @@
 // Turns of one hart in a row, each of which carries out an instruction.
 
 ghost use Rattle.std.specs.Prelude.{◌≡◌, ◌+◌, ◌-◌, ◌<◌, ◌≤◌, ◌^◌, true, false, length, None};
-ghost use Rattle.processor.specs.CachedWalks.{CacheAgrees};
 ghost use Rattle.processor.specs.HypervisorRegisters.{pending};
 ghost use Rattle.processor.specs.declared.lines.Lines.{Lines};
 ghost use Rattle.reference.specs.Counting.{CountsAtMost};
@@ -9,12 +8,12 @@ ghost use Rattle.reference.specs.Devices.{lines_at};
 ghost use Rattle.machine_model.specs.Machine.{with_core, update};
 ghost use Rattle.hart_answers.specs.Hosts.{host_at, hosts_of};
 ghost use Rattle.quick_turns.specs.Rows.{RetiresThrough};
-ghost use Rattle.machine.specs.Attempts.{hart_in, IsReady, AreUsable};
+ghost use Rattle.machine.specs.Attempts.{hart_in, IsReady, IsUsable, AreUsable};
 ghost use Rattle.machine.specs.Limits.{most_counts};
 ghost use Rattle.machine.specs.Rows.{AreFree, WalksUnderRoot, counted_row, MayRow, MakesRow};
 
+use crate::caches::HartCaches;
 use crate::parts::Parts;
-use gstage_cache::Cache;
 use hart_answers::Seat;
 use host_mem::HostMem;
 use journal_records::Journal;
@@ -22,35 +21,43 @@ use quick_turns::{Words, quick_turns};
 use sv_types::Verdict;
 use trap_entry::pending;
 
-// Turns of a hart on its side, with its cache.
+// Turns of a hart on its side, with its caches.
 #[inline(always)]
 fn row_in_seat(
     words: &mut Words,
     seat: &mut Seat,
-    cache: &mut Cache,
+    own: &mut HartCaches,
     mem: &mut HostMem,
     most: u64,
 ) -> u64
     requires walks { WalksUnderRoot mem.old (host_at seat.old) }
     requires free { (host_at seat.old).core.reservation ≡ None }
-    requires agrees { CacheAgrees mem.old.tables cache.old }
+    requires usable { IsUsable mem.old.tables own.old }
     ensures retires { (lines : Lines) → pending (host_at seat.old).core.hregs (host_at seat.old).core.csrs lines ≡ None → RetiresThrough result mem.old (host_at seat.old).core lines mem.new (host_at seat.new).core }
     ensures host { host_at seat.new ≡ with_core (host_at seat.new).core (host_at seat.old) }
     ensures most { result ≤ most }
     ensures tables { mem.new.tables ≡ mem.old.tables }
     ensures ram { length mem.new.ram ≡ length mem.old.ram }
-    ensures agrees { CacheAgrees mem.new.tables cache.new }
+    ensures usable { IsUsable mem.new.tables own.new }
 {
     let regs = seat.side.registers();
-    quick_turns(words, &mut seat.hart.core, regs, cache, mem, most)
+    quick_turns(
+        words,
+        &mut seat.hart.core,
+        regs,
+        &mut own.second,
+        &mut own.both,
+        mem,
+        most,
+    )
 }
 
-// Turns of a hart among all harts, each with its cache.
+// Turns of a hart among all harts, each with its caches.
 #[inline(always)]
 fn row(
     words: &mut Words,
     seats: &mut [Seat],
-    caches: &mut [Cache],
+    caches: &mut [HartCaches],
     which: u8,
     mem: &mut HostMem,
     most: u64,
@@ -70,8 +77,8 @@ fn row(
     ensures usable { AreUsable mem.new.tables caches.new }
 {
     let seat = &mut seats[which as usize];
-    let cache = &mut caches[which as usize];
-    row_in_seat(words, seat, cache, mem, most)
+    let own = &mut caches[which as usize];
+    row_in_seat(words, seat, own, mem, most)
 }
 
 // No hart has a reservation.

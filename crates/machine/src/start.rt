@@ -3,7 +3,6 @@
 ghost use Rattle.std.specs.Prelude.{◌≡◌, [], ◌≤◌, ◌*◌, ◌/◌, ◌%◌, ◌↔◌, length, replicate, true, false, IfOk, OnOk, IfErr, IsTrue};
 ghost use Rattle.processor.specs.Bytes.{page_size};
 ghost use Rattle.sv_types.specs.Boot.{flat_ram_pages, most_flat_bytes};
-ghost use Rattle.processor.specs.CachedWalks.{no_lines};
 ghost use Rattle.sv_types.specs.Limits.{most_harts};
 ghost use Rattle.sv_types.specs.Measure.{measure};
 ghost use Rattle.sv_types.specs.Policies.{rules_of};
@@ -15,13 +14,14 @@ ghost use Rattle.machine_model.specs.Reaches.{IsNew};
 ghost use Rattle.machine_model.specs.StandsFor.{bound_pages};
 ghost use Rattle.standing_laws.specs.Starts.{host_at_boot, hosts_at_boot, machine_at_boot, first_approved, flat_ram, flat_machine, journal_at_boot, IsGuarded};
 ghost use Rattle.disk_port.specs.Ports.{port_disk};
+ghost use Rattle.machine.specs.Attempts.{nothing_kept};
 ghost use Rattle.machine.specs.Boot.{RefusesFlat};
 
 use crate::boot::BootRefusal;
+use crate::caches::HartCaches;
 use crate::parts::Parts;
 use devices::Devices;
 use disk_port::Port;
-use gstage_cache::Cache;
 use gstage_tables::Trees;
 use hart::{Cpu, Hart};
 use hart_answers::Seat;
@@ -148,12 +148,12 @@ fn seats_at_boot(
     Ok(seats)
 }
 
-fn empty_caches(alloc: Global, harts: u8) -> Result<Vec<Cache>, AllocError>
-    ensures { IfOk result (λ caches. caches.items ≡ replicate harts no_lines) }
+fn empty_caches(alloc: Global, harts: u8) -> Result<Vec<HartCaches>, AllocError>
+    ensures { IfOk result (λ caches. caches.items ≡ replicate harts nothing_kept) }
 {
     let mut caches = Vec::new(alloc);
     'made: for _ in 0..harts {
-        caches.push(Cache::new())?;
+        caches.push(HartCaches::new())?;
     }
     Ok(caches)
 }

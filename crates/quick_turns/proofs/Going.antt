@@ -127,22 +127,25 @@ stored_leads r after core next regs x y here there on apart leads bare paged = e
 next_aligned : (pc : ℕ) → pc % 4 ≡ 0 → (pc + 4) % 18446744073709551616 % 4 ≡ 0
 next_aligned pc aligned = omega arith
 
--- a store to RAM
-pub store_goes : (r after : Region) (core next : Kept) (regs : HRegs) (lines held : List (Option CacheLine)) (at n value : ℕ) → MayAttempt r core regs lines
+pub course_same : (before after : HypervisorRegisters) → after ≡ before → SameCourse before after
+course_same before after same = subst (λ (c : HypervisorRegisters). SameCourse before c) (sym same) (course_stays before)
+
+-- a write to RAM, behind which the hart goes on at the next instruction
+pub write_goes : (r after : Region) (core next : Kept) (regs : HRegs) (lines held : List (Option CacheLine)) (at n value : ℕ) → MayAttempt r core regs lines
     → core.reservation ≡ None → Walked r.tables regs.hgatp lines held → length r.tables ≤ at → IsHostPlace r at n → after ≡ write_host r at n value
-    → next ≡ record core { pc = (core.pc + 4) % 18446744073709551616 } → GoesOn r after core next regs lines held
-store_goes r after core next regs lines held at n value ready free walked behind place same moved =
-    rw (same, moved) (record {
+    → next.csrs ≡ core.csrs → next.reservation ≡ core.reservation → next.pc ≡ (core.pc + 4) % 18446744073709551616 → GoesOn r after core next regs lines held
+write_goes r after core next regs lines held at n value ready free walked behind place same csrs reservation moved =
+    subst (λ (x : Region). GoesOn r x core next regs lines held) (sym same) (record {
       ready = record {
-        step = record { aligned = next_aligned core.pc ready.step.aligned; mode = ready.step.mode };
+        step = record { aligned = subst (λ (pc : ℕ). pc % 4 ≡ 0) (sym moved) (next_aligned core.pc ready.step.aligned); mode = ready.step.mode };
         walk = record {
           second = ready.walk.second;
           apart = apart_kept r (write_host r at n value) regs.hgatp (write_behind r at n value behind) (write_size r at n value behind place) ready.walk.apart;
           agrees = subst (λ (t : List ℕ). CacheAgrees t held) (sym (write_behind r at n value behind)) walked.agrees;
         };
       };
-      course = course_stays core.csrs;
-      free = free;
+      course = course_same core.csrs next.csrs csrs;
+      free = reservation ∙ free;
       tables = write_behind r at n value behind;
       ram = write_size r at n value behind place;
       filled = walked.filled;

@@ -1,3 +1,4 @@
 pub mod Windows
 pub mod Kept
 pub mod Going
+pub mod Reaching

@@ -7,89 +7,103 @@ ghost use Rattle.processor.specs.CachedWalks.{CacheAgrees};
 ghost use Rattle.processor.specs.HardwareMemory.{translated, reached};
 ghost use Rattle.hart.specs.Cores.{core_of};
 ghost use Rattle.hart.specs.Conditions.{MayWalk, Walked};
+ghost use Rattle.reach.specs.Kept.{ReachAgrees};
 
 use gstage_cache::Cache;
 use hart::{Core, regime};
 use host_mem::HostMem;
 use processor::{Access, HRegs};
-use sv39_walk::translate_through;
+use reach::Reach;
 
 /// An access to so many bytes at a virtual address.
 #[derive(Clone, Copy, Drop)]
-pub(crate) struct Reach {
+pub(crate) struct Reference {
     pub(crate) access: Access,
     pub(crate) address: u64,
     pub(crate) width: u8,
 }
 
-// `place` by a walk, kept out of the way of addresses whose translation is held.
-#[tactic(auto, unfolding(processor::specs::HardwareMemory::translated))]
+// The host place of a virtual address by a walk, kept out of the way of addresses whose translation is held.
 #[inline(never)]
-fn walked(
+fn walk_to(
     core: &Core,
     regs: &HRegs,
     cache: &mut Cache,
+    reach: &mut Reach,
     mem: &HostMem,
-    address: u64,
-    access: Access,
+    reference: Reference,
 ) -> Option<u64>
     requires ready { MayWalk mem.now regs.now cache.old }
-    ensures value { (htinst : ℕ) → IfSome result (λ hpa. translated mem.now (core_of core.now regs.now) access address htinst ≡ Ok hpa) }
-    ensures place { (width : ℕ) → IsWidth width → address % width ≡ 0 → IfSome result (λ hpa. IsHostPlace mem.now hpa width) }
+    requires reach { ReachAgrees mem.now.tables reach.old }
+    ensures value { (htinst : ℕ) → IfSome result (λ hpa. translated mem.now (core_of core.now regs.now) reference.access reference.address htinst ≡ Ok hpa) }
+    ensures place { (width : ℕ) → IsWidth width → reference.address % width ≡ 0 → IfSome result (λ hpa. IsHostPlace mem.now hpa width) }
     ensures ram { IfSome result (λ hpa. length mem.now.tables ≤ hpa) }
     ensures walked { Walked mem.now.tables regs.now.hgatp cache.old cache.new }
+    ensures reach { ReachAgrees mem.now.tables reach.new }
 {
     let _table_bytes = mem.table_bytes();
-    match translate_through(cache, mem, &regime(core, regs), address, access) {
-        Ok(place) => Some(place.hpa),
-        Err(_fault) => None,
-    }
+    reach.walk(
+        cache,
+        mem,
+        &regime(core, regs),
+        reference.address,
+        reference.access,
+    )
 }
 
-// The host place of a virtual address that is a guest-physical one, where its translation is held.
+// The host place of a virtual address, where its translation is held: without a first stage that of the second one, else
+// that of both.
 #[inline(always)]
 fn held_place(
     core: &Core,
     regs: &HRegs,
     cache: &Cache,
+    reach: &Reach,
     mem: &HostMem,
-    address: u64,
-    access: Access,
+    reference: Reference,
 ) -> Option<u64>
     requires apart { WalksApart mem.now regs.now.hgatp }
     requires agrees { CacheAgrees mem.now.tables cache.now }
-    ensures value { IfSome result (λ hpa. (htinst : ℕ) → translated mem.now (core_of core.now regs.now) access address htinst ≡ Ok hpa) }
-    ensures place { IfSome result (λ hpa. (width : ℕ) → IsWidth width → address % width ≡ 0 → IsHostPlace mem.now hpa width) }
+    requires reach { ReachAgrees mem.now.tables reach.now }
+    ensures value { IfSome result (λ hpa. (htinst : ℕ) → translated mem.now (core_of core.now regs.now) reference.access reference.address htinst ≡ Ok hpa) }
+    ensures place { IfSome result (λ hpa. (width : ℕ) → IsWidth width → reference.address % width ≡ 0 → IsHostPlace mem.now hpa width) }
     ensures ram { IfSome result (λ hpa. length mem.now.tables ≤ hpa) }
 {
     let _table_bytes = mem.table_bytes();
     if core.csrs.vsatp >> 60 == 0 {
-        cache.held_place(mem, regs.hgatp, address, access)
+        cache.held_place(mem, regs.hgatp, reference.address, reference.access)
     } else {
-        None
+        reach.held_place(
+            mem,
+            &regime(core, regs),
+            reference.address,
+            reference.access,
+        )
     }
 }
 
-/// The host place of a virtual address, none where an access there is refused.
+/// The host place of a virtual address, none where an access there is refused. Its width isn't looked at.
 #[tactic(auto, using(gstage_cache::specs::Fills::nothing_filled))]
 #[inline(always)]
 pub(crate) fn place(
     core: &Core,
     regs: &HRegs,
     cache: &mut Cache,
+    reach: &mut Reach,
     mem: &HostMem,
-    address: u64,
-    access: Access,
+    reference: Reference,
 ) -> Option<u64>
     requires ready { MayWalk mem.now regs.now cache.old }
-    ensures value { (htinst : ℕ) → IfSome result (λ hpa. translated mem.now (core_of core.now regs.now) access address htinst ≡ Ok hpa) }
-    ensures place { (width : ℕ) → IsWidth width → address % width ≡ 0 → IfSome result (λ hpa. IsHostPlace mem.now hpa width) }
+    requires reach { ReachAgrees mem.now.tables reach.old }
+    ensures value { (htinst : ℕ) → IfSome result (λ hpa. translated mem.now (core_of core.now regs.now) reference.access reference.address htinst ≡ Ok hpa) }
+    ensures place { (width : ℕ) → IsWidth width → reference.address % width ≡ 0 → IfSome result (λ hpa. IsHostPlace mem.now hpa width) }
     ensures ram { IfSome result (λ hpa. length mem.now.tables ≤ hpa) }
     ensures walked { Walked mem.now.tables regs.now.hgatp cache.old cache.new }
+    ensures reach { ReachAgrees mem.now.tables reach.new }
 {
-    match held_place(core, regs, cache, mem, address, access) {
+    match held_place(core, regs, cache, reach, mem, reference) {
         Some(hpa) => Some(hpa),
-        None => walked(core, regs, cache, mem, address, access),
+        None => walk_to(core, regs, cache, reach, mem, reference),
     }
 }
 
@@ -97,22 +111,25 @@ pub(crate) fn place(
 /// permits it.
 #[tactic(auto, using(gstage_cache::specs::Fills::nothing_filled), unfolding(processor::specs::HardwareMemory::reached))]
 #[inline(always)]
-pub(crate) fn reached(
+pub(crate) fn aligned_place(
     core: &Core,
     regs: &HRegs,
     cache: &mut Cache,
+    reach: &mut Reach,
     mem: &HostMem,
-    reach: Reach,
+    reference: Reference,
 ) -> Option<u64>
     requires ready { MayWalk mem.now regs.now cache.old }
-    requires width { IsWidth reach.width }
-    ensures value { (htinst : ℕ) → IfSome result (λ hpa. reached mem.now (core_of core.now regs.now) reach.access reach.address reach.width htinst ≡ Ok hpa) }
-    ensures place { IfSome result (λ hpa. IsHostPlace mem.now hpa reach.width) }
+    requires width { IsWidth reference.width }
+    requires reach { ReachAgrees mem.now.tables reach.old }
+    ensures value { (htinst : ℕ) → IfSome result (λ hpa. reached mem.now (core_of core.now regs.now) reference.access reference.address reference.width htinst ≡ Ok hpa) }
+    ensures place { IfSome result (λ hpa. IsHostPlace mem.now hpa reference.width) }
     ensures ram { IfSome result (λ hpa. length mem.now.tables ≤ hpa) }
     ensures walked { Walked mem.now.tables regs.now.hgatp cache.old cache.new }
+    ensures reach { ReachAgrees mem.now.tables reach.new }
 {
-    if reach.address.is_multiple_of(u64::from(reach.width)) {
-        place(core, regs, cache, mem, reach.address, reach.access)
+    if reference.address.is_multiple_of(u64::from(reference.width)) {
+        place(core, regs, cache, reach, mem, reference)
     } else {
         None
     }

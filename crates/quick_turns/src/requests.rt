@@ -1,25 +1,27 @@
 // The effects of instructions that quick turns carry out.
 
-ghost use Rattle.std.specs.Prelude.{◌≡◌, ◌<◌, ℕ, None};
-ghost use Rattle.processor.specs.Regions.{IsWidth};
+ghost use Rattle.std.specs.Prelude.{◌≡◌, ◌⊎◌, ◌<◌, ◌%◌, ℕ, None};
+ghost use Rattle.processor.specs.Regions.{IsWidth, Region};
 ghost use Rattle.processor.specs.Requests.{loaded_value};
 ghost use Rattle.processor.specs.Hardware.{with_region};
-ghost use Rattle.processor.specs.HardwareAttempt.{after_word};
-ghost use Rattle.processor.specs.HardwareMemory.{reached, after_load, after_store};
+ghost use Rattle.processor.specs.HardwareAttempt.{after_word, after_supervisor_only};
+ghost use Rattle.processor.specs.HardwareMemory.{reached, after_amo, after_load, after_store};
 ghost use Rattle.processor.specs.declared.access.Access.TheVariants as Access;
 ghost use Rattle.processor.specs.declared.lines.Lines.{Lines};
 ghost use Rattle.hart.specs.Cores.{core_of};
-ghost use Rattle.hart.specs.Conditions.{MayAttempt};
-ghost use Rattle.quick_turns.specs.Quick.{Comes, GoesOn};
+ghost use Rattle.hart.specs.Conditions.{MayAttempt, MayStep};
+ghost use Rattle.quick_turns.specs.Quick.{Comes, GoesOn, SameCourse};
+ghost use Rattle.reach.specs.Kept.{ReachAgrees};
 
-use crate::memory::{Reach, reached};
+use crate::memory::{Reference, aligned_place};
 use crate::registers::{CsrAccess, csr};
 use crate::tried::Tried;
 use gstage_cache::Cache;
 use hart::{Core, Decoded};
 use host_mem::HostMem;
-use processor::{Access, Effect, HRegs};
-use rv64_exec::{effect, loaded_value};
+use processor::{Access, AmoOp, Effect, HRegs, Mode};
+use reach::Reach;
+use rv64_exec::{amo, effect, loaded_value};
 
 // A load into a register.
 #[derive(Clone, Copy, Drop)]
@@ -33,20 +35,29 @@ struct Loading {
 // A load, where its place is reached.
 #[tactic(auto, using(gstage_cache::specs::Fills::nothing_filled), unfolding(processor::specs::HardwareMemory::after_load))]
 #[inline(always)]
-fn load(core: &mut Core, regs: &HRegs, cache: &mut Cache, mem: &HostMem, load: Loading) -> Tried
+fn load(
+    core: &mut Core,
+    regs: &HRegs,
+    cache: &mut Cache,
+    reach: &mut Reach,
+    mem: &HostMem,
+    load: Loading,
+) -> Tried
     requires ready { MayAttempt mem.now core.old regs.now cache.old }
     requires free { core.old.reservation ≡ None }
     requires register { load.rd < 32 }
     requires width { IsWidth load.width }
+    requires reach { ReachAgrees mem.now.tables reach.old }
     ensures comes { (htinst : ℕ) → Comes result (with_region mem.now (after_load mem.now (core_of core.old regs.now) load.rd load.width load.signed (reached mem.now (core_of core.old regs.now) Access.Load load.address load.width htinst))) mem.now mem.now (core_of core.old regs.now) (core_of core.new regs.now) }
     ensures on { GoesOn mem.now mem.now core.old core.new regs.now cache.old cache.new }
+    ensures reach { ReachAgrees mem.now.tables reach.new }
 {
-    let reach = Reach {
+    let reference = Reference {
         access: Access::Load,
         address: load.address,
         width: load.width,
     };
-    match reached(core, regs, cache, mem, reach) {
+    match aligned_place(core, regs, cache, reach, mem, reference) {
         Some(hpa) => {
             let word = mem.read(hpa as usize, load.width);
             core.regs
@@ -73,21 +84,24 @@ fn store(
     core: &mut Core,
     regs: &HRegs,
     cache: &mut Cache,
+    reach: &mut Reach,
     mem: &mut HostMem,
     store: Storing,
 ) -> Tried
     requires ready { MayAttempt mem.old core.old regs.now cache.old }
     requires free { core.old.reservation ≡ None }
     requires width { IsWidth store.width }
+    requires reach { ReachAgrees mem.old.tables reach.old }
     ensures comes { (htinst : ℕ) → Comes result (after_store mem.old (core_of core.old regs.now) store.width store.value (reached mem.old (core_of core.old regs.now) Access.Store store.address store.width htinst)) mem.old mem.new (core_of core.old regs.now) (core_of core.new regs.now) }
     ensures on { GoesOn mem.old mem.new core.old core.new regs.now cache.old cache.new }
+    ensures reach { ReachAgrees mem.new.tables reach.new }
 {
-    let reach = Reach {
+    let reference = Reference {
         access: Access::Store,
         address: store.address,
         width: store.width,
     };
-    match reached(core, regs, cache, mem, reach) {
+    match aligned_place(core, regs, cache, reach, mem, reference) {
         Some(hpa) => {
             mem.write(hpa as usize, store.width, store.value);
             core.pc = core.pc.wrapping_add(4);
@@ -97,21 +111,95 @@ fn store(
     }
 }
 
-/// An instruction carried out, where it only computes, loads, stores, or reads or writes a register by which no later turn
-/// goes.
+// An atomic operation: a register takes the word that is read, and what the operation makes of it is stored.
+#[derive(Clone, Copy, Drop)]
+struct Operation {
+    rd: u8,
+    address: u64,
+    width: u8,
+    op: AmoOp,
+    value: u64,
+}
+
+// An atomic operation, where its place is reached. As with a store, no other hart is looked at.
+#[tactic(auto, using(gstage_cache::specs::Fills::nothing_filled, gstage_cache::proofs::WritesAndWalks::write_behind, crate::proofs::Kept::apart_kept, crate::proofs::Kept::write_size), unfolding(processor::specs::HardwareMemory::after_amo, processor::specs::Requests::after_write))]
+#[inline(always)]
+fn atomic(
+    core: &mut Core,
+    regs: &HRegs,
+    cache: &mut Cache,
+    reach: &mut Reach,
+    mem: &mut HostMem,
+    operation: Operation,
+) -> Tried
+    requires ready { MayAttempt mem.old core.old regs.now cache.old }
+    requires free { core.old.reservation ≡ None }
+    requires reach { ReachAgrees mem.old.tables reach.old }
+    requires register { operation.rd < 32 }
+    requires width { IsWidth operation.width }
+    requires word { (operation.width ≡ 4) ⊎ (operation.width ≡ 8) }
+    ensures comes { (htinst : ℕ) → Comes result (after_amo mem.old (core_of core.old regs.now) operation.rd operation.width operation.op operation.value (reached mem.old (core_of core.old regs.now) Access.Store operation.address operation.width htinst)) mem.old mem.new (core_of core.old regs.now) (core_of core.new regs.now) }
+    ensures reach { ReachAgrees mem.new.tables reach.new }
+    ensures on { GoesOn mem.old mem.new core.old core.new regs.now cache.old cache.new }
+{
+    let reference = Reference {
+        access: Access::Store,
+        address: operation.address,
+        width: operation.width,
+    };
+    match aligned_place(core, regs, cache, reach, mem, reference) {
+        Some(hpa) => {
+            let word = mem.read(hpa as usize, operation.width);
+            let made = amo(operation.op, operation.width, word, operation.value);
+            mem.write(hpa as usize, operation.width, made);
+            core.regs
+                .set(operation.rd, loaded_value(true, operation.width, word));
+            core.pc = core.pc.wrapping_add(4);
+            Tried::Stored
+        }
+        None => Tried::Stopped,
+    }
+}
+
+// An instruction that kernel mode alone has and that changes nothing but the pc: a wait for an interrupt, which doesn't wait,
+// and a fence of translations, of which none is kept beside the words that it comes of.
+#[tactic(auto, unfolding(processor::specs::HardwareAttempt::after_supervisor_only))]
+#[inline(always)]
+fn supervisor_only(core: &mut Core, regs: &HRegs) -> Tried
+    requires ready { MayStep core.old regs.now }
+    requires free { core.old.reservation ≡ None }
+    ensures comes { (r : Region) → (word : ℕ) → Comes result (with_region r (after_supervisor_only (core_of core.old regs.now) word regs.now.mode)) r r (core_of core.old regs.now) (core_of core.new regs.now) }
+    ensures pc { core.new.pc % 4 ≡ 0 }
+    ensures free { core.new.reservation ≡ None }
+    ensures course { SameCourse core.old.csrs core.new.csrs }
+{
+    match regs.mode {
+        Mode::Kernel => {
+            core.pc = core.pc.wrapping_add(4);
+            Tried::Retired
+        }
+        Mode::User => Tried::Stopped,
+    }
+}
+
+/// An instruction carried out, where it only computes, loads, stores, operates on a word of memory, or reads or writes a
+/// register by which no later turn goes.
 #[tactic(auto, using(gstage_cache::specs::Fills::nothing_filled, processor_laws::proofs::EffectRequests::is_request), unfolding(processor::specs::HardwareAttempt::after_word, processor::specs::HardwareAttempt::after_instruction, processor::specs::HardwareAttempt::after_effect))]
 #[inline(always)]
 pub(crate) fn carry_out(
     core: &mut Core,
     regs: &HRegs,
     cache: &mut Cache,
+    reach: &mut Reach,
     mem: &mut HostMem,
     decoded: &Decoded,
 ) -> Tried
     requires ready { MayAttempt mem.old core.old regs.now cache.old }
     requires free { core.old.reservation ≡ None }
+    requires reach { ReachAgrees mem.old.tables reach.old }
     ensures comes { (lines : Lines) → Comes result (after_word mem.old (core_of core.old regs.now) lines decoded.now.word) mem.old mem.new (core_of core.old regs.now) (core_of core.new regs.now) }
     ensures on { GoesOn mem.old mem.new core.old core.new regs.now cache.old cache.new }
+    ensures reach { ReachAgrees mem.new.tables reach.new }
 {
     let Some(instr) = &decoded.instr else {
         return Tried::Stopped;
@@ -131,6 +219,7 @@ pub(crate) fn carry_out(
             core,
             regs,
             cache,
+            reach,
             mem,
             Loading {
                 rd,
@@ -143,10 +232,31 @@ pub(crate) fn carry_out(
             core,
             regs,
             cache,
+            reach,
             mem,
             Storing {
                 address: addr,
                 width,
+                value,
+            },
+        ),
+        Effect::Amo {
+            rd,
+            addr,
+            width,
+            op,
+            value,
+        } => atomic(
+            core,
+            regs,
+            cache,
+            reach,
+            mem,
+            Operation {
+                rd,
+                address: addr,
+                width,
+                op,
                 value,
             },
         ),
@@ -171,6 +281,7 @@ pub(crate) fn carry_out(
             core.pc = core.pc.wrapping_add(4);
             Tried::Retired
         }
+        Effect::Wfi | Effect::SfenceVma => supervisor_only(core, regs),
         _ => Tried::Stopped,
     }
 }

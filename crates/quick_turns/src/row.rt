@@ -8,6 +8,7 @@ ghost use Rattle.hart.specs.Cores.{core_of};
 ghost use Rattle.hart.specs.Conditions.{MayAttempt};
 ghost use Rattle.quick_turns.specs.Quick.{GoesOn, Leads, Made};
 ghost use Rattle.quick_turns.specs.Rows.{RetiresThrough};
+ghost use Rattle.reach.specs.Kept.{ReachAgrees};
 
 use crate::requests::carry_out;
 use crate::tried::Tried;
@@ -16,6 +17,7 @@ use gstage_cache::Cache;
 use hart::{Core, Words};
 use host_mem::HostMem;
 use processor::HRegs;
+use reach::Reach;
 
 // A turn and the window behind it, none where it wasn't made.
 #[inline(always)]
@@ -24,21 +26,24 @@ fn turn(
     core: &mut Core,
     regs: &HRegs,
     cache: &mut Cache,
+    reach: &mut Reach,
     mem: &mut HostMem,
     window: &mut Window,
 ) -> bool
     requires ready { MayAttempt mem.old core.old regs.now cache.old }
     requires free { core.old.reservation ≡ None }
     requires leads { Leads mem.old (core_of core.old regs.now) window.old.page window.old.host }
+    requires reach { ReachAgrees mem.old.tables reach.old }
     ensures made { (lines : Lines) → pending regs.now core.old.csrs lines ≡ None → Made result (attempt mem.old (core_of core.old regs.now) lines) mem.old mem.new (core_of core.old regs.now) (core_of core.new regs.now) }
     ensures on { GoesOn mem.old mem.new core.old core.new regs.now cache.old cache.new }
     ensures leads { Leads mem.new (core_of core.new regs.now) window.new.page window.new.host }
+    ensures reach { ReachAgrees mem.new.tables reach.new }
 {
-    let Some(here) = at_pc(core, regs, cache, mem, *window) else {
+    let Some(here) = at_pc(core, regs, cache, reach, mem, *window) else {
         return false;
     };
     let word = here.word(core, regs, mem);
-    match carry_out(core, regs, cache, mem, words.decoded(core.pc, word)) {
+    match carry_out(core, regs, cache, reach, mem, words.decoded(core.pc, word)) {
         Tried::Stopped => false,
         Tried::Retired => {
             *window = here;
@@ -56,26 +61,30 @@ fn turn(
 /// misaligned, stops the row before its turn.
 ///
 /// The hart has no reservation. No other hart's is looked at. That no interrupt is taken at the start is what the
-/// clause on turns asks; none comes up on the way, since no register changes that decides it.
+/// clause on turns asks; none comes up on the way, since no register changes that decides it. All that the turns read and
+/// change is handed over by itself, so that the loop keeps it in registers.
 #[inline(never)]
 pub fn quick_turns(
     words: &mut Words,
     core: &mut Core,
     regs: &HRegs,
     cache: &mut Cache,
+    reach: &mut Reach,
     mem: &mut HostMem,
     most: u64,
 ) -> u64
     requires ready { MayAttempt mem.old core.old regs.now cache.old }
     requires free { core.old.reservation ≡ None }
+    requires reach { ReachAgrees mem.old.tables reach.old }
     ensures retires { (lines : Lines) → pending regs.now core.old.csrs lines ≡ None → RetiresThrough result mem.old (core_of core.old regs.now) lines mem.new (core_of core.new regs.now) }
     ensures most { result ≤ most }
     ensures on { GoesOn mem.old mem.new core.old core.new regs.now cache.old cache.new }
+    ensures reach { ReachAgrees mem.new.tables reach.new }
 {
     let mut window = Window::none();
     let mut made = 0;
     'turns: while made < most {
-        if !turn(words, core, regs, cache, mem, &mut window) {
+        if !turn(words, core, regs, cache, reach, mem, &mut window) {
             return made;
         }
         made += 1;

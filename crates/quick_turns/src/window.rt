@@ -6,12 +6,14 @@ ghost use Rattle.processor.specs.Regions.{host_word};
 ghost use Rattle.hart.specs.Cores.{core_of};
 ghost use Rattle.hart.specs.Conditions.{MayWalk, Walked};
 ghost use Rattle.quick_turns.specs.Quick.{Leads};
+ghost use Rattle.reach.specs.Kept.{ReachAgrees};
 
-use crate::memory::place;
+use crate::memory::{Reference, place};
 use gstage_cache::Cache;
 use hart::Core;
 use host_mem::HostMem;
 use processor::{Access, HRegs, PAGE_BYTES};
+use reach::Reach;
 
 /// A page of virtual addresses, and the host place of its first byte, from where its instructions are fetched.
 #[derive(Clone, Copy, Drop)]
@@ -65,31 +67,47 @@ pub(crate) fn at_pc(
     core: &Core,
     regs: &HRegs,
     cache: &mut Cache,
+    reach: &mut Reach,
     mem: &HostMem,
     window: Window,
 ) -> Option<Window>
     requires ready { MayWalk mem.now regs.now cache.old }
+    requires reach { ReachAgrees mem.now.tables reach.old }
     requires leads { Leads mem.now (core_of core.now regs.now) window.page window.host }
     ensures page { IfSome result (λ at. core.now.pc / page_size ≡ at.page) }
     ensures leads { IfSome result (λ at. Leads mem.now (core_of core.now regs.now) at.page at.host) }
     ensures walked { Walked mem.now.tables regs.now.hgatp cache.old cache.new }
+    ensures reach { ReachAgrees mem.now.tables reach.new }
 {
     if core.pc / PAGE_BYTES == window.page {
         Some(window)
     } else {
-        found(core, regs, cache, mem)
+        find_window(core, regs, cache, reach, mem)
     }
 }
 
 // The window of the pc's page by translation.
-fn found(core: &Core, regs: &HRegs, cache: &mut Cache, mem: &HostMem) -> Option<Window>
+fn find_window(
+    core: &Core,
+    regs: &HRegs,
+    cache: &mut Cache,
+    reach: &mut Reach,
+    mem: &HostMem,
+) -> Option<Window>
     requires ready { MayWalk mem.now regs.now cache.old }
+    requires reach { ReachAgrees mem.now.tables reach.old }
     ensures page { IfSome result (λ at. core.now.pc / page_size ≡ at.page) }
     ensures leads { IfSome result (λ at. Leads mem.now (core_of core.now regs.now) at.page at.host) }
     ensures walked { Walked mem.now.tables regs.now.hgatp cache.old cache.new }
+    ensures reach { ReachAgrees mem.now.tables reach.new }
 {
     let _table_bytes = mem.table_bytes();
-    match place(core, regs, cache, mem, core.pc, Access::Fetch) {
+    let fetch = Reference {
+        access: Access::Fetch,
+        address: core.pc,
+        width: 4,
+    };
+    match place(core, regs, cache, reach, mem, fetch) {
         Some(hpa) => Some(Window {
             page: core.pc / PAGE_BYTES,
             host: hpa - hpa % PAGE_BYTES,

@@ -8,7 +8,7 @@ use Rattle.processor.specs.SecondStage.{walk_guest, entry_through, WalksApart, W
 use Rattle.processor.specs.declared.access.Access.TheVariants.{Load}
 use Rattle.sv39_walk.specs.Levels.{indices_of}
 use Rattle.sv39_walk.proofs.Steps.{first_at, walk_pointer, walk_ends, entry_found, entry_place}
-use Rattle.reach.specs.declared.line.Seen.{Seen}
+use Rattle.reach.specs.declared.line.Entry.{Entry}
 use Rattle.reach.specs.declared.line.Entries.{Entries}
 use Rattle.reach.specs.Kept.{with_entry, Above, IsThere, IsPlace, EndsAt}
 
@@ -18,19 +18,19 @@ pub apart_inside : (r : Region) (hgatp : ℕ) → WalksApart r hgatp → WalksIn
 apart_inside r hgatp apart = record { inside = λ gpa hpa access walked. (apart.leads gpa hpa access walked).1 }
 
 -- an entry's place is one of the region
-pub entry_here : (r : Region) (hgatp : ℕ) (seen : Seen) → IsRegion r → WalksApart r hgatp → IsPlace r.tables hgatp seen → IsHostPlace r seen.at 8
+pub entry_here : (r : Region) (hgatp : ℕ) (seen : Entry) → IsRegion r → WalksApart r hgatp → IsPlace r.tables hgatp seen → IsHostPlace r seen.at 8
 entry_here r hgatp seen region apart place = entry_place r hgatp place.0 seen.at region (apart_inside r hgatp apart) place.1.0 (place.1.1 r refl)
 
 -- ---- one entry more
 
-pub with_more : (holds : Seen → Type 0) (left below : ℕ) (entries : Entries) (seen : Seen) → left ≡ suc below → below < 3 → Above left holds entries → holds seen
+pub with_more : (holds : Entry → Type 0) (left below : ℕ) (entries : Entries) (seen : Entry) → left ≡ suc below → below < 3 → Above left holds entries → holds seen
     → Above below holds (with_entry below entries seen)
 with_more holds left zero entries seen more few above here = let both = subst (λ (n : ℕ). Above n holds entries) more above in (both.0, (both.1, here))
 with_more holds left (suc zero) entries seen more few above here = (subst (λ (n : ℕ). Above n holds entries) more above, here)
 with_more holds left (suc (suc zero)) entries seen more few above here = here
 with_more holds left (suc (suc (suc n))) entries seen more few above here = absurd (omega arith)
 
-pub with_less : (holds : Seen → Type 0) (left below : ℕ) (entries : Entries) (seen : Seen) → left ≡ suc below → below < 3
+pub with_less : (holds : Entry → Type 0) (left below : ℕ) (entries : Entries) (seen : Entry) → left ≡ suc below → below < 3
     → Above below holds (with_entry below entries seen) → Above left holds entries × holds seen
 with_less holds left zero entries seen more few all = (subst (λ (n : ℕ). Above n holds entries) (sym more) (all.0, all.1.0), all.1.1)
 with_less holds left (suc zero) entries seen more few all = (subst (λ (n : ℕ). Above n holds entries) (sym more) all.0, all.1)
@@ -38,14 +38,14 @@ with_less holds left (suc (suc zero)) entries seen more few all = (subst (λ (n 
 with_less holds left (suc (suc (suc n))) entries seen more few all = absurd (omega arith)
 
 -- the last entry stands for those below it
-pub with_all : (holds : Seen → Type 0) (below : ℕ) (entries : Entries) (seen : Seen) → below < 3 → Above below holds (with_entry below entries seen)
+pub with_all : (holds : Entry → Type 0) (below : ℕ) (entries : Entries) (seen : Entry) → below < 3 → Above below holds (with_entry below entries seen)
     → Above 0 holds (with_entry below entries seen)
 with_all holds zero entries seen few all = all
 with_all holds (suc zero) entries seen few all = (all.0, (all.1, all.1))
 with_all holds (suc (suc zero)) entries seen few all = (all, (all, all))
 with_all holds (suc (suc (suc n))) entries seen few all = absurd (omega arith)
 
-with_few : (holds : Seen → Type 0) (below : ℕ) (entries : Entries) (seen : Seen) → below < 3 → Above 0 holds (with_entry below entries seen)
+with_few : (holds : Entry → Type 0) (below : ℕ) (entries : Entries) (seen : Entry) → below < 3 → Above 0 holds (with_entry below entries seen)
     → Above below holds (with_entry below entries seen)
 with_few holds zero entries seen few all = all
 with_few holds (suc zero) entries seen few all = (all.0, all.1.0)
@@ -61,7 +61,7 @@ same_index a b (suc (suc zero)) few same = omega arith
 same_index a b (suc (suc (suc n))) few same = absurd (omega arith)
 
 -- where an entry's place is led, whatever RAM holds
-abbrev pub LeadsTo : List ℕ → (hgatp gpa : ℕ) → Seen → Type 0
+abbrev pub LeadsTo : List ℕ → (hgatp gpa : ℕ) → Entry → Type 0
 LeadsTo tables hgatp gpa seen = (r : Region) → r.tables ≡ tables → walk_guest r hgatp gpa Load ≡ Some seen.at
 
 -- with so many levels left, the walks of a page's addresses go on from one table, where the words that were read stand
@@ -69,10 +69,10 @@ abbrev pub GoOn : List ℕ → (hgatp root va left table : ℕ) → Entries → 
 GoOn tables hgatp root va left table entries = (r : Region) → r.tables ≡ tables → Above left (IsThere r) entries → (grants : ℕ → Bool) (other : ℕ) → other / 4096 ≡ va / 4096
     → walk (entry_through r hgatp) grants (indices_of 3 other) root other ≡ walk (entry_through r hgatp) grants (indices_of left other) table other
 
-reads : (r : Region) (hgatp gpa : ℕ) (seen : Seen) → walk_guest r hgatp gpa Load ≡ Some seen.at → IsThere r seen → entry_through r hgatp gpa ≡ Some seen.word
+reads : (r : Region) (hgatp gpa : ℕ) (seen : Entry) → walk_guest r hgatp gpa Load ≡ Some seen.at → IsThere r seen → entry_through r hgatp gpa ≡ Some seen.word
 reads r hgatp gpa seen walked there = entry_found r hgatp gpa seen.at walked ∙ ap Some there
 
-pub goes_on : (tables : List ℕ) (hgatp root va left below table index next : ℕ) (entries : Entries) (seen : Seen) → left ≡ suc below → below < 3
+pub goes_on : (tables : List ℕ) (hgatp root va left below table index next : ℕ) (entries : Entries) (seen : Entry) → left ≡ suc below → below < 3
     → index ≡ bits va (12 + 9 * below) (21 + 9 * below) → LeadsTo tables hgatp (table + 8 * index) seen → is_pointer seen.word ≡ true → next ≡ entry_page seen.word
     → GoOn tables hgatp root va left table entries → GoOn tables hgatp root va below next (with_entry below entries seen)
 goes_on tables hgatp root va left below table index next entries seen more few is leads pointer named before = λ r same there grants other page.
@@ -82,7 +82,7 @@ goes_on tables hgatp root va left below table index next entries seen more few i
     (first_at left below table other index more (is ∙ same_index va other below few (sym page)))
     (reads r hgatp (table + 8 * index) seen (leads r same) parts.1) pointer named
 
-pub ends_there : (tables : List ℕ) (hgatp root va left below table index : ℕ) (entries : Entries) (seen : Seen) → left ≡ suc below → below < 3
+pub ends_there : (tables : List ℕ) (hgatp root va left below table index : ℕ) (entries : Entries) (seen : Entry) → left ≡ suc below → below < 3
     → index ≡ bits va (12 + 9 * below) (21 + 9 * below) → LeadsTo tables hgatp (table + 8 * index) seen → is_pointer seen.word ≡ false
     → GoOn tables hgatp root va left table entries → EndsAt tables hgatp root va (with_entry below entries seen)
 ends_there tables hgatp root va left below table index entries seen more few is leads pointer before = record {

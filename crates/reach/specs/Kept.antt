@@ -11,34 +11,34 @@ use Rattle.processor.specs.declared.translation.Fault.{Fault}
 use Rattle.sv39_walk.specs.Levels.{indices_of}
 use Rattle.sv39_walk.specs.Regimes.{settings_of}
 use Rattle.sv39_walk.specs.declared.first_stage.Regime.{Regime}
-use Rattle.reach.specs.declared.line.Seen.{Seen}
+use Rattle.reach.specs.declared.line.Entry.{Entry}
 use Rattle.reach.specs.declared.line.Entries.{Entries}
 use Rattle.reach.specs.declared.line.Line.{Line}
 
 -- ---- entries that were read
 
 -- with the entry of the level that has so many below it, which stands for these too
-abbrev pub with_entry : ℕ → Entries → Seen → Entries
+abbrev pub with_entry : ℕ → Entries → Entry → Entries
 with_entry zero entries seen = record entries { last = seen }
 with_entry (suc zero) entries seen = record entries { middle = seen; last = seen }
 with_entry (suc (suc n)) entries seen = record { root = seen; middle = seen; last = seen }
 
 -- something holds of the entries of the levels above the last so many
-abbrev pub Above : ℕ → (Seen → Type 0) → Entries → Type 0
+abbrev pub Above : ℕ → (Entry → Type 0) → Entries → Type 0
 Above zero holds entries = holds entries.root × (holds entries.middle × holds entries.last)
 Above (suc zero) holds entries = holds entries.root × holds entries.middle
 Above (suc (suc zero)) holds entries = holds entries.root
 Above (suc (suc (suc n))) holds entries = Unit {0}
 
 -- the word that was read stands there
-abbrev pub IsThere : Region → Seen → Type 0
+abbrev pub IsThere : Region → Entry → Type 0
 IsThere r seen = host_word r seen.at 8 ≡ seen.word
 
 abbrev pub AreThere : Region → Entries → Type 0
 AreThere r entries = Above 0 (IsThere r) entries
 
 -- the second stage of these tables leads the load of an entry there
-abbrev pub IsPlace : List ℕ → (hgatp : ℕ) → Seen → Type 0
+abbrev pub IsPlace : List ℕ → (hgatp : ℕ) → Entry → Type 0
 IsPlace tables hgatp seen = (gpa : ℕ) × ((gpa % 8 ≡ 0) × ((r : Region) → r.tables ≡ tables → walk_guest r hgatp gpa Load ≡ Some seen.at))
 
 abbrev pub ArePlaces : List ℕ → (hgatp : ℕ) → Entries → Type 0

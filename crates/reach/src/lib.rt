@@ -5,5 +5,5 @@ mod line;
 mod lines;
 mod walk;
 
-pub use line::{Entries, Line, Seen};
+pub use line::{Entries, Entry, Line};
 pub use lines::Reach;

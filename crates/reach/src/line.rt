@@ -11,24 +11,36 @@ use sv39_walk::Regime;
 
 /// An entry of a table that a walk read: its host place, and the word that stood there.
 #[derive(Clone, Copy, Debug, PartialEq, Eq, Drop)]
-pub struct Seen {
+pub struct Entry {
     pub at: u64,
     pub word: u64,
+}
+
+impl Entry {
+    // Whether the word that was read still stands there.
+    #[inline(always)]
+    fn is_there(self, mem: &HostMem) -> bool
+        requires { IsHostPlace mem.now self.at 8 }
+        ensures yes { result ≡ true → IsThere mem.now self }
+        ensures no { IsThere mem.now self → result ≡ true }
+    {
+        mem.read(self.at as usize, 8) == self.word
+    }
 }
 
 /// The entries that a walk of the first stage read, of the root first. Where it ended sooner, its last one stands for those
 /// that it didn't come to.
 #[derive(Clone, Copy, Debug, PartialEq, Eq, Drop)]
 pub struct Entries {
-    pub root: Seen,
-    pub middle: Seen,
-    pub last: Seen,
+    pub root: Entry,
+    pub middle: Entry,
+    pub last: Entry,
 }
 
 impl Entries {
     // Those of no walk.
     pub(crate) fn none() -> Entries {
-        let none = Seen { at: 0, word: 0 };
+        let none = Entry { at: 0, word: 0 };
         Entries {
             root: none,
             middle: none,
@@ -37,7 +49,7 @@ impl Entries {
     }
 
     // With the entry of the level that has so many below it, which stands for these too.
-    pub(crate) fn with_entry(self, below: u32, seen: Seen) -> Entries
+    pub(crate) fn with_entry(self, below: u32, seen: Entry) -> Entries
         requires { below < 3 }
         ensures { result ≡ with_entry below self seen }
     {
@@ -59,6 +71,18 @@ impl Entries {
             },
         }
     }
+
+    // Whether all words that were read still stand there.
+    #[inline(always)]
+    pub(crate) fn are_there(&self, mem: &HostMem, hgatp: u64) -> bool
+        requires apart { WalksApart mem.now hgatp }
+        requires places { ArePlaces mem.now.tables hgatp self.now }
+        ensures yes { result ≡ true → AreThere mem.now self.now }
+        ensures no { AreThere mem.now self.now → result ≡ true }
+    {
+        let _table_bytes = mem.table_bytes();
+        self.last.is_there(mem) && self.middle.is_there(mem) && self.root.is_there(mem)
+    }
 }
 
 /// Where accesses of one kind to a page of virtual addresses are led: by what the translation went, the page's number, the
@@ -72,33 +96,13 @@ pub struct Line {
     pub entries: Entries,
 }
 
-// Whether a line is one of such accesses to a page.
-#[inline(always)]
-pub(crate) fn is_for(line: &Line, regime: &Regime, access: Access, page: u64) -> bool
-    ensures yes { result ≡ true → IsFor regime.now access page line.now }
-    ensures no { IsFor regime.now access page line.now → result ≡ true }
-{
-    line.page == page && line.access == access && line.regime == *regime
-}
-
-// Whether the word of an entry still stands there.
-#[inline(always)]
-fn is_there(mem: &HostMem, seen: Seen) -> bool
-    requires { IsHostPlace mem.now seen.at 8 }
-    ensures yes { result ≡ true → IsThere mem.now seen }
-    ensures no { IsThere mem.now seen → result ≡ true }
-{
-    mem.read(seen.at as usize, 8) == seen.word
-}
-
-// Whether all words of a walk still stand there.
-#[inline(always)]
-pub(crate) fn are_there(mem: &HostMem, hgatp: u64, entries: &Entries) -> bool
-    requires apart { WalksApart mem.now hgatp }
-    requires places { ArePlaces mem.now.tables hgatp entries.now }
-    ensures yes { result ≡ true → AreThere mem.now entries.now }
-    ensures no { AreThere mem.now entries.now → result ≡ true }
-{
-    let _table_bytes = mem.table_bytes();
-    is_there(mem, entries.last) && is_there(mem, entries.middle) && is_there(mem, entries.root)
+impl Line {
+    // Whether it is one of such accesses to a page.
+    #[inline(always)]
+    pub(crate) fn is_for(&self, regime: &Regime, access: Access, page: u64) -> bool
+        ensures yes { result ≡ true → IsFor regime.now access page self.now }
+        ensures no { IsFor regime.now access page self.now → result ≡ true }
+    {
+        self.page == page && self.access == access && self.regime == *regime
+    }
 }

@@ -7,8 +7,8 @@ ghost use Rattle.processor.specs.CachedWalks.{CacheAgrees, FilledUnder};
 ghost use Rattle.reach.specs.declared.line.Line.{Line as Kept};
 ghost use Rattle.reach.specs.Kept.{no_lines, line_at, line_place, leads_under, IsFor, IsKept, AreThere, LineAgrees, ReachAgrees};
 
-use crate::line::{Line, are_there, is_for};
-use crate::walk::entries;
+use crate::line::Line;
+use crate::walk::read_entries;
 use gstage_cache::Cache;
 use host_mem::HostMem;
 use processor::{Access, PAGE_BYTES};
@@ -69,7 +69,7 @@ fn place_by(mem: &HostMem, line: &Line, va: u64) -> Option<u64>
     ensures leads { IfSome result (λ hpa. leads_under mem.now line.now.regime line.now.access va ≡ Some hpa) }
     ensures kept { AreThere mem.now line.now.entries → result ≡ Some (line.now.host + va % page_size) }
 {
-    if are_there(mem, line.regime.hgatp, &line.entries) {
+    if line.entries.are_there(mem, line.regime.hgatp) {
         Some(line.host + va % PAGE_BYTES)
     } else {
         None
@@ -81,16 +81,14 @@ impl Reach {
     pub fn new() -> Reach
         ensures { result ≡ no_lines }
     {
-        Reach {
-            lines: [None; LINES],
-        }
+        Reach { lines: no_lines() }
     }
 
     /// Empties all lines.
-    pub fn empty(&mut self)
+    pub fn clear(&mut self)
         ensures { self.new ≡ no_lines }
     {
-        self.lines = empty();
+        self.lines = no_lines();
     }
 
     // The line of such accesses to a page, if it is held.
@@ -103,7 +101,7 @@ impl Reach {
         let held = self.lines[line_place(access, page)];
         match held {
             Some(line) => {
-                if is_for(&line, regime, access, page) {
+                if line.is_for(regime, access, page) {
                     Some(line)
                 } else {
                     None
@@ -118,7 +116,7 @@ impl Reach {
     ///
     /// Every line agrees with the tables, and walks under the regime's `hgatp` read these alone.
     #[inline(always)]
-    pub fn held(&self, mem: &HostMem, regime: &Regime, va: u64, access: Access) -> Option<u64>
+    pub fn held_place(&self, mem: &HostMem, regime: &Regime, va: u64, access: Access) -> Option<u64>
         requires apart { WalksApart mem.now regime.now.hgatp }
         requires agrees { ReachAgrees mem.now.tables self.now }
         ensures leads { IfSome result (λ hpa. leads_under mem.now regime.now access va ≡ Some hpa) }
@@ -136,7 +134,7 @@ impl Reach {
     /// The regime has mode 8 (Sv39x4) in `hgatp`, and mode 0 (bare) or 8 (Sv39) in `vsatp`. Walks under `hgatp` read the
     /// tables alone, and all lines agree with these.
     #[inline(never)]
-    pub fn fill(
+    pub fn walk(
         &mut self,
         cache: &mut Cache,
         mem: &HostMem,
@@ -186,7 +184,7 @@ impl Reach {
             return;
         }
         let root = root_table(regime.vsatp);
-        if let Some(entries) = entries(cache, mem, regime.hgatp, root, va) {
+        if let Some(entries) = read_entries(cache, mem, regime.hgatp, root, va) {
             self.keep(Line {
                 regime: *regime,
                 access,
@@ -205,7 +203,7 @@ impl Reach {
     }
 }
 
-fn empty() -> [Option<Line>; LINES]
+fn no_lines() -> [Option<Line>; LINES]
     ensures { result ≡ no_lines }
 {
     [None; LINES]

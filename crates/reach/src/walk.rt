@@ -8,14 +8,14 @@ ghost use Rattle.processor.specs.declared.access.Access.TheVariants as Access;
 ghost use Rattle.sv39_walk.specs.Levels.{IsTable};
 ghost use Rattle.reach.specs.Kept.{IsThere, AreThere, ArePlaces, EndsAt};
 
-use crate::line::{Entries, Seen};
+use crate::line::{Entries, Entry};
 use gstage_cache::Cache;
 use host_mem::HostMem;
 use processor::{Access, PteBits};
 use sv39_walk::{SecondStage, entry_page, index, is_pointer};
 
 // The entry at a guest-physical address, read where the second stage leads as a load.
-fn entry(cache: &mut Cache, mem: &HostMem, hgatp: u64, gpa: u64) -> Option<Seen>
+fn read_entry(cache: &mut Cache, mem: &HostMem, hgatp: u64, gpa: u64) -> Option<Entry>
     requires second { hgatp / 2 ^ 60 ≡ 8 }
     requires apart { WalksApart mem.now hgatp }
     requires agrees { CacheAgrees mem.now.tables cache.old }
@@ -29,7 +29,7 @@ fn entry(cache: &mut Cache, mem: &HostMem, hgatp: u64, gpa: u64) -> Option<Seen>
         return None;
     };
     let _table_bytes = mem.table_bytes();
-    Some(Seen {
+    Some(Entry {
         at,
         word: mem.read(at as usize, 8),
     })
@@ -37,7 +37,7 @@ fn entry(cache: &mut Cache, mem: &HostMem, hgatp: u64, gpa: u64) -> Option<Seen>
 
 /// The entries that the walk of an address from a table with three levels, its own counted, reads. None where one of them
 /// can't be read, or the last one names a table.
-pub(crate) fn entries(
+pub(crate) fn read_entries(
     cache: &mut Cache,
     mem: &HostMem,
     hgatp: u64,
@@ -57,7 +57,7 @@ pub(crate) fn entries(
     let mut table = root;
     let mut entries = Entries::none();
     'levels: for below in (0..3).rev() {
-        let Some(seen) = entry(cache, mem, hgatp, table + 8 * index(va, below)) else {
+        let Some(seen) = read_entry(cache, mem, hgatp, table + 8 * index(va, below)) else {
             return None;
         };
         entries = entries.with_entry(below, seen);

@@ -1,5 +1,5 @@
 -- Runs of events are first in their schedules.
-use Rattle.std.proofs.Common.{◌≡◌, ℕ, zero, suc, ◌+◌, ◌-◌, ◌%◌, ◌==◌, ◌<◌, ◌≤◌, List, ◌∷◌, ◌++◌, length, replicate, drop, get_or, refl, sym, ◌∙◌, ap, subst, Bool, false, if◌then◌else◌, Option, Some, None, arith, append_assoc}
+use Rattle.std.proofs.Common.{◌≡◌, ℕ, zero, suc, ◌+◌, ◌-◌, ◌%◌, ◌==◌, ◌<◌, ◌≤◌, List, ◌∷◌, ◌++◌, length, replicate, drop, get_or, refl, sym, ◌∙◌, ap, subst, Bool, false, if◌then◌else◌, Option, Some, None, arith, append_assoc, add-one}
 use Rattle.std.specs.Prelude.{IfSome}
 use Rattle.std.proofs.lemmas.Bool.Decides.{nat_tests}
 use Rattle.std.proofs.lemmas.List.{replicate-append-replicate}
@@ -12,7 +12,7 @@ use Rattle.script.specs.declared.said.Said.{Said}
 use Rattle.script.specs.declared.said.Said.TheVariants.{This, Drawn}
 use Rattle.script.specs.AutoScripts.{events_drawn}
 use Rattle.script.specs.Listed.{said_of_runs}
-use Rattle.script.specs.Runs.{BeginsWith, SaysRun}
+use Rattle.script.specs.Runs.{BeginsWith, Draws, SaysRun}
 use Rattle.script.proofs.Runs.{first_of_run, runs_from, said_next}
 
 plus_zero : (n : ℕ) → 0 + n ≡ n
@@ -41,6 +41,50 @@ once_by old new run n one is behind =
 
 pub begins_once : (old new : Schedule) (run : EventRun) → run.count ≡ 1 → Some run.event ≡ next_event old → new ≡ after_event old → BeginsWith old run new
 begins_once old new run one is behind = once_by old new run run.count one is behind
+
+-- ---- one more
+
+same_behind : (n : ℕ) (event : Event) (rest : List Event) → replicate n event ++ (event ∷ rest) ≡ event ∷ (replicate n event ++ rest)
+same_behind zero event rest = refl
+same_behind (suc n) event rest = ap (λ (events : List Event). event ∷ events) (same_behind n event rest)
+
+-- the first events are the same one so often, and then others
+abbrev pub Begins : (n : ℕ) → Event → (old new : Schedule) → Type 0
+Begins n event old new = (later : ℕ) → first_events (n + later) old ≡ replicate n event ++ first_events later new
+
+begins_more : (n : ℕ) (event : Event) (old mid new : Schedule) → Begins n event old mid → Some event ≡ next_event mid → new ≡ after_event mid → Begins (suc n) event old new
+begins_more n event old mid new begun is behind = λ later.
+    let counted : suc n + later ≡ n + suc later = omega arith in
+    ap (λ (k : ℕ). first_events k old) counted
+    ∙ begun (suc later)
+    ∙ ap (λ (events : List Event). replicate n event ++ events) (one_first mid new event later is behind)
+    ∙ same_behind n event (first_events later new)
+
+-- ---- what is drawn
+
+pub none_drawn : (event : Event) (s : Schedule) → Draws 0 event s s
+none_drawn event s = refl
+
+pub draws_more : (n : ℕ) (event : Event) (old mid new : Schedule) → Draws n event old mid → Some event ≡ next_event mid → new ≡ after_event mid → Draws (n + 1) event old new
+draws_more n event old mid new drawn is behind =
+    subst (λ (k : ℕ). Draws k event old new) (sym (add-one n)) (mid, (drawn, (is, behind)))
+
+draws_behind : (n : ℕ) (event : Event) (old mid new : Schedule) → Some event ≡ next_event old → mid ≡ after_event old → Draws n event mid new → Draws (suc n) event old new
+draws_behind zero event old mid new is behind same = (old, (refl, (is, same ∙ behind)))
+draws_behind (suc n) event old mid new is behind (last, (drawn, next)) = (last, (draws_behind n event old mid last is behind drawn, next))
+
+-- an event, and the same one drawn so often behind it
+pub drawn_again : (n : ℕ) (event : Event) (old mid new : Schedule) → Some event ≡ next_event old → mid ≡ after_event old → Draws n event mid new → Draws (n + 1) event old new
+drawn_again n event old mid new is behind drawn =
+    subst (λ (k : ℕ). Draws k event old new) (sym (add-one n)) (draws_behind n event old mid new is behind drawn)
+
+drawn_first : (n : ℕ) (event : Event) (old new : Schedule) → Draws n event old new → Begins n event old new
+drawn_first zero event old new drawn = λ later. ap (λ (k : ℕ). first_events k old) (plus_zero later) ∙ ap (λ (s : Schedule). first_events later s) (sym drawn)
+drawn_first (suc n) event old new (mid, (drawn, (is, behind))) = begins_more n event old mid new (drawn_first n event old mid drawn) is behind
+
+-- events that are drawn come first
+pub drawn_begin : (old new : Schedule) (run : EventRun) → Draws run.count run.event old new → BeginsWith old run new
+drawn_begin old new run drawn = drawn_first run.count run.event old new drawn
 
 -- ---- turns of the only hart
 
@@ -119,21 +163,29 @@ all_come event n left old rest few = λ later.
     ∙ ap (λ (events : List Event). first_events (n + later) (Listed events)) (said_again n event old (replicate (left - n) (This event) ++ rest))
     ∙ listed_again n later event (events_drawn old (replicate (left - n) (This event) ++ rest))
 
-one_comes : (left : ℕ) (old new : Schedule) (run : EventRun) (rest : List Said) → 0 < left → run.count ≡ 1 → Some run.event ≡ next_event old → new ≡ after_event old →
-    Comes old (replicate left Drawn ++ rest) run new (replicate (left - run.count) Drawn ++ rest)
-one_comes left old new run rest some one is behind =
-    let next = said_next Drawn old new run.event (replicate left Drawn ++ rest) (replicate (left - 1) Drawn ++ rest)
-    (Listed (events_drawn old (replicate left Drawn ++ rest))) (is, behind) (first_of_run left Drawn rest some) refl in
-    begins_once (Listed (events_drawn old (replicate left Drawn ++ rest))) (Listed (events_drawn new (replicate (left - run.count) Drawn ++ rest))) run one next.0
-    (ap (λ (n : ℕ). Listed (events_drawn new (replicate (left - n) Drawn ++ rest))) one ∙ next.1)
+drawn_come : (n left : ℕ) (event : Event) (old new : Schedule) (rest : List Said) → n ≤ left → Draws n event old new →
+    Begins n event (Listed (events_drawn old (replicate left Drawn ++ rest))) (Listed (events_drawn new (replicate (left - n) Drawn ++ rest)))
+drawn_come zero left event old new rest few drawn = λ later.
+    let all : left ≡ left - 0 = omega arith in
+    ap (λ (k : ℕ). first_events k (Listed (events_drawn old (replicate left Drawn ++ rest)))) (plus_zero later)
+    ∙ ap (λ (s : Schedule). first_events later (Listed (events_drawn s (replicate left Drawn ++ rest)))) (sym drawn)
+    ∙ ap (λ (k : ℕ). first_events later (Listed (events_drawn new (replicate k Drawn ++ rest)))) all
+drawn_come (suc n) left event old new rest few (mid, (drawn, (is, behind))) =
+    let some : 0 < left - n = omega (arith, few) in
+    let fewer : left - n - 1 ≡ left - suc n = omega arith in
+    let next = said_next Drawn mid new event (replicate (left - n) Drawn ++ rest) (replicate (left - n - 1) Drawn ++ rest)
+    (Listed (events_drawn mid (replicate (left - n) Drawn ++ rest))) (is, behind) (first_of_run (left - n) Drawn rest some) refl in
+    begins_more n event (Listed (events_drawn old (replicate left Drawn ++ rest))) (Listed (events_drawn mid (replicate (left - n) Drawn ++ rest)))
+    (Listed (events_drawn new (replicate (left - suc n) Drawn ++ rest))) (drawn_come n left event old mid rest (omega (arith, few)) drawn) next.0
+    (ap (λ (k : ℕ). Listed (events_drawn new (replicate k Drawn ++ rest))) (sym fewer) ∙ next.1)
 
-said_comes : (said : Said) (most left : ℕ) (old new : Schedule) (run : EventRun) (rest : List Said) → 0 < most → most ≤ left → SaysRun said most old run new →
+said_comes : (said : Said) (most left : ℕ) (old new : Schedule) (run : EventRun) (rest : List Said) → run.count ≤ most → most ≤ left → SaysRun said most old run new →
     Comes old (replicate left said ++ rest) run new (replicate (left - run.count) said ++ rest)
-said_comes (This event) most left old new run rest some few is =
+said_comes (This event) most left old new run rest within few is =
     subst (λ (r : EventRun). Comes old (replicate left (This event) ++ rest) r new (replicate (left - r.count) (This event) ++ rest)) (sym is.0)
     (subst (λ (s : Schedule). Comes old (replicate left (This event) ++ rest) (record { event = event; count = most }) s (replicate (left - most) (This event) ++ rest)) (sym is.1)
     (all_come event most left old rest few))
-said_comes Drawn most left old new run rest some few is = one_comes left old new run rest (omega arith) is.0 is.1.0 is.1.1
+said_comes Drawn most left old new run rest within few is = drawn_come run.count left run.event old new rest (omega (arith, within, few)) is
 
 -- ---- the first event
 
@@ -156,12 +208,12 @@ begins_next old new run some begins = first_by run.count old new run.event some 
 -- ---- a run of what is left
 
 -- a run that has begun
-pub run_goes_on : (runs : List Repeated) (at left most : ℕ) (said : Said) (old new : Schedule) (run : EventRun) (s : Schedule) → 0 < most → most ≤ left → SaysRun said most old run new →
+pub run_goes_on : (runs : List Repeated) (at left most : ℕ) (said : Said) (old new : Schedule) (run : EventRun) (s : Schedule) → run.count ≤ most → most ≤ left → SaysRun said most old run new →
     Listed (events_drawn old (replicate left said ++ said_of_runs (drop at runs))) ≡ s →
     BeginsWith s run (Listed (events_drawn new (replicate (left - run.count) said ++ said_of_runs (drop at runs))))
-run_goes_on runs at left most said old new run s some few is shown =
+run_goes_on runs at left most said old new run s within few is shown =
     subst (λ (t : Schedule). BeginsWith t run (Listed (events_drawn new (replicate (left - run.count) said ++ said_of_runs (drop at runs))))) shown
-    (said_comes said most left old new run (said_of_runs (drop at runs)) some few is)
+    (said_comes said most left old new run (said_of_runs (drop at runs)) within few is)
 
 -- where none is left of the run that had begun, the next one begins, and what is left stays the same
 pub next_begins : (runs read : List Repeated) (at left : ℕ) (said : Said) (next : Repeated) (autos : Schedule) (s : Schedule) → read ≡ runs →

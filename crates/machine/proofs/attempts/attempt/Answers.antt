@@ -6,8 +6,8 @@ use Rattle.machine.proofs.Hosts.{core_put, pc_there, usable_there, usable_set}
 use Rattle.machine.specs.Attempts.{hart_in}
 use Rattle.machine.proofs.attempts.attempt.Goals as goal
 
-pub attempt_in_seat-outcome-requires-clause-agrees : goal.attempt_in_seat-outcome-requires-clause-agrees
-attempt_in_seat-outcome-requires-clause-agrees g c =
+pub attempt_in_seat-outcome-requires-clause-usable : goal.attempt_in_seat-outcome-requires-clause-usable
+attempt_in_seat-outcome-requires-clause-usable g c =
     usable_there c.args.mem.now.tables c.args.caches.now c.args.which c.index-caches-which.result c.requires.usable
     (subst (λ (n : ℕ). c.args.which < n) (sym c.requires.number) c.requires.there)
 
@@ -20,8 +20,8 @@ returns-clause-harts g c =
 
 pub returns-clause-usable : goal.returns-clause-usable
 returns-clause-usable g c =
-    usable_set c.args.mem.now.tables c.attempt_in_seat-outcome.new.mem.tables c.args.caches.now c.args.which c.attempt_in_seat-outcome.new.cache
-    c.requires.usable c.attempt_in_seat-outcome.ensures.tables c.attempt_in_seat-outcome.ensures.agrees
+    usable_set c.args.mem.now.tables c.attempt_in_seat-outcome.new.mem.tables c.args.caches.now c.args.which c.attempt_in_seat-outcome.new.own
+    c.requires.usable c.attempt_in_seat-outcome.ensures.tables c.attempt_in_seat-outcome.ensures.usable
 
 pub returns-clause-aligned : goal.returns-clause-aligned
 returns-clause-aligned g c =

@@ -2,5 +2,5 @@ use Rattle.std.proofs.Common.{◌≡◌}
 use Rattle.machine.specs.Attempts.{first_emptied}
 use Rattle.machine.proofs.caches.empty_all.Given as goal
 
-abbrev pub invariant-loop-cache : goal.invariant-loop-cache
-invariant-loop-cache l = l.caches ≡ first_emptied l.cache-index l.initial.caches
+abbrev pub invariant-loop-own : goal.invariant-loop-own
+invariant-loop-own l = l.caches ≡ first_emptied l.own-index l.initial.caches

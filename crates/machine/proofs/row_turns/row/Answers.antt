@@ -3,8 +3,8 @@ use Rattle.machine.proofs.Hosts.{usable_there, usable_set}
 use Rattle.machine.proofs.Rows.{harts_there, row_there}
 use Rattle.machine.proofs.row_turns.row.Goals as goal
 
-pub row_in_seat-requires-clause-agrees : goal.row_in_seat-requires-clause-agrees
-row_in_seat-requires-clause-agrees c =
+pub row_in_seat-requires-clause-usable : goal.row_in_seat-requires-clause-usable
+row_in_seat-requires-clause-usable c =
     usable_there c.args.mem.now.tables c.args.caches.now c.args.which c.index-caches-which.result c.requires.usable
     (subst (λ (n : ℕ). c.args.which < n) (sym c.requires.number) c.requires.there)
 
@@ -18,5 +18,5 @@ returns-clause-harts c = harts_there c.args.seats.now c.args.which c.index-seats
 
 pub returns-clause-usable : goal.returns-clause-usable
 returns-clause-usable c =
-    usable_set c.args.mem.now.tables c.row_in_seat.new.mem.tables c.args.caches.now c.args.which c.row_in_seat.new.cache
-    c.requires.usable c.row_in_seat.ensures.tables c.row_in_seat.ensures.agrees
+    usable_set c.args.mem.now.tables c.row_in_seat.new.mem.tables c.args.caches.now c.args.which c.row_in_seat.new.own
+    c.requires.usable c.row_in_seat.ensures.tables c.row_in_seat.ensures.usable

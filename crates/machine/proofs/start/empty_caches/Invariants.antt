@@ -1,7 +1,7 @@
 use Rattle.std.proofs.Common.{◌≡◌, replicate}
-use Rattle.processor.specs.CachedWalks.{no_lines}
+use Rattle.machine.specs.Attempts.{nothing_kept}
 use Rattle.machine.proofs.start.empty_caches.Given as goal
 
 -- the caches so far
 abbrev pub invariant-made : goal.invariant-made
-invariant-made l = l.caches.items ≡ replicate l.counter no_lines
+invariant-made l = l.caches.items ≡ replicate l.counter nothing_kept

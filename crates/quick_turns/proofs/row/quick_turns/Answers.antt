@@ -14,6 +14,7 @@ turns-init c = record {
   leads = subst (λ (w : Window). Leads c.args.mem.now (core_of c.args.core.now c.args.regs.now) w.page w.host) (sym c.none-window.ensures)
       (no_window c.args.mem.now (core_of c.args.core.now c.args.regs.now) 0);
   few = omega arith;
+  reach = c.requires.reach;
 }
 
 pub returns-then-not-turn-clause-retires : goal.returns-then-not-turn-clause-retires
@@ -38,6 +39,7 @@ turns-preserved c = record {
       c.turns.invariant.on c.turn.ensures.on;
   leads = c.turn.ensures.leads;
   few = omega (arith, c.turns-test.true);
+  reach = c.turn.ensures.reach;
 }
 
 pub returns-clause-retires : goal.returns-clause-retires

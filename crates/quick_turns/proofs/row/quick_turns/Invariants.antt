@@ -2,6 +2,7 @@ use Rattle.std.proofs.Common.{◌≤◌, ◌-◌}
 use Rattle.hart.specs.Cores.{core_of}
 use Rattle.quick_turns.specs.Quick.{GoesOn, Leads}
 use Rattle.quick_turns.proofs.Going.{Row}
+use Rattle.reach.specs.Kept.{ReachAgrees}
 use Rattle.quick_turns.proofs.row.quick_turns.Given as goal
 
 abbrev pub invariant-turns : goal.invariant-turns
@@ -10,6 +11,7 @@ invariant-turns l = record {
   on : GoesOn l.initial.mem l.mem l.initial.core l.core l.regs l.initial.cache l.cache;
   leads : Leads l.mem (core_of l.core l.regs) l.window.page l.window.host;
   few : l.made ≤ l.most;
+  reach : ReachAgrees l.mem.tables l.reach;
 }
 
 abbrev pub decreases-turns : goal.decreases-turns

@@ -9,8 +9,8 @@ use Rattle.machine_model.specs.Steps.{WithTables}
 use Rattle.machine.proofs.Called.{harts_number}
 use Rattle.machine.proofs.Emptied.{usable_after}
 use Rattle.machine.proofs.Given.{given_in, gives, left_parts}
-use Rattle.machine.proofs.Hosts.{Lines}
 use Rattle.machine.specs.Attempts.{AreUsable}
+use Rattle.machine.specs.declared.caches.HartCaches.{HartCaches}
 use Rattle.machine.specs.Parts.{machine_of_parts}
 use Rattle.machine.proofs.parts.Parts.give.Goals as goal
 
@@ -33,10 +33,10 @@ invariant_of-self c =
       bound = c.self.invariant.bound;
       places = pages.ensures.theirs.bound ∙ c.self.invariant.places;
       few = subst (λ (n : ℕ). n ≤ 4) (sym number) c.self.invariant.few;
-      caches = ap (λ (xs : List Lines). length xs) same ∙ c.fence.ensures.number ∙ ap (λ (xs : List Lines). length xs) c.deref_mut-2.ensures.value
+      caches = ap (λ (xs : List HartCaches). length xs) same ∙ c.fence.ensures.number ∙ ap (λ (xs : List HartCaches). length xs) c.deref_mut-2.ensures.value
           ∙ c.self.invariant.caches ∙ sym number;
       theirs = pages.ensures.theirs.theirs;
-      usable = subst (λ (caches : List Lines). AreUsable pages.new.mem.tables caches) (sym same)
+      usable = subst (λ (caches : List HartCaches). AreUsable pages.new.mem.tables caches) (sym same)
           (usable_after pages.result c.self.inside.mem pages.new.mem c.self.inside.caches.items c.deref_mut-2.result.now c.fence.new.caches c.deref_mut-2.ensures.value
           c.self.invariant.usable pages.ensures.kept c.fence.ensures.usable c.fence.ensures.kept);
       pages = pages.ensures.theirs.size ∙ c.self.invariant.pages;

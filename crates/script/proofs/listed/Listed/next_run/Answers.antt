@@ -19,7 +19,7 @@ returns-clause-first c =
       | else-self-eq0 w ↦ ap (λ (i : Inside). Listed (events_left i)) w.self-inside-is ∙ c.self.view_is
     ] in
     run_goes_on begun.runs.items begun.at begun.left c.min.result begun.said begun.autos c.run_said-run.new.autos c.run_said-run.result c.args.self.now
-    (omega (arith, c.run_said-run.ensures.some, c.run_said-run.ensures.most)) (grind (arith, c.min.ensures)) c.run_said-run.ensures.run same
+    c.run_said-run.ensures.most (grind (arith, c.min.ensures)) c.run_said-run.ensures.run same
 
 pub returns-clause-event : goal.returns-clause-event
 returns-clause-event c = begins_next c.args.self.now _ c.run_said-run.result c.run_said-run.ensures.some (returns-clause-first c)

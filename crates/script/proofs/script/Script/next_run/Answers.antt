@@ -1,7 +1,7 @@
 use Rattle.std.proofs.Common.{ap, sym, ◌∙◌, Some}
 use Rattle.script.specs.declared.script.Script.TheInside.{Inside}
 use Rattle.script.specs.Sources.{schedule_of}
-use Rattle.script.proofs.EventRuns.{begins_once, given_on}
+use Rattle.script.proofs.EventRuns.{drawn_begin, given_on}
 use Rattle.script.proofs.script.Script.next_run.Goals.{in-Listed, in-Rounds, in-Weave, in-Auto}
 use Rattle.script.proofs.script.Script.next_run.Goals as goal
 
@@ -14,7 +14,7 @@ returns-clause-first c =
           (sym (ap schedule_of w.in-Rounds.is) ∙ c.self.view_is) (ap (λ (i : Inside). schedule_of i.source) w.self-inside-is) w.next_run-in-Rounds.ensures.first
       | in-Weave w ↦ given_on c.match-self.result (Some w.next_run-in-Weave.result) c.args.self.now w.in-Weave.weave _ w.next_run-in-Weave.new.self w.result-is
           (sym (ap schedule_of w.in-Weave.is) ∙ c.self.view_is) (ap (λ (i : Inside). schedule_of i.source) w.self-inside-is) w.next_run-in-Weave.ensures.first
-      | in-Auto w ↦ given_on c.match-self.result (Some w.once.result) c.args.self.now w.in-Auto.auto _ w.next.new.self w.result-is
+      | in-Auto w ↦ given_on c.match-self.result (Some w.next_run-in-Auto.result) c.args.self.now w.in-Auto.auto _ w.next_run-in-Auto.new.self w.result-is
           (sym (ap schedule_of w.in-Auto.is) ∙ c.self.view_is) (ap (λ (i : Inside). schedule_of i.source) w.self-inside-is)
-          (begins_once w.in-Auto.auto w.next.new.self w.once.result w.once.ensures.count (ap Some w.once.ensures.event ∙ w.next.ensures.event) w.next.ensures.rest)
+          (drawn_begin w.in-Auto.auto w.next_run-in-Auto.new.self w.next_run-in-Auto.result w.next_run-in-Auto.ensures.draws)
     ]

@@ -1,7 +1,7 @@
 use Rattle.std.proofs.Common.{refl, arith, inl}
 use Rattle.hart.specs.Cores.{core_of}
 use Rattle.quick_turns.proofs.Windows.{leads_from}
-use Rattle.quick_turns.proofs.window.found.Goals as goal
+use Rattle.quick_turns.proofs.window.find_window.Goals as goal
 
 pub returns-in-Some-clause-leads : goal.returns-in-Some-clause-leads
 returns-in-Some-clause-leads c =

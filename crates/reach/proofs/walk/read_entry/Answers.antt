@@ -3,7 +3,7 @@ use Rattle.processor.specs.declared.access.Access.TheVariants as Access
 use Rattle.sv39_walk.proofs.Steps.{entry_place}
 use Rattle.reach.proofs.Levels.{apart_inside}
 use Rattle.reach.proofs.Stages.{second_same}
-use Rattle.reach.proofs.walk.entry.Goals as goal
+use Rattle.reach.proofs.walk.read_entry.Goals as goal
 
 pub read-requires : goal.read-requires
 read-requires c =

@@ -2,7 +2,7 @@ use Rattle.processor.specs.CachedWalks.{CacheAgrees, FilledUnder}
 use Rattle.sv39_walk.specs.Levels.{IsTable}
 use Rattle.reach.specs.Kept.{Above, IsThere, IsPlace}
 use Rattle.reach.proofs.Levels.{GoOn}
-use Rattle.reach.proofs.walk.entries.Given as goal
+use Rattle.reach.proofs.walk.read_entries.Given as goal
 
 -- the walk goes on from the table as it would from the root, and the entries above it were read
 abbrev pub invariant-levels : goal.invariant-levels

@@ -3,7 +3,7 @@ use Rattle.gstage_cache.specs.Fills.{filled_further}
 use Rattle.reach.specs.declared.line.Entries.{Entries}
 use Rattle.reach.specs.Kept.{Above, IsThere, IsPlace, EndsAt}
 use Rattle.reach.proofs.Levels.{GoOn, with_more, with_all, goes_on, ends_there}
-use Rattle.reach.proofs.walk.entries.Goals as goal
+use Rattle.reach.proofs.walk.read_entries.Goals as goal
 
 pub returns-then-not-is_pointer-clause-ends : goal.returns-then-not-is_pointer-clause-ends
 returns-then-not-is_pointer-clause-ends c =
@@ -48,5 +48,5 @@ levels-preserved c =
       places = subst (λ (e : Entries). Above (c.levels.below - 1) (IsPlace c.args.mem.now.tables c.args.hgatp) e) (sym c.with_entry-entries.ensures)
           (with_more (IsPlace c.args.mem.now.tables c.args.hgatp) c.levels.below (c.levels.below - 1) c.levels.entries c.in-Some.seen more few c.levels.invariant.places place);
       agrees = c.in-Some.ensures.agrees;
-      filled = filled_further c.args.mem.now.tables c.args.hgatp c.args.cache.now c.levels.cache c.entry.new.cache c.levels.invariant.filled c.in-Some.ensures.filled;
+      filled = filled_further c.args.mem.now.tables c.args.hgatp c.args.cache.now c.levels.cache c.read_entry.new.cache c.levels.invariant.filled c.in-Some.ensures.filled;
     }
