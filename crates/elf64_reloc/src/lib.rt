@@ -21,7 +21,7 @@ mod tests;
 mod text;
 
 pub use fault::ObjectFault;
-pub use names::undefined_names;
+pub use names::{names_in_order, undefined_names};
 pub use place::refused_place;
 pub use read::{ModuleImage, read_module};
 pub use refusal::RelocRefusal;

@@ -64,7 +64,8 @@ fn join_by<'a>(
     join_symbol(names, tables.strings, &symbol_at(tables.symbols, symbol))
 }
 
-fn in_order(alloc: Global, names: &BTreeMap<&str, Name>) -> Result<Vec<Name>, AllocError>
+/// The names of a map, in the order of their bytes. Fails where memory is wanting.
+pub fn names_in_order(alloc: Global, names: &BTreeMap<&str, Name>) -> Result<Vec<Name>, AllocError>
     ensures { IfOk result (λ list. list.items ≡ names_of names.now) }
 {
     names.values().copied().collect(alloc)
@@ -83,7 +84,7 @@ fn each_joined(
     'relocations: for relocation in relocations {
         join_by(&mut names, tables, relocation)?;
     }
-    Ok(in_order(alloc, &names)?)
+    Ok(names_in_order(alloc, &names)?)
 }
 
 fn names_of_object(alloc: Global, object: &Object) -> Result<Vec<Name>, RelocRefusal>

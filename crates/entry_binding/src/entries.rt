@@ -1,7 +1,6 @@
 // The entries of a policy, each once, and their places.
 
-ghost use Rattle.std.specs.Prelude.{◌≡◌, ◌==◌, map, IfOk, IfErr, OnOk, Ok};
-ghost use Rattle.std.specs.List.{list_any};
+ghost use Rattle.std.specs.Prelude.{◌≡◌, map, IfOk, IfErr, OnOk, Ok};
 ghost use Rattle.elf64_load.specs.Images.{segment_of};
 ghost use Rattle.entry_binding.specs.Binding as spec;
 ghost use Rattle.entry_binding.specs.Faults.{Refuses};
@@ -12,17 +11,11 @@ use crate::places::bound_place;
 use elf64_load::Segment;
 use std::alloc::{AllocError, Global};
 
-fn is_among(before: &[u64], entry: u64) -> bool
-    ensures { result ≡ list_any (λ e. e == entry) before.now }
-{
-    before.iter().any(|e| *e == entry)
-}
-
 // Puts an entry behind those before it, if it isn't one of them.
 fn put_entry(entries: &mut Vec<u64>, entry: u64) -> Result<(), AllocError>
     ensures { OnOk result (entries.new.items ≡ spec.with_entry entries.old.items entry) }
 {
-    if is_among(entries, entry) {
+    if entries.contains(&entry) {
         return Ok(());
     }
     Ok(entries.push(entry)?)

@@ -13,12 +13,16 @@ generated_text n = padded (padded (code_bytes (setup n)) trap_place ++ code_byte
 unfoldable pub generated_image : ℕ → List ℕ
 generated_image n = laid_out (generated_text n) (code_bytes user_loop)
 
--- one hart and 64 pages; the kernel may be entered at its begin and at its trap vector
+-- the pages of RAM
+abbrev pub guest_pages : ℕ
+guest_pages = 64
+
+-- one hart; the kernel may be entered at its begin and at its trap vector
 unfoldable pub policy_of_text : List ℕ → Rules
 policy_of_text text = record {
   format = 1;
   harts = 1;
-  ram_pages = 64;
+  ram_pages = guest_pages;
   entries = text_address ∷ (text_address + trap_place) ∷ [];
   bound = [];
   exports = [];

@@ -79,8 +79,12 @@ csrw csr rs1 = Instr.Csr Csrrw x0 rs1 csr
 
 -- ---- a number in two instructions: its upper bits, rounded so that the rest is one of 12 bits with a sign
 
+-- the values of an instruction's low 12 bits
+abbrev pub low_values : ℕ
+low_values = 4096
+
 unfoldable pub upper : ℕ → ℤ
-upper n = pos ((n + 2048) / 4096 * 4096)
+upper n = pos ((n + low_values / 2) / low_values * low_values)
 
 unfoldable pub lower : ℕ → ℤ
 lower n = pos n -ℤ upper n

@@ -56,14 +56,17 @@ pub const MOST_CALLS: u64 = 1_000_000;
 /// The trap vector's place in the text.
 pub const TRAP_PLACE: usize = 256;
 
+/// The values of an instruction's low 12 bits.
+const LOW_VALUES: u64 = 4096;
+
 // The upper bits of a number, rounded so that the rest is one of 12 bits with a sign.
 #[tactic(auto, unfolding(crate::specs::GuestCode::upper))]
 fn upper(n: u64) -> i64
     requires { n ≤ spec.most_calls }
     ensures value { result ≡ spec.upper n }
-    ensures fits { IsTrue (is_immediate 32 4096 result) }
+    ensures fits { IsTrue (is_immediate 32 spec.low_values result) }
 {
-    ((n + 2048) / 4096 * 4096) as i64
+    ((n + LOW_VALUES / 2) / LOW_VALUES * LOW_VALUES) as i64
 }
 
 #[tactic(auto, unfolding(crate::specs::GuestCode::upper, crate::specs::GuestCode::lower))]

@@ -17,7 +17,7 @@ use std::alloc::{AllocError, Global};
 use sv_types::ProgramHeader;
 
 /// Where the text lies and the kernel begins.
-pub const TEXT_ADDRESS: u64 = 0x8000_1000;
+pub const TEXT_ADDRESS: u64 = RAM_BASE + PAGE_BYTES;
 
 /// The number of segments.
 const SEGMENTS: u16 = 3;
@@ -130,7 +130,7 @@ pub fn laid_out(alloc: Global, text: &[u8], body: &[u8]) -> Result<Vec<u8>, Allo
 /// wanting.
 pub fn image(alloc: Global, text: &[Instr], body: &[u8]) -> Result<Vec<u8>, AllocError>
     requires instructions { IsTrue (list_all fits text.now) }
-    requires text { length text.now ≤ 1024 }
+    requires text { 4 * length text.now ≤ page_size }
     requires body { length body.now ≤ 2 * page_size }
     ensures { IfOk result (λ file. file.items ≡ spec.image text.now body.now) }
 {

@@ -15,6 +15,9 @@ use processor::PAGE_SIZE;
 use std::alloc::{AllocError, Global};
 use sv_types::{Digest, Policy};
 
+/// The pages of the guest's RAM.
+const RAM_PAGES: u32 = 64;
+
 // The page of text, for so many calls.
 #[tactic(auto, unfolding(crate::specs::Generated::generated_text))]
 fn text(alloc: Global, n: u64) -> Result<Vec<u8>, AllocError>
@@ -51,7 +54,7 @@ fn policy(alloc: Global, text: &[u8]) -> Result<Policy, AllocError>
     Ok(Policy {
         format: 1,
         harts: 1,
-        ram_pages: 64,
+        ram_pages: RAM_PAGES,
         entries,
         bound: Vec::new(alloc),
         exports: Vec::new(alloc),

@@ -22,7 +22,7 @@ use crate::ready::{LiveReady, prepare_live};
 use live_drive::{LiveEnd, LiveRun};
 use live_keys::{Keys, Pace, journal_text};
 use outside::{Files, Sink};
-use secvisor_cli::{Bench, Status, Stop, Trouble, finish, refuse};
+use secvisor_cli::{Bench, Status, Stop, Trouble, finish, refuse, settled};
 use std::alloc::Global;
 use std::sync::Wait;
 use std::thread::Threads;
@@ -208,16 +208,6 @@ pub fn secvisor_live<R: Threads + Wait + Sync, F: Files, K: Keys + Send, O: Sink
         ((F.state files.new).held ≡ (F.state files.old).held) × ((F.state files.new).save_faults ≡ (F.state files.old).save_faults) }
 {
     settled(answer(rt, alloc, words, files, keys, out, pace, bench))
-}
-
-fn settled(answer: Result<Status, Trouble>) -> Status
-    ensures { result ≡ settled answer }
-{
-    match answer {
-        Ok(status) => status,
-        Err(Trouble::Write) => Status::WriteFault,
-        Err(Trouble::Memory) => Status::Memory,
-    }
 }
 
 /// In files that tell what they hold, what is due at the end of a plan is what they hold asks for, where no read failed.

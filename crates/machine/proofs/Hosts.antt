@@ -1,6 +1,6 @@
 -- A hart, and a cache, among all.
 use Rattle.std.proofs.Common.{◌≡◌, ℕ, zero, suc, ◌<◌, ◌⊎◌, inl, inr, List, [], ◌∷◌, length, map, refl, ap, sym, ◌∙◌, arith, subst, slice_set, Bool}
-use Rattle.std.specs.Prelude.{Option, Some, None, slice_get, slice_index_or}
+use Rattle.std.specs.Prelude.{Some, None, slice_get, slice_index_or}
 use Rattle.processor.specs.Hardware.{Core}
 use Rattle.processor.specs.declared.outcome.Outcome.{Outcome}
 use Rattle.machine_model.specs.Machine.{HostHart, forgets, all_forget, update, with_core}

@@ -1,6 +1,6 @@
 -- What an attempt of a hart asks for, and the caches of second-stage walks. This project's own.
 use Rattle.std.specs.Prelude.{◌≡◌, ◌/◌, ◌%◌, ◌^◌, ℕ, zero, suc, true, false, List}
-use Rattle.std.specs.Prelude.{[], ◌∷◌, length, Option, replicate, Some, None, slice_get, slice_index_or}
+use Rattle.std.specs.Prelude.{[], ◌∷◌, length, replicate, Some, None, slice_get, slice_index_or}
 use Rattle.processor.specs.CachedWalks.{CacheAgrees, no_lines}
 use Rattle.processor.specs.HardwareAttempt.{attempt}
 use Rattle.processor.specs.HypervisorRegisters.{registers_at_boot}

@@ -22,7 +22,8 @@ impl<R: std::rt::Files + AllocGlobal + Eprint + Drop> RealFiles<R> {
     /// No call has failed yet. With `remarks` standard error says which file is read or saved, and of a fault the system's
     /// error.
     pub fn new(rt: R, remarks: bool) -> RealFiles<R>
-        ensures { real_state result.read_faults result.save_faults ≡ real_state 0 0 }
+        ensures faults { real_state result.read_faults result.save_faults ≡ real_state 0 0 }
+        ensures remarks { result.remarks ≡ remarks }
     {
         RealFiles {
             rt,

@@ -17,8 +17,10 @@ use std::thread;
 use std::thread::Threads;
 use sv_types::Digest;
 
-/// The bytes of a chunk: 64 pages.
-const CHUNK_BYTES: usize = 64 * PAGE_SIZE;
+/// The pages of a chunk.
+const CHUNK_PAGES: usize = 64;
+
+const CHUNK_BYTES: usize = CHUNK_PAGES * PAGE_SIZE;
 
 /// The measure of pages, which lie one behind the other. The meter sees each chunk of 64 pages, of which the last may be
 /// shorter. Want of memory is the one refusal.

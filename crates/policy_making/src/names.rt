@@ -9,7 +9,7 @@ ghost use Rattle.policy_making.specs.Making as spec;
 ghost use Rattle.policy_making.specs.Refusals.{Refuses};
 
 use crate::refusal::{MakingRefusal, of_module};
-use elf64_reloc::undefined_names;
+use elf64_reloc::{names_in_order, undefined_names};
 use std::alloc::{AllocError, Global};
 use std::collections::BTreeMap;
 use sv_types::Name;
@@ -26,12 +26,6 @@ pub fn want_names(alloc: Global, names: &mut Vec<Name>, object: &[u8]) -> Result
         Ok(wanted) => Ok(names.extend_from_slice(&wanted)?),
         Err(refusal) => Err(of_module(refusal)),
     }
-}
-
-fn in_order(alloc: Global, names: &BTreeMap<&str, Name>) -> Result<Vec<Name>, AllocError>
-    ensures { IfOk result (λ list. list.items ≡ names_of names.now) }
-{
-    names.values().copied().collect(alloc)
 }
 
 // Puts a name at its place.
@@ -55,5 +49,5 @@ pub(crate) fn each_once(alloc: Global, names: &[Name]) -> Result<Vec<Name>, Allo
     'names: for name in names {
         put_name(&mut once, name)?;
     }
-    in_order(alloc, &once)
+    names_in_order(alloc, &once)
 }

@@ -61,9 +61,9 @@ filter_ascends : (f : ℕ → Bool) (first : ℕ) (pages : List ℕ) → AscendF
 filter_ascends f first [] up = tt
 filter_ascends f first (page ∷ pages) up = one_ascends first page (f page) (filter f pages) up.0 (filter_ascends f (page + 1) pages up.1)
 
-text_ascends : (segments : List LoadedSegment) → AscendFrom 0 (text_pages segments)
+pub text_pages_ascend : (segments : List LoadedSegment) → AscendFrom 0 (text_pages segments)
 unfolding text_pages
-text_ascends segments = filter_ascends (λ page. list_any (is_text_of page) segments) 0 (numbers_from 0 most_ram_pages) (numbers_ascend 0 most_ram_pages)
+text_pages_ascend segments = filter_ascends (λ page. list_any (is_text_of page) segments) 0 (numbers_from 0 most_ram_pages) (numbers_ascend 0 most_ram_pages)
 
 -- ---- each start
 
@@ -76,7 +76,7 @@ flat_keeps s k = subst IsKeepable (sym k.same)
 image_keeps : {boot : Rules → (file disk : List ℕ) → State} (s : State) (disk : Disk) (k : StartsBy boot s) → boot k.rules k.file k.disk ≡ image_start k.rules k.file disk → IsKeepable s
 image_keeps s disk k same = subst IsKeepable (sym (k.same ∙ same))
     (start_keeps k.rules (segments_ram (kernel_segments k.file) k.rules.ram_pages) (text_pages (kernel_segments k.file)) (header_entry k.file) disk
-    (image_can k.rules k.file k.within k.words k.accepted k.entry) (text_ascends (kernel_segments k.file)))
+    (image_can k.rules k.file k.within k.words k.accepted k.entry) (text_pages_ascend (kernel_segments k.file)))
 
 begins : (s : State) → IsStart s → IsKeepable s
 unfolding boot_start virtio_start

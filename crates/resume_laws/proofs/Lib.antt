@@ -9,6 +9,7 @@ pub mod KeepableCalls
 pub mod KeepableSteps
 pub mod KeepableStarts
 pub mod TakenPages
+pub mod DueProtections
 pub mod FormParts
 pub mod ResumedHarts
 pub mod ResumedPages

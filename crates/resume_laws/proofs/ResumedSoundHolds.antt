@@ -1,11 +1,11 @@
 -- The state in which a machine goes on from a snapshot that isn't refused is sound.
-use Rattle.std.proofs.Common.{◌≡◌, ℕ, zero, suc, ◌*◌, ◌%◌, ◌<◌, ◌≤◌, inl, inr, List, [], ◌∷◌, length, map, replicate, refl, sym, ◌∙◌, ap, subst, Bool, true, false, not, ◌&&◌, ◌||◌, slice_get}
+use Rattle.std.proofs.Common.{◌≡◌, ℕ, zero, suc, ◌+◌, ◌*◌, ◌%◌, ◌<◌, ◌≤◌, inl, inr, List, [], ◌∷◌, length, map, replicate, refl, sym, ◌∙◌, ap, subst, Bool, true, false, not, ◌&&◌, ◌||◌, slice_get, arith}
 use Rattle.std.specs.Prelude.{Option, Some, None, option_map, if◌then◌else◌, ◌==◌, nat_lt, nat_le, IsTrue}
 use Rattle.std.specs.List.{list_all}
 use Rattle.std.proofs.lemmas.Bool.{eqb-true}
 use Rattle.std.proofs.lemmas.Slice.Eq.{bytes_eq-Decides}
 use Rattle.processor.specs.Bytes.{page_size, page_bytes}
-use Rattle.sv_types.specs.ApprovedPages.{approved_pages}
+use Rattle.sv_types.specs.ApprovedPages.{approved_pages, numbers_from}
 use Rattle.sv_types.specs.Console.{most_queued}
 use Rattle.sv_types.specs.Measure.{page_digest, joined_digests}
 use Rattle.sv_types.specs.Policies.{Rules, rules_within, harts_within}
@@ -21,8 +21,9 @@ use Rattle.reference.specs.Loads.{is_good}
 use Rattle.reference.specs.Origins.{IsOwned, IsMeasured, OwnsPages, is_kernel_text, ownership}
 use Rattle.reference.specs.Soundness.{IsSound, IsSoundDisk, IsSoundLoad}
 use Rattle.reference.specs.Start.{AreWords}
-use Rattle.reference.specs.States.{has_number, is_approved_in, find_module, pages_in_rule}
-use Rattle.saved_machine.specs.SavedStates.{disk_of}
+use Rattle.reference.specs.Protections.{protection_at}
+use Rattle.reference.specs.States.{has_number, is_approved_in, protection_in, find_module, pages_in_rule}
+use Rattle.saved_machine.specs.SavedStates.{disk_of, saved_protections}
 use Rattle.saved_machine.specs.declared.harts.SavedHart.{SavedHart}
 use Rattle.saved_machine.specs.declared.whole.SavedLoad.{SavedLoad}
 use Rattle.snapshot_form.specs.DeviceForms.{console, sectors, transfer, standing, block, port}
@@ -31,17 +32,18 @@ use Rattle.snapshot_form.specs.PageForms.{loading}
 use Rattle.snapshot_form.specs.Snapshots.{Contents, snapshot}
 use Rattle.snapshot_form.specs.declared.whole.TextPage.{TextPage}
 use Rattle.snapshot_form.proofs.FormLaws.{first_true, second_true}
-use Rattle.resumption.specs.Judgements.{page_numbers, is_retired, text_left, loaded_pages, load_pages, approved_of, is_bound, fits, is_loaded, load_fits, is_of_policy, taken, then_held, guard_due, is_due, is_guarded_right, joins, is_there, has_text, has_modules, resume_refusal}
+use Rattle.resumption.specs.Judgements.{page_numbers, is_retired, text_left, loaded_pages, load_pages, approved_of, is_bound, fits, is_loaded, load_fits, is_of_policy, taken, then_held, guard_due, is_guarded_right, joins, is_there, has_text, has_modules, resume_refusal}
 use Rattle.resumption.specs.ResumedStates.{resumed_hart, resumed_load, resumed_state, timers_of}
 use Rattle.resumption.specs.declared.refusal.ResumeRefusal.{ResumeRefusal}
 use Rattle.resumption.specs.declared.refusal.ResumeRefusal.TheVariants.{OtherPolicy, OtherPages, OtherKernel, OtherText, OtherModule}
 use Rattle.resume_laws.specs.Keepable.{AreKeepable, IsKeepableJournal, IsKeepableClock, IsKeepable}
 use Rattle.resume_laws.specs.Resumed.{KeepsDigests}
 use Rattle.resume_laws.specs.ResumedSound.{ResumedSoundLaw}
+use Rattle.resume_laws.proofs.DueProtections.{due_is, all_free, by_marks, listed}
 use Rattle.resume_laws.proofs.FormParts.{HasParts, parts_of, most_is}
 use Rattle.resume_laws.proofs.ResumedHarts.{harts_sound, harts_kept, length_resumed, LoadParts, load_parts_of, load_kept, journal_kept, clock_kept}
-use Rattle.resume_laws.proofs.ResumedPages.{text_ascends, text_inside, ModuleParts, modules_parts, found_all, found_begins, Fits, fits_is, place_aligned, in_first, in_second, in_one, both_below, loaded_inside, among_loaded, of_module, one_module, approved_is, keeps_text}
-use Rattle.resume_laws.proofs.TakenPages.{Taking, AllBelow, taken_in_two, length_taken, apart, found_later}
+use Rattle.resume_laws.proofs.ResumedPages.{text_ascends, text_inside, ModuleParts, modules_parts, found_all, found_begins, Fits, fits_is, place_aligned, module_inside, in_first, in_second, in_one, both_below, loaded_inside, among_loaded, of_module, one_module, approved_is, keeps_text}
+use Rattle.resume_laws.proofs.TakenPages.{Taking, AllBelow, either_one, taken_in_two, length_taken, taken_at, were_free, apart, found_later}
 use Rattle.run_laws.proofs.Lookups.{not_true, not_false, all_found, number_filtered}
 
 -- ---- the judgements, one by one
@@ -104,15 +106,10 @@ of_policy rules s e =
 record AreTaken (rules : Rules) (s : Contents) : Type 0 where
   text : List Protection
   approved : List Protection
-  guard : List Protection
   text_is : Taking Approved (replicate rules.ram_pages Free) (text_left rules s) text
   modules_are : Taking Approved text (loaded_pages rules s.modules) approved
   all_are : Taking Approved (replicate rules.ram_pages Free) (approved_of rules s) approved
-  load_is : Taking Held approved (load_pages rules s.loading) guard
-
-some_due : (x : Option (List Protection)) (ps : List Protection) → is_due x ps ≡ true → (guard : List Protection) × (x ≡ Some guard)
-some_due None ps e = absurd cc
-some_due (Some guard) ps e = (guard, refl)
+  load_is : Taking Held approved (load_pages rules s.loading) s.protection
 
 held_of : (x : Option (List Protection)) (pages : List ℕ) (guard : List Protection) → then_held x pages ≡ Some guard
     → (mid : List Protection) × ((x ≡ Some mid) × Taking Held mid pages guard)
@@ -122,13 +119,11 @@ held_of (Some mid) pages guard e = (mid, (refl, e))
 are_taken : (rules : Rules) (s : Contents) → is_guarded_right rules s ≡ true → AreTaken rules s
 unfolding is_guarded_right guard_due
 are_taken rules s e =
-    let due = some_due _ s.protection e in
-    let held = held_of (taken Approved (replicate rules.ram_pages Free) (approved_of rules s)) (load_pages rules s.loading) due.0 due.1 in
+    let held = held_of (taken Approved (replicate rules.ram_pages Free) (approved_of rules s)) (load_pages rules s.loading) s.protection (due_is _ s.protection e) in
     let two = taken_in_two Approved (replicate rules.ram_pages Free) held.0 (text_left rules s) (loaded_pages rules s.modules) held.1.0 in
     record {
       text = two.0;
       approved = held.0;
-      guard = due.0;
       text_is = two.1.0;
       modules_are = two.1.1;
       all_are = held.1.0;
@@ -251,7 +246,7 @@ load_fits_is rules ms l e =
 load_free : (rules : Rules) (s : Contents) (page : ℕ) → Known rules s → has_number (load_pages rules s.loading) page ≡ true
     → is_approved_in (approved_pages s.ram (approved_of rules s)) page ≡ false
 load_free rules s page k there =
-    not_true _ (λ t. apart Approved (replicate rules.ram_pages Free) k.pages.approved k.pages.guard Held (approved_of rules s) (load_pages rules s.loading) page refl
+    not_true _ (λ t. apart Approved (replicate rules.ram_pages Free) k.pages.approved s.protection Held (approved_of rules s) (load_pages rules s.loading) page refl
     (free_below rules (approved_of rules s) (both_below rules.ram_pages (text_left rules s) (loaded_pages rules s.modules) (text_below rules s k) (modules_below rules s k)))
     k.pages.all_are k.pages.load_is (sym (approved_is s.ram (approved_of rules s) page) ∙ t) there)
 
@@ -277,6 +272,47 @@ load_sound : (rules : Rules) (s : Contents) → Known rules s
 load_sound rules s k =
     load_by rules s s.loading k refl k.policy.load
     (λ l under. load_parts_of s.harts l (subst (λ (y : Option SavedLoad). (loading s.harts).has y ≡ true) under k.parts.loading))
+
+-- ---- protections
+
+approved_below : (rules : Rules) (s : Contents) → Known rules s → AllBelow rules.ram_pages (approved_of rules s)
+approved_below rules s k = both_below rules.ram_pages (text_left rules s) (loaded_pages rules s.modules) (text_below rules s k) (modules_below rules s k)
+
+load_below_by : (rules : Rules) (s : Contents) (x : Option SavedLoad) → load_fits rules s.modules x ≡ true → ((l : SavedLoad) → x ≡ Some l → LoadParts s.harts l)
+    → AllBelow rules.ram_pages (load_pages rules x)
+load_below_by rules s None e parts = λ page there. cc
+load_below_by rules s (Some l) e parts = module_inside rules l.«module» (load_fits_is rules s.modules l e).its (parts l refl).gpa
+
+load_below : (rules : Rules) (s : Contents) → Known rules s → AllBelow rules.ram_pages (load_pages rules s.loading)
+load_below rules s k =
+    load_below_by rules s s.loading k.policy.load
+    (λ l under. load_parts_of s.harts l (subst (λ (y : Option SavedLoad). (loading s.harts).has y ≡ true) under k.parts.loading))
+
+-- what the snapshot says of a page is what follows from whose it is
+protection_is : (rules : Rules) (s : Contents) (page : ℕ) → Known rules s
+    → protection_at s.protection page ≡ protection_in (approved_pages s.ram (approved_of rules s)) (load_pages rules s.loading) page
+unfolding protection_in
+protection_is rules s page k =
+    let free : List Protection = replicate rules.ram_pages Free in
+    let size = length_taken Approved free k.pages.approved (approved_of rules s) k.pages.all_are ∙ length_free rules.ram_pages in
+    by_marks (is_approved_in (approved_pages s.ram (approved_of rules s)) page) (has_number (load_pages rules s.loading) page)
+    (protection_at s.protection page) (protection_at k.pages.approved page)
+    (taken_at Held k.pages.approved s.protection (load_pages rules s.loading) page
+    (subst (λ (n : ℕ). AllBelow n (load_pages rules s.loading)) (sym size) (load_below rules s k)) k.pages.load_is)
+    (taken_at Approved free k.pages.approved (approved_of rules s) page (free_below rules (approved_of rules s) (approved_below rules s k)) k.pages.all_are
+    ∙ ap (λ (b : Bool). either_one b Approved (protection_at free page)) (sym (approved_is s.ram (approved_of rules s) page))
+    ∙ ap (either_one (is_approved_in (approved_pages s.ram (approved_of rules s)) page) Approved) (all_free rules.ram_pages page))
+    (λ there. were_free Held k.pages.approved s.protection (load_pages rules s.loading) page k.pages.load_is there)
+
+protections_are : (rules : Rules) (s : Contents) → Known rules s → saved_protections (resumed_state rules s) ≡ s.protection
+unfolding resumed_state
+protections_are rules s k =
+    let f : ℕ → Protection = protection_in (approved_pages s.ram (approved_of rules s)) (load_pages rules s.loading) in
+    ap (λ (n : ℕ). map f (numbers_from 0 n)) (sym k.policy.pages)
+    ∙ listed f 0 s.protection (λ i below. protection_is rules s i k ∙ ap f (nothing_plus i))
+  where
+    nothing_plus : (i : ℕ) → i ≡ 0 + i
+    nothing_plus i = omega arith
 
 -- ---- the disk
 
@@ -368,4 +404,9 @@ digests_of rules s k = record {
 pub resumed_sound_law : ResumedSoundLaw
 resumed_sound_law rules s within words has none =
     let k = known rules s has none in
-    record { sound = sound_of rules s within words k; keepable = keepable_of rules s k; digests = digests_of rules s k }
+    record {
+      sound = sound_of rules s within words k;
+      keepable = keepable_of rules s k;
+      protections = protections_are rules s k;
+      digests = digests_of rules s k;
+    }

@@ -65,7 +65,7 @@ pub length_taken : (p : Protection) (guard after : List Protection) (pages : Lis
 length_taken p guard after [] e = let same : guard ≡ after = cc in ap length (sym same)
 length_taken p guard after (page ∷ pages) e = length_taken p (slice_set guard page p) after pages (first_taken p guard after page pages e).1 ∙ length_set guard page p
 
-abbrev either_one : Bool → Protection → Protection → Protection
+abbrev pub either_one : Bool → Protection → Protection → Protection
 either_one b p q = if b then p else q
 
 at_by : (p : Protection) (guard : List Protection) (page q : ℕ) (first rest : Bool) → (page == q) ≡ first → page < length guard

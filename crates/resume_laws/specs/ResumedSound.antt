@@ -4,16 +4,19 @@ use Rattle.std.specs.Prelude.{◌≡◌, true, None, IsTrue}
 use Rattle.sv_types.specs.Policies.{Rules, rules_within}
 use Rattle.reference.specs.Soundness.{IsSound}
 use Rattle.reference.specs.Start.{AreWords}
+use Rattle.saved_machine.specs.SavedStates.{saved_protections}
 use Rattle.snapshot_form.specs.Snapshots.{Contents, snapshot}
 use Rattle.resumption.specs.Judgements.{resume_refusal}
 use Rattle.resumption.specs.ResumedStates.{resumed_state}
 use Rattle.resume_laws.specs.Keepable.{IsKeepable}
 use Rattle.resume_laws.specs.Resumed.{KeepsDigests}
 
--- it is sound, can be saved again, and its text has the digests that the policy's kernel digest joins
+-- it is sound, can be saved again, has the protections that the snapshot says, and its text has the digests that the policy's
+-- kernel digest joins
 pub record IsResumable (rules : Rules) (s : Contents) : Type 0 where
   pub sound : IsSound (resumed_state rules s)
   pub keepable : IsKeepable (resumed_state rules s)
+  pub protections : saved_protections (resumed_state rules s) ≡ s.protection
   pub digests : KeepsDigests (resumed_state rules s) s.text
 
 abbrev pub ResumedSoundLaw : Type 0

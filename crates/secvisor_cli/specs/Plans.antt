@@ -156,7 +156,7 @@ flat_plan file wanted events =
 
 -- two sectors, in which each byte is the last one of its place
 unfoldable pub gen_disk : List ℕ
-gen_disk = map (λ place. place % 256) (numbers_from 0 1024)
+gen_disk = map (λ place. place % 256) (numbers_from 0 (2 * sector_size))
 
 -- the generated guest runs to its end
 unfoldable pub gen_due : ℕ → Due

@@ -90,7 +90,8 @@ pub fn secvisor<R: Threads + Sync, F: Files, O: Sink>(
     settled(answer(rt, alloc, words, files, out, bench))
 }
 
-fn settled(answer: Result<Status, Trouble>) -> Status
+/// The status that an answer ends with.
+pub fn settled(answer: Result<Status, Trouble>) -> Status
     ensures { result ≡ settled answer }
 {
     match answer {

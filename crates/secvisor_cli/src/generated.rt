@@ -15,9 +15,9 @@ use machine::{BootRefusal, Machine};
 use script::weave;
 use std::alloc::{AllocError, Global};
 use std::thread::Threads;
-use sv_types::{MOST_EVENTS, Policy};
+use sv_types::{MOST_EVENTS, Policy, SECTOR_BYTES};
 
-const DISK_BYTES: u32 = 1024;
+const DISK_BYTES: u32 = 2 * SECTOR_BYTES as u32;
 
 /// Generates the guest, which calls its kernel so many times, and boots it. It is never refused.
 pub fn prepare_gen<R: Threads + Sync>(

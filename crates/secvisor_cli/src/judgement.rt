@@ -7,7 +7,7 @@ ghost use Rattle.secvisor_cli.specs.Words.{IsJudged};
 
 use crate::refusal::{Refusal, Word};
 use crate::words::{read_flat, read_generated, read_run, read_terms};
-use command_words::{DiskKind, FlatWords, RunWords};
+use command_words::{DiskKind, FlatWords, RunWords, has_dash};
 use policy_making::are_module_names;
 
 /// Judges the words from left to right, without memory.
@@ -26,15 +26,6 @@ pub fn any_has_dash(words: &[String]) -> bool
     ensures { result ≡ list_any (λ word. has_dash (string_bytes word)) words.now }
 {
     words.iter().any(|word| has_dash(word.as_str()))
-}
-
-fn has_dash(word: &str) -> bool
-    ensures { result ≡ has_dash word.now }
-{
-    match word.as_bytes() {
-        [first, ..] => *first == b'-',
-        [] => false,
-    }
 }
 
 // Words without a dash.

@@ -18,7 +18,7 @@ mod save;
 mod trouble;
 mod words;
 
-pub use answer::{Bench, finish, refuse, secvisor};
+pub use answer::{Bench, finish, refuse, secvisor, settled};
 pub use command_words::DiskKind;
 pub use file_fault::{FileFault, Part};
 pub use flat::MOST_FLAT_BYTES;

@@ -1,22 +1,19 @@
 -- What `show` owes to what is asked of it: the text of a snapshot's file, or the line that says why there is none. This
 -- project's own.
-use Rattle.std.specs.Prelude.{ℕ, ◌==◌, ◌&&◌, not, List, [], ◌∷◌, ◌++◌, Bool, false, Option, Some, None, Result, Ok, Err, codes, if◌then◌else◌}
+use Rattle.std.specs.Prelude.{ℕ, ◌&&◌, not, List, [], ◌∷◌, ◌++◌, Option, Some, None, Result, Ok, Err, codes, if◌then◌else◌}
 use Rattle.std.specs.Str.{bytes_eq}
 use Rattle.sv_types.specs.Output.{line_feed}
 use Rattle.sv_types.specs.declared.status.Status.{Status}
 use Rattle.snapshot_form.specs.Snapshots.{Contents, snapshot_read}
 use Rattle.snapshot_form.specs.declared.refusal.SnapRefusal.{SnapRefusal}
 use Rattle.snapshot_text.specs.SnapshotTexts.{snapshot_text}
+use Rattle.command_words.specs.Commands.{has_dash}
 use Rattle.show_cli.specs.declared.refusal.ShowRefusal.{ShowRefusal}
 use Rattle.show_cli.specs.declared.refusal.ShowRefusal.TheVariants.{NoCommand, ReadFault, NoSnapshot}
 
 -- ---- show SNAPSHOT
 
 -- a word that begins with a dash is no name
-abbrev pub has_dash : List ℕ → Bool
-has_dash [] = false
-has_dash (first ∷ rest) = first == 45
-
 abbrev pub name_behind : (command name : List ℕ) → Option (List ℕ)
 name_behind command name = if bytes_eq command (codes "show") && not (has_dash name) then Some name else None
 

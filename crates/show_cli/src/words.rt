@@ -3,6 +3,8 @@ ghost use Rattle.std.specs.Prelude.{◌≡◌, map, string_bytes};
 ghost use Rattle.std.specs.Option.{option_copied};
 ghost use Rattle.show_cli.specs.Showing as spec;
 
+use command_words::has_dash;
+
 /// The name of the file that is shown, where the words are `show SNAPSHOT`. It takes no memory.
 #[tactic(auto, using(crate::proofs::WordLemmas::no_command))]
 pub fn name_in(words: &[String]) -> Option<&str>
@@ -21,14 +23,5 @@ fn name_behind<'a>(command: &str, name: &'a str) -> Option<&'a str>
         Some(name)
     } else {
         None
-    }
-}
-
-fn has_dash(word: &str) -> bool
-    ensures { result ≡ spec.has_dash word.now }
-{
-    match word.as_bytes() {
-        [first, ..] => *first == b'-',
-        [] => false,
     }
 }

@@ -17,9 +17,9 @@ const MOST_PLACES: u64 = 64;
 /// Bits of the status: the features fit, and a reset is needed. The places of two others.
 const FEATURES_OK: u32 = 8;
 
-pub const NEEDS_RESET: u32 = 64;
-
 const NEEDS_RESET_PLACE: u8 = 6;
+
+pub const NEEDS_RESET: u32 = 1 << NEEDS_RESET_PLACE;
 
 /// A device after a reset.
 #[tactic(auto, unfolding(crate::specs::Held::state_at_reset))]

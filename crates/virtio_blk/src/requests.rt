@@ -3,7 +3,7 @@
 ghost use Rattle.std.specs.Prelude.{◌≡◌, ◌+◌, ◌*◌, ◌≤◌, IsTrue, length};
 ghost use Rattle.std.specs.List.{list_all};
 ghost use Rattle.processor.specs.Bytes.{in_ram, ram_base, ram_place};
-ghost use Rattle.reference.specs.VirtioChain.{is_header, is_good};
+ghost use Rattle.reference.specs.VirtioChain.{is_header, is_good, most_parts};
 ghost use Rattle.virtio_blk.specs.Held.{HasHeader};
 ghost use Rattle.reference.specs.VirtioRequests.{bytes_in, lies_in, fits_type, are_sectors, can_move, result_by};
 
@@ -56,7 +56,7 @@ fn fits_type(kind: u64, part: &VirtioPart) -> bool
 
 /// The bytes of parts.
 pub fn bytes_in(parts: &[VirtioPart]) -> u64
-    requires { length parts.now ≤ 34 }
+    requires { length parts.now ≤ most_parts }
     ensures { result ≡ bytes_in parts.now }
 {
     parts.iter().map(|part| part.len as u64).sum()
@@ -87,7 +87,7 @@ fn all_fit_type(kind: u64, parts: &[VirtioPart]) -> bool
 // Whether the data's moves can be made.
 #[tactic(auto, unfolding(reference::specs::VirtioRequests::can_move))]
 fn can_move(ram: &[u8], disk_size: usize, kind: u64, sector: u64, parts: &[VirtioPart]) -> bool
-    requires { length parts.now ≤ 34 }
+    requires { length parts.now ≤ most_parts }
     ensures { result ≡ can_move ram.now disk_size kind sector parts.now }
 {
     are_sectors(disk_size, sector, bytes_in(parts))
@@ -98,7 +98,7 @@ fn can_move(ram: &[u8], disk_size: usize, kind: u64, sector: u64, parts: &[Virti
 /// The result that a request has as it is accepted.
 #[tactic(auto, unfolding(reference::specs::VirtioRequests::result_by))]
 pub fn result_by(ram: &[u8], disk_size: usize, kind: u64, sector: u64, parts: &[VirtioPart]) -> u8
-    requires { length parts.now ≤ 34 }
+    requires { length parts.now ≤ most_parts }
     ensures { result ≡ result_by ram.now disk_size kind sector parts.now }
 {
     if kind != READ_DISK && kind != WRITE_DISK {

@@ -1,5 +1,5 @@
-use Rattle.std.proofs.Common.{ap, ◌+◌, ◌∙◌, arith, if◌then◌else◌}
-use Rattle.sv_types.specs.Schedule.{Schedule, after_event}
+use Rattle.std.proofs.Common.{ap, ◌∙◌, arith, if◌then◌else◌}
+use Rattle.sv_types.specs.Schedule.{after_event}
 use Rattle.script.proofs.EventRuns.{draws_more}
 use Rattle.script.proofs.schedules.Auto.draw_more.Goals as goal
 

@@ -1,0 +1,218 @@
+-- The digests of a machine's text behind its boot are those that the run keeps.
+use Rattle.std.proofs.Common.{◌≡◌, ℕ, inl, inr, zero, suc, ◌+◌, ◌*◌, ◌/◌, ◌<◌, ◌≤◌, List, [], ◌∷◌, flat_map, length, map, take, refl, sym, ◌∙◌, ap, subst, Bool, true, false, ◌||◌, arith, slice_get, length-append}
+use Rattle.std.specs.Prelude.{Some, ◌==◌}
+use Rattle.processor.specs.Bytes.{page_bytes, page_size}
+use Rattle.sv_types.specs.ApprovedPages.{approved_pages}
+use Rattle.sv_types.specs.Kernel.{kernel_segments, header_entry, segments_ram, text_pages}
+use Rattle.sv_types.specs.Measure.{joined_digests, measure, page_digest, page_digests}
+use Rattle.sv_types.specs.Policies.{Rules}
+use Rattle.sv_types.specs.declared.event.Event.{Event}
+use Rattle.reference.specs.Protections.{protection_at}
+use Rattle.reference.specs.Soundness.{IsSound}
+use Rattle.reference.specs.Run.{run}
+use Rattle.reference.specs.Start.{IsStart, block_disk, boot_start, start}
+use Rattle.reference.specs.States.{State, Disk, has_number, is_approved_in, protection_in, protection_by}
+use Rattle.machine_model.specs.StandsFor.{protections_of}
+use Rattle.saved_machine.specs.SavedStates.{IsSaved}
+use Rattle.snapshot_form.specs.Snapshots.{Contents, contents}
+use Rattle.snapshot_form.specs.declared.whole.Snapshot.{Snapshot}
+use Rattle.snapshot_form.specs.declared.whole.TextPage.{TextPage}
+use Rattle.processor_laws.proofs.ByteLemmas.{drop_front, take_front}
+use Rattle.elf64_load.proofs.LoadedBytes.{length_part}
+use Rattle.elf64_load.proofs.LoadedText.{text_in_ram}
+use Rattle.answer_laws.proofs.ProtectionsChange.{at_page}
+use Rattle.resumption.specs.ResumedStates.{resumed_state}
+use Rattle.resume_laws.specs.Continues.{Alike}
+use Rattle.resume_laws.specs.Keepable.{AscendFrom}
+use Rattle.resume_laws.specs.Resumed.{KeepsDigests}
+use Rattle.resume_laws.proofs.ContinuesHolds.{continues_law}
+use Rattle.resume_laws.proofs.KeepableStarts.{keepable_law, text_pages_ascend}
+use Rattle.resume_laws.proofs.ResumedHolds.{resumed_law}
+use Rattle.resume_laws.proofs.ResumedPages.{approved_is}
+use Rattle.resume_laws.proofs.SavedResumes.{saved_resumes_law}
+use Rattle.run_laws.proofs.StateLawsHold.{reached_sound}
+use Rattle.run_laws.proofs.Lookups.{same_number}
+use Rattle.standing_laws.proofs.Standings.{length_pages}
+use Rattle.resumed_start.specs.SnapLaws.{BootDigestsLaw, IsMeasuredBoot, SnapContinuesLaw}
+use Rattle.resumed_start.specs.TextPages.{approved_among, digest_in, digested_text, is_approved, text_in}
+use Rattle.resumed_start.proofs.Ascending.{or_true, picked, picked_same}
+
+-- ---- digests of pages
+
+-- the pages are whole
+abbrev AreWhole : List ℕ → List ℕ → Type 0
+AreWhole ram pages = (page : ℕ) → has_number pages page ≡ true → length (page_bytes ram page) ≡ page_size
+
+first_whole : (ram : List ℕ) (page : ℕ) (pages : List ℕ) → AreWhole ram (page ∷ pages) → length (page_bytes ram page) ≡ page_size
+first_whole ram page pages whole = whole page (ap (λ (b : Bool). b || has_number pages page) (same_number page))
+
+rest_whole : (ram : List ℕ) (page : ℕ) (pages : List ℕ) → AreWhole ram (page ∷ pages) → AreWhole ram pages
+rest_whole ram page pages whole k there = whole k (ap (λ (b : Bool). (page == k) || b) there ∙ or_true (page == k))
+
+abbrev digest_at : List ℕ → ℕ → List ℕ
+digest_at ram page = page_digest (page_bytes ram page)
+
+-- their digests where they lie one behind the other
+digests_behind : (ram pages : List ℕ) → AreWhole ram pages → page_digests (length pages) (flat_map (page_bytes ram) pages) ≡ map (digest_at ram) pages
+digests_behind ram [] whole = refl
+digests_behind ram (page ∷ pages) whole =
+    let size = first_whole ram page pages whole in
+    rw (take_front (page_bytes ram page) (flat_map (page_bytes ram) pages) page_size size, drop_front (page_bytes ram page) (flat_map (page_bytes ram) pages) page_size size)
+    (ap (◌∷◌ (digest_at ram page)) (digests_behind ram pages (rest_whole ram page pages whole)))
+
+size_behind : (ram pages : List ℕ) → AreWhole ram pages → length (flat_map (page_bytes ram) pages) ≡ page_size * length pages
+size_behind ram [] whole = refl
+size_behind ram (page ∷ pages) whole =
+    let one = first_whole ram page pages whole in
+    let rest = size_behind ram pages (rest_whole ram page pages whole) in
+    length-append (page_bytes ram page) (flat_map (page_bytes ram) pages) ∙ sum (length (page_bytes ram page)) (length (flat_map (page_bytes ram) pages)) (length pages) one rest
+  where
+    sum : (a b n : ℕ) → a ≡ page_size → b ≡ page_size * n → a + b ≡ page_size * suc n
+    sum a b n s t = omega (arith, s, t)
+
+pages_in : (size n : ℕ) → size ≡ page_size * n → size / page_size ≡ n
+pages_in size n e = omega (arith, e)
+
+measured : (ram pages : List ℕ) → AreWhole ram pages → measure (flat_map (page_bytes ram) pages) ≡ joined_digests (map (digest_at ram) pages)
+unfolding measure
+measured ram pages whole =
+    ap (λ (n : ℕ). joined_digests (page_digests n (flat_map (page_bytes ram) pages))) (pages_in (length (flat_map (page_bytes ram) pages)) (length pages) (size_behind ram pages whole))
+    ∙ ap joined_digests (digests_behind ram pages whole)
+
+-- ---- the list of a machine's text
+
+numbers_back : (ram pages : List ℕ) → map (λ (t : TextPage). t.page) (map (digest_in ram) pages) ≡ pages
+numbers_back ram [] = refl
+numbers_back ram (page ∷ pages) = ap (◌∷◌ page) (numbers_back ram pages)
+
+digests_back : (ram pages : List ℕ) → map (λ (t : TextPage). t.digest) (map (digest_in ram) pages) ≡ map (digest_at ram) pages
+digests_back ram [] = refl
+digests_back ram (page ∷ pages) = ap (◌∷◌ (digest_at ram page)) (digests_back ram pages)
+
+some_page : (a b : TextPage) → Some a ≡ Some b → a ≡ b
+some_page a b e = cc
+
+digest_is : (ram pages : List ℕ) (i : ℕ) (t : TextPage) → slice_get (map (digest_in ram) pages) i ≡ Some t → digest_at ram t.page ≡ t.digest
+digest_is ram [] i t at = cc
+digest_is ram (page ∷ pages) zero t at = subst (λ (x : TextPage). digest_at ram x.page ≡ x.digest) (some_page (digest_in ram page) t at) refl
+digest_is ram (page ∷ pages) (suc i) t at = digest_is ram pages i t at
+
+-- ---- a start with its text approved
+
+approved_by : (approved held : Bool) → is_approved (protection_by approved held) ≡ approved
+unfolding protection_by
+approved_by true held = refl
+approved_by false true = refl
+approved_by false false = refl
+
+picks_text : (rules : Rules) (ram text : List ℕ) (entry : ℕ) (disk : Disk) (page : ℕ) → page < rules.ram_pages
+    → is_approved (protection_at (protections_of (start rules ram text entry disk)) page) ≡ has_number text page
+unfolding start protection_in
+picks_text rules ram text entry disk page below =
+    ap is_approved (at_page (start rules ram text entry disk) page below)
+    ∙ approved_by (is_approved_in (approved_pages ram text) page) (has_number [] page)
+    ∙ approved_is ram text page
+
+abbrev LieIn : ℕ → List ℕ → Type 0
+LieIn pages text = (page : ℕ) → has_number text page ≡ true → page < pages
+
+text_is : (rules : Rules) (ram text : List ℕ) (entry : ℕ) (disk : Disk) → AscendFrom 0 text → LieIn rules.ram_pages text
+    → approved_among (protections_of (start rules ram text entry disk)) (length (protections_of (start rules ram text entry disk))) ≡ text
+unfolding start
+text_is rules ram text entry disk up inside =
+    let r : State = start rules ram text entry disk in
+    ap (approved_among (protections_of r)) (length_pages (protection_in r.approved r.held) 0 rules.ram_pages)
+    ∙ picked_same (λ page. is_approved (protection_at (protections_of r) page)) (has_number text) 0 rules.ram_pages
+    (λ page low high. picks_text rules ram text entry disk page (plain page rules.ram_pages high))
+    ∙ picked 0 rules.ram_pages text up (λ page there. from_none page rules.ram_pages (inside page there))
+  where
+    plain : (page pages : ℕ) → page < 0 + pages → page < pages
+    plain page pages less = omega (arith, less)
+
+    from_none : (page pages : ℕ) → page < pages → page < 0 + pages
+    from_none page pages less = omega (arith, less)
+
+whole_in : (ram : List ℕ) (page pages : ℕ) → length ram ≡ page_size * pages → page < pages → length (page_bytes ram page) ≡ page_size
+whole_in ram page pages size below = length_part ram (page_size * page) page_size (rw size (room page pages below))
+  where
+    room : (page pages : ℕ) → page < pages → page_size * page + page_size ≤ page_size * pages
+    room page pages below = omega (arith, below)
+
+text_inside : (rules : Rules) (ram text : List ℕ) (entry : ℕ) (disk : Disk) → IsSound (start rules ram text entry disk) → LieIn rules.ram_pages text
+unfolding start
+text_inside rules ram text entry disk sound page there = sound.pages.inside page (approved_is ram text page ∙ there)
+
+ram_size : (rules : Rules) (ram text : List ℕ) (entry : ℕ) (disk : Disk) → IsSound (start rules ram text entry disk) → length ram ≡ page_size * rules.ram_pages
+unfolding start
+ram_size rules ram text entry disk sound = sound.size
+
+digested_is : (rules : Rules) (ram text : List ℕ) (entry : ℕ) (disk : Disk) → AscendFrom 0 text → LieIn rules.ram_pages text
+    → digested_text (start rules ram text entry disk) ≡ map (digest_in ram) text
+unfolding text_in start
+digested_is rules ram text entry disk up inside = ap (map (digest_in ram)) (text_is rules ram text entry disk up inside)
+
+start_digests : (rules : Rules) (ram text : List ℕ) (entry : ℕ) (disk : Disk) → AscendFrom 0 text
+    → measure (flat_map (page_bytes ram) text) ≡ rules.kernel → IsSound (start rules ram text entry disk)
+    → KeepsDigests (start rules ram text entry disk) (map (digest_in ram) text)
+unfolding start
+start_digests rules ram text entry disk up kernel sound = record {
+  pages = numbers_back ram text;
+  each = λ i t at kept. digest_is ram text i t at;
+  joined = ap joined_digests (digests_back ram text)
+      ∙ sym (measured ram text (λ page there. whole_in ram page rules.ram_pages (ram_size rules ram text entry disk sound) (text_inside rules ram text entry disk sound page there)))
+      ∙ kernel;
+}
+
+of_start : (rules : Rules) (ram text : List ℕ) (entry : ℕ) (disk : Disk) → AscendFrom 0 text
+    → measure (flat_map (page_bytes ram) text) ≡ rules.kernel → IsSound (start rules ram text entry disk)
+    → KeepsDigests (start rules ram text entry disk) (digested_text (start rules ram text entry disk))
+of_start rules ram text entry disk up kernel sound =
+    subst (KeepsDigests (start rules ram text entry disk)) (sym (digested_is rules ram text entry disk up (text_inside rules ram text entry disk sound)))
+    (start_digests rules ram text entry disk up kernel sound)
+
+-- ---- the laws
+
+boot_is : (rules : Rules) (file disk : List ℕ) → IsMeasuredBoot rules file → IsStart (boot_start rules file disk)
+boot_is rules file disk k = inr (inl (record {
+  rules = rules;
+  file = file;
+  disk = disk;
+  within = k.within;
+  words = k.words;
+  accepted = k.accepted;
+  entry = k.entry;
+  same = refl;
+}))
+
+digests_of_boot : (rules : Rules) (file disk : List ℕ) → IsMeasuredBoot rules file → IsSound (boot_start rules file disk)
+    → KeepsDigests (boot_start rules file disk) (digested_text (boot_start rules file disk))
+unfolding boot_start
+digests_of_boot rules file disk k sound =
+    of_start rules (segments_ram (kernel_segments file) rules.ram_pages) (text_pages (kernel_segments file)) (header_entry file) (block_disk disk)
+    (text_pages_ascend (kernel_segments file)) (ap measure (sym (text_in_ram file rules.ram_pages k.accepted)) ∙ k.measured) sound
+
+pub boot_digests_law : BootDigestsLaw
+boot_digests_law rules file disk k = digests_of_boot rules file disk k (reached_sound (boot_start rules file disk) [] (boot_is rules file disk k))
+
+rules_are : (rules : Rules) (file disk : List ℕ) → (boot_start rules file disk).rules ≡ rules
+unfolding boot_start start
+rules_are rules file disk = refl
+
+nothing_printed : (rules : Rules) (s : Contents) → (resumed_state rules s).journal.printed ≡ []
+unfolding resumed_state
+nothing_printed rules s = refl
+
+-- behind any events of the run it is alike to the state there
+snap_alike : (start : State) (rules : Rules) (events : List Event) (s : Snapshot) → IsStart start → start.rules ≡ rules → KeepsDigests start s.text.items
+    → IsSaved (run start events) s.«machine» → Alike (run start events).journal.printed (run start events) (resumed_state rules (contents s))
+snap_alike start rules events s is same digests saved =
+    let goes = resumed_law start events (reached_sound start [] is) in
+    subst (λ (x : Rules). Alike (run start events).journal.printed (run start events) (resumed_state x (contents s))) (goes.origins.rules ∙ same)
+    (saved_resumes_law (run start events) s goes.sound (keepable_law start events is) saved (goes.digests s.text.items digests))
+
+pub snap_continues_law : SnapContinuesLaw
+snap_continues_law rules file disk events k s boot snap =
+    let start = boot_start rules file disk in
+    continues_law start k events (resumed_state rules (contents s)) (nothing_printed rules (contents s))
+    (snap_alike start rules (take k events) s (boot_is rules file disk boot) (rules_are rules file disk)
+    (subst (KeepsDigests start) (sym snap.text) (boot_digests_law rules file disk boot)) snap.state)

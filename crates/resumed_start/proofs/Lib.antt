@@ -1,0 +1,5 @@
+pub mod Ascending
+pub mod BootDigests
+pub mod ResumedHosts
+pub mod ResumedStands
+pub mod TextPages

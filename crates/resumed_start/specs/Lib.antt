@@ -1,0 +1,3 @@
+pub mod Resuming
+pub mod SnapLaws
+pub mod TextPages

@@ -1,0 +1,40 @@
+-- What a snapshot of a run that began with a measured boot is good for. This project's own.
+use Rattle.std.specs.Prelude.{◌≡◌, ℕ, List, None, take, true, IsTrue}
+use Rattle.sv_types.specs.Kernel.{header_entry, kernel_refusal, kernel_segments, text_of}
+use Rattle.sv_types.specs.Measure.{measure}
+use Rattle.sv_types.specs.Policies.{Rules, rules_within}
+use Rattle.sv_types.specs.declared.event.Event.{Event}
+use Rattle.reference.specs.Run.{run}
+use Rattle.reference.specs.Start.{AreWords, boot_start}
+use Rattle.reference.specs.States.{has_number}
+use Rattle.saved_machine.specs.SavedStates.{IsSaved}
+use Rattle.snapshot_form.specs.Snapshots.{contents}
+use Rattle.snapshot_form.specs.declared.whole.Snapshot.{Snapshot}
+use Rattle.resumption.specs.ResumedStates.{resumed_state}
+use Rattle.resume_laws.specs.Continues.{Continues}
+use Rattle.resume_laws.specs.Resumed.{KeepsDigests}
+use Rattle.resumed_start.specs.TextPages.{digested_text}
+
+-- a policy within its limits and an image that isn't refused, which begins at a permitted entry, and whose text has the
+-- policy's measure
+pub record IsMeasuredBoot (rules : Rules) (file : List ℕ) : Type 0 where
+  pub within : IsTrue (rules_within rules)
+  pub words : AreWords rules.entries
+  pub accepted : kernel_refusal file rules.ram_pages ≡ None
+  pub entry : has_number rules.entries (header_entry file) ≡ true
+  pub measured : measure (text_of (kernel_segments file)) ≡ rules.kernel
+
+-- the digests of the text before the first event are those that a run keeps
+abbrev pub BootDigestsLaw : Type 0
+BootDigestsLaw = (rules : Rules) (file disk : List ℕ) → IsMeasuredBoot rules file → KeepsDigests (boot_start rules file disk) (digested_text (boot_start rules file disk))
+
+-- a snapshot behind the first k events, with the text of the start
+pub record IsSnapAfter (rules : Rules) (file disk : List ℕ) (events : List Event) (k : ℕ) (s : Snapshot) : Type 0 where
+  pub state : IsSaved (run (boot_start rules file disk) (take k events)) s.«machine»
+  pub text : s.text.items ≡ digested_text (boot_start rules file disk)
+
+-- What was printed until then and what a machine prints that goes on from it with the events that are left is what the whole run
+-- prints; verdict and disk are the same.
+abbrev pub SnapContinuesLaw : Type 0
+SnapContinuesLaw = (rules : Rules) (file disk : List ℕ) (events : List Event) (k : ℕ) (s : Snapshot) → IsMeasuredBoot rules file
+    → IsSnapAfter rules file disk events k s → Continues (boot_start rules file disk) k events (resumed_state rules (contents s))

@@ -1,0 +1,35 @@
+-- The text of a machine before its first event: its approved pages, each with the digest of its bytes. This project's own.
+use Rattle.std.specs.Prelude.{ℕ, Bool, true, false, List, filter, length, map}
+use Rattle.processor.specs.Bytes.{page_bytes}
+use Rattle.sv_types.specs.ApprovedPages.{numbers_from}
+use Rattle.sv_types.specs.Measure.{page_digest}
+use Rattle.sv_types.specs.declared.protection.Protection.{Protection}
+use Rattle.sv_types.specs.declared.protection.Protection.TheVariants.{Free, Held, Approved}
+use Rattle.reference.specs.Protections.{protection_at}
+use Rattle.reference.specs.States.{State}
+use Rattle.saved_machine.specs.SavedStates.{saved_protections}
+use Rattle.snapshot_form.specs.declared.whole.TextPage.{TextPage}
+
+abbrev pub is_approved : Protection → Bool
+is_approved Free = false
+is_approved Held = false
+is_approved Approved = true
+
+-- the approved ones among the first pages
+abbrev pub approved_among : List Protection → (count : ℕ) → List ℕ
+approved_among protections count = filter (λ page. is_approved (protection_at protections page)) (numbers_from 0 count)
+
+-- a page with the digest of its bytes in RAM
+abbrev pub digest_in : (ram : List ℕ) → (page : ℕ) → TextPage
+digest_in ram page = record { page = page; digest = page_digest (page_bytes ram page) }
+
+abbrev pub text_among : (ram : List ℕ) → List Protection → (count : ℕ) → List TextPage
+text_among ram protections count = map (digest_in ram) (approved_among protections count)
+
+-- of all pages
+unfoldable pub text_in : (ram : List ℕ) → List Protection → List TextPage
+text_in ram protections = text_among ram protections (length protections)
+
+-- those of a machine in such a state
+abbrev pub digested_text : State → List TextPage
+digested_text r = text_in r.ram (saved_protections r)
