@@ -1,6 +1,6 @@
 // Where a quick turn's accesses lead.
 
-ghost use Rattle.std.specs.Prelude.{◌≡◌, ◌≤◌, ℕ, ◌/◌, ◌%◌, length, IfSome, Ok};
+ghost use Rattle.std.specs.Prelude.{◌≡◌, ◌==◌, ◌≤◌, ℕ, ◌/◌, ◌%◌, length, IfSome, Ok};
 ghost use Rattle.processor.specs.Regions.{IsWidth, IsHostPlace};
 ghost use Rattle.processor.specs.SecondStage.{WalksApart};
 ghost use Rattle.processor.specs.CachedWalks.{CacheAgrees};
@@ -107,6 +107,21 @@ pub(crate) fn place(
     }
 }
 
+// An address is a multiple of a width. By a number that is known here it takes no division, which one in each load would
+// be felt.
+#[inline(always)]
+fn is_aligned(address: u64, width: u8) -> bool
+    requires { IsWidth width }
+    ensures { result ≡ (address % width == 0) }
+{
+    match width {
+        1 => true,
+        2 => address.is_multiple_of(2),
+        4 => address.is_multiple_of(4),
+        _ => address.is_multiple_of(8),
+    }
+}
+
 /// The host place of an access, none where it is refused: its address is a multiple of its width, and its translation
 /// permits it.
 #[tactic(auto, using(gstage_cache::specs::Fills::nothing_filled), unfolding(processor::specs::HardwareMemory::reached))]
@@ -128,7 +143,7 @@ pub(crate) fn aligned_place(
     ensures walked { Walked mem.now.tables regs.now.hgatp cache.old cache.new }
     ensures reach { ReachAgrees mem.now.tables reach.new }
 {
-    if reference.address.is_multiple_of(u64::from(reference.width)) {
+    if is_aligned(reference.address, reference.width) {
         place(core, regs, cache, reach, mem, reference)
     } else {
         None

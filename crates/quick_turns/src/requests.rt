@@ -142,8 +142,10 @@ fn atomic(
     ensures reach { ReachAgrees mem.new.tables reach.new }
     ensures on { GoesOn mem.old mem.new core.old core.new regs.now cache.old cache.new }
 {
+    // Its word is read where stores may go, and never where loads alone may.
+    let access = Access::Store;
     let reference = Reference {
-        access: Access::Store,
+        access,
         address: operation.address,
         width: operation.width,
     };
