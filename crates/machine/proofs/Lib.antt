@@ -15,3 +15,4 @@ pub mod Repeated
 pub mod Kept
 pub mod Addressed
 pub mod Rows
+pub mod Resuming

@@ -8,3 +8,4 @@ pub mod Parts
 pub mod Repeats
 pub mod Turns
 pub mod Rows
+pub mod Resumed

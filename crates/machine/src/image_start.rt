@@ -128,7 +128,7 @@ fn assemble(
 
 // The page that each entry of a policy is bound to.
 #[tactic(auto, using(crate::proofs::BoundPages::page_fits))]
-fn bound_pages(alloc: Global, policy: &Policy) -> Result<Vec<u32>, AllocError>
+pub(crate) fn bound_pages(alloc: Global, policy: &Policy) -> Result<Vec<u32>, AllocError>
     requires within { IsTrue (rules_within (rules_of policy.now)) }
     ensures pages { IfOk result (λ pages. pages.items ≡ bound_pages (rules_of policy.now)) }
     ensures number { IfOk result (λ pages. length pages.items ≡ length policy.now.bound.items) }

@@ -2,6 +2,7 @@
 
 ghost use Rattle.std.specs.Prelude.{◌≡◌, ℕ, ◌+◌, ◌-◌, ◌<◌, ◌≤◌, [], length, replicate};
 ghost use Rattle.sv_types.specs.Limits.{most_printed};
+ghost use Rattle.sv_types.specs.declared.event.Verdict.TheVariants.{Running};
 ghost use Rattle.reference.specs.Counting.{CountsAtMost};
 ghost use Rattle.reference.specs.Disk.{disk_bytes};
 ghost use Rattle.reference.specs.Run.{run, step};
@@ -58,6 +59,7 @@ impl Machine {
         ensures counts { (n : ℕ) → CountsAtMost n self.old.journal.counts → CountsAtMost (n + result) self.new.journal.counts }
         ensures some { 0 < result }
         ensures most { result ≤ count }
+        ensures all { length self.new.journal.printed ≡ length self.old.journal.printed → self.new.journal.verdict ≡ Running → result ≡ count }
     {
         let printed = self.printed().len();
         let mut made = 0;

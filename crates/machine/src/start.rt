@@ -148,7 +148,8 @@ fn seats_at_boot(
     Ok(seats)
 }
 
-fn empty_caches(alloc: Global, harts: u8) -> Result<Vec<HartCaches>, AllocError>
+/// Nothing is kept for any hart.
+pub(crate) fn empty_caches(alloc: Global, harts: u8) -> Result<Vec<HartCaches>, AllocError>
     ensures { IfOk result (λ caches. caches.items ≡ replicate harts nothing_kept) }
 {
     let mut caches = Vec::new(alloc);

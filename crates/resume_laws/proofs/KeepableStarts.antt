@@ -49,7 +49,7 @@ ascend_on : (first next : ℕ) (pages : List ℕ) → first ≤ next → AscendF
 ascend_on first next [] less up = tt
 ascend_on first next (page ∷ pages) less up = (omega (arith, less, up.0), up.1)
 
-numbers_ascend : (first n : ℕ) → AscendFrom first (numbers_from first n)
+pub numbers_ascend : (first n : ℕ) → AscendFrom first (numbers_from first n)
 numbers_ascend first zero = tt
 numbers_ascend first (suc n) = (omega arith, numbers_ascend (first + 1) n)
 
@@ -57,7 +57,7 @@ one_ascends : (first page : ℕ) (b : Bool) (pages : List ℕ) → first ≤ pag
 one_ascends first page true pages less up = (less, up)
 one_ascends first page false pages less up = ascend_on first (page + 1) pages (omega (arith, less)) up
 
-filter_ascends : (f : ℕ → Bool) (first : ℕ) (pages : List ℕ) → AscendFrom first pages → AscendFrom first (filter f pages)
+pub filter_ascends : (f : ℕ → Bool) (first : ℕ) (pages : List ℕ) → AscendFrom first pages → AscendFrom first (filter f pages)
 filter_ascends f first [] up = tt
 filter_ascends f first (page ∷ pages) up = one_ascends first page (f page) (filter f pages) up.0 (filter_ascends f (page + 1) pages up.1)
 

@@ -15,3 +15,5 @@ pub mod ResumedHarts
 pub mod ResumedPages
 pub mod ResumedSoundHolds
 pub mod SavedResumes
+pub mod TakenAgain
+pub mod SavedAccepted

@@ -38,10 +38,12 @@ use Rattle.resumption.specs.declared.refusal.ResumeRefusal.{ResumeRefusal}
 use Rattle.resumption.specs.declared.refusal.ResumeRefusal.TheVariants.{OtherPolicy, OtherPages, OtherKernel, OtherText, OtherModule}
 use Rattle.resume_laws.specs.Keepable.{AreKeepable, IsKeepableJournal, IsKeepableClock, IsKeepable}
 use Rattle.resume_laws.specs.Resumed.{KeepsDigests}
-use Rattle.resume_laws.specs.ResumedSound.{ResumedSoundLaw}
+use Rattle.resume_laws.specs.ResumedSound.{ResumedGoesOnLaw, ResumedSoundLaw}
 use Rattle.resume_laws.proofs.DueProtections.{due_is, all_free, by_marks, listed}
 use Rattle.resume_laws.proofs.FormParts.{HasParts, parts_of, most_is}
 use Rattle.resume_laws.proofs.ResumedHarts.{harts_sound, harts_kept, length_resumed, LoadParts, load_parts_of, load_kept, journal_kept, clock_kept}
+use Rattle.resume_laws.proofs.KeepableSteps.{keeps_law}
+use Rattle.resume_laws.proofs.ResumedHolds.{resumed_law}
 use Rattle.resume_laws.proofs.ResumedPages.{text_ascends, text_inside, ModuleParts, modules_parts, found_all, found_begins, Fits, fits_is, place_aligned, module_inside, in_first, in_second, in_one, both_below, loaded_inside, among_loaded, of_module, one_module, approved_is, keeps_text}
 use Rattle.resume_laws.proofs.TakenPages.{Taking, AllBelow, either_one, taken_in_two, length_taken, taken_at, were_free, apart, found_later}
 use Rattle.run_laws.proofs.Lookups.{not_true, not_false, all_found, number_filtered}
@@ -410,3 +412,9 @@ resumed_sound_law rules s within words has none =
       protections = protections_are rules s k;
       digests = digests_of rules s k;
     }
+
+pub resumed_goes_on_law : ResumedGoesOnLaw
+resumed_goes_on_law rules s events within words has none =
+    let k = resumed_sound_law rules s within words has none in
+    let goes = resumed_law (resumed_state rules s) events k.sound in
+    record { goes = goes; keepable = keeps_law (resumed_state rules s) events k.sound k.keepable; digests = goes.digests s.text k.digests }

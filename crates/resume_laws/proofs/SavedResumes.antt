@@ -50,7 +50,7 @@ harts_back clock h (hart ∷ harts) =
     ap (λ (first : Hart). first ∷ map resumed_hart (saved_harts clock (h + 1) harts)) (hart_back clock h hart)
     ∙ ap (λ (rest : List Hart). hart ∷ rest) (harts_back clock (h + 1) harts)
 
-length_saved : (clock : Clock) (h : ℕ) (harts : List Hart) → length (saved_harts clock h harts) ≡ length harts
+pub length_saved : (clock : Clock) (h : ℕ) (harts : List Hart) → length (saved_harts clock h harts) ≡ length harts
 unfolding saved_harts
 length_saved clock h [] = refl
 length_saved clock h (hart ∷ harts) = ap suc (length_saved clock (h + 1) harts)
@@ -114,19 +114,19 @@ loading_back : (x : Option Loading) → option_map resumed_load (option_map save
 loading_back None = refl
 loading_back (Some load) = refl
 
-held_back : (r : State) (x : Option Loading) → IsSoundLoad r.rules r.approved r.loaded r.held x → load_pages r.rules (option_map saved_load x) ≡ r.held
+pub held_back : (r : State) (x : Option Loading) → IsSoundLoad r.rules r.approved r.loaded r.held x → load_pages r.rules (option_map saved_load x) ≡ r.held
 held_back r None k = sym k
 held_back r (Some load) k = sym k.pages
 
 -- ---- approved pages
 
-same_truth : (a b : Bool) → (a ≡ true → b ≡ true) → (b ≡ true → a ≡ true) → a ≡ b
+pub same_truth : (a b : Bool) → (a ≡ true → b ≡ true) → (b ≡ true → a ≡ true) → a ≡ b
 same_truth true b there back = sym (there refl)
 same_truth false true there back = back refl
 same_truth false false there back = refl
 
 -- the snapshot of a state
-abbrev contents_of : State → ℕ → List TextPage → List Protection → PortState → List ℕ → Contents
+abbrev pub contents_of : State → ℕ → List TextPage → List Protection → PortState → List ℕ → Contents
 contents_of r events text protection port disk = record {
   events = events;
   time = r.devices.clock.time;
@@ -145,28 +145,28 @@ contents_of r events text protection port disk = record {
   ram = r.ram;
 }
 
-left_is : (r : State) (c : Contents) (page : ℕ) → page_numbers c.text ≡ r.text → c.retired ≡ r.retired → has_number (text_left r.rules c) page ≡ is_kernel_text (ownership r) page
+pub left_is : (r : State) (c : Contents) (page : ℕ) → page_numbers c.text ≡ r.text → c.retired ≡ r.retired → has_number (text_left r.rules c) page ≡ is_kernel_text (ownership r) page
 left_is r c page text retired =
     number_filtered (λ p. not (is_retired r.rules c.retired p)) (page_numbers c.text) page
     ∙ ap (λ (list : List ℕ). has_number list page && not (is_retired r.rules c.retired page)) text
     ∙ ap (λ (b : Bool). has_number r.text page && not (is_retired r.rules b page)) retired
 
-record SameText (r : State) (c : Contents) : Type 0 where
-  text : page_numbers c.text ≡ r.text
-  retired : c.retired ≡ r.retired
-  modules : c.modules ≡ r.loaded
+pub record SameText (r : State) (c : Contents) : Type 0 where
+  pub text : page_numbers c.text ≡ r.text
+  pub retired : c.retired ≡ r.retired
+  pub modules : c.modules ≡ r.loaded
 
 modules_are : (r : State) (c : Contents) (page : ℕ) → SameText r c → has_number (loaded_pages r.rules c.modules) page ≡ has_number (loaded_pages r.rules r.loaded) page
 modules_are r c page k = ap (λ ms. has_number (loaded_pages r.rules ms) page) k.modules
 
-to_approved : (r : State) (c : Contents) (page : ℕ) → IsSound r → SameText r c → has_number (approved_of r.rules c) page ≡ true → is_approved_in r.approved page ≡ true
+pub to_approved : (r : State) (c : Contents) (page : ℕ) → IsSound r → SameText r c → has_number (approved_of r.rules c) page ≡ true → is_approved_in r.approved page ≡ true
 to_approved r c page sound k there = elim (in_one (text_left r.rules c) (loaded_pages r.rules c.modules) page there) [
   | inl left ↦ sound.pages.text page (sym (left_is r c page k.text k.retired) ∙ left)
   | inr loaded ↦ let m = of_module r.rules r.loaded page (sym (modules_are r c page k) ∙ loaded) in
       sound.pages.modules m.about page (record { loaded_is = all_found r.loaded m.place m.about sound.ascends m.at; inside = m.inside })
 ]
 
-from_owned : (r : State) (c : Contents) (page : ℕ) → SameText r c → IsOwned (ownership r) page → has_number (approved_of r.rules c) page ≡ true
+pub from_owned : (r : State) (c : Contents) (page : ℕ) → SameText r c → IsOwned (ownership r) page → has_number (approved_of r.rules c) page ≡ true
 from_owned r c page k (inl text) = in_first (text_left r.rules c) (loaded_pages r.rules c.modules) page (left_is r c page k.text k.retired ∙ text)
 from_owned r c page k (inr of) =
     in_second (text_left r.rules c) (loaded_pages r.rules c.modules) page
@@ -205,7 +205,7 @@ state_back r events text protection port disk sound keepable few pages same =
       ) refl;
     }
 
-contents_are : (r : State) (s : Snapshot) → IsSaved r s.«machine»
+pub contents_are : (r : State) (s : Snapshot) → IsSaved r s.«machine»
     → contents s ≡ contents_of r s.events s.text.items s.«machine».protection.items s.«machine».port s.«machine».disk.items
 contents_are r s k =
     rw (k.harts, k.ram, k.modules, k.retired, k.loading, k.console, k.time, k.counts, k.notes, k.verdict) refl

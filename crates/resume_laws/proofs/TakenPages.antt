@@ -20,7 +20,7 @@ set_here [] page p inside = absurd (omega (arith, inside))
 set_here (x ∷ guard) zero p inside = refl
 set_here (x ∷ guard) (suc page) p inside = set_here guard page p (omega (arith, inside))
 
-set_beside : (guard : List Protection) (page q : ℕ) (p : Protection) → (page ≡ q → ⊥) → protection_at (slice_set guard page p) q ≡ protection_at guard q
+pub set_beside : (guard : List Protection) (page q : ℕ) (p : Protection) → (page ≡ q → ⊥) → protection_at (slice_set guard page p) q ≡ protection_at guard q
 set_beside [] page q p other = refl
 set_beside (x ∷ guard) zero zero p other = absurd (other refl)
 set_beside (x ∷ guard) zero (suc q) p other = refl
@@ -51,14 +51,14 @@ first_taken p guard after page pages e = free_first p guard after page pages (is
 abbrev pub AllBelow : ℕ → List ℕ → Type 0
 AllBelow n pages = (page : ℕ) → has_number pages page ≡ true → page < n
 
-or_true : (b : Bool) → (b || true) ≡ true
+pub or_true : (b : Bool) → (b || true) ≡ true
 or_true true = refl
 or_true false = refl
 
 head_below : (n page : ℕ) (pages : List ℕ) → AllBelow n (page ∷ pages) → page < n
 head_below n page pages all = all page (ap (λ (b : Bool). b || has_number pages page) (same_number page))
 
-tail_below : (n page : ℕ) (pages : List ℕ) → AllBelow n (page ∷ pages) → AllBelow n pages
+pub tail_below : (n page : ℕ) (pages : List ℕ) → AllBelow n (page ∷ pages) → AllBelow n pages
 tail_below n page pages all q there = all q (ap (λ (b : Bool). (page == q) || b) there ∙ or_true (page == q))
 
 pub length_taken : (p : Protection) (guard after : List Protection) (pages : List ℕ) → Taking p guard pages after → length after ≡ length guard

@@ -3,3 +3,4 @@ pub mod Continues
 pub mod Keepable
 pub mod ResumedSound
 pub mod SavedResumes
+pub mod SavedAccepted

@@ -2,7 +2,8 @@
 #![tactic(auto)]
 
 ghost use Rattle.resume_laws.specs.Resumed.{ResumedLaw};
-ghost use Rattle.resume_laws.specs.ResumedSound.{ResumedSoundLaw};
+ghost use Rattle.resume_laws.specs.ResumedSound.{ResumedGoesOnLaw, ResumedSoundLaw};
+ghost use Rattle.resume_laws.specs.SavedAccepted.{SavedAcceptedLaw};
 ghost use Rattle.resume_laws.specs.SavedResumes.{SavedResumesLaw};
 ghost use Rattle.resume_laws.specs.Continues.{AlikeLaw, ContinuesLaw};
 ghost use Rattle.resume_laws.specs.Keepable.{KeepableLaw, KeepsLaw};
@@ -39,7 +40,18 @@ pub fn law_resumed_sound()
     ensures { ResumedSoundLaw }
 {}
 
+/// Whatever it does from there: each approved page is a page of text as it stood in the snapshot, or a loaded module's, and the
+/// digests are right still.
+pub fn law_resumed_goes_on()
+    ensures { ResumedGoesOnLaw }
+{}
+
 /// A machine that goes on from a snapshot of a state, under the same policy, is in that state with nothing printed.
 pub fn law_saved_resumes()
     ensures { SavedResumesLaw }
+{}
+
+/// A snapshot of a state isn't refused under the same policy.
+pub fn law_saved_accepted()
+    ensures { SavedAcceptedLaw }
 {}

@@ -1,6 +1,6 @@
 -- The digests of a machine's text behind its boot are those that the run keeps.
 use Rattle.std.proofs.Common.{◌≡◌, ℕ, inl, inr, zero, suc, ◌+◌, ◌*◌, ◌/◌, ◌<◌, ◌≤◌, List, [], ◌∷◌, flat_map, length, map, take, refl, sym, ◌∙◌, ap, subst, Bool, true, false, ◌||◌, arith, slice_get, length-append}
-use Rattle.std.specs.Prelude.{Some, ◌==◌}
+use Rattle.std.specs.Prelude.{Some, None, ◌==◌}
 use Rattle.processor.specs.Bytes.{page_bytes, page_size}
 use Rattle.sv_types.specs.ApprovedPages.{approved_pages}
 use Rattle.sv_types.specs.Kernel.{kernel_segments, header_entry, segments_ram, text_pages}
@@ -21,6 +21,7 @@ use Rattle.processor_laws.proofs.ByteLemmas.{drop_front, take_front}
 use Rattle.elf64_load.proofs.LoadedBytes.{length_part}
 use Rattle.elf64_load.proofs.LoadedText.{text_in_ram}
 use Rattle.answer_laws.proofs.ProtectionsChange.{at_page}
+use Rattle.resumption.specs.Judgements.{resume_refusal}
 use Rattle.resumption.specs.ResumedStates.{resumed_state}
 use Rattle.resume_laws.specs.Continues.{Alike}
 use Rattle.resume_laws.specs.Keepable.{AscendFrom}
@@ -29,11 +30,12 @@ use Rattle.resume_laws.proofs.ContinuesHolds.{continues_law}
 use Rattle.resume_laws.proofs.KeepableStarts.{keepable_law, text_pages_ascend}
 use Rattle.resume_laws.proofs.ResumedHolds.{resumed_law}
 use Rattle.resume_laws.proofs.ResumedPages.{approved_is}
+use Rattle.resume_laws.proofs.SavedAccepted.{saved_accepted_law}
 use Rattle.resume_laws.proofs.SavedResumes.{saved_resumes_law}
 use Rattle.run_laws.proofs.StateLawsHold.{reached_sound}
 use Rattle.run_laws.proofs.Lookups.{same_number}
 use Rattle.standing_laws.proofs.Standings.{length_pages}
-use Rattle.resumed_start.specs.SnapLaws.{BootDigestsLaw, IsMeasuredBoot, SnapContinuesLaw}
+use Rattle.resumed_start.specs.SnapLaws.{BootDigestsLaw, IsMeasuredBoot, IsSnapAfter, SnapAcceptedLaw, SnapContinuesLaw}
 use Rattle.resumed_start.specs.TextPages.{approved_among, digest_in, digested_text, is_approved, text_in}
 use Rattle.resumed_start.proofs.Ascending.{or_true, picked, picked_same}
 
@@ -202,17 +204,35 @@ nothing_printed : (rules : Rules) (s : Contents) → (resumed_state rules s).jou
 unfolding resumed_state
 nothing_printed rules s = refl
 
--- behind any events of the run it is alike to the state there
-snap_alike : (start : State) (rules : Rules) (events : List Event) (s : Snapshot) → IsStart start → start.rules ≡ rules → KeepsDigests start s.text.items
-    → IsSaved (run start events) s.«machine» → Alike (run start events).journal.printed (run start events) (resumed_state rules (contents s))
-snap_alike start rules events s is same digests saved =
+-- behind any events of the run
+record IsGood (start : State) (rules : Rules) (events : List Event) (s : Snapshot) : Type 0 where
+  alike : Alike (run start events).journal.printed (run start events) (resumed_state rules (contents s))
+  accepted : resume_refusal rules (contents s) ≡ None
+
+good_at : (start : State) (rules : Rules) (events : List Event) (s : Snapshot) → IsStart start → start.rules ≡ rules → KeepsDigests start s.text.items
+    → IsSaved (run start events) s.«machine» → IsGood start rules events s
+good_at start rules events s is same digests saved =
+    let r = run start events in
     let goes = resumed_law start events (reached_sound start [] is) in
-    subst (λ (x : Rules). Alike (run start events).journal.printed (run start events) (resumed_state x (contents s))) (goes.origins.rules ∙ same)
-    (saved_resumes_law (run start events) s goes.sound (keepable_law start events is) saved (goes.digests s.text.items digests))
+    let keepable = keepable_law start events is in
+    let right = goes.digests s.text.items digests in
+    record {
+      alike = subst (λ (x : Rules). Alike r.journal.printed r (resumed_state x (contents s))) (goes.origins.rules ∙ same)
+          (saved_resumes_law r s goes.sound keepable saved right);
+      accepted = subst (λ (x : Rules). resume_refusal x (contents s) ≡ None) (goes.origins.rules ∙ same)
+          (saved_accepted_law r s goes.sound keepable saved right);
+    }
+
+snap_is_good : (rules : Rules) (file disk : List ℕ) (events : List Event) (k : ℕ) (s : Snapshot) → IsMeasuredBoot rules file → IsSnapAfter rules file disk events k s
+    → IsGood (boot_start rules file disk) rules (take k events) s
+snap_is_good rules file disk events k s boot snap =
+    good_at (boot_start rules file disk) rules (take k events) s (boot_is rules file disk boot) (rules_are rules file disk)
+    (subst (KeepsDigests (boot_start rules file disk)) (sym snap.text) (boot_digests_law rules file disk boot)) snap.state
+
+pub snap_accepted_law : SnapAcceptedLaw
+snap_accepted_law rules file disk events k s boot snap = (snap_is_good rules file disk events k s boot snap).accepted
 
 pub snap_continues_law : SnapContinuesLaw
 snap_continues_law rules file disk events k s boot snap =
-    let start = boot_start rules file disk in
-    continues_law start k events (resumed_state rules (contents s)) (nothing_printed rules (contents s))
-    (snap_alike start rules (take k events) s (boot_is rules file disk boot) (rules_are rules file disk)
-    (subst (KeepsDigests start) (sym snap.text) (boot_digests_law rules file disk boot)) snap.state)
+    continues_law (boot_start rules file disk) k events (resumed_state rules (contents s)) (nothing_printed rules (contents s))
+    (snap_is_good rules file disk events k s boot snap).alike

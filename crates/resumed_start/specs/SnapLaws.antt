@@ -10,6 +10,7 @@ use Rattle.reference.specs.States.{has_number}
 use Rattle.saved_machine.specs.SavedStates.{IsSaved}
 use Rattle.snapshot_form.specs.Snapshots.{contents}
 use Rattle.snapshot_form.specs.declared.whole.Snapshot.{Snapshot}
+use Rattle.resumption.specs.Judgements.{resume_refusal}
 use Rattle.resumption.specs.ResumedStates.{resumed_state}
 use Rattle.resume_laws.specs.Continues.{Continues}
 use Rattle.resume_laws.specs.Resumed.{KeepsDigests}
@@ -32,6 +33,11 @@ BootDigestsLaw = (rules : Rules) (file disk : List ℕ) → IsMeasuredBoot rules
 pub record IsSnapAfter (rules : Rules) (file disk : List ℕ) (events : List Event) (k : ℕ) (s : Snapshot) : Type 0 where
   pub state : IsSaved (run (boot_start rules file disk) (take k events)) s.«machine»
   pub text : s.text.items ≡ digested_text (boot_start rules file disk)
+
+-- it isn't refused under its own policy
+abbrev pub SnapAcceptedLaw : Type 0
+SnapAcceptedLaw = (rules : Rules) (file disk : List ℕ) (events : List Event) (k : ℕ) (s : Snapshot) → IsMeasuredBoot rules file
+    → IsSnapAfter rules file disk events k s → resume_refusal rules (contents s) ≡ None
 
 -- What was printed until then and what a machine prints that goes on from it with the events that are left is what the whole run
 -- prints; verdict and disk are the same.

@@ -3,7 +3,7 @@
 #![tactic(auto)]
 
 ghost use Rattle.resumed_start.specs.Resuming.{ResumedStartLaw};
-ghost use Rattle.resumed_start.specs.SnapLaws.{BootDigestsLaw, SnapContinuesLaw};
+ghost use Rattle.resumed_start.specs.SnapLaws.{BootDigestsLaw, SnapAcceptedLaw, SnapContinuesLaw};
 
 mod text;
 
@@ -17,6 +17,11 @@ pub fn law_resumed_start()
 /// The pages of the text with their digests, as they are before the first event, are those that a run keeps.
 pub fn law_boot_digests()
     ensures { BootDigestsLaw }
+{}
+
+/// A snapshot that was taken behind any events of such a run isn't refused under its policy.
+pub fn law_snap_accepted()
+    ensures { SnapAcceptedLaw }
 {}
 
 /// A run that goes on from a snapshot, which was taken behind any of its events, prints what is left of the whole run.

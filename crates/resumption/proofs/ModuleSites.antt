@@ -1,11 +1,12 @@
 -- The fields of a policy's module lie in its text.
-use Rattle.std.proofs.Common.{◌≡◌, ℕ, zero, suc, ◌+◌, ◌-◌, ◌*◌, ◌%◌, ◌<◌, List, [], ◌∷◌, ◌++◌, length, refl, sym, ◌∙◌, ap, subst, Bool, true, not, ◌&&◌, slice_get, arith}
-use Rattle.std.specs.Prelude.{All, Some, IsTrue, nat_lt, ◌==◌, if◌then◌else◌}
+use Rattle.std.proofs.Common.{◌≡◌, ℕ, zero, suc, ◌+◌, ◌-◌, ◌*◌, ◌%◌, ◌<◌, ◌≤◌, List, [], ◌∷◌, ◌++◌, length, refl, sym, ◌∙◌, ap, subst, Bool, true, not, ◌&&◌, slice_get, arith}
+use Rattle.std.specs.Prelude.{All, Some, IsTrue, nat_le, nat_lt, ◌==◌, if◌then◌else◌}
 use Rattle.std.specs.List.{list_all}
 use Rattle.std.proofs.lemmas.Bool.{and_parts, eqb-true}
 use Rattle.std.proofs.lemmas.Bool.Decides.{nat_tests}
 use Rattle.std.proofs.lemmas.List.Elements.{All-nil, All-cons, All-head, All-tail}
 use Rattle.processor.specs.Bytes.{page_size}
+use Rattle.sv_types.specs.Limits.{most_module_pages}
 use Rattle.sv_types.specs.Policies.{Rules, ModuleRule, rules_within, numbers_within, lists_within, init_within, modules_count_within, modules_within, module_within, module_pages_within, sites_count_within, sites_within, sites_of, is_module, each_within, next_site_within, site_within, is_behind, place_within, is_aligned, base_within, anchor_within, site_size}
 use Rattle.sv_types.specs.declared.module.Site.{Site}
 use Rattle.reference.proofs.FieldWidths.{width_by}
@@ -57,6 +58,16 @@ policy_sites rules id rule within found =
     let named = and_parts (module_pages_within rule.pages && sites_count_within (sites_of one.0) (length rule.sites) && sites_within rule.pages (length rules.exports) rule.sites) (not (is_module rule.name one.0)) one.1 in
     let sites = and_parts (module_pages_within rule.pages && sites_count_within (sites_of one.0) (length rule.sites)) (sites_within rule.pages (length rules.exports) rule.sites) named.0 in
     sites_lie rule.pages (length rules.exports) [] rule.sites sites.1
+
+-- it has a page
+pub some_pages : (rules : Rules) (id : ℕ) (rule : ModuleRule) → IsTrue (rules_within rules) → slice_get rules.modules id ≡ Some rule → 1 ≤ rule.pages
+some_pages rules id rule within found =
+    let modules = and_parts (numbers_within rules && lists_within rules && init_within rules.ram_pages rules.init && modules_count_within (length rules.modules)) (modules_within (length rules.exports) rules.modules) within in
+    let one = one_within (length rules.exports) [] rules.modules id rule modules.1 found in
+    let named = and_parts (module_pages_within rule.pages && sites_count_within (sites_of one.0) (length rule.sites) && sites_within rule.pages (length rules.exports) rule.sites) (not (is_module rule.name one.0)) one.1 in
+    let sites = and_parts (module_pages_within rule.pages && sites_count_within (sites_of one.0) (length rule.sites)) (sites_within rule.pages (length rules.exports) rule.sites) named.0 in
+    let pages = and_parts (module_pages_within rule.pages) (sites_count_within (sites_of one.0) (length rule.sites)) sites.0 in
+    let least = (and_parts (nat_le 1 rule.pages) (nat_le rule.pages most_module_pages) pages.0).0 in grind (arith, nat_tests)
 
 -- ---- the whole text as one piece
 

@@ -1,0 +1,119 @@
+-- A machine that goes on from a snapshot stands for the state that the snapshot says, and is fit for its next event.
+use Rattle.std.proofs.Common.{◌≡◌, ℕ, ◌+◌, ◌-◌, ◌*◌, ◌^◌, ◌<◌, ◌≤◌, List, [], ◌∷◌, length, map, replicate, refl, sym, ◌∙◌, ap, subst, Bool, arith, true}
+use Rattle.std.specs.Prelude.{Option, Some, None, IsTrue, option_map}
+use Rattle.std.proofs.lemmas.Bool.Decides.{nat_tests}
+use Rattle.processor.specs.Bytes.{page_size, ram_base}
+use Rattle.processor.specs.Regions.{Region, IsRegion, most_ram_pages}
+use Rattle.sv_types.specs.Policies.{Rules, rules_of, rules_within}
+use Rattle.sv_types.specs.Views.{with_ram}
+use Rattle.sv_types.specs.Views.{AreViews}
+use Rattle.sv_types.specs.declared.protection.Protection.{Protection}
+use Rattle.sv_types.specs.declared.saved.SavedModule.{SavedModule}
+use Rattle.reference.specs.Protections.{is_free, protection_at}
+use Rattle.reference.specs.States.{State, Hart, Devices, Journal}
+use Rattle.machine_model.specs.Machine.{Machine, HostHart, HostLoad}
+use Rattle.machine_model.specs.Reaches.{IsNew}
+use Rattle.snapshot_form.specs.Snapshots.{Contents}
+use Rattle.resumption.specs.ResumedStates.{resumed_state}
+use Rattle.resume_laws.specs.Keepable.{AreKeepable, IsReservable}
+use Rattle.resume_laws.specs.ResumedSound.{IsResumable}
+use Rattle.resumed_start.specs.Resuming.{host_resumed, load_resumed, resumed_machine}
+use Rattle.resumed_parts.specs.Parts.{AreResumed}
+use Rattle.resumed_parts.specs.declared.parts.ResumedParts.{ResumedParts}
+use Rattle.hart_answers.specs.Hosts.{hosts_of}
+use Rattle.module_answers.specs.Parts.{loading_of}
+use Rattle.machine_model.specs.StandsFor.{bound_pages}
+use Rattle.standing_laws.specs.Starts.{IsGuarded}
+use Rattle.machine.specs.Machines.{HasAddress, HaveAddresses, IsFit}
+use Rattle.machine.specs.declared.machine.Machine.TheInside.{Inside}
+
+-- ---- reservations
+
+has_address : (size : ℕ) (x : Option ℕ) → size ≤ 2 ^ 60 → IsReservable size x → HasAddress x
+has_address size None most k = tt
+has_address size (Some place) most k = let less = k.1 in omega (arith, less, most)
+
+have_addresses : (size : ℕ) (hs : List Hart) → size ≤ 2 ^ 60 → AreKeepable size hs → HaveAddresses hs
+have_addresses size [] most all = tt
+have_addresses size (h ∷ hs) most all = (has_address size h.reservation most all.0.reservation, have_addresses size hs most all.1)
+
+rules_are : (rules : Rules) (s : Contents) → (resumed_state rules s).rules ≡ rules
+unfolding resumed_state
+rules_are rules s = refl
+
+none_printed : (rules : Rules) (s : Contents) → (resumed_state rules s).journal.printed ≡ []
+unfolding resumed_state
+none_printed rules s = refl
+
+small_ram : (rules : Rules) → IsTrue (rules_within rules) → page_size * rules.ram_pages ≤ 2 ^ 60
+small_ram rules within =
+    let most : rules.ram_pages ≤ most_ram_pages = grind (arith, nat_tests) in omega (arith, most)
+
+pub resumed_journal : (tables : List ℕ) (rules : Rules) (s : Contents) → (resumed_machine tables rules s).journal ≡ (resumed_state rules s).journal
+unfolding resumed_machine
+resumed_journal tables rules s = refl
+
+-- ---- the machine is fit
+
+pub resumed_fit : (m : Inside) (rules : Rules) (s : Contents) → IsTrue (rules_within rules) → IsResumable rules s → IsNew m.parts (resumed_state rules s)
+    → m.parts.journal ≡ (resumed_state rules s).journal → IsFit m
+resumed_fit m rules s within resumable new journal =
+    let attempts = new.attempts in
+    let cleared = new.cleared in
+    let printed : length m.parts.journal.printed ≡ 0 = ap (λ (j : Journal). length j.printed) journal ∙ ap length (none_printed rules s) in
+    record {
+      state = resumed_state rules s;
+      stands = new.stands;
+      addresses = have_addresses (page_size * rules.ram_pages) (resumed_state rules s).harts (small_ram rules within)
+          (subst (λ (r : Rules). AreKeepable (page_size * r.ram_pages) (resumed_state rules s).harts) (rules_are rules s) resumable.keepable.harts);
+      attempts = omega (arith, attempts);
+      few = omega (arith, attempts);
+      printed = omega (arith, cleared, printed);
+    }
+
+-- ---- the machine from its parts
+
+abbrev pub machine_by : Rules → Region → List HostHart → List Protection → List SavedModule → Option HostLoad → Bool → Devices → Journal → ℕ → Machine
+machine_by rules region harts guard loaded loading retired devices journal attempts = record {
+  rules = rules;
+  region = region;
+  harts = harts;
+  protections = guard;
+  dma = map is_free guard;
+  loaded = loaded;
+  loading = loading;
+  retired = retired;
+  devices = devices;
+  journal = journal;
+  cleared = 0;
+  attempts = attempts;
+}
+
+pub parts_resumed : (rules : Rules) (s : Contents) (p : ResumedParts) (attempts : ℕ) → AreResumed rules s p → attempts ≡ 0
+    → machine_by rules p.mem (hosts_of p.seats.items) p.guard.pages p.modules.gate.loaded (loading_of p.modules) p.modules.gate.retired p.devices p.journal attempts
+    ≡ resumed_machine p.mem.tables rules s
+unfolding resumed_machine
+parts_resumed rules s p attempts k none =
+    let hosts = map (host_resumed (length p.mem.tables)) s.harts in
+    let region = with_ram p.mem.tables s.ram in
+    let load = option_map (load_resumed rules s.ram) s.loading in
+    let state = resumed_state rules s in
+    ap (λ (x : Region). machine_by rules x (hosts_of p.seats.items) p.guard.pages p.modules.gate.loaded (loading_of p.modules) p.modules.gate.retired p.devices p.journal attempts) k.region
+    ∙ ap (λ (x : List HostHart). machine_by rules region x p.guard.pages p.modules.gate.loaded (loading_of p.modules) p.modules.gate.retired p.devices p.journal attempts) k.harts
+    ∙ ap (λ (x : List Protection). machine_by rules region hosts x p.modules.gate.loaded (loading_of p.modules) p.modules.gate.retired p.devices p.journal attempts) k.protections
+    ∙ ap (λ (x : List SavedModule). machine_by rules region hosts s.protection x (loading_of p.modules) p.modules.gate.retired p.devices p.journal attempts) k.loaded
+    ∙ ap (λ (x : Option HostLoad). machine_by rules region hosts s.protection s.modules x p.modules.gate.retired p.devices p.journal attempts) k.loading
+    ∙ ap (λ (x : Bool). machine_by rules region hosts s.protection s.modules load x p.devices p.journal attempts) k.retired
+    ∙ ap (λ (x : Devices). machine_by rules region hosts s.protection s.modules load s.retired x p.journal attempts) k.devices
+    ∙ ap (λ (x : Journal). machine_by rules region hosts s.protection s.modules load s.retired state.devices x attempts) k.journal
+    ∙ ap (machine_by rules region hosts s.protection s.modules load s.retired state.devices state.journal) none
+
+-- the views follow its protections
+pub parts_guarded : (rules : Rules) (s : Contents) (p : ResumedParts) (m : Machine) → AreResumed rules s p → IsRegion p.mem → m ≡ resumed_machine p.mem.tables rules s → IsGuarded m
+unfolding resumed_machine
+parts_guarded rules s p m k region made =
+    subst IsGuarded (sym made) (record {
+      region = subst IsRegion k.region region;
+      views = subst (λ (guard : List Protection). AreViews p.mem.tables (length guard) (bound_pages rules) (protection_at guard)) k.protections
+          (subst (λ (bound : List ℕ). AreViews p.mem.tables (length p.guard.pages) bound (protection_at p.guard.pages)) k.bound k.theirs.views);
+    })

@@ -1,0 +1,138 @@
+// A machine that goes on from a snapshot.
+
+ghost use Rattle.std.specs.Prelude.{◌≡◌, None, IfErr, IfOk, IsTrue, OnOk, true};
+ghost use Rattle.sv_types.specs.Policies.{rules_of, rules_within};
+ghost use Rattle.reference.specs.Start.{AreWords};
+ghost use Rattle.machine_model.specs.Reaches.{IsNew};
+ghost use Rattle.snapshot_form.specs.Snapshots as form;
+ghost use Rattle.standing_laws.specs.Starts.{IsGuarded};
+ghost use Rattle.resumption.specs.Judgements.{resume_refusal};
+ghost use Rattle.resumption.specs.ResumedStates.{resumed_state};
+ghost use Rattle.resumed_start.specs.Resuming.{resumed_machine};
+ghost use Rattle.machine.specs.Resumed.{RefusesSnapshot};
+ghost use Rattle.machine.specs.declared.resume.ResumeFailure.TheVariants.{Memory};
+
+use crate::image_start::bound_pages;
+use crate::machine::Machine;
+use crate::parts::Parts;
+use crate::start::empty_caches;
+use hart::Cpu;
+use quick_turns::Words;
+use resume_laws::law_resumed_sound;
+use resumed_parts::{ResumedParts, resume_parts};
+use resumed_start::law_resumed_start;
+use resumption::{ResumeRefusal, resume_refusal};
+use snapshot_form::Snapshot;
+use std::alloc::{AllocError, Global};
+use std::thread::Threads;
+use sv_types::Policy;
+
+/// Why a machine doesn't go on from a snapshot.
+#[derive(Clone, Copy, Debug, PartialEq, Eq, Drop)]
+pub enum ResumeFailure {
+    /// The first judgement that fails.
+    Refused(ResumeRefusal),
+    /// Memory was wanting.
+    Memory,
+}
+
+impl From<AllocError> for ResumeFailure {
+    ghost from_gives = { λ _ e. e ≡ Memory };
+
+    fn from(_: AllocError) -> Self {
+        ResumeFailure::Memory
+    }
+}
+
+impl Machine {
+    /// A machine that goes on from a snapshot under a policy whose values are within their limits. What guards its pages is made
+    /// anew: text and modules are measured again, and no protection of the snapshot is believed. Nothing is printed yet.
+    pub fn from_snapshot<R: Threads + Sync>(
+        rt: &R,
+        alloc: Global,
+        snapshot: Snapshot,
+        policy: Policy,
+    ) -> Result<Machine, ResumeFailure>
+        requires within { IsTrue (rules_within (rules_of policy)) }
+        requires form { form.snapshot.has (form.contents snapshot) ≡ true }
+        ensures new { IfOk result (λ m. IsNew m (resumed_state (rules_of policy) (form.contents snapshot))) }
+        ensures journal { IfOk result (λ m. m.journal ≡ (resumed_state (rules_of policy) (form.contents snapshot)).journal) }
+        ensures accepted { OnOk result (resume_refusal (rules_of policy) (form.contents snapshot) ≡ None) }
+        ensures refused { IfErr result (RefusesSnapshot (rules_of policy) (form.contents snapshot)) }
+    {
+        judge(rt, alloc, &snapshot, &policy)?;
+        entries_are_words(&policy.entries);
+        law_resumed_start();
+        law_resumed_sound();
+        let parts = Parts::resume(alloc, snapshot, policy)?;
+        Ok(Machine { parts })
+    }
+}
+
+// Entries are words, by their type.
+fn entries_are_words(entries: &[u64])
+    ensures { AreWords entries.now }
+{}
+
+// The first judgement that fails refuses.
+fn judge<R: Threads + Sync>(
+    rt: &R,
+    alloc: Global,
+    snapshot: &Snapshot,
+    policy: &Policy,
+) -> Result<(), ResumeFailure>
+    requires within { IsTrue (rules_within (rules_of policy.now)) }
+    requires form { form.snapshot.has (form.contents snapshot.now) ≡ true }
+    ensures accepted { OnOk result (resume_refusal (rules_of policy.now) (form.contents snapshot.now) ≡ None) }
+    ensures refused { IfErr result (RefusesSnapshot (rules_of policy.now) (form.contents snapshot.now)) }
+{
+    match resume_refusal(rt, alloc, snapshot, policy)? {
+        Some(refusal) => Err(ResumeFailure::Refused(refusal)),
+        None => Ok(()),
+    }
+}
+
+impl Parts {
+    /// The parts that go on of a snapshot that isn't refused, with empty caches, before the first attempt.
+    pub(crate) fn resume(
+        alloc: Global,
+        snapshot: Snapshot,
+        policy: Policy,
+    ) -> Result<Parts, AllocError>
+        requires within { IsTrue (rules_within (rules_of policy)) }
+        requires form { form.snapshot.has (form.contents snapshot) ≡ true }
+        requires accepted { resume_refusal (rules_of policy) (form.contents snapshot) ≡ None }
+        ensures made { IfOk result (λ p. p ≡ resumed_machine p.region.tables (rules_of policy) (form.contents snapshot)) }
+        ensures guarded { IfOk result IsGuarded }
+    {
+        let bound = bound_pages(alloc, &policy)?;
+        let caches = empty_caches(alloc, policy.harts)?;
+        let cpu = Cpu::new(alloc)?;
+        let words = Words::new(alloc)?;
+        let ResumedParts {
+            mem,
+            guard,
+            entries,
+            seats,
+            modules,
+            devices,
+            journal,
+        } = resume_parts(alloc, snapshot, &policy, &bound)?;
+        let _tables = mem.table_bytes();
+        Ok(Parts {
+            policy,
+            entries,
+            mem,
+            seats,
+            caches,
+            guard,
+            modules,
+            devices,
+            journal,
+            cpu,
+            words,
+            row_attempts: 0,
+            cleared: 0,
+        })
+    }
+}

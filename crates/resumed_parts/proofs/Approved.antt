@@ -1,0 +1,167 @@
+-- Pages that are approved some at a time, as the judgement of a snapshot's pages asks.
+use Rattle.std.proofs.Common.{◌≡◌, ℕ, zero, suc, ◌+◌, ◌*◌, ◌/◌, ◌<◌, ◌≤◌, List, [], ◌∷◌, ◌++◌, length, drop, get_or, replicate, refl, sym, ◌∙◌, ap, subst, Bool, true, false, ◌&&◌, arith, slice_get, slice_set}
+use Rattle.std.specs.Prelude.{Option, Some, None, is_some, if◌then◌else◌}
+use Rattle.std.specs.List.{list_all}
+use Rattle.processor.specs.Bytes.{page_of, page_size}
+use Rattle.sv_types.specs.ApprovedPages.{numbers_from}
+use Rattle.sv_types.specs.Policies.{Rules}
+use Rattle.sv_types.specs.declared.module.Span.{Span}
+use Rattle.sv_types.specs.declared.protection.Protection.{Protection}
+use Rattle.sv_types.specs.declared.protection.Protection.TheVariants.{Free, Held, Approved}
+use Rattle.sv_types.specs.declared.saved.SavedModule.{SavedModule}
+use Rattle.reference.specs.Protections.{is_free, protection_at, with_pages}
+use Rattle.reference.specs.States.{module_pages, pages_in_rule}
+use Rattle.page_guard.specs.Guarded.{first_taken, with_span}
+use Rattle.snapshot_form.specs.Snapshots.{Contents}
+use Rattle.snapshot_form.specs.declared.whole.TextPage.{TextPage}
+use Rattle.snapshot_form.proofs.FormLaws.{first_true, second_true}
+use Rattle.resumption.specs.Judgements.{approved_of, are_same, fits, guard_due, is_due, is_guarded_right, is_same, load_pages, loaded_pages, taken, text_left, then_held}
+use Rattle.resumption.specs.Taking.{left_of}
+use Rattle.resumption.proofs.TakenSpans.{set_past, span_twice, taken_none, taken_span}
+use Rattle.resumption.proofs.TakenLoops.{modules_break, none_behind, some_behind, text_breaks}
+use Rattle.resume_laws.proofs.ResumedPages.{fits_is}
+use Rattle.resumed_parts.specs.Approving.{Approves, CanApprove, CanTake}
+
+-- ---- where all can be taken, the first of them can
+
+by_first : (x y : Option (List Protection)) → (x ≡ None → y ≡ None) → is_some y ≡ true → is_some x ≡ true
+by_first None y none there = let gone : is_some y ≡ false = ap is_some (none refl) in cc
+by_first (Some guard) y none there = refl
+
+pub free_first : (p : Protection) (guard : List Protection) (some rest : List ℕ) → CanTake p guard (some ++ rest) → CanTake p guard some
+free_first p guard some rest all = by_first (taken p guard some) (taken p guard (some ++ rest)) (none_behind p guard some rest) all
+
+pub free_behind : (p : Protection) (guard next : List Protection) (some rest : List ℕ) → CanTake p guard (some ++ rest) → taken p guard some ≡ Some next → CanTake p next rest
+free_behind p guard next some rest all is = subst (λ (g : Option (List Protection)). is_some g ≡ true) (some_behind p guard next some rest is) all
+
+-- the next page of the text, and the next module
+pub text_free : (rules : Rules) (retired : Bool) (text : List TextPage) (i : ℕ) (d : TextPage) (old guard : List Protection) (all : List ℕ) → i < length text → CanApprove old all
+    → taken Approved old all ≡ taken Approved guard (left_of rules retired (drop i text)) → CanApprove guard (left_of rules retired (get_or text i d ∷ []))
+text_free rules retired text i d old guard all within free before =
+    by_first (taken Approved guard (left_of rules retired (get_or text i d ∷ []))) (taken Approved old all)
+    (λ none. text_breaks rules retired text i d (taken Approved old all) guard guard false within refl none before) free
+
+pub module_free : (rules : Rules) (modules : List SavedModule) (i : ℕ) (d : SavedModule) (old guard : List Protection) (all : List ℕ) → i < length modules → CanApprove old all
+    → taken Approved old all ≡ taken Approved guard (loaded_pages rules (drop i modules)) → CanApprove guard (module_pages rules (get_or modules i d))
+module_free rules modules i d old guard all within free before =
+    by_first (taken Approved guard (module_pages rules (get_or modules i d))) (taken Approved old all)
+    (λ none. modules_break rules modules i d (taken Approved old all) guard guard false within refl none before) free
+
+pub all_at : {A : Type 0} (test : A → Bool) (xs : List A) (i : ℕ) (d : A) → list_all test xs ≡ true → i < length xs → test (get_or xs i d) ≡ true
+all_at test [] i d all within = absurd (omega (arith, within))
+all_at test (x ∷ xs) zero d all within = first_true (test x) _ all
+all_at test (x ∷ xs) (suc i) d all within = all_at test xs i d (second_true (test x) _ all) (omega (arith, within))
+
+-- ---- a page past the end
+
+past_free : (guard : List Protection) (page : ℕ) → length guard ≤ page → is_free (protection_at guard page) ≡ true
+past_free [] page past = refl
+past_free (x ∷ guard) zero past = absurd (omega (arith, past))
+past_free (x ∷ guard) (suc page) past = past_free guard page (omega (arith, past))
+
+pub past_end : (guard : List Protection) (page : ℕ) → length guard ≤ page → Approves guard guard (page ∷ [])
+past_end guard page past =
+    ap (λ (b : Bool). if b then Some (slice_set guard page Approved) else None) (past_free guard page past)
+    ∙ ap Some (sym (set_past guard page Approved past))
+
+-- ---- a span
+
+pub span_set : (guard mid after : List Protection) (span hold : Span) → first_taken guard span ≡ None → mid ≡ with_span guard span Held → hold ≡ span
+    → after ≡ with_span mid hold Approved → Approves guard after (numbers_from span.first span.count)
+unfolding first_taken
+span_set guard mid after span hold none held same set =
+    let all : after ≡ with_pages guard span.first span.count Approved =
+    set ∙ ap (λ (s : Span). with_span mid s Approved) same ∙ ap (λ (g : List Protection). with_span g span Approved) held
+    ∙ span_twice guard span.first span.count Held Approved in
+    taken_span Approved guard span.first span.count none ∙ ap Some (sym all)
+
+pub span_busy : (p : Protection) (guard : List Protection) (span : Span) (q : ℕ) → CanTake p guard (numbers_from span.first span.count) → first_taken guard span ≡ Some q → ⊥
+unfolding first_taken
+span_busy p guard span q free found =
+    let none : taken p guard (numbers_from span.first span.count) ≡ None = taken_none p guard (numbers_from span.first span.count) q found in
+    let gone : is_some (taken p guard (numbers_from span.first span.count)) ≡ false = ap is_some none in cc
+
+-- a module's pages lie in RAM
+pub module_inside : (rules : Rules) (m : SavedModule) (n : ℕ) → fits rules m ≡ true → n ≡ rules.ram_pages → page_of m.gpa + pages_in_rule (slice_get rules.modules m.id) ≤ n
+module_inside rules m n fit same =
+    let inside = (fits_is rules m fit).inside in omega (arith, inside, same)
+
+-- ---- what the judgement says
+
+due_some : (x : Option (List Protection)) (pages : List ℕ) (ps : List Protection) → is_due (then_held x pages) ps ≡ true → is_some x ≡ true
+due_some None pages ps e = absurd cc
+due_some (Some guard) pages ps e = refl
+
+pub guard_free : (rules : Rules) (s : Contents) → is_guarded_right rules s ≡ true → CanApprove (replicate rules.ram_pages Free) (approved_of rules s)
+unfolding is_guarded_right guard_due
+guard_free rules s right = due_some (taken Approved (replicate rules.ram_pages Free) (approved_of rules s)) (load_pages rules s.loading) s.protection right
+
+-- text first, and modules behind it
+pub both_taken : (guard mid after : List Protection) (text modules : List ℕ) → Approves guard mid text → Approves mid after modules → Approves guard after (text ++ modules)
+both_taken guard mid after text modules first second = some_behind Approved guard mid text modules first ∙ second
+
+some_due : (x : Option (List Protection)) (ps : List Protection) → is_due x ps ≡ true → is_some x ≡ true
+some_due None ps e = absurd cc
+some_due (Some guard) ps e = refl
+
+-- the load's pages are free then
+pub load_free : (rules : Rules) (s : Contents) (mid : List Protection) → is_guarded_right rules s ≡ true → Approves (replicate rules.ram_pages Free) mid (approved_of rules s)
+    → CanTake Held mid (load_pages rules s.loading)
+unfolding is_guarded_right guard_due
+load_free rules s mid right is =
+    some_due (taken Held mid (load_pages rules s.loading)) s.protection
+    (subst (λ (x : Option (List Protection)). is_due (then_held x (load_pages rules s.loading)) s.protection ≡ true) is right)
+
+same_one : (p q : Protection) → is_same p q ≡ true → p ≡ q
+same_one Free Free e = refl
+same_one Free Held e = absurd cc
+same_one Free Approved e = absurd cc
+same_one Held Free e = absurd cc
+same_one Held Held e = refl
+same_one Held Approved e = absurd cc
+same_one Approved Free e = absurd cc
+same_one Approved Held e = absurd cc
+same_one Approved Approved e = refl
+
+same_all : (ps qs : List Protection) → are_same ps qs ≡ true → ps ≡ qs
+same_all [] [] e = refl
+same_all [] (q ∷ qs) e = absurd cc
+same_all (p ∷ ps) [] e = absurd cc
+same_all (p ∷ ps) (q ∷ qs) e =
+    ap (λ (x : Protection). x ∷ ps) (same_one p q (first_true (is_same p q) _ e)) ∙ ap (λ (xs : List Protection). q ∷ xs) (same_all ps qs (second_true (is_same p q) _ e))
+
+-- and the protections behind it are the snapshot's
+pub guard_is : (rules : Rules) (s : Contents) (mid after : List Protection) → is_guarded_right rules s ≡ true → Approves (replicate rules.ram_pages Free) mid (approved_of rules s)
+    → taken Held mid (load_pages rules s.loading) ≡ Some after → after ≡ s.protection
+unfolding is_guarded_right guard_due
+guard_is rules s mid after right is held =
+    same_all after s.protection
+    (subst (λ (x : Option (List Protection)). is_due x s.protection ≡ true) held
+    (subst (λ (x : Option (List Protection)). is_due (then_held x (load_pages rules s.loading)) s.protection ≡ true) is right))
+
+-- ---- the guard, from all pages free on
+
+pub fresh_pages : (n bytes : ℕ) (guard : List Protection) → bytes ≡ page_size * n → guard ≡ replicate (bytes / page_size) Free → guard ≡ replicate n Free
+fresh_pages n bytes guard size fresh =
+    let pages : bytes / page_size ≡ n = omega (arith, size) in fresh ∙ ap (λ (k : ℕ). replicate k Free) pages
+
+pub text_first : (rules : Rules) (s : Contents) (guard : List Protection) → guard ≡ replicate rules.ram_pages Free → is_guarded_right rules s ≡ true → CanApprove guard (text_left rules s)
+text_first rules s guard fresh right =
+    subst (λ (g : List Protection). CanApprove g (text_left rules s)) (sym fresh)
+    (free_first Approved (replicate rules.ram_pages Free) (text_left rules s) (loaded_pages rules s.modules) (guard_free rules s right))
+
+pub modules_then : (rules : Rules) (s : Contents) (guard mid : List Protection) → guard ≡ replicate rules.ram_pages Free → is_guarded_right rules s ≡ true
+    → Approves guard mid (text_left rules s) → CanApprove mid (loaded_pages rules s.modules)
+modules_then rules s guard mid fresh right first =
+    free_behind Approved (replicate rules.ram_pages Free) mid (text_left rules s) (loaded_pages rules s.modules) (guard_free rules s right)
+    (subst (λ (g : List Protection). Approves g mid (text_left rules s)) fresh first)
+
+pub all_approved : (rules : Rules) (s : Contents) (guard mid after : List Protection) → guard ≡ replicate rules.ram_pages Free → Approves guard mid (text_left rules s)
+    → Approves mid after (loaded_pages rules s.modules) → Approves (replicate rules.ram_pages Free) after (approved_of rules s)
+all_approved rules s guard mid after fresh first second =
+    both_taken (replicate rules.ram_pages Free) mid after (text_left rules s) (loaded_pages rules s.modules)
+    (subst (λ (g : List Protection). Approves g mid (text_left rules s)) fresh first) second
+
+pub length_free : (n : ℕ) → length (replicate n Free) ≡ n
+length_free zero = refl
+length_free (suc n) = ap suc (length_free n)

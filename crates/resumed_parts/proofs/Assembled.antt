@@ -1,0 +1,54 @@
+-- The parts put together.
+use Rattle.std.proofs.Common.{◌≡◌, ℕ, ◌+◌, ◌*◌, ◌^◌, ◌<◌, ◌≤◌, List, [], ◌∷◌, length, map, replicate, refl, sym, ◌∙◌, ap, subst, Bool, true, false, arith}
+use Rattle.std.specs.Prelude.{Option, Some, None, option_map, is_some, IfSome, IsTrue}
+use Rattle.processor.specs.Bytes.{page_size}
+use Rattle.processor.specs.Regions.{Region, IsRegion}
+use Rattle.sv_types.specs.Policies.{Rules}
+use Rattle.sv_types.specs.Views.{with_ram}
+use Rattle.sv_types.specs.declared.protection.Protection.{Protection}
+use Rattle.sv_types.specs.declared.protection.Protection.TheVariants.{Free, Approved}
+use Rattle.gstage_tables.specs.Layout.{table_size}
+use Rattle.page_guard.specs.Guarded.{Guarded, IsTheirs, StaysTheirs}
+use Rattle.page_guard.specs.Permitted.{Permitted}
+use Rattle.saved_machine.specs.declared.harts.SavedHart.{SavedHart}
+use Rattle.snapshot_form.specs.Snapshots.{Contents}
+use Rattle.sv_types.specs.declared.event.Note.{Note}
+use Rattle.reference.specs.States.{Devices, Journal}
+use Rattle.saved_machine.specs.SavedStates.{disk_of}
+use Rattle.resumption.specs.ResumedStates.{timers_of}
+use Rattle.resumption.specs.Judgements.{approved_of}
+use Rattle.resume_laws.proofs.TakenPages.{length_taken}
+use Rattle.resumed_parts.specs.Approving.{Approves}
+use Rattle.resumed_parts.specs.Seating.{CanAllSit}
+use Rattle.resumed_parts.proofs.Approved.{length_free}
+
+-- the tables are as long as before
+pub tables_stay : (before after : Region) (old new : Guarded) → IsTheirs before old → StaysTheirs before after old new → length after.tables ≡ length before.tables
+tables_stay before after old new theirs stays =
+    stays.theirs.trees.size
+    ∙ ap (λ (n : ℕ). table_size n (length new.bound)) stays.size
+    ∙ ap (λ (bound : List ℕ). table_size (length old.pages) (length bound)) stays.bound
+    ∙ sym theirs.trees.size
+
+-- as many pages are guarded as the policy says
+pub pages_guarded : (rules : Rules) (s : Contents) (guard : List Protection) → Approves (replicate rules.ram_pages Free) guard (approved_of rules s) → length guard ≡ rules.ram_pages
+pages_guarded rules s guard is = length_taken Approved (replicate rules.ram_pages Free) guard (approved_of rules s) is ∙ length_free rules.ram_pages
+
+-- RAM and tables have few bytes
+pub room_behind : (r : Region) (guard : Guarded) (tables : ℕ) → IsRegion r → IsTheirs r guard → tables ≡ length r.tables → tables + page_size * length guard.pages < 2 ^ 63
+room_behind r guard tables region theirs same = let small = region.small in let ram = theirs.ram in omega (arith, small, ram, same)
+
+pub sits_in : (n pages : ℕ) (e entries : Permitted) (hs : List SavedHart) → n ≡ pages → e ≡ entries → CanAllSit n e hs → CanAllSit pages entries hs
+sits_in n pages e entries hs size same all =
+    subst (λ (x : Permitted). CanAllSit pages x hs) same (subst (λ (k : ℕ). CanAllSit k e hs) size all)
+
+-- ---- values as they are made
+
+abbrev pub listed : (entries bound : List ℕ) → Permitted
+listed entries bound = record { entries = entries; bound = bound }
+
+abbrev pub devices_by : Contents → List ℕ → List SavedHart → Devices
+devices_by s input hs = record { console = input; disk = disk_of s.port s.disk; clock = record { time = s.time; timers = timers_of hs } }
+
+abbrev pub journal_by : Contents → List Note → Journal
+journal_by s notes = record { printed = []; notes = notes; counts = s.counts; verdict = s.verdict }

@@ -1,0 +1,142 @@
+-- The devices that a snapshot says.
+use Rattle.std.proofs.Common.{◌≡◌, ℕ, zero, suc, ◌+◌, ◌-◌, ◌*◌, ◌/◌, ◌%◌, ◌<◌, ◌≤◌, List, [], ◌∷◌, ◌++◌, length, map, drop, get_or, replicate, refl, sym, ◌∙◌, ap, subst, Bool, true, false, not, ◌&&◌, ◌||◌, arith, slice_get, length-append}
+use Rattle.std.specs.Prelude.{Option, Some, None, ◌==◌, nat_lt, nat_le, if◌then◌else◌}
+use Rattle.std.proofs.lemmas.Bool.{eqb-true}
+use Rattle.std.proofs.lemmas.Bool.Decides.{nat_tests}
+use Rattle.std.proofs.lemmas.List.{drop_more, drop_all}
+use Rattle.sv_types.specs.Clock.{latest}
+use Rattle.sv_types.specs.Console.{after_key, has_room, most_queued}
+use Rattle.sv_types.specs.declared.block.BlockCommand.{BlockCommand}
+use Rattle.sv_types.specs.declared.block.BlockState.{BlockState}
+use Rattle.sv_types.specs.declared.block.BlockStatus.{BlockStatus}
+use Rattle.sv_types.specs.declared.port.PortState.{PortState}
+use Rattle.sv_types.specs.declared.virtio.VirtioState.{VirtioState}
+use Rattle.reference.specs.BlockDisk.{beat_size, beats_done, is_busy, is_under_way, sector_size}
+use Rattle.reference.specs.States.{Devices}
+use Rattle.saved_machine.specs.declared.harts.SavedHart.{SavedHart}
+use Rattle.snapshot_form.specs.DeviceForms.{block, block_in, console, devices, disk, holds_transfer, port, sectors, standing, transfer}
+use Rattle.snapshot_form.specs.Forms.{is_word}
+use Rattle.snapshot_form.proofs.FormLaws.{first_true, second_true}
+use Rattle.devices.specs.BlockRegisters.{IsSound}
+use Rattle.resumption.specs.ResumedStates.{timers_of}
+use Rattle.resume_laws.proofs.FormParts.{below_is, most_is}
+use Rattle.resume_laws.proofs.TakenPages.{found_later}
+use Rattle.resumed_parts.specs.Timing.{timer_in}
+
+-- ---- timers
+
+pub timers_are : (hs : List SavedHart) → length hs ≤ 4
+    → timer_in (slice_get hs 0) ∷ (timer_in (slice_get hs 1) ∷ (timer_in (slice_get hs 2) ∷ (timer_in (slice_get hs 3) ∷ []))) ≡ timers_of hs
+timers_are [] few = refl
+timers_are (a ∷ []) few = refl
+timers_are (a ∷ (b ∷ [])) few = refl
+timers_are (a ∷ (b ∷ (c ∷ []))) few = refl
+timers_are (a ∷ (b ∷ (c ∷ (d ∷ [])))) few = refl
+timers_are (a ∷ (b ∷ (c ∷ (d ∷ (e ∷ hs))))) few = absurd (omega (arith, few))
+
+-- ---- input
+
+room_by : (queue : List ℕ) (byte : ℕ) (b : Bool) → has_room queue ≡ b → length queue < most_queued → (if b then queue ++ byte ∷ [] else queue) ≡ queue ++ byte ∷ []
+room_by queue byte true at less = refl
+room_by queue byte false at less = absurd (grind (arith, nat_tests))
+
+appended : (queue rest : List ℕ) (byte : ℕ) → (queue ++ byte ∷ []) ++ rest ≡ queue ++ (byte ∷ rest)
+appended [] rest byte = refl
+appended (x ∷ queue) rest byte = ap (◌∷◌ x) (appended queue rest byte)
+
+-- one byte more
+pub key_next : (queue bytes all : List ℕ) (i d : ℕ) → i < length bytes → length all ≤ most_queued → queue ++ drop i bytes ≡ all
+    → after_key queue (get_or bytes i d) ++ drop (i + 1) bytes ≡ all
+key_next queue bytes all i d within few before =
+    let byte : ℕ = get_or bytes i d in
+    let next : queue ++ (byte ∷ drop (i + 1) bytes) ≡ all = ap (λ (rest : List ℕ). queue ++ rest) (sym (drop_more bytes i d within)) ∙ before in
+    let size : length all ≡ length queue + suc (length (drop (i + 1) bytes)) = ap length (sym next) ∙ length-append queue (byte ∷ drop (i + 1) bytes) in
+    let less : length queue < most_queued = omega (arith, size, few) in
+    ap (λ (q : List ℕ). q ++ drop (i + 1) bytes) (room_by queue byte (has_room queue) refl less) ∙ appended queue (drop (i + 1) bytes) byte ∙ next
+
+-- only the input differs
+pub input_alone : (start before after : Devices) (queue : List ℕ) → before ≡ record start { console = before.console } → after ≡ record before { console = queue }
+    → after ≡ record start { console = after.console }
+input_alone start before after queue was is =
+    let console : after.console ≡ queue = ap (λ (d : Devices). d.console) is in
+    is ∙ ap (λ (d : Devices). record d { console = queue }) was ∙ ap (λ (q : List ℕ). record start { console = q }) (sym console)
+
+no_more : (queue : List ℕ) → queue ++ [] ≡ queue
+no_more [] = refl
+no_more (x ∷ queue) = ap (◌∷◌ x) (no_more queue)
+
+pub keys_end : (queue bytes all : List ℕ) (i : ℕ) → length bytes ≤ i → queue ++ drop i bytes ≡ all → queue ≡ all
+keys_end queue bytes all i past before = sym (no_more queue) ∙ ap (λ (rest : List ℕ). queue ++ rest) (sym (drop_all i bytes past)) ∙ before
+
+-- ---- the parts of the form
+
+pub record HaveForms (input : List ℕ) (p : PortState) (bytes : List ℕ) : Type 0 where
+  pub few : length input ≤ most_queued
+  pub of_port : port.has p ≡ true
+  pub of_disk : (disk (block_in p)).has bytes ≡ true
+
+pub have_forms : (input : List ℕ) (p : PortState) (bytes : List ℕ) → devices.has (input, (p, bytes)) ≡ true → HaveForms input p bytes
+unfolding devices console
+have_forms input p bytes h =
+    let waits = first_true (console.has input) _ h in
+    let rest = second_true (console.has input) _ h in
+    record {
+      few = most_is (length input) most_queued (second_true (is_word (length input)) _ (first_true (is_word (length input) && nat_le (length input) most_queued) _ waits));
+      of_port = first_true (port.has p) _ rest;
+      of_disk = second_true (port.has p) _ rest;
+    }
+
+-- ---- the block device
+
+-- a transfer under way has an address of a beat's bytes, and beats left
+record GoesOn (gpa count : ℕ) (status : BlockStatus) : Type 0 where
+  aligned : gpa % beat_size ≡ 0
+  left : beat_size * beats_done status < sector_size * count
+
+standing_goes : (gpa count : ℕ) (status : BlockStatus) → (standing gpa count).has status ≡ true → is_under_way status ≡ true → GoesOn gpa count status
+unfolding standing transfer
+standing_goes gpa count BlockStatus.Idle h busy = absurd cc
+standing_goes gpa count (BlockStatus.Busy BlockCommand.DiskToMemory done) h busy =
+    let begun = second_true (nat_lt 0 count) _ (first_true (nat_lt 0 count && gpa % beat_size == 0) _ h) in
+    let beats = second_true (is_word done) _ (second_true (nat_lt 0 count && gpa % beat_size == 0) _ h) in
+    let less = below_is done (8 * count) beats in
+    record { aligned = eqb-true (gpa % beat_size) 0 begun; left = omega (arith, less) }
+standing_goes gpa count (BlockStatus.Busy BlockCommand.MemoryToDisk done) h busy =
+    let begun = second_true (nat_lt 0 count) _ (first_true (nat_lt 0 count && gpa % beat_size == 0) _ h) in
+    let beats = second_true (is_word done) _ (second_true (nat_lt 0 count && gpa % beat_size == 0) _ h) in
+    let less = below_is done (8 * count) beats in
+    record { aligned = eqb-true (gpa % beat_size) 0 begun; left = omega (arith, less) }
+standing_goes gpa count BlockStatus.Done h busy = absurd cc
+standing_goes gpa count BlockStatus.Denied h busy = absurd cc
+standing_goes gpa count BlockStatus.OutOfRange h busy = absurd cc
+
+block_goes : (b : BlockState) → block.has b ≡ true → is_busy b ≡ true → GoesOn b.gpa b.count b.status
+unfolding block
+block_goes b h busy =
+    let gpa_on = second_true (is_word b.sector) _ h in
+    let count_on = second_true (is_word b.gpa) _ gpa_on in
+    standing_goes b.gpa b.count b.status (second_true (sectors.has b.count) _ count_on) busy
+
+not_idle : (busy fits : Bool) → (not busy || fits) ≡ true → busy ≡ true → fits ≡ true
+not_idle true fits e busy = e
+not_idle false fits e busy = absurd cc
+
+disk_holds : (b : BlockState) (bytes : List ℕ) → (disk b).has bytes ≡ true → is_busy b ≡ true → sector_size * (b.sector + b.count) ≤ length bytes
+unfolding disk
+disk_holds b bytes h busy =
+    let range = second_true (is_word (length bytes)) (holds_transfer b (length bytes)) (first_true (is_word (length bytes) && holds_transfer b (length bytes)) _ h) in
+    let fits = not_idle (is_busy b) (nat_le (b.sector + b.count) (length bytes / sector_size)) (second_true _ (not (is_busy b) || nat_le (b.sector + b.count) (length bytes / sector_size)) range) busy in
+    let most = most_is (b.sector + b.count) (length bytes / sector_size) fits in omega (arith, most)
+
+pub block_sound : (b : BlockState) (bytes : List ℕ) → port.has (PortState.Block b) ≡ true → (disk b).has bytes ≡ true → IsSound (record { block = b; bytes = bytes })
+unfolding port
+block_sound b bytes h on_disk = record {
+  aligned = λ busy. (block_goes b h busy).aligned;
+  left = λ busy. (block_goes b h busy).left;
+  inside = λ busy. disk_holds b bytes on_disk busy;
+}
+
+-- a snapshot has no other device
+pub no_virtio : (v : VirtioState) → port.has (PortState.Virtio v) ≡ true → ⊥
+unfolding port
+no_virtio v h = cc

@@ -1,0 +1,44 @@
+-- A region whose RAM is copied in.
+use Rattle.std.proofs.Common.{◌≡◌, ℕ, zero, suc, ◌+◌, ◌-◌, ◌*◌, ◌≤◌, List, [], ◌∷◌, ◌++◌, length, replicate, refl, sym, ◌∙◌, ap, arith, drop}
+use Rattle.std.proofs.lemmas.List.{drop_all}
+use Rattle.processor.specs.Bytes.{overwrite, page_size}
+use Rattle.processor.specs.Regions.{Region, host_bytes}
+
+length_zeros : (n : ℕ) → length (replicate {A = ℕ} n 0) ≡ n
+length_zeros zero = refl
+length_zeros (suc n) = let k = length_zeros n in omega (arith, k)
+
+length_both : (n k : ℕ) → length (replicate {A = ℕ} n 0 ++ replicate {A = ℕ} k 0) ≡ n + k
+length_both zero k = let m = length_zeros k in omega (arith, m)
+length_both (suc n) k = let m = length_both n k in omega (arith, m)
+
+-- RAM has room for the bytes
+pub bytes_fit : (r : Region) (tables n : ℕ) (bytes : List ℕ) → r ≡ record { tables = replicate tables 0; ram = replicate n 0 } → length bytes ≡ n
+    → tables + length bytes ≤ length (host_bytes r)
+bytes_fit r tables n bytes fresh same =
+    let size : length (host_bytes r) ≡ tables + n = ap (λ (r : Region). length (host_bytes r)) fresh ∙ length_both tables n in
+    omega (arith, size, same)
+
+pub tables_sized : (r : Region) (tables n : ℕ) → r ≡ record { tables = replicate tables 0; ram = replicate n 0 } → length r.tables ≡ tables
+tables_sized r tables n fresh = ap (λ (r : Region). length r.tables) fresh ∙ length_zeros tables
+
+nothing_behind : (bytes : List ℕ) → bytes ++ [] ≡ bytes
+nothing_behind [] = refl
+nothing_behind (x ∷ bytes) = ap (◌∷◌ x) (nothing_behind bytes)
+
+over_all : (n : ℕ) (bytes : List ℕ) → length bytes ≡ n → overwrite (replicate n 0) 0 bytes ≡ bytes
+unfolding overwrite
+over_all n bytes same =
+    let size = length_zeros n in
+    ap (λ (rest : List ℕ). bytes ++ rest) (drop_all (0 + length bytes) (replicate n 0) (omega (arith, size, same))) ∙ nothing_behind bytes
+
+-- the bytes are RAM's
+pub bytes_copied : (before after : Region) (tables n : ℕ) (bytes : List ℕ) → before ≡ record { tables = replicate tables 0; ram = replicate n 0 } → length bytes ≡ n
+    → (length before.tables ≤ tables → after ≡ record before { ram = overwrite before.ram (tables - length before.tables) bytes }) → after.ram ≡ bytes
+bytes_copied before after tables n bytes fresh same copied =
+    let size = tables_sized before tables n fresh in
+    let none : tables - length before.tables ≡ 0 = omega (arith, size) in
+    ap (λ (r : Region). r.ram) (copied (omega (arith, size)))
+    ∙ ap (λ (k : ℕ). overwrite before.ram k bytes) none
+    ∙ ap (λ (r : Region). overwrite r.ram 0 bytes) fresh
+    ∙ over_all n bytes same

@@ -1,0 +1,83 @@
+// The devices of a machine that goes on.
+
+ghost use Rattle.std.specs.Prelude.{◌≡◌, ◌+◌, ◌++◌, ◌≤◌, length, slice_get, true};
+ghost use Rattle.sv_types.specs.Console.{most_queued};
+ghost use Rattle.sv_types.specs.Limits.{most_harts};
+ghost use Rattle.saved_machine.specs.SavedStates.{disk_of};
+ghost use Rattle.snapshot_form.specs.DeviceForms as form;
+ghost use Rattle.disk_port.specs.Ports.{port_disk};
+ghost use Rattle.resumption.specs.ResumedStates.{timers_of};
+ghost use Rattle.resumed_parts.specs.Timing.{timer_in};
+
+use devices::{Block, Devices};
+use disk_port::Port;
+use saved_machine::SavedHart;
+use sv_types::PortState;
+
+/// A timer that never is due.
+const NEVER: u64 = u64::MAX;
+
+/// The devices as a snapshot has them: its port with the disk, the input that waits, the time, and the timers of its harts. No
+/// other hart has a timer set.
+pub fn devices_of(
+    port: PortState,
+    disk: Vec<u8>,
+    input: &[u8],
+    time: u64,
+    harts: &[SavedHart],
+) -> Devices<Port>
+    requires form { form.devices.has (input.now, (port, disk.items)) ≡ true }
+    requires few { length harts.now ≤ most_harts }
+    ensures { result ≡ record { console = input.now; disk = disk_of port disk.items; clock = record { time = time; timers = timers_of harts.now } } }
+{
+    let mut devices = Devices::from_values(port_of(port, disk), time, timers_of(harts));
+    put_input(&mut devices, input);
+    devices
+}
+
+// A snapshot has this project's block device alone.
+fn port_of(port: PortState, disk: Vec<u8>) -> Port
+    requires port { form.port.has port ≡ true }
+    requires disk { (form.disk (form.block_in port)).has disk.items ≡ true }
+    ensures { port_disk result ≡ disk_of port disk.items }
+{
+    match port {
+        PortState::Block(state) => Port::Block(Block::from_state(state, disk)),
+        PortState::Virtio(_) => unreachable!(),
+    }
+}
+
+// Puts bytes of input behind those that wait.
+fn put_input(devices: &mut Devices<Port>, input: &[u8])
+    requires room { length devices.old.console + length input.now ≤ most_queued }
+    ensures { devices.new ≡ record devices.old { console = devices.old.console ++ input.now } }
+{
+    'keys: for byte in input {
+        let _taken = devices.key(*byte);
+    }
+}
+
+// ---- timers
+
+#[tactic(auto, using(crate::proofs::DeviceParts::timers_are))]
+fn timers_of(harts: &[SavedHart]) -> [u64; 4]
+    requires { length harts.now ≤ most_harts }
+    ensures { result ≡ timers_of harts.now }
+{
+    [
+        timer_at(harts, 0),
+        timer_at(harts, 1),
+        timer_at(harts, 2),
+        timer_at(harts, 3),
+    ]
+}
+
+// The timer of a hart; that of one that isn't there never is due.
+fn timer_at(harts: &[SavedHart], which: usize) -> u64
+    ensures { result ≡ timer_in (slice_get harts.now which) }
+{
+    match harts.get(which) {
+        Some(hart) => hart.timer,
+        None => NEVER,
+    }
+}

@@ -1,0 +1,11 @@
+//! The parts of a machine that goes on from a snapshot. What protects pages is made anew, and nothing of it is believed.
+#![tactic(auto)]
+
+mod devices;
+mod guard;
+mod load;
+mod parts;
+mod retired;
+mod seats;
+
+pub use parts::{ResumedParts, resume_parts};

@@ -1,0 +1,121 @@
+// The load under way of a machine that goes on. Nothing that was kept of its pages is believed: they are counted again.
+
+ghost use Rattle.std.specs.Prelude.{◌≡◌, ◌+◌, ◌-◌, ◌<◌, ◌≤◌, IfSome, IsTrue, Some, false, is_some, length, option_map, true};
+ghost use Rattle.processor.specs.Bytes.{page_bytes, page_of, page_size};
+ghost use Rattle.sv_types.specs.Policies.{rules_of, rules_within};
+ghost use Rattle.sv_types.specs.declared.protection.Protection.TheVariants.{Held};
+ghost use Rattle.reference.specs.States.{module_pages};
+ghost use Rattle.page_guard.specs.Guarded.{IsTheirs, StaysTheirs};
+ghost use Rattle.module_answers.specs.Conditions.{TakesItsPages};
+ghost use Rattle.module_answers.specs.Parts.{load_of};
+ghost use Rattle.resumption.specs.Judgements.{load_pages, taken};
+ghost use Rattle.resumed_start.specs.Resuming.{load_resumed};
+ghost use Rattle.resumed_parts.specs.Approving.{CanTake};
+ghost use Rattle.resumed_parts.specs.Counting.{IsCounted, IsWithin};
+
+use host_mem::HostMem;
+use module_answers::UnderWay;
+use module_gate::{Gate, Load};
+use page_guard::Guard;
+use processor::page_of;
+use reference::pages_of;
+use saved_machine::SavedLoad;
+use sv_types::Policy;
+
+/// The load under way, where the snapshot has one. No load is under way yet.
+pub fn resume_loading(
+    gate: &mut Gate,
+    guard: &mut Guard,
+    mem: &mut HostMem,
+    policy: &Policy,
+    loading: &Option<SavedLoad>,
+) -> Option<UnderWay>
+    requires within { IsTrue (rules_within (rules_of policy.now)) }
+    requires idle { gate.old.loading ≡ false }
+    requires pages { length guard.old.pages ≡ policy.now.ram_pages }
+    requires place { IfSome loading.now (IsWithin (rules_of policy.now)) }
+    requires free { CanTake Held guard.old.pages (load_pages (rules_of policy.now) loading.now) }
+    requires theirs { IsTheirs mem.old guard.old }
+    ensures load { option_map load_of result ≡ option_map (load_resumed (rules_of policy.now) mem.old.ram) loading.now }
+    ensures pages { IfSome result (TakesItsPages (rules_of policy.now)) }
+    ensures gate { gate.new ≡ record gate.old { loading = is_some result } }
+    ensures guard { taken Held guard.old.pages (load_pages (rules_of policy.now) loading.now) ≡ Some guard.new.pages }
+    ensures theirs { StaysTheirs mem.old mem.new guard.old guard.new }
+{
+    match loading {
+        Some(saved) => Some(resume_load(gate, guard, mem, policy, saved)),
+        None => None,
+    }
+}
+
+// A load under way: its pages are held, and as many of them counted as were counted before, as RAM has them now.
+fn resume_load(
+    gate: &mut Gate,
+    guard: &mut Guard,
+    mem: &mut HostMem,
+    policy: &Policy,
+    saved: &SavedLoad,
+) -> UnderWay
+    requires within { IsTrue (rules_within (rules_of policy.now)) }
+    requires idle { gate.old.loading ≡ false }
+    requires pages { length guard.old.pages ≡ policy.now.ram_pages }
+    requires place { IsWithin (rules_of policy.now) saved.now }
+    requires free { CanTake Held guard.old.pages (module_pages (rules_of policy.now) saved.now.«module») }
+    requires theirs { IsTheirs mem.old guard.old }
+    ensures load { load_of result ≡ load_resumed (rules_of policy.now) mem.old.ram saved.now }
+    ensures pages { TakesItsPages (rules_of policy.now) result }
+    ensures gate { gate.new ≡ record gate.old { loading = true } }
+    ensures guard { taken Held guard.old.pages (module_pages (rules_of policy.now) saved.now.«module») ≡ Some guard.new.pages }
+    ensures theirs { StaysTheirs mem.old mem.new guard.old guard.new }
+{
+    let mut load = gate.begin(guard, mem, policy, saved.module);
+    let counted = pages_of(policy, saved.module.id) - saved.left;
+    count_pages(&mut load, mem, policy, counted);
+    UnderWay {
+        hart: saved.hart,
+        load,
+    }
+}
+
+// Counts so many more pages of the module.
+fn count_pages(load: &mut Load, mem: &HostMem, policy: &Policy, count: u32)
+    requires within { IsTrue (rules_within (rules_of policy.now)) }
+    requires counted { IsCounted (rules_of policy.now) mem.now.ram load.old }
+    requires some { count ≤ load.old.left }
+    ensures counted { IsCounted (rules_of policy.now) mem.now.ram load.new }
+    ensures left { load.new.left + count ≡ load.old.left }
+    ensures about { load.new.about ≡ load.old.about }
+    ensures pages { load.new.pages ≡ load.old.pages }
+{
+    'counted: for _ in 0..count {
+        count_next(load, mem, policy);
+    }
+}
+
+// Counts the next page.
+fn count_next(load: &mut Load, mem: &HostMem, policy: &Policy)
+    requires within { IsTrue (rules_within (rules_of policy.now)) }
+    requires counted { IsCounted (rules_of policy.now) mem.now.ram load.old }
+    requires left { 0 < load.old.left }
+    ensures counted { IsCounted (rules_of policy.now) mem.now.ram load.new }
+    ensures left { load.new.left + 1 ≡ load.old.left }
+    ensures about { load.new.about ≡ load.old.about }
+    ensures pages { load.new.pages ≡ load.old.pages }
+{
+    load.page(policy, next_page(load, mem, policy));
+}
+
+// The bytes of the next page of the module, as RAM has them now.
+fn next_page<'a>(load: &Load, mem: &'a HostMem, policy: &Policy) -> &'a [u8]
+    requires counted { IsCounted (rules_of policy.now) mem.now.ram load.now }
+    requires left { 0 < load.now.left }
+    ensures bytes { result.now ≡ page_bytes mem.now.ram (page_of load.now.about.gpa + (load.now.pages - load.now.left)) }
+    ensures size { length result.now ≡ page_size }
+{
+    let about = load.about();
+    let first = page_of(about.gpa);
+    let ram_pages = mem.ram_pages() as u64;
+    prove!(first < ram_pages);
+    let counted = pages_of(policy, about.id) - load.left();
+    mem.page(first as u32 + counted)
+}

@@ -1,0 +1,125 @@
+// All that goes on of a snapshot.
+
+ghost use Rattle.std.specs.Prelude.{◌≡◌, ◌*◌, ◌≤◌, None, IfOk, IsTrue, length, replicate, true};
+ghost use Rattle.processor.specs.Bytes.{page_size};
+ghost use Rattle.processor.specs.Regions.{most_ram_pages};
+ghost use Rattle.sv_types.specs.Policies.{rules_of, rules_within};
+ghost use Rattle.gstage_tables.specs.Layout.{most_bound, table_size};
+ghost use Rattle.machine_model.specs.StandsFor.{bound_pages};
+ghost use Rattle.page_guard.specs.Guarded.{IsTheirs};
+ghost use Rattle.snapshot_form.specs.Snapshots as form;
+ghost use Rattle.resumption.specs.Judgements.{approved_of, resume_refusal};
+ghost use Rattle.sv_types.specs.declared.protection.Protection.TheVariants.{Free};
+ghost use Rattle.resumed_parts.specs.Approving.{Approves};
+ghost use Rattle.resumed_parts.specs.Parts.{AreResumed};
+
+use crate::devices::devices_of;
+use crate::guard::approved_guard;
+use crate::load::resume_loading;
+use crate::seats::seats_of;
+use devices::Devices;
+use disk_port::Port;
+use gstage_tables::Trees;
+use hart_answers::Seat;
+use host_mem::HostMem;
+use journal_records::Journal;
+use module_answers::Modules;
+use module_gate::Gate;
+use page_guard::{Entries, Guard};
+use snapshot_form::Snapshot;
+use std::alloc::{AllocError, Global};
+use sv_types::Policy;
+
+/// What a machine that goes on has of its snapshot, and what guards it. It can't be dropped while a load is under way.
+pub struct ResumedParts {
+    pub mem: HostMem,
+    pub guard: Guard,
+    pub entries: Entries,
+    pub seats: Vec<Seat>,
+    pub modules: Modules,
+    pub devices: Devices<Port>,
+    pub journal: Journal,
+}
+
+/// The parts of a machine that goes on from a snapshot that isn't refused, under a policy whose values are within their limits.
+/// `bound` has the page that each of its entries is bound to. Want of memory is the one refusal.
+pub fn resume_parts(
+    alloc: Global,
+    snapshot: Snapshot,
+    policy: &Policy,
+    bound: &[u32],
+) -> Result<ResumedParts, AllocError>
+    requires within { IsTrue (rules_within (rules_of policy.now)) }
+    requires bound { bound.now ≡ bound_pages (rules_of policy.now) }
+    requires form { form.snapshot.has (form.contents snapshot) ≡ true }
+    requires accepted { resume_refusal (rules_of policy.now) (form.contents snapshot) ≡ None }
+    ensures { IfOk result (AreResumed (rules_of policy.now) (form.contents snapshot)) }
+{
+    let mut mem = region_of(alloc, &snapshot.machine.ram, policy.ram_pages, bound.len())?;
+    let guard = approved_guard(alloc, &mut mem, policy, &snapshot, bound)?;
+    assemble(alloc, snapshot, policy, mem, guard)
+}
+
+// A region with these bytes of RAM, and room for its tables, where so many entries are bound.
+fn region_of(
+    alloc: Global,
+    ram: &[u8],
+    ram_pages: u32,
+    bound: usize,
+) -> Result<HostMem, AllocError>
+    requires few { ram_pages ≤ most_ram_pages }
+    requires bound { bound ≤ most_bound }
+    requires size { length ram.now ≡ page_size * ram_pages }
+    ensures tables { IfOk result (λ m. length m.tables ≡ table_size ram_pages bound) }
+    ensures ram { IfOk result (λ m. m.ram ≡ ram.now) }
+{
+    let tables = Trees::table_bytes(ram_pages as usize, bound);
+    let mut mem = HostMem::new(alloc, tables, ram_pages as usize)?;
+    mem.copy_in(tables, ram);
+    Ok(mem)
+}
+
+// The parts over a region and its guard. The load comes last: it can't be dropped.
+fn assemble(
+    alloc: Global,
+    snapshot: Snapshot,
+    policy: &Policy,
+    mut mem: HostMem,
+    mut guard: Guard,
+) -> Result<ResumedParts, AllocError>
+    requires within { IsTrue (rules_within (rules_of policy.now)) }
+    requires form { form.snapshot.has (form.contents snapshot) ≡ true }
+    requires accepted { resume_refusal (rules_of policy.now) (form.contents snapshot) ≡ None }
+    requires ram { mem.ram ≡ (form.contents snapshot).ram }
+    requires guard { Approves (replicate policy.now.ram_pages Free) guard.pages (approved_of (rules_of policy.now) (form.contents snapshot)) }
+    requires bound { guard.bound ≡ bound_pages (rules_of policy.now) }
+    requires theirs { IsTheirs mem guard }
+    ensures { IfOk result (AreResumed (rules_of policy.now) (form.contents snapshot)) }
+{
+    let Snapshot {
+        events: _,
+        machine,
+        text: _,
+    } = snapshot;
+    let entries = Entries::new(alloc, &policy.entries, &policy.bound)?;
+    let seats = seats_of(alloc, &guard, &entries, mem.table_bytes(), &machine.harts)?;
+    let journal = Journal::from_values(alloc, machine.counts, &machine.notes, machine.verdict)?;
+    let mut gate = Gate::from_values(alloc, &machine.modules, machine.retired)?;
+    let loading = resume_loading(&mut gate, &mut guard, &mut mem, policy, &machine.loading);
+    let devices = devices_of(
+        machine.port,
+        machine.disk,
+        &machine.console,
+        machine.time,
+        &machine.harts,
+    );
+    Ok(ResumedParts {
+        mem,
+        guard,
+        entries,
+        seats,
+        modules: Modules { gate, loading },
+        devices,
+        journal,
+    })
+}

@@ -1,0 +1,121 @@
+// The harts of a machine that goes on, each on its side. A hart comes to its side as every hart does, and in an entry by that
+// entry's address.
+
+ghost use Rattle.std.specs.Prelude.{◌≡◌, ◌+◌, ◌*◌, ◌^◌, ◌<◌, ◌≤◌, IfOk, IfSome, length, map, option_map};
+ghost use Rattle.processor.specs.Bytes.{page_size, ram_base, ram_place};
+ghost use Rattle.processor.specs.HypervisorRegisters.{IsLegal};
+ghost use Rattle.sv_types.specs.declared.view.View.TheVariants.{Entry};
+ghost use Rattle.machine_model.specs.StandsFor.{host_reservation};
+ghost use Rattle.hart_answers.specs.Hosts.{host_at, hosts_of};
+ghost use Rattle.resumed_start.specs.Resuming.{csrs_resumed, host_resumed};
+ghost use Rattle.resumed_parts.specs.Seating.{CanAllSit, CanSit, IsEntered, IsReservable, MayBeIn, view_in};
+
+use csr_file::Csrs;
+use hart::{Core, Hart};
+use hart_answers::Seat;
+use page_guard::{Entries, Guard, Side};
+use processor::{Mode, RAM_BASE};
+use rv64_exec::Regs;
+use saved_machine::SavedHart;
+use std::alloc::{AllocError, Global};
+
+/// The harts, each on its side, where RAM lies behind so many bytes of tables. Want of memory is the one refusal.
+pub fn seats_of(
+    alloc: Global,
+    guard: &Guard,
+    entries: &Entries,
+    tables: usize,
+    harts: &[SavedHart],
+) -> Result<Vec<Seat>, AllocError>
+    requires each { CanAllSit (length guard.now.pages) entries.now harts.now }
+    requires room { tables + page_size * length guard.now.pages < 2 ^ 63 }
+    ensures hosts { IfOk result (λ seats. hosts_of seats.items ≡ map (host_resumed tables) harts.now) }
+    ensures number { IfOk result (λ seats. length seats.items ≡ length harts.now) }
+{
+    let mut seats = Vec::new(alloc);
+    'seated: for saved in harts {
+        seats.push(seat_of(guard, entries, tables, saved))?;
+    }
+    Ok(seats)
+}
+
+fn seat_of(guard: &Guard, entries: &Entries, tables: usize, saved: &SavedHart) -> Seat
+    requires sits { CanSit (length guard.now.pages) entries.now saved.now }
+    requires room { tables + page_size * length guard.now.pages < 2 ^ 63 }
+    ensures { host_at result ≡ host_resumed tables saved.now }
+{
+    let core = Core {
+        regs: Regs::from_values(saved.registers),
+        pc: saved.pc,
+        csrs: csrs_of(saved),
+        reservation: reserved_place(saved.reservation, tables),
+    };
+    let hart = Hart {
+        core,
+        started: saved.started,
+    };
+    let side = side_of(guard, entries, saved.mode, saved.entry);
+    Seat { hart, side }
+}
+
+// The hypervisor's interrupts stand one place above the guest's, and an exit wrote nothing yet.
+#[tactic(auto, unfolding(processor::specs::HypervisorRegisters::registers_at_boot))]
+fn csrs_of(saved: &SavedHart) -> Csrs
+    requires { IsLegal (csrs_resumed saved.now) }
+    ensures { result ≡ csrs_resumed saved.now }
+{
+    Csrs {
+        vsstatus: saved.sstatus,
+        vstvec: saved.stvec,
+        vsscratch: saved.sscratch,
+        vsepc: saved.sepc,
+        vscause: saved.scause,
+        vstval: saved.stval,
+        vsatp: saved.satp,
+        scounteren: saved.scounteren,
+        hie: 2 * saved.sie,
+        hvip: 2 * saved.sip,
+        sepc: 0,
+        scause: 0,
+        stval: 0,
+        htval: 0,
+        htinst: 0,
+    }
+}
+
+// The host place of a guest-physical address that is reserved.
+fn reserved_place(reservation: Option<u64>, tables: usize) -> Option<u64>
+    requires { IfSome reservation (IsReservable tables) }
+    ensures { result ≡ host_reservation tables (option_map ram_place reservation) }
+{
+    let address = reservation?;
+    Some(tables as u64 + (address - RAM_BASE))
+}
+
+// The side of a hart in a mode, which in kernel mode may be in an entry.
+fn side_of(guard: &Guard, entries: &Entries, mode: Mode, entry: Option<u8>) -> Side
+    requires { MayBeIn entries.now entry }
+    ensures { result ≡ view_in mode entry }
+{
+    let mut side = Side::at_boot(guard);
+    match (mode, entry) {
+        (Mode::Kernel, None) => {}
+        (Mode::Kernel, Some(place)) => enter(&mut side, guard, entries, place),
+        (Mode::User, _) => side.leave(guard),
+    }
+    side
+}
+
+// Enters the kernel from user mode at the address of a bound entry.
+fn enter(side: &mut Side, guard: &Guard, entries: &Entries, place: u8)
+    requires { IsEntered entries.now place }
+    ensures { side.new ≡ Entry place }
+{
+    side.leave(guard);
+    let Some(target) = entries.address(place) else {
+        unreachable!();
+    };
+    let Ok(()) = side.enter(guard, entries, target) else {
+        unreachable!();
+    };
+}

@@ -1,0 +1,5 @@
+use Rattle.resumed_start.proofs.BootDigests.{snap_accepted_law}
+use Rattle.resumed_start.proofs.law_snap_accepted.Goals as goal
+
+pub returns : goal.returns
+returns c = snap_accepted_law
