@@ -30,6 +30,8 @@ mod program;
 #[cfg(test)]
 mod real;
 #[cfg(test)]
+mod snap;
+#[cfg(test)]
 mod texts;
 #[cfg(test)]
 mod translation;

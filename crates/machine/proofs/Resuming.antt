@@ -1,16 +1,15 @@
 -- A machine that goes on from a snapshot stands for the state that the snapshot says, and is fit for its next event.
-use Rattle.std.proofs.Common.{◌≡◌, ℕ, ◌+◌, ◌-◌, ◌*◌, ◌^◌, ◌<◌, ◌≤◌, List, [], ◌∷◌, length, map, replicate, refl, sym, ◌∙◌, ap, subst, Bool, arith, true}
+use Rattle.std.proofs.Common.{◌≡◌, ℕ, ◌-◌, ◌*◌, ◌^◌, ◌≤◌, List, [], ◌∷◌, length, map, refl, ◌∙◌, ap, subst, Bool, arith}
 use Rattle.std.specs.Prelude.{Option, Some, None, IsTrue, option_map}
 use Rattle.std.proofs.lemmas.Bool.Decides.{nat_tests}
-use Rattle.processor.specs.Bytes.{page_size, ram_base}
-use Rattle.processor.specs.Regions.{Region, IsRegion, most_ram_pages}
-use Rattle.sv_types.specs.Policies.{Rules, rules_of, rules_within}
+use Rattle.processor.specs.Bytes.{page_size}
+use Rattle.processor.specs.Regions.{Region, most_ram_pages}
+use Rattle.sv_types.specs.Policies.{Rules, rules_within}
 use Rattle.sv_types.specs.Views.{with_ram}
-use Rattle.sv_types.specs.Views.{AreViews}
 use Rattle.sv_types.specs.declared.protection.Protection.{Protection}
 use Rattle.sv_types.specs.declared.saved.SavedModule.{SavedModule}
-use Rattle.reference.specs.Protections.{is_free, protection_at}
-use Rattle.reference.specs.States.{State, Hart, Devices, Journal}
+use Rattle.reference.specs.Protections.{is_free}
+use Rattle.reference.specs.States.{Hart, Devices, Journal}
 use Rattle.machine_model.specs.Machine.{Machine, HostHart, HostLoad}
 use Rattle.machine_model.specs.Reaches.{IsNew}
 use Rattle.snapshot_form.specs.Snapshots.{Contents}
@@ -22,8 +21,6 @@ use Rattle.resumed_parts.specs.Parts.{AreResumed}
 use Rattle.resumed_parts.specs.declared.parts.ResumedParts.{ResumedParts}
 use Rattle.hart_answers.specs.Hosts.{hosts_of}
 use Rattle.module_answers.specs.Parts.{loading_of}
-use Rattle.machine_model.specs.StandsFor.{bound_pages}
-use Rattle.standing_laws.specs.Starts.{IsGuarded}
 use Rattle.machine.specs.Machines.{HasAddress, HaveAddresses, IsFit}
 use Rattle.machine.specs.declared.machine.Machine.TheInside.{Inside}
 
@@ -107,13 +104,3 @@ parts_resumed rules s p attempts k none =
     ∙ ap (λ (x : Devices). machine_by rules region hosts s.protection s.modules load s.retired x p.journal attempts) k.devices
     ∙ ap (λ (x : Journal). machine_by rules region hosts s.protection s.modules load s.retired state.devices x attempts) k.journal
     ∙ ap (machine_by rules region hosts s.protection s.modules load s.retired state.devices state.journal) none
-
--- the views follow its protections
-pub parts_guarded : (rules : Rules) (s : Contents) (p : ResumedParts) (m : Machine) → AreResumed rules s p → IsRegion p.mem → m ≡ resumed_machine p.mem.tables rules s → IsGuarded m
-unfolding resumed_machine
-parts_guarded rules s p m k region made =
-    subst IsGuarded (sym made) (record {
-      region = subst IsRegion k.region region;
-      views = subst (λ (guard : List Protection). AreViews p.mem.tables (length guard) (bound_pages rules) (protection_at guard)) k.protections
-          (subst (λ (bound : List ℕ). AreViews p.mem.tables (length p.guard.pages) bound (protection_at p.guard.pages)) k.bound k.theirs.views);
-    })

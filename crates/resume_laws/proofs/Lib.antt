@@ -17,3 +17,7 @@ pub mod ResumedSoundHolds
 pub mod SavedResumes
 pub mod TakenAgain
 pub mod SavedAccepted
+pub mod SavedHarts
+pub mod SavedPages
+pub mod SavedJournals
+pub mod SavedForms

@@ -84,7 +84,7 @@ rule_pages rules id None within known at = absurd (past rules.modules id known a
     past [] i less none = omega (arith, less)
     past (x ∷ xs) zero less none = cc
     past (x ∷ xs) (suc i) less none = past xs i (omega (arith, less)) none
-rule_pages rules id (Some rule) within known at = some_pages rules id rule within at
+rule_pages rules id (Some rule) within known at = (some_pages rules id rule within at).0
 
 fit_by : (rules : Rules) (m : SavedModule) → m.id < length rules.modules → ram_base ≤ m.gpa
     → ram_place m.gpa + page_size * pages_in_rule (slice_get rules.modules m.id) ≤ page_size * rules.ram_pages → fits rules m ≡ true
@@ -119,11 +119,11 @@ load_fits_by r (Some load) k =
     (and_both (fits r.rules load.about) (not (is_loaded r.loaded load.about.id)) (fit_by r.rules load.about k.known k.base k.inside) (ap not (none_loaded r.loaded load.about.id k.other)))
     (least_is load.left (pages_in_rule (slice_get r.rules.modules load.about.id)) k.left)
 
-length_pages : (f : ℕ → Protection) (first n : ℕ) → length (map f (numbers_from first n)) ≡ n
+pub length_pages : (f : ℕ → Protection) (first n : ℕ) → length (map f (numbers_from first n)) ≡ n
 length_pages f first zero = refl
 length_pages f first (suc n) = ap suc (length_pages f (first + 1) n)
 
-abbrev snapped : State → ℕ → List TextPage → PortState → List ℕ → Contents
+abbrev pub snapped : State → ℕ → List TextPage → PortState → List ℕ → Contents
 snapped r events text port disk = contents_of r events text (saved_protections r) port disk
 
 of_policy : (r : State) (events : ℕ) (text : List TextPage) (port : PortState) (disk : List ℕ) → IsSound r → is_of_policy r.rules (snapped r events text port disk) ≡ true

@@ -4,3 +4,4 @@ pub mod Keepable
 pub mod ResumedSound
 pub mod SavedResumes
 pub mod SavedAccepted
+pub mod SavedForm

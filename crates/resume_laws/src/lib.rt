@@ -4,6 +4,7 @@
 ghost use Rattle.resume_laws.specs.Resumed.{ResumedLaw};
 ghost use Rattle.resume_laws.specs.ResumedSound.{ResumedGoesOnLaw, ResumedSoundLaw};
 ghost use Rattle.resume_laws.specs.SavedAccepted.{SavedAcceptedLaw};
+ghost use Rattle.resume_laws.specs.SavedForm.{SavedFormLaw};
 ghost use Rattle.resume_laws.specs.SavedResumes.{SavedResumesLaw};
 ghost use Rattle.resume_laws.specs.Continues.{AlikeLaw, ContinuesLaw};
 ghost use Rattle.resume_laws.specs.Keepable.{KeepableLaw, KeepsLaw};
@@ -54,4 +55,10 @@ pub fn law_saved_resumes()
 /// A snapshot of a state isn't refused under the same policy.
 pub fn law_saved_accepted()
     ensures { SavedAcceptedLaw }
+{}
+
+/// It has a spelling, and so is read again as it was, where its numbers are words, as its types say, its device and its disk
+/// go together, and no count is above the number of events.
+pub fn law_saved_form()
+    ensures { SavedFormLaw }
 {}

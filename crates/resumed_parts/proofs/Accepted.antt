@@ -1,6 +1,6 @@
 -- What a snapshot that isn't refused gives its parts.
-use Rattle.std.proofs.Common.{◌≡◌, ℕ, zero, suc, ◌+◌, ◌*◌, ◌<◌, ◌≤◌, List, [], ◌∷◌, ◌++◌, length, min, replicate, refl, sym, ◌∙◌, ap, subst, Bool, true, false, not, ◌&&◌, ◌||◌, arith, slice_get}
-use Rattle.std.specs.Prelude.{Option, Some, None, option_map, is_some, IfSome, IsTrue, nat_le, ◌==◌, if◌then◌else◌}
+use Rattle.std.proofs.Common.{◌≡◌, ℕ, ◌+◌, ◌*◌, ◌<◌, ◌≤◌, List, [], ◌∷◌, ◌++◌, length, min, refl, ◌∙◌, ap, subst, Bool, true, false, not, ◌&&◌, arith, slice_get}
+use Rattle.std.specs.Prelude.{Option, Some, None, IfSome, IsTrue, nat_le, ◌==◌, if◌then◌else◌}
 use Rattle.std.specs.List.{list_all, list_any}
 use Rattle.std.proofs.lemmas.Bool.{eqb-true}
 use Rattle.std.proofs.lemmas.Bool.Decides.{nat_tests}
@@ -24,7 +24,7 @@ use Rattle.module_gate.specs.Ascending.{AscendsFrom}
 use Rattle.resumption.specs.Judgements.{fits, has_modules, has_text, is_bound, is_guarded_right, is_loaded, is_of_policy, joins, load_fits, resume_refusal}
 use Rattle.resumption.specs.declared.refusal.ResumeRefusal.{ResumeRefusal}
 use Rattle.resumption.specs.declared.refusal.ResumeRefusal.TheVariants.{OtherPolicy, OtherPages, OtherKernel, OtherText, OtherModule}
-use Rattle.resume_laws.proofs.FormParts.{HasParts, most_is, parts_of}
+use Rattle.resume_laws.proofs.FormParts.{most_is, parts_of}
 use Rattle.resume_laws.proofs.ResumedHarts.{journal_kept, load_parts_of}
 use Rattle.resume_laws.proofs.ResumedPages.{fits_is, modules_parts}
 use Rattle.gstage_tables.specs.Layout.{most_bound}

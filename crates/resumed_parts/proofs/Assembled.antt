@@ -1,10 +1,8 @@
 -- The parts put together.
-use Rattle.std.proofs.Common.{◌≡◌, ℕ, ◌+◌, ◌*◌, ◌^◌, ◌<◌, ◌≤◌, List, [], ◌∷◌, length, map, replicate, refl, sym, ◌∙◌, ap, subst, Bool, true, false, arith}
-use Rattle.std.specs.Prelude.{Option, Some, None, option_map, is_some, IfSome, IsTrue}
+use Rattle.std.proofs.Common.{◌≡◌, ℕ, ◌+◌, ◌*◌, ◌^◌, ◌<◌, List, [], length, replicate, sym, ◌∙◌, ap, subst, arith}
 use Rattle.processor.specs.Bytes.{page_size}
 use Rattle.processor.specs.Regions.{Region, IsRegion}
 use Rattle.sv_types.specs.Policies.{Rules}
-use Rattle.sv_types.specs.Views.{with_ram}
 use Rattle.sv_types.specs.declared.protection.Protection.{Protection}
 use Rattle.sv_types.specs.declared.protection.Protection.TheVariants.{Free, Approved}
 use Rattle.gstage_tables.specs.Layout.{table_size}

@@ -2,16 +2,14 @@
 use Rattle.std.proofs.Common.{◌≡◌, ℕ, zero, suc, ◌+◌, ◌-◌, ◌*◌, ◌/◌, ◌%◌, ◌<◌, ◌≤◌, List, [], ◌∷◌, ◌++◌, length, drop, refl, sym, ◌∙◌, ap, subst, Bool, true, false, ◌&&◌, ◌||◌, not, arith, slice_get, length-drop}
 use Rattle.std.proofs.lemmas.Bool.Decides.{nat_tests}
 use Rattle.std.proofs.lemmas.List.{drop-take, take-take, drop-drop}
-use Rattle.std.specs.Prelude.{Option, Some, None, IsTrue, IsSome, is_some, filter, find, take, nat_lt, nat_le, ◌==◌, if◌then◌else◌}
+use Rattle.std.specs.Prelude.{Option, Some, None, IsTrue, IsSome, is_some, filter, find, take, nat_le, ◌==◌, if◌then◌else◌}
 use Rattle.std.specs.List.{list_any}
 use Rattle.std.proofs.lemmas.Bool.{eq-eqb}
-use Rattle.processor.specs.Bytes.{page_size, page_of, page_bytes, part, ram_base, ram_place, in_ram}
+use Rattle.processor.specs.Bytes.{page_size, page_of, page_bytes, part, ram_base, ram_place}
 use Rattle.processor_laws.proofs.ByteLemmas.{length_before}
-use Rattle.sv_types.specs.ApprovedPages.{numbers_from}
 use Rattle.sv_types.specs.Measure.{page_digest, page_digests}
 use Rattle.sv_types.specs.Policies.{Rules, ModuleRule, rules_within}
 use Rattle.sv_types.specs.declared.module.Site.{Site}
-use Rattle.sv_types.specs.declared.module.Span.{Span}
 use Rattle.sv_types.specs.declared.protection.Protection.{Protection}
 use Rattle.sv_types.specs.declared.protection.Protection.TheVariants.{Held}
 use Rattle.sv_types.specs.declared.saved.SavedModule.{SavedModule}
@@ -22,7 +20,7 @@ use Rattle.reference.specs.States.{Loading, module_pages, pages_in_rule}
 use Rattle.machine_model.specs.HostExits.{load_counted, page_counted, page_sites}
 use Rattle.machine_model.specs.Machine.{HostLoad}
 use Rattle.machine_model.specs.StandsFor.{kept_answer, kept_digests, load_kept, load_kept_by}
-use Rattle.answer_laws.proofs.SitesInPages.{AllLieIn, below, digest_more, length_masked, page_masked, right_more, rule_lies}
+use Rattle.answer_laws.proofs.SitesInPages.{AllLieIn, below, digest_more, page_masked, right_more, rule_lies}
 use Rattle.saved_machine.specs.declared.whole.SavedLoad.{SavedLoad}
 use Rattle.page_guard.specs.Guarded.{with_span}
 use Rattle.module_gate.specs.Gates.{PageTurns, begun, host_load, is_good_place, is_taken, load_span, next_counted}

@@ -1,10 +1,9 @@
 -- The devices that a snapshot says.
-use Rattle.std.proofs.Common.{◌≡◌, ℕ, zero, suc, ◌+◌, ◌-◌, ◌*◌, ◌/◌, ◌%◌, ◌<◌, ◌≤◌, List, [], ◌∷◌, ◌++◌, length, map, drop, get_or, replicate, refl, sym, ◌∙◌, ap, subst, Bool, true, false, not, ◌&&◌, ◌||◌, arith, slice_get, length-append}
-use Rattle.std.specs.Prelude.{Option, Some, None, ◌==◌, nat_lt, nat_le, if◌then◌else◌}
+use Rattle.std.proofs.Common.{◌≡◌, ℕ, suc, ◌+◌, ◌-◌, ◌*◌, ◌/◌, ◌%◌, ◌<◌, ◌≤◌, List, [], ◌∷◌, ◌++◌, length, drop, get_or, refl, sym, ◌∙◌, ap, Bool, true, false, not, ◌&&◌, ◌||◌, arith, slice_get, length-append}
+use Rattle.std.specs.Prelude.{◌==◌, nat_lt, nat_le, if◌then◌else◌}
 use Rattle.std.proofs.lemmas.Bool.{eqb-true}
 use Rattle.std.proofs.lemmas.Bool.Decides.{nat_tests}
 use Rattle.std.proofs.lemmas.List.{drop_more, drop_all}
-use Rattle.sv_types.specs.Clock.{latest}
 use Rattle.sv_types.specs.Console.{after_key, has_room, most_queued}
 use Rattle.sv_types.specs.declared.block.BlockCommand.{BlockCommand}
 use Rattle.sv_types.specs.declared.block.BlockState.{BlockState}
@@ -20,7 +19,6 @@ use Rattle.snapshot_form.proofs.FormLaws.{first_true, second_true}
 use Rattle.devices.specs.BlockRegisters.{IsSound}
 use Rattle.resumption.specs.ResumedStates.{timers_of}
 use Rattle.resume_laws.proofs.FormParts.{below_is, most_is}
-use Rattle.resume_laws.proofs.TakenPages.{found_later}
 use Rattle.resumed_parts.specs.Timing.{timer_in}
 
 -- ---- timers

@@ -1,7 +1,7 @@
 -- A region whose RAM is copied in.
-use Rattle.std.proofs.Common.{◌≡◌, ℕ, zero, suc, ◌+◌, ◌-◌, ◌*◌, ◌≤◌, List, [], ◌∷◌, ◌++◌, length, replicate, refl, sym, ◌∙◌, ap, arith, drop}
+use Rattle.std.proofs.Common.{◌≡◌, ℕ, zero, suc, ◌+◌, ◌-◌, ◌≤◌, List, [], ◌∷◌, ◌++◌, length, replicate, refl, ◌∙◌, ap, arith}
 use Rattle.std.proofs.lemmas.List.{drop_all}
-use Rattle.processor.specs.Bytes.{overwrite, page_size}
+use Rattle.processor.specs.Bytes.{overwrite}
 use Rattle.processor.specs.Regions.{Region, host_bytes}
 
 length_zeros : (n : ℕ) → length (replicate {A = ℕ} n 0) ≡ n

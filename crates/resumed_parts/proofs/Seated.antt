@@ -1,16 +1,15 @@
 -- The values of a hart in a snapshot, and its side.
-use Rattle.std.proofs.Common.{◌≡◌, ℕ, zero, suc, ◌+◌, ◌-◌, ◌*◌, ◌%◌, ◌^◌, ◌<◌, ◌≤◌, List, [], ◌∷◌, ◌++◌, length, map, drop, get_or, refl, sym, ◌∙◌, ap, subst, Bool, true, false, not, ◌&&◌, ◌||◌, arith, slice_get, bit_and}
-use Rattle.std.specs.Prelude.{Option, Some, None, option_map, is_some, ◌==◌, nat_lt, nat_le, slice_index, IfSome, IsTrue, if◌then◌else◌}
+use Rattle.std.proofs.Common.{◌≡◌, ℕ, zero, suc, ◌+◌, ◌-◌, ◌*◌, ◌%◌, ◌^◌, ◌<◌, ◌≤◌, List, [], ◌∷◌, ◌++◌, length, map, drop, get_or, refl, sym, ◌∙◌, ap, subst, Bool, true, false, not, ◌&&◌, ◌||◌, arith, slice_get}
+use Rattle.std.specs.Prelude.{Option, Some, None, option_map, is_some, ◌==◌, nat_le, slice_index, IfSome, IsTrue, if◌then◌else◌}
 use Rattle.std.specs.List.{list_any, list_all}
 use Rattle.std.proofs.lemmas.Bool.{eqb-true, eq-eqb}
 use Rattle.std.proofs.lemmas.Bool.Decides.{nat_tests}
 use Rattle.std.proofs.lemmas.List.{drop_all, drop_more}
-use Rattle.std.proofs.lemmas.Nat.{and_le_r}
 use Rattle.processor.specs.Bits.{flag}
 use Rattle.processor.specs.Bytes.{page_size, ram_base, ram_place}
 use Rattle.processor.specs.GuestView.{with_guest}
-use Rattle.processor.specs.HypervisorRegisters.{HypervisorRegisters, IsLegal, registers_at_boot, virtual_interrupt_bits, virtual_software_bit}
-use Rattle.processor.specs.Registers.{Supervisor, IsLegalSupervisor, legal_status, legal_interrupts, legal_tvec, legal_counteren, legal_epc, legal_satp}
+use Rattle.processor.specs.HypervisorRegisters.{HypervisorRegisters, IsLegal, registers_at_boot, virtual_software_bit}
+use Rattle.processor.specs.Registers.{IsLegalSupervisor, legal_status, legal_interrupts, legal_tvec, legal_counteren, legal_epc, legal_satp}
 use Rattle.processor.specs.declared.mode.Mode.{Mode}
 use Rattle.processor.specs.declared.mode.Mode.TheVariants.{Kernel, User}
 use Rattle.sv_types.specs.Policies.{Rules, rules_within, bound_within, bound_fits, all_bound}
@@ -141,10 +140,6 @@ hart_ranges pages h has =
       reservation = reserved_by pages h.reservation (first_true ((reservation pages).has h.reservation) (is_word h.timer) reserved_on);
       user = user_by h.started h.mode h.entry side_part;
     }
-
--- numbers whose bits are those of a mask are no larger
-pub masked_most : (n mask : ℕ) → bit_and n mask ≡ n → n ≤ mask
-masked_most n mask e = let le : bit_and n mask ≤ mask = and_le_r n mask in omega (arith, le, e)
 
 -- ---- all harts
 
@@ -294,13 +289,6 @@ pub first_at : (e : Permitted) (i target : ℕ) → IsEntered e i
     → Some target ≡ option_map (λ (b : Binding). b.va) (binding_of (slice_get e.entries i) (slice_get e.bound i)) → place_of_entry e.entries e.bound target ≡ Some i
 first_at e i target k at =
     ap (place_of_entry e.entries e.bound) (address_of (binding_of (slice_get e.entries i) (slice_get e.bound i)) k.entry target k.bound at) ∙ k.first
-
-none_at : (x : Option Binding) (entry : Binding) → x ≡ Some entry → None ≡ option_map (λ (b : Binding). b.va) x → ⊥
-none_at None entry at e = cc
-none_at (Some b) entry at e = cc
-
-pub no_address : (e : Permitted) (i : ℕ) → IsEntered e i → None ≡ option_map (λ (b : Binding). b.va) (binding_of (slice_get e.entries i) (slice_get e.bound i)) → ⊥
-no_address e i k none = none_at (binding_of (slice_get e.entries i) (slice_get e.bound i)) k.entry k.bound none
 
 -- from user mode it is permitted
 pub not_forbidden : (e : Permitted) (view : View) (i target : ℕ) → view ≡ View.User → place_of_entry e.entries e.bound target ≡ Some i

@@ -1,6 +1,6 @@
 -- A load whose pages are counted again. This project's own.
 use Rattle.std.specs.Prelude.{◌≡◌, ℕ, ◌+◌, ◌*◌, ◌%◌, ◌≤◌, List, length, slice_get, true}
-use Rattle.processor.specs.Bytes.{page_size, ram_base, ram_place}
+use Rattle.processor.specs.Bytes.{page_size, ram_place}
 use Rattle.sv_types.specs.Policies.{Rules}
 use Rattle.reference.specs.States.{pages_in_rule}
 use Rattle.machine_model.specs.StandsFor.{load_kept}

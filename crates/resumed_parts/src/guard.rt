@@ -1,6 +1,6 @@
 // The guard of a machine that goes on: all pages are free at first, and each party's are then approved.
 
-ghost use Rattle.std.specs.Prelude.{◌≡◌, ◌*◌, ◌<◌, ◌≤◌, [], ◌∷◌, Some, IfOk, length, replicate, true};
+ghost use Rattle.std.specs.Prelude.{◌≡◌, ◌*◌, ◌<◌, ◌≤◌, [], ◌∷◌, IfOk, length, replicate, true};
 ghost use Rattle.std.specs.List.{list_all};
 ghost use Rattle.processor.specs.Bytes.{page_size};
 ghost use Rattle.sv_types.specs.ApprovedPages.{numbers_from};
@@ -103,12 +103,7 @@ fn approve_page(guard: &mut Guard, mem: &mut HostMem, page: u32)
 }
 
 // Approves the pages of each loaded module.
-fn approve_modules(
-    guard: &mut Guard,
-    mem: &mut HostMem,
-    policy: &Policy,
-    modules: &[SavedModule],
-)
+fn approve_modules(guard: &mut Guard, mem: &mut HostMem, policy: &Policy, modules: &[SavedModule])
     requires fitting { list_all (fits (rules_of policy.now)) modules.now ≡ true }
     requires pages { length guard.old.pages ≡ policy.now.ram_pages }
     requires free { CanApprove guard.old.pages (loaded_pages (rules_of policy.now) modules.now) }

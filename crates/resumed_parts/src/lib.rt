@@ -1,7 +1,7 @@
 //! The parts of a machine that goes on from a snapshot. What protects pages is made anew, and nothing of it is believed.
 #![tactic(auto)]
 
-mod devices;
+mod device_states;
 mod guard;
 mod load;
 mod parts;

@@ -13,7 +13,7 @@ ghost use Rattle.sv_types.specs.declared.protection.Protection.TheVariants.{Free
 ghost use Rattle.resumed_parts.specs.Approving.{Approves};
 ghost use Rattle.resumed_parts.specs.Parts.{AreResumed};
 
-use crate::devices::devices_of;
+use crate::device_states::devices_of;
 use crate::guard::approved_guard;
 use crate::load::resume_loading;
 use crate::seats::seats_of;
@@ -61,12 +61,7 @@ pub fn resume_parts(
 }
 
 // A region with these bytes of RAM, and room for its tables, where so many entries are bound.
-fn region_of(
-    alloc: Global,
-    ram: &[u8],
-    ram_pages: u32,
-    bound: usize,
-) -> Result<HostMem, AllocError>
+fn region_of(alloc: Global, ram: &[u8], ram_pages: u32, bound: usize) -> Result<HostMem, AllocError>
     requires few { ram_pages ≤ most_ram_pages }
     requires bound { bound ≤ most_bound }
     requires size { length ram.now ≡ page_size * ram_pages }

@@ -1,8 +1,8 @@
 // The harts of a machine that goes on, each on its side. A hart comes to its side as every hart does, and in an entry by that
 // entry's address.
 
-ghost use Rattle.std.specs.Prelude.{◌≡◌, ◌+◌, ◌*◌, ◌^◌, ◌<◌, ◌≤◌, IfOk, IfSome, length, map, option_map};
-ghost use Rattle.processor.specs.Bytes.{page_size, ram_base, ram_place};
+ghost use Rattle.std.specs.Prelude.{◌≡◌, ◌+◌, ◌*◌, ◌^◌, ◌<◌, IfOk, IfSome, length, map, option_map};
+ghost use Rattle.processor.specs.Bytes.{page_size, ram_place};
 ghost use Rattle.processor.specs.HypervisorRegisters.{IsLegal};
 ghost use Rattle.sv_types.specs.declared.view.View.TheVariants.{Entry};
 ghost use Rattle.machine_model.specs.StandsFor.{host_reservation};

@@ -14,10 +14,11 @@ use Rattle.reference.specs.Start.{IsStart, block_disk, boot_start, start}
 use Rattle.reference.specs.States.{State, Disk, has_number, is_approved_in, protection_in, protection_by}
 use Rattle.machine_model.specs.StandsFor.{protections_of}
 use Rattle.saved_machine.specs.SavedStates.{IsSaved}
-use Rattle.snapshot_form.specs.Snapshots.{Contents, contents}
+use Rattle.snapshot_form.specs.Snapshots.{Contents, contents, snapshot}
 use Rattle.snapshot_form.specs.declared.whole.Snapshot.{Snapshot}
 use Rattle.snapshot_form.specs.declared.whole.TextPage.{TextPage}
 use Rattle.processor_laws.proofs.ByteLemmas.{drop_front, take_front}
+use Rattle.snapshot_form.proofs.SnapshotLaws.{snapshot_law}
 use Rattle.elf64_load.proofs.LoadedBytes.{length_part}
 use Rattle.elf64_load.proofs.LoadedText.{text_in_ram}
 use Rattle.answer_laws.proofs.ProtectionsChange.{at_page}
@@ -26,16 +27,18 @@ use Rattle.resumption.specs.ResumedStates.{resumed_state}
 use Rattle.resume_laws.specs.Continues.{Alike}
 use Rattle.resume_laws.specs.Keepable.{AscendFrom}
 use Rattle.resume_laws.specs.Resumed.{KeepsDigests}
+use Rattle.resume_laws.specs.SavedForm.{HasBlock, IsCounted, IsTyped}
 use Rattle.resume_laws.proofs.ContinuesHolds.{continues_law}
 use Rattle.resume_laws.proofs.KeepableStarts.{keepable_law, text_pages_ascend}
 use Rattle.resume_laws.proofs.ResumedHolds.{resumed_law}
 use Rattle.resume_laws.proofs.ResumedPages.{approved_is}
 use Rattle.resume_laws.proofs.SavedAccepted.{saved_accepted_law}
+use Rattle.resume_laws.proofs.SavedForms.{saved_form_law}
 use Rattle.resume_laws.proofs.SavedResumes.{saved_resumes_law}
 use Rattle.run_laws.proofs.StateLawsHold.{reached_sound}
 use Rattle.run_laws.proofs.Lookups.{same_number}
 use Rattle.standing_laws.proofs.Standings.{length_pages}
-use Rattle.resumed_start.specs.SnapLaws.{BootDigestsLaw, IsMeasuredBoot, IsSnapAfter, SnapAcceptedLaw, SnapContinuesLaw}
+use Rattle.resumed_start.specs.SnapLaws.{BootDigestsLaw, IsMeasuredBoot, IsSnapAfter, SnapAcceptedLaw, SnapContinuesLaw, SnapReadLaw}
 use Rattle.resumed_start.specs.TextPages.{approved_among, digest_in, digested_text, is_approved, text_in}
 use Rattle.resumed_start.proofs.Ascending.{or_true, picked, picked_same}
 
@@ -208,6 +211,7 @@ nothing_printed rules s = refl
 record IsGood (start : State) (rules : Rules) (events : List Event) (s : Snapshot) : Type 0 where
   alike : Alike (run start events).journal.printed (run start events) (resumed_state rules (contents s))
   accepted : resume_refusal rules (contents s) ≡ None
+  form : IsTyped (contents s) → HasBlock (contents s) → IsCounted (contents s) → snapshot.has (contents s) ≡ true
 
 good_at : (start : State) (rules : Rules) (events : List Event) (s : Snapshot) → IsStart start → start.rules ≡ rules → KeepsDigests start s.text.items
     → IsSaved (run start events) s.«machine» → IsGood start rules events s
@@ -221,6 +225,7 @@ good_at start rules events s is same digests saved =
           (saved_resumes_law r s goes.sound keepable saved right);
       accepted = subst (λ (x : Rules). resume_refusal x (contents s) ≡ None) (goes.origins.rules ∙ same)
           (saved_accepted_law r s goes.sound keepable saved right);
+      form = saved_form_law r s goes.sound keepable saved right;
     }
 
 snap_is_good : (rules : Rules) (file disk : List ℕ) (events : List Event) (k : ℕ) (s : Snapshot) → IsMeasuredBoot rules file → IsSnapAfter rules file disk events k s
@@ -231,6 +236,10 @@ snap_is_good rules file disk events k s boot snap =
 
 pub snap_accepted_law : SnapAcceptedLaw
 snap_accepted_law rules file disk events k s boot snap = (snap_is_good rules file disk events k s boot snap).accepted
+
+pub snap_read_law : SnapReadLaw
+snap_read_law rules file disk events k s boot snap typed block counted =
+    snapshot_law.again (contents s) ((snap_is_good rules file disk events k s boot snap).form typed block counted)
 
 pub snap_continues_law : SnapContinuesLaw
 snap_continues_law rules file disk events k s boot snap =

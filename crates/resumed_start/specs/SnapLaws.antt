@@ -1,5 +1,5 @@
 -- What a snapshot of a run that began with a measured boot is good for. This project's own.
-use Rattle.std.specs.Prelude.{◌≡◌, ℕ, List, None, take, true, IsTrue}
+use Rattle.std.specs.Prelude.{◌≡◌, ℕ, List, None, Ok, take, true, IsTrue}
 use Rattle.sv_types.specs.Kernel.{header_entry, kernel_refusal, kernel_segments, text_of}
 use Rattle.sv_types.specs.Measure.{measure}
 use Rattle.sv_types.specs.Policies.{Rules, rules_within}
@@ -8,12 +8,13 @@ use Rattle.reference.specs.Run.{run}
 use Rattle.reference.specs.Start.{AreWords, boot_start}
 use Rattle.reference.specs.States.{has_number}
 use Rattle.saved_machine.specs.SavedStates.{IsSaved}
-use Rattle.snapshot_form.specs.Snapshots.{contents}
+use Rattle.snapshot_form.specs.Snapshots.{contents, snapshot, snapshot_read}
 use Rattle.snapshot_form.specs.declared.whole.Snapshot.{Snapshot}
 use Rattle.resumption.specs.Judgements.{resume_refusal}
 use Rattle.resumption.specs.ResumedStates.{resumed_state}
 use Rattle.resume_laws.specs.Continues.{Continues}
 use Rattle.resume_laws.specs.Resumed.{KeepsDigests}
+use Rattle.resume_laws.specs.SavedForm.{HasBlock, IsCounted, IsTyped}
 use Rattle.resumed_start.specs.TextPages.{digested_text}
 
 -- a policy within its limits and an image that isn't refused, which begins at a permitted entry, and whose text has the
@@ -38,6 +39,13 @@ pub record IsSnapAfter (rules : Rules) (file disk : List ℕ) (events : List Eve
 abbrev pub SnapAcceptedLaw : Type 0
 SnapAcceptedLaw = (rules : Rules) (file disk : List ℕ) (events : List Event) (k : ℕ) (s : Snapshot) → IsMeasuredBoot rules file
     → IsSnapAfter rules file disk events k s → resume_refusal rules (contents s) ≡ None
+
+-- what is written of it is read again as it was, where it is typed, its device and disk go together, and no count is above the
+-- number of events
+abbrev pub SnapReadLaw : Type 0
+SnapReadLaw = (rules : Rules) (file disk : List ℕ) (events : List Event) (k : ℕ) (s : Snapshot) → IsMeasuredBoot rules file
+    → IsSnapAfter rules file disk events k s → IsTyped (contents s) → HasBlock (contents s) → IsCounted (contents s)
+    → snapshot_read (snapshot.spell (contents s)) ≡ Ok (contents s)
 
 -- What was printed until then and what a machine prints that goes on from it with the events that are left is what the whole run
 -- prints; verdict and disk are the same.

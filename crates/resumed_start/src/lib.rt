@@ -3,7 +3,7 @@
 #![tactic(auto)]
 
 ghost use Rattle.resumed_start.specs.Resuming.{ResumedStartLaw};
-ghost use Rattle.resumed_start.specs.SnapLaws.{BootDigestsLaw, SnapAcceptedLaw, SnapContinuesLaw};
+ghost use Rattle.resumed_start.specs.SnapLaws.{BootDigestsLaw, SnapAcceptedLaw, SnapContinuesLaw, SnapReadLaw};
 
 mod text;
 
@@ -22,6 +22,11 @@ pub fn law_boot_digests()
 /// A snapshot that was taken behind any events of such a run isn't refused under its policy.
 pub fn law_snap_accepted()
     ensures { SnapAcceptedLaw }
+{}
+
+/// What is written of it is read again as it was.
+pub fn law_snap_read()
+    ensures { SnapReadLaw }
 {}
 
 /// A run that goes on from a snapshot, which was taken behind any of its events, prints what is left of the whole run.

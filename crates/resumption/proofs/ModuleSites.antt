@@ -59,15 +59,17 @@ policy_sites rules id rule within found =
     let sites = and_parts (module_pages_within rule.pages && sites_count_within (sites_of one.0) (length rule.sites)) (sites_within rule.pages (length rules.exports) rule.sites) named.0 in
     sites_lie rule.pages (length rules.exports) [] rule.sites sites.1
 
--- it has a page
-pub some_pages : (rules : Rules) (id : ℕ) (rule : ModuleRule) → IsTrue (rules_within rules) → slice_get rules.modules id ≡ Some rule → 1 ≤ rule.pages
+-- it has a page, and no more than a module may have
+pub some_pages : (rules : Rules) (id : ℕ) (rule : ModuleRule) → IsTrue (rules_within rules) → slice_get rules.modules id ≡ Some rule → (1 ≤ rule.pages) × (rule.pages ≤ most_module_pages)
 some_pages rules id rule within found =
     let modules = and_parts (numbers_within rules && lists_within rules && init_within rules.ram_pages rules.init && modules_count_within (length rules.modules)) (modules_within (length rules.exports) rules.modules) within in
     let one = one_within (length rules.exports) [] rules.modules id rule modules.1 found in
     let named = and_parts (module_pages_within rule.pages && sites_count_within (sites_of one.0) (length rule.sites) && sites_within rule.pages (length rules.exports) rule.sites) (not (is_module rule.name one.0)) one.1 in
     let sites = and_parts (module_pages_within rule.pages && sites_count_within (sites_of one.0) (length rule.sites)) (sites_within rule.pages (length rules.exports) rule.sites) named.0 in
     let pages = and_parts (module_pages_within rule.pages) (sites_count_within (sites_of one.0) (length rule.sites)) sites.0 in
-    let least = (and_parts (nat_le 1 rule.pages) (nat_le rule.pages most_module_pages) pages.0).0 in grind (arith, nat_tests)
+    let ends = and_parts (nat_le 1 rule.pages) (nat_le rule.pages most_module_pages) pages.0 in
+    let least = ends.0 in
+    let most = ends.1 in (grind (arith, nat_tests, least), grind (arith, nat_tests, most))
 
 -- ---- the whole text as one piece
 

@@ -17,6 +17,8 @@ How secvisor is used:
   secvisor live IMAGE POLICY DISK EVENTS OUT
       runs a kernel with the keys of standard input, up to its end, and saves its events as
       OUT, a script for run
+  secvisor snap IMAGE POLICY DISK SCRIPT EVENTS OUT
+      runs a kernel, prints its console alone, and saves the machine as OUT, a snapshot
   secvisor flat FILE MEASURE EVENTS
       runs 1 to 16 plain pages, all of them approved
   secvisor show SNAPSHOT

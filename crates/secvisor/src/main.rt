@@ -15,6 +15,7 @@ use secvisor_cli::{
     MOST_POLICY_BYTES, MOST_SCRIPT_BYTES, Status, secvisor,
 };
 use show_cli::secvisor_show;
+use snap_cli::secvisor_snap;
 use std::alloc::AllocError;
 use std::env;
 use std::io::{ErrorKind, IsTerminal};
@@ -47,6 +48,8 @@ fn main(rt: HostRuntime) -> ExitCode {
             &Still,
             &mut bench,
         )
+    } else if asks(&words, "snap") {
+        secvisor_snap(&rt, rt.alloc(), &words, &mut files, &mut out, &mut bench)
     } else if asks(&words, "show") {
         secvisor_show(rt.alloc(), &words, &mut files, &mut out)
     } else {

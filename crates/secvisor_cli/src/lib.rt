@@ -32,4 +32,4 @@ pub use ready::{Booted, Made, Ready, Stop};
 pub use refusal::{Refusal, Word};
 pub use sv_types::Status;
 pub use trouble::Trouble;
-pub use words::{Run, Source, unless_none};
+pub use words::{Run, Source, source_of, unless_none};

@@ -179,8 +179,9 @@ pub fn unless_none(word: &str) -> Option<&str>
     if word == "none" { None } else { Some(word) }
 }
 
+/// Where the events of a run come from, none where the word is out of range.
 #[tactic(auto, unfolding(crate::specs::CommandLine::source_of))]
-fn source_of(word: &str) -> Option<Source<'_>>
+pub fn source_of(word: &str) -> Option<Source<'_>>
     ensures { option_map source_value result ≡ source_of word.now }
 {
     if word == "none" {

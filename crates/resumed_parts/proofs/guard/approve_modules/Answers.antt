@@ -1,4 +1,4 @@
-use Rattle.std.proofs.Common.{◌≡◌, ◌∙◌, true, refl}
+use Rattle.std.proofs.Common.{◌∙◌, true, refl}
 use Rattle.sv_types.specs.Policies.{rules_of}
 use Rattle.page_guard.proofs.Stays.{stays_same, stays_further}
 use Rattle.resumption.proofs.TakenLoops.{modules_end, modules_go_on}

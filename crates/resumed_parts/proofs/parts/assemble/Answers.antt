@@ -1,19 +1,16 @@
-use Rattle.std.proofs.Common.{◌≡◌, ◌∙◌, ◌≤◌, ℕ, List, [], ap, arith, length, map, subst, sym, true}
+use Rattle.std.proofs.Common.{◌≡◌, ◌∙◌, ◌≤◌, ℕ, List, ap, arith, length, map, subst, sym, true}
 use Rattle.std.specs.Prelude.{option_map}
 use Rattle.sv_types.specs.Limits.{most_harts, most_notes}
 use Rattle.sv_types.specs.Policies.{rules_of}
 use Rattle.sv_types.specs.Views.{with_ram}
 use Rattle.sv_types.specs.declared.event.Note.{Note}
-use Rattle.reference.specs.States.{Devices, Journal}
-use Rattle.saved_machine.specs.SavedStates.{disk_of}
 use Rattle.saved_machine.specs.declared.harts.SavedHart.{SavedHart}
 use Rattle.snapshot_form.specs.DeviceForms as form
 use Rattle.snapshot_form.specs.Snapshots.{contents}
 use Rattle.sv_types.specs.declared.saved.SavedModule.{SavedModule}
 use Rattle.module_gate.specs.Ascending.{AscendsFrom}
 use Rattle.module_gate.specs.Gates.{Records}
-use Rattle.page_guard.specs.Permitted.{Permitted}
-use Rattle.resumption.specs.ResumedStates.{resumed_state, timers_of}
+use Rattle.resumption.specs.ResumedStates.{resumed_state}
 use Rattle.resumed_start.specs.Resuming.{host_resumed, load_resumed}
 use Rattle.resumed_parts.specs.Seating.{CanAllSit}
 use Rattle.resumed_parts.proofs.Accepted.{bound_along, known}

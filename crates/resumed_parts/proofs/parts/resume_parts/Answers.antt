@@ -1,4 +1,4 @@
-use Rattle.std.proofs.Common.{◌∙◌, List, ap, length}
+use Rattle.std.proofs.Common.{◌∙◌, ap, length}
 use Rattle.sv_types.specs.Policies.{rules_of}
 use Rattle.snapshot_form.specs.Snapshots.{contents}
 use Rattle.resumed_parts.proofs.Accepted.{bound_pages_few, known}

@@ -1,4 +1,4 @@
-use Rattle.std.proofs.Common.{◌∙◌, ap, arith, sym}
+use Rattle.std.proofs.Common.{◌+◌, ◌∙◌, ℕ, ap, arith, sym}
 use Rattle.sv_types.specs.Policies.{rules_of}
 use Rattle.page_guard.specs.Permitted.{Permitted}
 use Rattle.snapshot_form.specs.Snapshots.{contents}
@@ -25,4 +25,5 @@ invariant_of-result c =
     }
 
 pub returns-clause-made : goal.returns-clause-made
-returns-clause-made c = parts_resumed (rules_of c.args.policy) (contents c.args.snapshot) c.in_ok-mem.field-0 c.in_ok-cpu.cpu c.in_ok-mem.ensures c.in_ok-cpu.ensures
+returns-clause-made c =
+    parts_resumed (rules_of c.args.policy) (contents c.args.snapshot) c.in_ok-mem.field-0 (0 + c.in_ok-cpu.cpu) c.in_ok-mem.ensures (ap (λ (n : ℕ). 0 + n) c.in_ok-cpu.ensures)

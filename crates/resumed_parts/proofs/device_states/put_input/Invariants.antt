@@ -1,5 +1,5 @@
 use Rattle.std.proofs.Common.{◌≡◌, ◌++◌, drop}
-use Rattle.resumed_parts.proofs.devices.put_input.Given as goal
+use Rattle.resumed_parts.proofs.device_states.put_input.Given as goal
 
 -- the bytes so far wait, and the rest is left
 abbrev pub invariant-keys : goal.invariant-keys

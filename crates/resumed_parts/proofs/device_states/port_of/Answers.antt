@@ -2,7 +2,7 @@ use Rattle.std.proofs.Common.{◌≡◌, subst, true}
 use Rattle.sv_types.specs.declared.port.PortState.{PortState}
 use Rattle.snapshot_form.specs.DeviceForms as form
 use Rattle.resumed_parts.proofs.DeviceParts.{block_sound, no_virtio}
-use Rattle.resumed_parts.proofs.devices.port_of.Goals as goal
+use Rattle.resumed_parts.proofs.device_states.port_of.Goals as goal
 
 pub from_state-requires : goal.from_state-requires
 from_state-requires c = record {

@@ -1,7 +1,7 @@
 use Rattle.std.proofs.Common.{ap, arith, length}
 use Rattle.reference.specs.States.{Devices}
 use Rattle.resumed_parts.proofs.DeviceParts.{have_forms}
-use Rattle.resumed_parts.proofs.devices.devices_of.Goals as goal
+use Rattle.resumed_parts.proofs.device_states.devices_of.Goals as goal
 
 pub port_of-requires-clause-port : goal.port_of-requires-clause-port
 port_of-requires-clause-port c = (have_forms c.args.input.now c.args.port c.args.disk.items c.requires.form).of_port

@@ -2,7 +2,7 @@ use Rattle.std.proofs.Common.{◌≡◌, ◌+◌, ◌++◌, ◌∙◌, ◌≤◌
 use Rattle.sv_types.specs.Console.{most_queued}
 use Rattle.reference.specs.States.{Devices}
 use Rattle.resumed_parts.proofs.DeviceParts.{input_alone, key_next, keys_end}
-use Rattle.resumed_parts.proofs.devices.put_input.Goals as goal
+use Rattle.resumed_parts.proofs.device_states.put_input.Goals as goal
 
 pub keys-preserved : goal.keys-preserved
 keys-preserved c =

@@ -1,0 +1,208 @@
+// Machines that are saved as snapshots, and what is said of them.
+ghost use Rattle.std.specs.Prelude.{◌≡◌, ◌<◌, ◌-◌, ◌^◌, ℕ, List, IsTrue};
+
+use crate::program::{
+    Answer, GOOD, Handed, Left, Outside, PRINTED_ROOM, call, hold, left_behind, line_of,
+};
+use guest_gen::generate;
+use outside::{Files, MemSink, Sink};
+use processor::PAGE_SIZE;
+use resumption::resume_refusal;
+use secvisor_cli::{Bench, Status};
+use show_cli::secvisor_show;
+use snap_cli::secvisor_snap;
+use snapshot::read;
+use snapshot_form::Snapshot;
+use std::alloc::{AllocError, Global};
+use std::test::Fail;
+use std::thread::Threads;
+
+// The call with these words, over files that may be asked for any name and save under any.
+fn answer_snap_on<R: Threads + Sync, F: Files, O: Sink>(
+    rt: &R,
+    alloc: Global,
+    line: &[String],
+    files: &mut F,
+    out: &mut O,
+) -> Answer
+    requires names { (asked : List (List ℕ × ℕ)) → IsTrue ((F.state files.old).permits asked) }
+    requires saving { (saves : List (List ℕ × List ℕ)) → IsTrue ((F.state files.old).permits_save saves) }
+    requires is_open { IsTrue (O.state out.old).is_open }
+    requires reads { (F.state files.old).read_faults < 2 ^ 64 - 1 }
+    requires saves { (F.state files.old).save_faults < 2 ^ 64 - 1 }
+    requires writes { (O.state out.old).faults < 2 ^ 64 - 1 }
+{
+    let mut bench = Bench { machine: None };
+    let status = secvisor_snap(rt, alloc, line, files, out, &mut bench);
+    Answer {
+        status,
+        is_booted: bench.machine.is_some(),
+    }
+}
+
+// `show` of a file `image`.
+fn answer_show_on<F: Files, O: Sink>(
+    alloc: Global,
+    line: &[String],
+    files: &mut F,
+    out: &mut O,
+) -> Answer
+    requires names { (asked : List (List ℕ × ℕ)) → IsTrue ((F.state files.old).permits asked) }
+    requires is_open { IsTrue (O.state out.old).is_open }
+    requires reads { (F.state files.old).read_faults < 2 ^ 64 - 1 }
+    requires writes { (O.state out.old).faults < 2 ^ 64 - 1 }
+{
+    Answer {
+        status: secvisor_show(alloc, line, files, out),
+        is_booted: false,
+    }
+}
+
+fn sink_of(alloc: Global, outside: Outside) -> Result<MemSink, AllocError> {
+    let failing = [outside.failing_write];
+    MemSink::new(alloc, PRINTED_ROOM, outside.piece.max(1), &failing)
+}
+
+// The snapshot of a guest behind so many events of the harts in turn.
+fn snap<R: Threads + Sync>(
+    rt: &R,
+    alloc: Global,
+    guest: &Handed,
+    events: &str,
+    outside: Outside,
+) -> Result<Left, AllocError> {
+    let words = ["snap", "image", "policy", "none", "none", events, "saved"];
+    let line = line_of(alloc, &words)?;
+    let mut files = hold(alloc, guest, outside)?;
+    let mut out = sink_of(alloc, outside)?;
+    let answer = answer_snap_on(rt, alloc, &line, &mut files, &mut out);
+    left_behind(alloc, answer, &files, &out)
+}
+
+fn show(alloc: Global, snapshot: &[u8]) -> Result<Left, AllocError> {
+    let held = Handed {
+        image: snapshot.to_vec(alloc)?,
+        policy: Vec::new(alloc),
+        disk: Vec::new(alloc),
+        script: Vec::new(alloc),
+    };
+    let line = line_of(alloc, &["show", "image"])?;
+    let mut files = hold(alloc, &held, GOOD)?;
+    let mut out = sink_of(alloc, GOOD)?;
+    let answer = answer_show_on(alloc, &line, &mut files, &mut out);
+    left_behind(alloc, answer, &files, &out)
+}
+
+// The guest that calls its kernel three times.
+fn guest(alloc: Global) -> Result<Handed, AllocError> {
+    let (image, policy) = generate(alloc, 3)?;
+    Ok(Handed {
+        image,
+        policy: policy::write(alloc, &policy)?,
+        disk: Vec::new(alloc),
+        script: Vec::new(alloc),
+    })
+}
+
+// Whether a machine may go on from these bytes under these rules, none where they are no snapshot or policy.
+fn may_go_on<R: Threads + Sync>(
+    rt: &R,
+    alloc: Global,
+    bytes: &[u8],
+    rules: &[u8],
+) -> Result<Option<bool>, AllocError> {
+    let Ok(snapshot) = read(alloc, bytes) else {
+        return Ok(None);
+    };
+    let Ok(policy) = policy::read(alloc, rules) else {
+        return Ok(None);
+    };
+    if !is_whole(&snapshot) {
+        return Ok(None);
+    }
+    Ok(Some(
+        resume_refusal(rt, alloc, &snapshot, &policy)?.is_none(),
+    ))
+}
+
+fn is_whole(snapshot: &Snapshot) -> bool {
+    let pages = snapshot.machine.protection.len();
+    snapshot.machine.ram.len() % PAGE_SIZE == 0 && snapshot.machine.ram.len() / PAGE_SIZE == pages
+}
+
+// What comes of a guest behind so many events.
+#[derive(Clone, Copy)]
+struct Row {
+    events: &'static str,
+    outside: Outside,
+    status: Status,
+    printed: &'static [u8],
+    shown: &'static str,
+}
+
+const ROW: Row = Row {
+    events: "5",
+    outside: GOOD,
+    status: Status::Done,
+    printed: b"",
+    shown: "events 5 time 0\n",
+};
+
+static ROWS: [Row; 4] = [
+    ROW,
+    Row {
+        events: "1000",
+        printed: b"K",
+        shown: "",
+        ..ROW
+    },
+    Row {
+        outside: Outside {
+            failing_save: 1,
+            ..GOOD
+        },
+        status: Status::WriteFault,
+        ..ROW
+    },
+    Row {
+        outside: Outside {
+            failing_read: 2,
+            ..GOOD
+        },
+        status: Status::ReadFault,
+        printed: b"read fault image\n",
+        ..ROW
+    },
+];
+
+#[test]
+fn machines_are_saved_shown_and_may_go_on(rt: HostRuntime) -> Result<(), Fail> {
+    let alloc = rt.alloc();
+    let guest = guest(alloc)?;
+    for row in &ROWS {
+        let left = snap(&rt, alloc, &guest, row.events, row.outside)?;
+        assert_eq!(rt; left.status, row.status);
+        assert!(rt; left.taken.as_slice() == row.printed);
+        let Some(saved) = &left.saved else {
+            assert!(rt; row.status != Status::Done);
+            continue;
+        };
+        let shown = show(alloc, saved)?;
+        assert_eq!(rt; shown.status, Status::Done);
+        assert!(rt; shown.taken.starts_with(row.shown.as_bytes()));
+        let goes_on = may_go_on(&rt, alloc, saved, &guest.policy)?;
+        assert_eq!(rt; goes_on, Some(true));
+    }
+    Ok(())
+}
+
+#[test]
+fn what_a_snapshot_prints_is_the_front_of_a_run(rt: HostRuntime) -> Result<(), Fail> {
+    let alloc = rt.alloc();
+    let guest = guest(alloc)?;
+    let words = ["run", "image", "policy", "none", "none", "1000", "none"];
+    let whole = call(&rt, alloc, &guest, &words, GOOD)?;
+    let left = snap(&rt, alloc, &guest, "1000", GOOD)?;
+    assert!(rt; whole.taken.starts_with(&left.taken));
+    Ok(())
+}

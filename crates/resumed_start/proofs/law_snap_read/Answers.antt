@@ -1,0 +1,5 @@
+use Rattle.resumed_start.proofs.BootDigests.{snap_read_law}
+use Rattle.resumed_start.proofs.law_snap_read.Goals as goal
+
+pub returns : goal.returns
+returns c = snap_read_law

@@ -1,0 +1,33 @@
+-- The pages of a state that was saved.
+use Rattle.std.proofs.Common.{◌≡◌, ℕ, zero, suc, ◌+◌, ◌*◌, ◌≤◌, List, length, refl, sym, ◌∙◌, ap, subst, arith}
+use Rattle.std.specs.Prelude.{IsTrue}
+use Rattle.std.proofs.lemmas.Bool.Decides.{nat_tests}
+use Rattle.std.proofs.lemmas.List.{length-map}
+use Rattle.processor.specs.Bytes.{page_size}
+use Rattle.processor.specs.Regions.{most_ram_pages}
+use Rattle.sv_types.specs.ApprovedPages.{numbers_from}
+use Rattle.sv_types.specs.Policies.{Rules, rules_within}
+use Rattle.sv_types.specs.declared.protection.Protection.{Protection}
+use Rattle.reference.specs.Soundness.{IsSound}
+use Rattle.reference.specs.States.{State, protection}
+use Rattle.saved_machine.specs.SavedStates.{IsSaved}
+use Rattle.saved_machine.specs.declared.whole.Saved.{Saved}
+
+numbers_count : (first n : ℕ) → length (numbers_from first n) ≡ n
+numbers_count first zero = refl
+numbers_count first (suc n) = let rest = numbers_count (first + 1) n in omega (arith, rest)
+
+pages_within : (rules : Rules) → IsTrue (rules_within rules) → rules.ram_pages ≤ most_ram_pages
+pages_within rules within = grind (arith, nat_tests)
+
+pages_saved : (r : State) (s : Saved) → IsSaved r s → length s.protection.items ≡ r.rules.ram_pages
+pages_saved r s saved =
+    ap (λ (ps : List Protection). length ps) saved.protection
+    ∙ length-map (numbers_from 0 r.rules.ram_pages) (protection r) ∙ numbers_count 0 r.rules.ram_pages
+
+pub ram_saved : (r : State) (s : Saved) → IsSound r → IsSaved r s → length s.ram.items ≡ page_size * length s.protection.items
+ram_saved r s sound saved =
+    ap (λ (bytes : List ℕ). length bytes) saved.ram ∙ sound.size ∙ ap (λ (n : ℕ). page_size * n) (sym (pages_saved r s saved))
+
+pub few_saved : (r : State) (s : Saved) → IsSound r → IsSaved r s → length s.protection.items ≤ most_ram_pages
+few_saved r s sound saved = subst (λ (n : ℕ). n ≤ most_ram_pages) (sym (pages_saved r s saved)) (pages_within r.rules sound.within)

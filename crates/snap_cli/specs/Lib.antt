@@ -1,0 +1,4 @@
+pub mod SnapWords
+pub mod SnapReady
+pub mod SnapAnswers
+pub mod Spelling

@@ -1,0 +1,32 @@
+-- The snapshot of a machine as its code makes it, and its bytes under a name. This project's own.
+use Rattle.std.specs.Prelude.{◌≡◌, ◌⊎◌, ℕ, List, Option, Some, Result, IsErrOf}
+use Rattle.reference.specs.States.{State}
+use Rattle.machine_model.specs.Machine.{Machine}
+use Rattle.machine_model.specs.StandsFor.{StandsFor}
+use Rattle.saved_machine.specs.SavedStates.{IsSaved}
+use Rattle.snapshot_form.specs.Snapshots.{contents, snapshot}
+use Rattle.snapshot_form.specs.declared.whole.Snapshot.{Snapshot}
+use Rattle.snapshot_form.specs.declared.whole.TextPage.{TextPage}
+use Rattle.snap_laws.specs.EventCounts.{events_counted}
+use Rattle.outside.specs.Outside.{FilesState}
+use Rattle.secvisor_cli.specs.Answers.{AfterSave}
+use Rattle.secvisor_cli.specs.declared.trouble.Trouble.{Trouble}
+use Rattle.secvisor_cli.specs.declared.trouble.Trouble.TheVariants.{Memory}
+use Rattle.snap_cli.specs.SnapAnswers.{spelled}
+
+-- a snapshot of what a machine is now, with this text
+pub record IsMachineSnapshot (m : Machine) (text : List TextPage) (s : Snapshot) : Type 0 where
+  pub state : (r : State) → StandsFor m r → IsSaved r s.«machine»
+  pub made : s.events ≡ events_counted m.journal.counts
+  pub text_is : s.text.items ≡ text
+
+pub record SpellsMachine (m : Machine) (text : List TextPage) (bytes : List ℕ) : Type 0 where
+  pub it : Snapshot
+  pub snapshot_is : IsMachineSnapshot m text it
+  pub bytes_are : bytes ≡ snapshot.spell (contents it)
+
+-- memory was wanting, or it was saved, or its save failed
+abbrev pub SavesMachine : Machine → List TextPage → (name : List ℕ) → FilesState → FilesState → Result (Unit {0}) Trouble → Type 0
+SavesMachine m text name old new result =
+    (IsErrOf result Memory × (new ≡ old))
+    ⊎ ((s : Snapshot) × IsMachineSnapshot m text s × AfterSave (Some (spelled name s)) old new result)

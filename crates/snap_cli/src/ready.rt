@@ -1,0 +1,32 @@
+// What is ready of `snap`.
+ghost use Rattle.std.specs.Prelude.{◌≡◌, ◌<◌, ◌≤◌, ◌-◌, ◌^◌};
+ghost use Rattle.command_words.specs.declared.command.DiskKind.{DiskKind as Kind};
+ghost use Rattle.secvisor_cli.specs.Plans.{run_plan};
+ghost use Rattle.secvisor_cli.specs.Reading.{MayFollow};
+ghost use Rattle.secvisor_cli.specs.Words.{run_value};
+ghost use Rattle.snap_cli.specs.SnapReady.{Boots};
+
+use outside::Files;
+use secvisor_cli::{Booted, Ready, Run, Stop, prepare_run};
+use std::alloc::Global;
+use std::thread::Threads;
+
+/// Reads and judges what `run` does for the same words, and boots a machine with the project's block device.
+pub fn prepare_snap<'a, R: Threads + Sync, F: Files>(
+    rt: &R,
+    alloc: Global,
+    asked: &Run<'a>,
+    files: &mut F,
+) -> Result<Booted<'a>, Stop>
+    requires permitted { MayFollow (run_plan (run_value asked.now)) (F.state files.old) }
+    requires reads { (F.state files.old).read_faults < 2 ^ 64 - 1 }
+    requires kind { asked.now.kind ≡ Kind.Block }
+    requires events { asked.now.events ≤ 2 ^ 32 }
+    ensures { Boots (run_plan (run_value asked.now)) (F.state files.old) (F.state files.new) result }
+{
+    let ready = prepare_run(rt, alloc, asked, files)?;
+    match ready {
+        Ready::Run(booted) => Ok(booted),
+        Ready::Save(_) => unreachable!(),
+    }
+}

@@ -1,0 +1,2 @@
+pub mod EventsCounted
+pub mod KindsStay

@@ -1,0 +1,2 @@
+pub mod EventCounts
+pub mod DiskKinds
