@@ -1,5 +1,5 @@
 // Machines that are saved as snapshots, and what is said of them.
-ghost use Rattle.std.specs.Prelude.{◌≡◌, ◌<◌, ◌-◌, ◌^◌, ℕ, List, IsTrue};
+ghost use Rattle.std.specs.Prelude.{◌<◌, ◌-◌, ◌^◌, ℕ, List, IsTrue};
 
 use crate::program::{
     Answer, GOOD, Handed, Left, Outside, PRINTED_ROOM, call, hold, left_behind, line_of,
@@ -120,9 +120,7 @@ fn may_go_on<R: Threads + Sync>(
     if !is_whole(&snapshot) {
         return Ok(None);
     }
-    Ok(Some(
-        resume_refusal(rt, alloc, &snapshot, &policy)?.is_none(),
-    ))
+    Ok(Some(resume_refusal(rt, alloc, &snapshot, &policy)?.is_none()))
 }
 
 fn is_whole(snapshot: &Snapshot) -> bool {

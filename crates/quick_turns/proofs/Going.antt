@@ -1,10 +1,10 @@
 -- One turn, and a row of turns with one more.
-use Rattle.std.proofs.Common.{◌≡◌, ℕ, zero, ◌+◌, ◌/◌, ◌%◌, ◌^◌, ◌<◌, ◌≤◌, List, length, refl, sym, ◌∙◌, ap, subst, add-one, arith, inl, inr, false}
+use Rattle.std.proofs.Common.{◌≡◌, ℕ, zero, ◌+◌, ◌/◌, ◌%◌, ◌^◌, ◌<◌, ◌≤◌, List, length, refl, sym, ◌∙◌, ap, subst, add-one, arith, inl, inr, true, false}
 use Rattle.std.specs.Prelude.{Option, None}
 use Rattle.std.proofs.lemmas.Bool.Decides.{eqb_tells}
 use Rattle.processor.specs.SecondStage.{WalksApart}
 use Rattle.processor.specs.CachedWalks.{CacheAgrees, FilledUnder}
-use Rattle.processor.specs.Hardware.{Core}
+use Rattle.processor.specs.Hardware.{Core, Attempted}
 use Rattle.processor.specs.HardwareAttempt.{attempt, after_pending, after_fetch, after_word}
 use Rattle.processor.specs.HypervisorRegisters.{HypervisorRegisters, pending, is_taken}
 use Rattle.processor.specs.Regions.{Region, host_word, write_host, IsHostPlace}
@@ -16,9 +16,11 @@ use Rattle.gstage_cache.specs.Fills.{nothing_filled, filled_further}
 use Rattle.hart.specs.Cores.{core_of}
 use Rattle.hart.specs.Conditions.{MayAttempt, Walked}
 use Rattle.hart.specs.declared.hart.Core.{Core as Kept}
-use Rattle.quick_turns.specs.Quick.{Leads, GoesOn, SameCourse}
+use Rattle.quick_turns.specs.Quick.{Comes, Leads, GoesOn, SameCourse, Steers, is_made, keeps_course}
 use Rattle.quick_turns.proofs.Kept.{apart_kept, write_size}
 use Rattle.quick_turns.proofs.Windows.{leads_core, leads_kept, no_window}
+use Rattle.quick_turns.specs.declared.tried.Tried.{Tried}
+use Rattle.quick_turns.specs.declared.tried.Tried.TheVariants.{Stopped, Retired, Stored, Steered}
 use Rattle.quick_turns.specs.declared.window.Window.{Window}
 use Rattle.quick_turns.specs.Rows.{Carries, RetiresThrough}
 
@@ -33,6 +35,12 @@ attempt_at r core lines page host none small at leads = rw (none, leads.fetches 
 pub course_stays : (c : HypervisorRegisters) → SameCourse c c
 course_stays c = record { status = refl; first = refl; enabled = refl; raised = refl }
 
+-- the same interrupt is taken
+pub pending_kept : (regs : HRegs) (before after : HypervisorRegisters) (lines : Lines) → SameCourse before after
+    → pending regs after lines ≡ pending regs before lines
+unfolding pending is_taken
+pending_kept regs before after lines same = rw (same.status, same.enabled, same.raised) refl
+
 pub course_further : (a b c : HypervisorRegisters) → SameCourse a b → SameCourse b c → SameCourse a c
 course_further a b c one more = record {
   status = more.status ∙ one.status;
@@ -41,27 +49,39 @@ course_further a b c one more = record {
   raised = more.raised ∙ one.raised;
 }
 
--- the same interrupt is taken
-pub pending_kept : (regs : HRegs) (before after : HypervisorRegisters) (lines : Lines) → SameCourse before after
-    → pending regs after lines ≡ pending regs before lines
-unfolding pending is_taken
-pending_kept regs before after lines same = rw (same.status, same.enabled, same.raised) refl
+pub course_kept : (t : Tried) (before after : HypervisorRegisters) → keeps_course t ≡ true → Steers t before after → SameCourse before after
+course_kept Stopped before after keeps steers = steers
+course_kept Retired before after keeps steers = steers
+course_kept Stored before after keeps steers = steers
+course_kept Steered before after keeps steers = absurd (cc)
 
 pub goes_nowhere : (r : Region) (core : Kept) (regs : HRegs) (lines : List (Option CacheLine)) → MayAttempt r core regs lines → core.reservation ≡ None
     → GoesOn r r core core regs lines lines
 goes_nowhere r core regs lines ready free =
-    record { ready = ready; course = course_stays core.csrs; free = free; tables = refl; ram = refl; filled = nothing_filled r.tables regs.hgatp lines }
+    record { ready = ready; free = free; tables = refl; ram = refl; filled = nothing_filled r.tables regs.hgatp lines }
 
 pub goes_further : (a b c : Region) (first second third : Kept) (regs : HRegs) (x y z : List (Option CacheLine)) → GoesOn a b first second regs x y
     → GoesOn b c second third regs y z → GoesOn a c first third regs x z
 goes_further a b c first second third regs x y z so_far more = record {
   ready = more.ready;
-  course = course_further first.csrs second.csrs third.csrs so_far.course more.course;
   free = more.free;
   tables = more.tables ∙ so_far.tables;
   ram = more.ram ∙ so_far.ram;
   filled = filled_further a.tables regs.hgatp x y z so_far.filled (subst (λ (t : List ℕ). FilledUnder t regs.hgatp y z) so_far.tables more.filled);
 }
+
+was_made : (t : Tried) (a : Attempted) (before after : Region) (core next : Core) → is_made t ≡ true → Comes t a before after core next → Carries a after next
+was_made Stopped a before after core next made comes = absurd (cc)
+was_made Retired a before after core next made comes = comes.1
+was_made Stored a before after core next made comes = comes
+was_made Steered a before after core next made comes = comes.1
+
+was_not_made : (t : Tried) (a : Attempted) (before after : Region) (core next : Core) → is_made t ≡ false → Comes t a before after core next
+    → (after ≡ before) × (next ≡ core)
+was_not_made Stopped a before after core next made comes = comes
+was_not_made Retired a before after core next made comes = absurd (cc)
+was_not_made Stored a before after core next made comes = absurd (cc)
+was_not_made Steered a before after core next made comes = absurd (cc)
 
 -- what the clause on turns says of a row
 abbrev pub Row : ℕ → Region → Core → Region → Core → Type 0
@@ -75,17 +95,20 @@ still_none : (core before : Core) (lines : Lines) → SameCourse core.csrs befor
 still_none core before lines course hregs none =
     ap (λ (h : HRegs). pending h before.csrs lines) hregs ∙ pending_kept core.hregs core.csrs before.csrs lines course ∙ none
 
-pub row_more : (n : ℕ) (r mid after : Region) (core before next : Core) → SameCourse core.csrs before.csrs → before.hregs ≡ core.hregs → Row n r core mid before
-    → ((lines : Lines) → pending before.hregs before.csrs lines ≡ None → Carries (attempt mid before lines) after next) → Row (n + 1) r core after next
-row_more n r mid after core before next course hregs row one = λ lines none.
+-- one turn more
+pub row_more : (t : Tried) (n : ℕ) (r mid after : Region) (core before next : Core) → SameCourse core.csrs before.csrs → before.hregs ≡ core.hregs → Row n r core mid before
+    → is_made t ≡ true → ((lines : Lines) → pending before.hregs before.csrs lines ≡ None → Comes t (attempt mid before lines) mid after before next) → Row (n + 1) r core after next
+row_more t n r mid after core before next course hregs row made one = λ lines none.
     let still = still_none core before lines course hregs none in
-    subst (λ (k : ℕ). RetiresThrough k r core lines after next) (sym (add-one n)) (mid, (before, (row lines none, one lines still)))
+    subst (λ (k : ℕ). RetiresThrough k r core lines after next) (sym (add-one n))
+    (mid, (before, (row lines none, was_made t (attempt mid before lines) mid after before next made (one lines still))))
 
-pub row_stays : (n : ℕ) (r mid after : Region) (core before next : Core) → SameCourse core.csrs before.csrs → before.hregs ≡ core.hregs → Row n r core mid before
-    → ((lines : Lines) → pending before.hregs before.csrs lines ≡ None → (after ≡ mid) × (next ≡ before)) → Row n r core after next
-row_stays n r mid after core before next course hregs row same = λ lines none.
+-- and one that wasn't made
+pub row_stays : (t : Tried) (n : ℕ) (r mid after : Region) (core before next : Core) → SameCourse core.csrs before.csrs → before.hregs ≡ core.hregs → Row n r core mid before
+    → is_made t ≡ false → ((lines : Lines) → pending before.hregs before.csrs lines ≡ None → Comes t (attempt mid before lines) mid after before next) → Row n r core after next
+row_stays t n r mid after core before next course hregs row stopped same = λ lines none.
     let still = still_none core before lines course hregs none in
-    let both = same lines still in
+    let both = was_not_made t (attempt mid before lines) mid after before next stopped (same lines still) in
     subst (λ (x : Region). RetiresThrough n r core lines x next) (sym both.0)
     (subst (λ (x : Core). RetiresThrough n r core lines mid x) (sym both.1) (row lines none))
 
@@ -94,7 +117,6 @@ pub goes_behind : (r after : Region) (core next : Kept) (regs : HRegs) (x y z : 
     → GoesOn r after core next regs y z → GoesOn r after core next regs x z
 goes_behind r after core next regs x y z walked on = record {
   ready = on.ready;
-  course = on.course;
   free = on.free;
   tables = on.tables;
   ram = on.ram;
@@ -113,13 +135,13 @@ stayed_leads r after core next regs page host same course leads =
     subst (λ (x : Region). Leads x (core_of next regs) page host) (sym same) (leads_core r (core_of core regs) (core_of next regs) page host course refl leads)
 
 pub stored_leads : (r after : Region) (core next : Kept) (regs : HRegs) (x y : List (Option CacheLine)) (here there : Window) → GoesOn r after core next regs x y
-    → WalksApart r regs.hgatp → Leads r (core_of core regs) here.page here.host → (next.csrs.vsatp / 2 ^ 60 ≡ 0 → there ≡ here)
+    → SameCourse core.csrs next.csrs → WalksApart r regs.hgatp → Leads r (core_of core regs) here.page here.host → (next.csrs.vsatp / 2 ^ 60 ≡ 0 → there ≡ here)
     → ((next.csrs.vsatp / 2 ^ 60 ≡ 0 → ⊥) → there ≡ record { page = 18446744073709551615; host = 0 }) → Leads after (core_of next regs) there.page there.host
-stored_leads r after core next regs x y here there on apart leads bare paged = elim (eqb_tells (next.csrs.vsatp / 2 ^ 60) 0) [
+stored_leads r after core next regs x y here there on course apart leads bare paged = elim (eqb_tells (next.csrs.vsatp / 2 ^ 60) 0) [
   | inl same ↦
-      let was : core.csrs.vsatp / 2 ^ 60 ≡ 0 = ap (λ (n : ℕ). n / 2 ^ 60) (sym on.course.first) ∙ same.1 in
+      let was : core.csrs.vsatp / 2 ^ 60 ≡ 0 = ap (λ (n : ℕ). n / 2 ^ 60) (sym course.first) ∙ same.1 in
       subst (λ (w : Window). Leads after (core_of next regs) w.page w.host) (sym (bare same.1))
-      (leads_core after (core_of core regs) (core_of next regs) here.page here.host on.course refl
+      (leads_core after (core_of core regs) (core_of next regs) here.page here.host course refl
       (leads_kept r after (core_of core regs) here.page here.host was on.tables on.ram apart leads))
   | inr other ↦ subst (λ (w : Window). Leads after (core_of next regs) w.page w.host) (sym (paged other.1)) (no_window after (core_of next regs) 0)
 ]
@@ -144,7 +166,6 @@ write_goes r after core next regs lines held at n value ready free walked behind
           agrees = subst (λ (t : List ℕ). CacheAgrees t held) (sym (write_behind r at n value behind)) walked.agrees;
         };
       };
-      course = course_same core.csrs next.csrs csrs;
       free = reservation ∙ free;
       tables = write_behind r at n value behind;
       ram = write_size r at n value behind place;

@@ -13,7 +13,7 @@ use Rattle.hart.specs.Conditions.{MayAttempt}
 use Rattle.hart.specs.declared.hart.Core.{Core as Kept}
 use Rattle.quick_turns.specs.Rows.{Carries}
 use Rattle.quick_turns.specs.declared.tried.Tried.{Tried}
-use Rattle.quick_turns.specs.declared.tried.Tried.TheVariants.{Stopped, Retired, Stored}
+use Rattle.quick_turns.specs.declared.tried.Tried.TheVariants.{Stopped, Retired, Stored, Steered}
 
 -- instructions at the addresses of a page are fetched at the same places of a page of host memory
 pub record Leads (r : Region) (core : Core) (page host : ℕ) : Type 0 where
@@ -26,11 +26,13 @@ abbrev pub Comes : Tried → Attempted → (before after : Region) → (core nex
 Comes Stopped a before after core next = (after ≡ before) × (next ≡ core)
 Comes Retired a before after core next = (after ≡ before) × Carries a after next
 Comes Stored a before after core next = Carries a after next
+Comes Steered a before after core next = (after ≡ before) × Carries a after next
 
--- the same of a turn that is made, or isn't
-abbrev pub Made : Bool → Attempted → (before after : Region) → (core next : Core) → Type 0
-Made false a before after core next = (after ≡ before) × (next ≡ core)
-Made true a before after core next = Carries a after next
+abbrev pub is_made : Tried → Bool
+is_made Stopped = false
+is_made Retired = true
+is_made Stored = true
+is_made Steered = true
 
 -- the registers by which interrupts are taken and addresses are translated stay
 pub record SameCourse (before after : HypervisorRegisters) : Type 0 where
@@ -39,11 +41,24 @@ pub record SameCourse (before after : HypervisorRegisters) : Type 0 where
   pub enabled : after.hie ≡ before.hie
   pub raised : after.hvip ≡ before.hvip
 
--- a hart may go on: it stands at an instruction, in the same mode, with the same registers of interrupts and of translation
--- and no reservation; the tables and RAM's size stay, and the cache was filled by walks alone
+-- the turns behind it go by the same registers
+abbrev pub keeps_course : Tried → Bool
+keeps_course Stopped = true
+keeps_course Retired = true
+keeps_course Stored = true
+keeps_course Steered = false
+
+-- what a turn leaves of these registers
+abbrev pub Steers : Tried → (before after : HypervisorRegisters) → Type 0
+Steers Stopped before after = SameCourse before after
+Steers Retired before after = SameCourse before after
+Steers Stored before after = SameCourse before after
+Steers Steered before after = Unit {0}
+
+-- a hart may go on: it stands at an instruction, in the same mode, without a reservation; the tables and RAM's size stay, and
+-- the cache was filled by walks alone
 pub record GoesOn (before after : Region) (core next : Kept) (regs : HRegs) (lines held : List (Option CacheLine)) : Type 0 where
   pub ready : MayAttempt after next regs held
-  pub course : SameCourse core.csrs next.csrs
   pub free : next.reservation ≡ None
   pub tables : after.tables ≡ before.tables
   pub ram : length after.ram ≡ length before.ram

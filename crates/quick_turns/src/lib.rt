@@ -1,5 +1,5 @@
-//! Turns of a hart in a row that only compute, load, store, and read and write registers by which no later turn goes, made
-//! by a shorter way than an attempt each: the page that instructions are fetched from is looked up once.
+//! Turns of a hart in a row that only compute, load, store, operate on words of memory and access registers, made by a shorter
+//! way than an attempt each: the page that instructions are fetched from is looked up once.
 #![tactic(auto)]
 
 mod memory;

@@ -1,6 +1,6 @@
 // Accesses to supervisor registers that quick turns carry out.
 
-ghost use Rattle.std.specs.Prelude.{◌≡◌, ◌<◌, ◌%◌, ℕ, if◌then◌else◌, IfSome, None};
+ghost use Rattle.std.specs.Prelude.{◌≡◌, ◌<◌, ◌%◌, ℕ, false, if◌then◌else◌, IfSome, None};
 ghost use Rattle.processor.specs.Regions.{Region};
 ghost use Rattle.processor.specs.Requests.{csr_value};
 ghost use Rattle.processor.specs.Hardware.{with_region};
@@ -9,7 +9,7 @@ ghost use Rattle.processor.specs.HypervisorRegisters.{HypervisorRegisters, read_
 ghost use Rattle.processor.specs.declared.lines.Lines.{Lines};
 ghost use Rattle.hart.specs.Cores.{core_of};
 ghost use Rattle.hart.specs.Conditions.{MayStep};
-ghost use Rattle.quick_turns.specs.Quick.{Comes, SameCourse};
+ghost use Rattle.quick_turns.specs.Quick.{Comes, SameCourse, Steers};
 
 use crate::tried::Tried;
 use csr_file::Csrs;
@@ -43,19 +43,19 @@ fn kept_value(csrs: &Csrs, hideleg: u64, csr: Csr) -> Option<u64>
     }
 }
 
-// Writes a register by which no interrupt is taken and no address is translated. Answers whether it is one.
+// Writes a register. Answers whether interrupts are taken or addresses are translated by it.
 #[tactic(auto, unfolding(processor::specs::HypervisorRegisters::write_virtual))]
 #[inline(always)]
 fn write(csrs: &mut Csrs, hideleg: u64, csr: Csr, value: u64) -> bool
-    ensures written { csrs.new ≡ (if result then write_virtual hideleg csrs.old csr value else csrs.old) }
-    ensures course { SameCourse csrs.old csrs.new }
+    ensures written { csrs.new ≡ write_virtual hideleg csrs.old csr value }
+    ensures course { result ≡ false → SameCourse csrs.old csrs.new }
 {
+    csrs.set(hideleg, csr, value);
     match csr {
         Csr::Stvec | Csr::Scounteren | Csr::Sscratch | Csr::Sepc | Csr::Scause | Csr::Stval => {
-            csrs.set(hideleg, csr, value);
-            true
+            false
         }
-        _ => false,
+        Csr::Sstatus | Csr::Sie | Csr::Satp | Csr::Sip | Csr::Time => true,
     }
 }
 
@@ -69,30 +69,35 @@ pub(crate) struct CsrAccess {
     pub(crate) writes: bool,
 }
 
-// The old value of a register, and the new one written; none where that isn't done in a row.
-#[inline(always)]
-fn exchange(csrs: &mut Csrs, hideleg: u64, access: CsrAccess, csr: Csr) -> Option<u64>
-    ensures value { (lines : Lines) → IfSome result (λ old. old ≡ read_virtual hideleg csrs.old lines csr) }
-    ensures written { (lines : Lines) → IfSome result (λ old. csrs.new ≡ (if access.writes then write_virtual hideleg csrs.old csr (csr_value access.op (read_virtual hideleg csrs.old lines csr) access.operand) else csrs.old)) }
-    ensures refused { result ≡ None → csrs.new ≡ csrs.old }
-    ensures course { SameCourse csrs.old csrs.new }
-{
-    let old = kept_value(csrs, hideleg, csr)?;
-    if !access.writes
-        || write(
-            csrs,
-            hideleg,
-            csr,
-            csr_value(access.op, old, access.operand),
-        )
-    {
-        Some(old)
-    } else {
-        None
-    }
+// What an access read, and whether it wrote a register by which interrupts are taken or addresses are translated.
+#[derive(Clone, Copy, Drop)]
+struct Exchanged {
+    old: u64,
+    steers: bool,
 }
 
-/// An access to a supervisor register, where the mode has it and neither the wires nor later turns go by it.
+// The old value of a register, and the new one written; none where that isn't done in a row.
+#[inline(always)]
+fn exchange(csrs: &mut Csrs, hideleg: u64, access: CsrAccess, csr: Csr) -> Option<Exchanged>
+    ensures value { (lines : Lines) → IfSome result (λ done. done.old ≡ read_virtual hideleg csrs.old lines csr) }
+    ensures written { (lines : Lines) → IfSome result (λ done. csrs.new ≡ (if access.writes then write_virtual hideleg csrs.old csr (csr_value access.op (read_virtual hideleg csrs.old lines csr) access.operand) else csrs.old)) }
+    ensures refused { result ≡ None → csrs.new ≡ csrs.old }
+    ensures course { IfSome result (λ done. done.steers ≡ false → SameCourse csrs.old csrs.new) }
+{
+    let old = kept_value(csrs, hideleg, csr)?;
+    if !access.writes {
+        return Some(Exchanged { old, steers: false });
+    }
+    let steers = write(
+        csrs,
+        hideleg,
+        csr,
+        csr_value(access.op, old, access.operand),
+    );
+    Some(Exchanged { old, steers })
+}
+
+/// An access to a supervisor register, where the mode has it and its value doesn't go by the wires.
 #[tactic(auto, unfolding(processor::specs::HardwareAttempt::csr_reached, processor::specs::HardwareAttempt::after_csr))]
 #[inline(always)]
 pub(crate) fn csr(core: &mut Core, regs: &HRegs, access: CsrAccess) -> Tried
@@ -102,17 +107,19 @@ pub(crate) fn csr(core: &mut Core, regs: &HRegs, access: CsrAccess) -> Tried
     ensures comes { (r : Region) → (lines : Lines) → (word : ℕ) → Comes result (with_region r (after_csr (core_of core.old regs.now) lines access.rd access.op access.operand access.writes (csr_reached (core_of core.old regs.now) word access.number access.writes))) r r (core_of core.old regs.now) (core_of core.new regs.now) }
     ensures pc { core.new.pc % 4 ≡ 0 }
     ensures free { core.new.reservation ≡ None }
-    ensures course { SameCourse core.old.csrs core.new.csrs }
+    ensures course { Steers result core.old.csrs core.new.csrs }
 {
     let Ok(csr) = core.csrs.access(regs.mode, access.number, access.writes) else {
         return Tried::Stopped;
     };
-    match exchange(&mut core.csrs, regs.hideleg, access, csr) {
-        Some(old) => {
-            core.regs.set(access.rd, old);
-            core.pc = core.pc.wrapping_add(4);
-            Tried::Retired
-        }
-        None => Tried::Stopped,
+    let Some(done) = exchange(&mut core.csrs, regs.hideleg, access, csr) else {
+        return Tried::Stopped;
+    };
+    core.regs.set(access.rd, done.old);
+    core.pc = core.pc.wrapping_add(4);
+    if done.steers {
+        Tried::Steered
+    } else {
+        Tried::Retired
     }
 }

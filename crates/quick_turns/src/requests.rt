@@ -10,7 +10,7 @@ ghost use Rattle.processor.specs.declared.access.Access.TheVariants as Access;
 ghost use Rattle.processor.specs.declared.lines.Lines.{Lines};
 ghost use Rattle.hart.specs.Cores.{core_of};
 ghost use Rattle.hart.specs.Conditions.{MayAttempt, MayStep};
-ghost use Rattle.quick_turns.specs.Quick.{Comes, GoesOn, SameCourse};
+ghost use Rattle.quick_turns.specs.Quick.{Comes, GoesOn, Steers};
 ghost use Rattle.reach.specs.Kept.{ReachAgrees};
 
 use crate::memory::{Reference, aligned_place};
@@ -50,6 +50,7 @@ fn load(
     requires reach { ReachAgrees mem.now.tables reach.old }
     ensures comes { (htinst : ℕ) → Comes result (with_region mem.now (after_load mem.now (core_of core.old regs.now) load.rd load.width load.signed (reached mem.now (core_of core.old regs.now) Access.Load load.address load.width htinst))) mem.now mem.now (core_of core.old regs.now) (core_of core.new regs.now) }
     ensures on { GoesOn mem.now mem.now core.old core.new regs.now cache.old cache.new }
+    ensures course { Steers result core.old.csrs core.new.csrs }
     ensures reach { ReachAgrees mem.now.tables reach.new }
 {
     let reference = Reference {
@@ -94,6 +95,7 @@ fn store(
     requires reach { ReachAgrees mem.old.tables reach.old }
     ensures comes { (htinst : ℕ) → Comes result (after_store mem.old (core_of core.old regs.now) store.width store.value (reached mem.old (core_of core.old regs.now) Access.Store store.address store.width htinst)) mem.old mem.new (core_of core.old regs.now) (core_of core.new regs.now) }
     ensures on { GoesOn mem.old mem.new core.old core.new regs.now cache.old cache.new }
+    ensures course { Steers result core.old.csrs core.new.csrs }
     ensures reach { ReachAgrees mem.new.tables reach.new }
 {
     let reference = Reference {
@@ -141,6 +143,7 @@ fn atomic(
     ensures comes { (htinst : ℕ) → Comes result (after_amo mem.old (core_of core.old regs.now) operation.rd operation.width operation.op operation.value (reached mem.old (core_of core.old regs.now) Access.Store operation.address operation.width htinst)) mem.old mem.new (core_of core.old regs.now) (core_of core.new regs.now) }
     ensures reach { ReachAgrees mem.new.tables reach.new }
     ensures on { GoesOn mem.old mem.new core.old core.new regs.now cache.old cache.new }
+    ensures course { Steers result core.old.csrs core.new.csrs }
 {
     // Its word is read where stores may go, and never where loads alone may.
     let access = Access::Store;
@@ -173,7 +176,7 @@ fn supervisor_only(core: &mut Core, regs: &HRegs) -> Tried
     ensures comes { (r : Region) → (word : ℕ) → Comes result (with_region r (after_supervisor_only (core_of core.old regs.now) word regs.now.mode)) r r (core_of core.old regs.now) (core_of core.new regs.now) }
     ensures pc { core.new.pc % 4 ≡ 0 }
     ensures free { core.new.reservation ≡ None }
-    ensures course { SameCourse core.old.csrs core.new.csrs }
+    ensures course { Steers result core.old.csrs core.new.csrs }
 {
     match regs.mode {
         Mode::Kernel => {
@@ -185,7 +188,7 @@ fn supervisor_only(core: &mut Core, regs: &HRegs) -> Tried
 }
 
 /// An instruction carried out, where it only computes, loads, stores, operates on a word of memory, or reads or writes a
-/// register by which no later turn goes.
+/// register that doesn't go by the wires.
 #[tactic(auto, using(gstage_cache::specs::Fills::nothing_filled, processor_laws::proofs::EffectRequests::is_request), unfolding(processor::specs::HardwareAttempt::after_word, processor::specs::HardwareAttempt::after_instruction, processor::specs::HardwareAttempt::after_effect))]
 #[inline(always)]
 pub(crate) fn carry_out(
@@ -201,6 +204,7 @@ pub(crate) fn carry_out(
     requires reach { ReachAgrees mem.old.tables reach.old }
     ensures comes { (lines : Lines) → Comes result (after_word mem.old (core_of core.old regs.now) lines decoded.now.word) mem.old mem.new (core_of core.old regs.now) (core_of core.new regs.now) }
     ensures on { GoesOn mem.old mem.new core.old core.new regs.now cache.old cache.new }
+    ensures course { Steers result core.old.csrs core.new.csrs }
     ensures reach { ReachAgrees mem.new.tables reach.new }
 {
     let Some(instr) = &decoded.instr else {

@@ -1,5 +1,8 @@
 // What became of a turn.
 
+ghost use Rattle.std.specs.Prelude.{◌≡◌};
+ghost use Rattle.quick_turns.specs.Quick.{is_made, keeps_course};
+
 /// What became of a turn that was tried.
 #[derive(Clone, Copy, Drop)]
 pub(crate) enum Tried {
@@ -9,4 +12,30 @@ pub(crate) enum Tried {
     Retired,
     /// Its instruction wrote memory.
     Stored,
+    /// Its instruction wrote a register by which interrupts are taken or addresses are translated, and memory is as it was.
+    Steered,
+}
+
+impl Tried {
+    /// The turn was made.
+    #[inline(always)]
+    pub(crate) fn is_made(self) -> bool
+        ensures { result ≡ is_made self }
+    {
+        match self {
+            Tried::Stopped => false,
+            Tried::Retired | Tried::Stored | Tried::Steered => true,
+        }
+    }
+
+    /// The turns behind it go by the same registers.
+    #[inline(always)]
+    pub(crate) fn keeps_course(self) -> bool
+        ensures { result ≡ keeps_course self }
+    {
+        match self {
+            Tried::Stopped | Tried::Retired | Tried::Stored => true,
+            Tried::Steered => false,
+        }
+    }
 }

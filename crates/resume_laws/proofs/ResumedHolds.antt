@@ -1,5 +1,5 @@
 -- What a run keeps from a sound state on.
-use Rattle.std.proofs.Common.{◌≡◌, ℕ, ◌-◌, ◌⊎◌, inl, inr, List, [], refl, sym, ap, subst, ◌∙◌, true, false}
+use Rattle.std.proofs.Common.{◌≡◌, ℕ, ◌⊎◌, inl, inr, List, [], refl, sym, ap, subst, ◌∙◌, true, false}
 use Rattle.std.specs.Prelude.{Option, Some, None, is_some, slice_get}
 use Rattle.processor.specs.Bytes.{page_bytes, ram_place}
 use Rattle.run_laws.proofs.StateLawsHold.{page_in_text}

@@ -9,11 +9,11 @@ use Rattle.sv_types.specs.declared.protection.Protection.{Protection}
 use Rattle.reference.specs.Soundness.{IsSound}
 use Rattle.reference.specs.States.{State, protection_in}
 use Rattle.saved_machine.specs.SavedStates.{saved_harts, saved_protections}
-use Rattle.snapshot_form.specs.DeviceForms.{console, devices, disk, port}
+use Rattle.snapshot_form.specs.DeviceForms.{console, devices, port}
 use Rattle.snapshot_form.specs.Forms.{is_word}
 use Rattle.snapshot_form.specs.HartForms.{flag, harts}
-use Rattle.snapshot_form.specs.JournalForms.{counts, journal, notes, verdict}
-use Rattle.snapshot_form.specs.PageForms.{gate, loading, modules, pages, protections, text}
+use Rattle.snapshot_form.specs.JournalForms.{counts, journal}
+use Rattle.snapshot_form.specs.PageForms.{gate, modules, pages, protections, text}
 use Rattle.snapshot_form.specs.Snapshots.{Contents, beginning, body, contents, events_made, hart_count, header, magic, page_count, snapshot, whole_header}
 use Rattle.snapshot_form.specs.declared.whole.TextPage.{TextPage}
 use Rattle.snapshot_form.proofs.FormLaws.{both_true, first_true, second_true}

@@ -12,7 +12,7 @@ use Rattle.machine_model.specs.Machine.{Machine}
 use Rattle.machine_model.specs.Reaches.{IsNew}
 use Rattle.machine_model.specs.StandsFor.{Unseen, IsRightFor, bound_pages, load_kept, machine_of, protections_of}
 use Rattle.saved_machine.specs.declared.whole.SavedLoad.{SavedLoad}
-use Rattle.snapshot_form.specs.Snapshots.{Contents, snapshot}
+use Rattle.snapshot_form.specs.Snapshots.{Contents}
 use Rattle.resumption.specs.ResumedStates.{resumed_hart, resumed_load, resumed_state}
 use Rattle.resume_laws.specs.ResumedSound.{IsResumable}
 use Rattle.resume_laws.proofs.FormParts.{HasParts, parts_of}

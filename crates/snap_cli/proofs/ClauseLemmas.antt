@@ -1,5 +1,5 @@
 -- From what `snap` performed to each of its clauses.
-use Rattle.std.proofs.Common.{◌≡◌, ◌≢◌, ◌<◌, ◌≤◌, ℕ, List, [], Bool, true, false, refl, sym, ◌∙◌, ap, subst, arith, inl, inr, Option, Some, None, Result, Ok, Err}
+use Rattle.std.proofs.Common.{◌≡◌, ◌≢◌, ◌≤◌, ℕ, List, [], false, refl, sym, ◌∙◌, ap, subst, arith, inl, inr, Option, Some, None, Result, Ok, Err}
 use Rattle.std.specs.Result.{is_ok}
 use Rattle.sv_types.specs.declared.event.Event.{Event}
 use Rattle.sv_types.specs.declared.status.Status.{Status}
@@ -7,7 +7,7 @@ use Rattle.reference.specs.Run.{run}
 use Rattle.reference.specs.States.{State}
 use Rattle.outside.specs.Outside.{FilesState, SinkState}
 use Rattle.secvisor_cli.specs.Answers.{Outside, outside, Writes, WritesAndSaves, settled}
-use Rattle.secvisor_cli.specs.Plans.{Due, Refuse, RunFrom, Make, Saving, Exactly, Plan, status_due}
+use Rattle.secvisor_cli.specs.Plans.{Due, Refuse, RunFrom, Make, Saving, Exactly, Plan}
 use Rattle.secvisor_cli.specs.Reading.{Follows}
 use Rattle.secvisor_cli.specs.Refusals.{refusal_line, refusal_status}
 use Rattle.secvisor_cli.specs.declared.refusal.Refusal.{Refusal}
@@ -17,7 +17,7 @@ use Rattle.secvisor_cli.proofs.PlanLemmas.{Keeps, HasFault, HasFoundFaults, foll
 use Rattle.secvisor_cli.proofs.SaveLemmas.{Changes, changes, changes_same}
 use Rattle.secvisor_cli.proofs.TopLemmas.{run_found_faults}
 use Rattle.secvisor_cli.proofs.WordLemmas.{NoReadFault}
-use Rattle.snap_cli.specs.SnapAnswers.{spelled, SavesMade, SavesSnapshot, SnapsTo, RunsSnap, AnswersSnapReached, PerformsSnap}
+use Rattle.snap_cli.specs.SnapAnswers.{spelled, SavesMade, SavesSnapshot, RunsSnap, AnswersSnapReached, PerformsSnap}
 use Rattle.snap_cli.specs.SnapWords.{SnapWords, snap_judged, snap_plan, out_of}
 use Rattle.snap_cli.proofs.WordLemmas.{snap_no_read_fault}
 

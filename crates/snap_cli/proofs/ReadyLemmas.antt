@@ -1,5 +1,5 @@
 -- What is made ready of `snap`, from what is made ready of a run.
-use Rattle.std.proofs.Common.{◌≡◌, ℕ, List, [], Bool, true, false, refl, sym, ap, subst, inl, inr, Option, Some, None, Result, Ok, Err, IsErrOf}
+use Rattle.std.proofs.Common.{◌≡◌, ℕ, List, [], true, false, refl, sym, subst, inl, inr, Option, Some, None, Ok, Err}
 use Rattle.std.specs.Prelude.{if◌then◌else◌}
 use Rattle.std.specs.Str.{bytes_eq}
 use Rattle.sv_types.specs.Kernel.{header_entry, kernel_refusal}
@@ -8,7 +8,7 @@ use Rattle.sv_types.specs.Schedule.{Schedule, first_events}
 use Rattle.sv_types.specs.declared.event.Event.{Event}
 use Rattle.command_words.specs.declared.command.DiskKind.{DiskKind}
 use Rattle.reference.specs.Start.{boot_start, start as begin}
-use Rattle.reference.specs.States.{State, has_number}
+use Rattle.reference.specs.States.{has_number}
 use Rattle.outside.specs.Outside.{FilesState}
 use Rattle.policy.specs.Refusals.{Judged}
 use Rattle.policy.specs.Text.{rules_of_text}

@@ -1,5 +1,5 @@
 -- The run of `snap`: the console's bytes and nothing else.
-use Rattle.std.proofs.Common.{◌≡◌, ℕ, zero, suc, ◌+◌, ◌<◌, ◌≤◌, ◌^◌, List, [], ◌∷◌, ◌++◌, length, Bool, true, refl, sym, ◌∙◌, ap, subst, arith, append_assoc, Option, Some, None, Result, Ok, Err, OnOk}
+use Rattle.std.proofs.Common.{◌≡◌, ℕ, zero, suc, ◌+◌, ◌<◌, ◌≤◌, ◌^◌, List, [], ◌∷◌, ◌++◌, length, true, refl, sym, ◌∙◌, ap, subst, arith, append_assoc, Option, Some, None, Result, Ok, Err, OnOk}
 use Rattle.std.proofs.lemmas.List.{append-nil}
 use Rattle.sv_types.specs.Schedule.{Schedule, first_events, next_event, after_event, begun_with}
 use Rattle.sv_types.specs.declared.event.Counts.{Counts}
@@ -22,9 +22,9 @@ use Rattle.snap_laws.specs.EventCounts.{events_counted}
 use Rattle.outside.specs.Outside.{SinkState, after_taking, TookPrefix, BreaksOff}
 use Rattle.outside.proofs.SinkLemmas.{after_taking-append, after_taking-nil, prefix_behind, prefix_of_front, prefix_same, prefix_whole, prefix_none}
 use Rattle.console_run.specs.Console.{HasRun, RunBroke}
-use Rattle.console_run.specs.Standing.{Stands, HasState}
+use Rattle.console_run.specs.Standing.{HasState}
 use Rattle.console_run.proofs.Standing.{prints_behind, stands_new, stands_printed, cleared_none}
-use Rattle.secvisor_cli.specs.Answers.{Writes, is_answer}
+use Rattle.secvisor_cli.specs.Answers.{Writes}
 use Rattle.secvisor_cli.specs.declared.trouble.Trouble.{Trouble}
 use Rattle.secvisor_cli.specs.declared.trouble.Trouble.TheVariants.{Write, Memory}
 use Rattle.snap_cli.specs.SnapAnswers.{StandsAfter}

@@ -5,7 +5,6 @@ use Rattle.sv_types.specs.Limits.{most_events}
 use Rattle.sv_types.specs.Numbers.{number_within}
 use Rattle.command_words.specs.Commands.{has_dash}
 use Rattle.secvisor_cli.specs.CommandLine.{Source, source_of}
-use Rattle.secvisor_cli.specs.Plans.{Refuse, status_due}
 use Rattle.secvisor_cli.specs.declared.refusal.Refusal.{Refusal}
 use Rattle.secvisor_cli.specs.declared.refusal.Refusal.TheVariants.{NoCommand}
 use Rattle.secvisor_cli.proofs.WordLemmas.{NoReadFault}

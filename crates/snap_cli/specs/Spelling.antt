@@ -1,5 +1,5 @@
 -- The snapshot of a machine as its code makes it, and its bytes under a name. This project's own.
-use Rattle.std.specs.Prelude.{◌≡◌, ◌⊎◌, ℕ, List, Option, Some, Result, IsErrOf}
+use Rattle.std.specs.Prelude.{◌≡◌, ◌⊎◌, ℕ, List, Some, Result, IsErrOf}
 use Rattle.reference.specs.States.{State}
 use Rattle.machine_model.specs.Machine.{Machine}
 use Rattle.machine_model.specs.StandsFor.{StandsFor}

@@ -1,5 +1,5 @@
 // The answer to the words of `snap`.
-ghost use Rattle.std.specs.Prelude.{◌≡◌, ◌≢◌, ◌<◌, ◌≤◌, ◌-◌, ◌^◌, ◌⊎◌, ℕ, List, [], ◌∷◌, map, string_bytes, true, false, IsTrue, None};
+ghost use Rattle.std.specs.Prelude.{◌≡◌, ◌≢◌, ◌<◌, ◌≤◌, ◌-◌, ◌^◌, ◌⊎◌, ℕ, List, [], map, string_bytes, false, IsTrue, None};
 ghost use Rattle.std.specs.Result.{is_ok};
 ghost use Rattle.command_words.specs.declared.command.DiskKind.{DiskKind as Kind};
 ghost use Rattle.reference.specs.Counting.{CountsAtMost};

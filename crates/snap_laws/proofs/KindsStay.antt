@@ -22,7 +22,7 @@ use Rattle.sv_types.specs.declared.event.Event.TheVariants.{Turn, Beat, Key, Tic
 use Rattle.sv_types.specs.declared.event.Verdict.{Verdict}
 use Rattle.sv_types.specs.declared.event.Verdict.TheVariants.{Running, Shutdown, Stopped}
 use Rattle.reference.specs.Answers.{devices_beside, answered, call}
-use Rattle.reference.specs.BlockDisk.{block_store, block_beat}
+use Rattle.reference.specs.BlockDisk.{block_store}
 use Rattle.reference.specs.Calls.{asked_by, facts_of}
 use Rattle.reference.specs.Counting.{count, count_turn, count_beat, count_key, count_tick, printed_low}
 use Rattle.reference.specs.Devices.{DeviceLoad, DeviceStore, Port, ConsoleAt, DiskAt, Nowhere, device_load_of, port_at, port_load, port_store, device_load, device_store, lines_at, with_disk, with_bytes, after_move, beat, key, tick}
@@ -30,9 +30,9 @@ use Rattle.reference.specs.Disk.{Beaten, disk_load, disk_store, disk_beat}
 use Rattle.reference.specs.Loads.{is_good, decide, load_step_of}
 use Rattle.reference.specs.ModuleCalls.{answer_of, load_decision}
 use Rattle.reference.specs.Move.{Move, Idle, FromRam, IntoRam, DeniedAt, OutsideRam}
-use Rattle.reference.specs.Requests.{carried_out_writing, Source, NoSource, Target, NoTarget, Guarded, ToRam, ToDevice, carry_out_device_load, carry_out_load, carry_out_load_reserved, carry_out_device_store, carry_out_store, write_stopped, carry_out_store_conditional, carry_out_amo, carry_out_csr, source_of, target_of, csr_asked}
+use Rattle.reference.specs.Requests.{carried_out_writing, Source, NoSource, Target, NoTarget, Guarded, ToRam, ToDevice, carry_out_device_load, carry_out_load, carry_out_load_reserved, carry_out_device_store, carry_out_store, carry_out_store_conditional, carry_out_amo, carry_out_csr, source_of, target_of, csr_asked}
 use Rattle.reference.specs.Requests as requests
-use Rattle.reference.specs.Run.{happen, happen_under, step, run}
+use Rattle.reference.specs.Run.{happen, happen_under, step}
 use Rattle.reference.specs.States.{State, Hart, Devices, Disk, BlockDisk, VirtioDisk, Journal, Loading, Binding, is_protected}
 use Rattle.reference.specs.Trapping.{trap_from, exception, returned_from_trap, may_enter}
 use Rattle.reference.specs.Turn.{place_of_pc, leads_into, outside, leave_entry, fetch_in_entry, bound_entry, carry_out_kernel_only, carry_out_ecall, carry_out_sret, carry_out_effect, carry_out_instruction, carry_out_word, Fetched, NoWord, Stray, Word, fetch_of, act_on_fetch, act_on_pending, act, turn_of_started, turn_of, turn}

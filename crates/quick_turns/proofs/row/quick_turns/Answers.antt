@@ -1,15 +1,15 @@
-use Rattle.std.proofs.Common.{Bool, sym, subst, refl, arith}
-use Rattle.processor.specs.HardwareAttempt.{attempt}
+use Rattle.std.proofs.Common.{sym, ◌∙◌, subst, refl, arith}
 use Rattle.hart.specs.Cores.{core_of}
-use Rattle.quick_turns.specs.Quick.{Leads, Made}
+use Rattle.quick_turns.specs.Quick.{Leads}
 use Rattle.quick_turns.specs.declared.window.Window.{Window}
-use Rattle.quick_turns.proofs.Going.{goes_further, goes_nowhere, row_more, row_starts, row_stays}
+use Rattle.quick_turns.proofs.Going.{course_further, course_kept, course_stays, goes_further, goes_nowhere, row_more, row_starts, row_stays}
 use Rattle.quick_turns.proofs.Windows.{no_window}
 use Rattle.quick_turns.proofs.row.quick_turns.Goals as goal
 
 pub turns-init : goal.turns-init
 turns-init c = record {
   row = row_starts c.args.mem.now (core_of c.args.core.now c.args.regs.now);
+  course = course_stays c.args.core.now.csrs;
   on = goes_nowhere c.args.mem.now c.args.core.now c.args.regs.now c.args.cache.now c.requires.ready c.requires.free;
   leads = subst (λ (w : Window). Leads c.args.mem.now (core_of c.args.core.now c.args.regs.now) w.page w.host) (sym c.none-window.ensures)
       (no_window c.args.mem.now (core_of c.args.core.now c.args.regs.now) 0);
@@ -17,29 +17,37 @@ turns-init c = record {
   reach = c.requires.reach;
 }
 
-pub returns-then-not-turn-clause-retires : goal.returns-then-not-turn-clause-retires
-returns-then-not-turn-clause-retires c =
-    row_stays c.turns.made c.args.mem.now c.turns.mem c.turn.new.mem (core_of c.args.core.now c.args.regs.now) (core_of c.turns.core c.args.regs.now)
-    (core_of c.turn.new.core c.args.regs.now) c.turns.invariant.on.course refl c.turns.invariant.row
-    (λ lines none. subst (λ (b : Bool). Made b (attempt c.turns.mem (core_of c.turns.core c.args.regs.now) lines) c.turns.mem c.turn.new.mem (core_of c.turns.core c.args.regs.now) (core_of c.turn.new.core c.args.regs.now))
-    c.if-not-turn.true (c.turn.ensures.made lines none))
+pub returns-then-not-is_made-clause-retires : goal.returns-then-not-is_made-clause-retires
+returns-then-not-is_made-clause-retires c =
+    row_stays c.turn-tried.result c.turns.made c.args.mem.now c.turns.mem c.turn-tried.new.mem (core_of c.args.core.now c.args.regs.now) (core_of c.turns.core c.args.regs.now)
+    (core_of c.turn-tried.new.core c.args.regs.now) c.turns.invariant.course refl c.turns.invariant.row (sym c.is_made.ensures ∙ c.if-not-is_made.true) c.turn-tried.ensures.comes
 
-pub returns-then-not-turn-clause-on : goal.returns-then-not-turn-clause-on
-returns-then-not-turn-clause-on c =
-    goes_further c.args.mem.now c.turns.mem c.turn.new.mem c.args.core.now c.turns.core c.turn.new.core c.args.regs.now c.args.cache.now c.turns.cache c.turn.new.cache
-    c.turns.invariant.on c.turn.ensures.on
+pub returns-then-not-is_made-clause-on : goal.returns-then-not-is_made-clause-on
+returns-then-not-is_made-clause-on c =
+    goes_further c.args.mem.now c.turns.mem c.turn-tried.new.mem c.args.core.now c.turns.core c.turn-tried.new.core c.args.regs.now c.args.cache.now c.turns.cache c.turn-tried.new.cache
+    c.turns.invariant.on c.turn-tried.ensures.on
+
+pub returns-then-not-keeps_course-clause-retires : goal.returns-then-not-keeps_course-clause-retires
+returns-then-not-keeps_course-clause-retires c =
+    row_more c.turn-tried.result c.turns.made c.args.mem.now c.turns.mem c.turn-tried.new.mem (core_of c.args.core.now c.args.regs.now) (core_of c.turns.core c.args.regs.now)
+    (core_of c.turn-tried.new.core c.args.regs.now) c.turns.invariant.course refl c.turns.invariant.row (sym c.is_made.ensures ∙ c.if-not-is_made.false) c.turn-tried.ensures.comes
+
+pub returns-then-not-keeps_course-clause-on : goal.returns-then-not-keeps_course-clause-on
+returns-then-not-keeps_course-clause-on c =
+    goes_further c.args.mem.now c.turns.mem c.turn-tried.new.mem c.args.core.now c.turns.core c.turn-tried.new.core c.args.regs.now c.args.cache.now c.turns.cache c.turn-tried.new.cache
+    c.turns.invariant.on c.turn-tried.ensures.on
 
 pub turns-preserved : goal.turns-preserved
 turns-preserved c = record {
-  row = row_more c.turns.made c.args.mem.now c.turns.mem c.turn.new.mem (core_of c.args.core.now c.args.regs.now) (core_of c.turns.core c.args.regs.now)
-      (core_of c.turn.new.core c.args.regs.now) c.turns.invariant.on.course refl c.turns.invariant.row
-      (λ lines none. subst (λ (b : Bool). Made b (attempt c.turns.mem (core_of c.turns.core c.args.regs.now) lines) c.turns.mem c.turn.new.mem (core_of c.turns.core c.args.regs.now) (core_of c.turn.new.core c.args.regs.now))
-      c.if-not-turn.false (c.turn.ensures.made lines none));
-  on = goes_further c.args.mem.now c.turns.mem c.turn.new.mem c.args.core.now c.turns.core c.turn.new.core c.args.regs.now c.args.cache.now c.turns.cache c.turn.new.cache
-      c.turns.invariant.on c.turn.ensures.on;
-  leads = c.turn.ensures.leads;
+  row = row_more c.turn-tried.result c.turns.made c.args.mem.now c.turns.mem c.turn-tried.new.mem (core_of c.args.core.now c.args.regs.now) (core_of c.turns.core c.args.regs.now)
+      (core_of c.turn-tried.new.core c.args.regs.now) c.turns.invariant.course refl c.turns.invariant.row (sym c.is_made.ensures ∙ c.if-not-is_made.false) c.turn-tried.ensures.comes;
+  course = course_further c.args.core.now.csrs c.turns.core.csrs c.turn-tried.new.core.csrs c.turns.invariant.course
+      (course_kept c.turn-tried.result c.turns.core.csrs c.turn-tried.new.core.csrs (sym c.keeps_course.ensures ∙ c.if-not-keeps_course.false) c.turn-tried.ensures.course);
+  on = goes_further c.args.mem.now c.turns.mem c.turn-tried.new.mem c.args.core.now c.turns.core c.turn-tried.new.core c.args.regs.now c.args.cache.now c.turns.cache c.turn-tried.new.cache
+      c.turns.invariant.on c.turn-tried.ensures.on;
+  leads = c.turn-tried.ensures.leads;
   few = omega (arith, c.turns-test.true);
-  reach = c.turn.ensures.reach;
+  reach = c.turn-tried.ensures.reach;
 }
 
 pub returns-clause-retires : goal.returns-clause-retires

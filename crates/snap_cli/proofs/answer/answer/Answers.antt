@@ -1,5 +1,4 @@
-use Rattle.std.proofs.Common.{map, string_bytes}
-use Rattle.snap_cli.specs.SnapWords.{snap_judged, snap_value}
+use Rattle.snap_cli.specs.SnapWords.{snap_value}
 use Rattle.snap_cli.proofs.AnswerLemmas.{words_refused, words_may, name_may, words_performed}
 use Rattle.snap_cli.proofs.answer.answer.Goals as goal
 

@@ -1,4 +1,4 @@
-use Rattle.std.proofs.Common.{◌≡◌, ◌≤◌, ◌*◌, ◌∙◌, ℕ, List, length, sym, ap, subst}
+use Rattle.std.proofs.Common.{◌≤◌, ◌*◌, ◌∙◌, ℕ, List, length, sym, ap, subst}
 use Rattle.processor.specs.Regions.{most_ram_pages}
 use Rattle.sv_types.specs.declared.protection.Protection.{Protection}
 use Rattle.snap_cli.proofs.TextLemmas.{ram_saved, few_saved}
