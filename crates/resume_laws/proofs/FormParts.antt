@@ -83,3 +83,14 @@ below_is a b e = grind (arith, nat_tests)
 
 pub most_is : (a b : ℕ) → nat_le a b ≡ true → a ≤ b
 most_is a b e = grind (arith, nat_tests)
+
+-- and what is in a range has it
+
+pub small_word : (n : ℕ) → n < 2 ^ 64 → is_word n ≡ true
+small_word n e = grind (arith, nat_tests)
+
+pub less_is : (a b : ℕ) → a < b → nat_lt a b ≡ true
+less_is a b e = grind (arith, nat_tests)
+
+pub least_is : (a b : ℕ) → a ≤ b → nat_le a b ≡ true
+least_is a b e = grind (arith, nat_tests)

@@ -3,7 +3,6 @@ use Rattle.std.proofs.Common.{◌≡◌, ℕ, zero, suc, ◌+◌, ◌-◌, ◌*�
 use Rattle.std.specs.Prelude.{Option, Some, None, option_map, is_some, if◌then◌else◌, ◌==◌, nat_lt, nat_le, IsTrue}
 use Rattle.std.specs.List.{list_all}
 use Rattle.std.proofs.lemmas.Bool.{eq-eqb}
-use Rattle.std.proofs.lemmas.Bool.Decides.{nat_tests}
 use Rattle.std.proofs.lemmas.List.{length-replicate}
 use Rattle.std.proofs.lemmas.Slice.Eq.{bytes_eq-Decides}
 use Rattle.processor.specs.Bytes.{page_size, page_bytes, page_of, ram_base, ram_place}
@@ -33,6 +32,7 @@ use Rattle.resume_laws.specs.Keepable.{AscendFrom, IsKeepable}
 use Rattle.resume_laws.specs.Resumed.{KeepsDigests}
 use Rattle.resume_laws.specs.SavedAccepted.{SavedAcceptedLaw}
 use Rattle.resume_laws.proofs.DueProtections.{all_free, by_marks, listed}
+use Rattle.resume_laws.proofs.FormParts.{least_is, less_is}
 use Rattle.resume_laws.proofs.KeepableStarts.{filter_ascends, numbers_ascend}
 use Rattle.resume_laws.proofs.ResumedHolds.{held_free}
 use Rattle.resume_laws.proofs.ResumedPages.{of_module}
@@ -46,12 +46,6 @@ use Rattle.run_laws.proofs.Lookups.{all_found, and_both, both, numbers_bounds, s
 all_by : {A : Type 0} (test : A → Bool) (xs : List A) → ((i : ℕ) (x : A) → slice_get xs i ≡ Some x → test x ≡ true) → list_all test xs ≡ true
 all_by test [] each = refl
 all_by test (x ∷ xs) each = and_both (test x) (list_all test xs) (each 0 x refl) (all_by test xs (λ i y at. each (suc i) y at))
-
-less_is : (a b : ℕ) → a < b → nat_lt a b ≡ true
-less_is a b e = grind (arith, nat_tests)
-
-least_is : (a b : ℕ) → a ≤ b → nat_le a b ≡ true
-least_is a b e = grind (arith, nat_tests)
 
 -- ---- the first judgement
 

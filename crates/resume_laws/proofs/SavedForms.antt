@@ -20,9 +20,9 @@ use Rattle.snapshot_form.proofs.FormLaws.{both_true, first_true, second_true}
 use Rattle.resume_laws.specs.Keepable.{AscendFrom, IsKeepable, IsKeepableJournal}
 use Rattle.resume_laws.specs.Resumed.{KeepsDigests}
 use Rattle.resume_laws.specs.SavedForm.{HasBlock, IsCounted, IsTyped, SavedFormLaw}
-use Rattle.resume_laws.proofs.FormParts.{most_is}
+use Rattle.resume_laws.proofs.FormParts.{least_is, most_is, small_word}
 use Rattle.resume_laws.proofs.SavedAccepted.{length_pages, snapped}
-use Rattle.resume_laws.proofs.SavedHarts.{flag_has, harts_have, least_is, small_word}
+use Rattle.resume_laws.proofs.SavedHarts.{flag_has, harts_have}
 use Rattle.resume_laws.proofs.SavedJournals.{counts_have, notes_have, verdict_has}
 use Rattle.resume_laws.proofs.SavedPages.{loading_has, modules_have, protections_have, text_has}
 use Rattle.resume_laws.proofs.SavedResumes.{contents_are, contents_of, length_saved}

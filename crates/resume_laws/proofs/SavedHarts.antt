@@ -1,9 +1,8 @@
 -- The harts that were saved of a state have a spelling.
 use Rattle.std.proofs.Common.{◌≡◌, ℕ, zero, suc, ◌+◌, ◌-◌, ◌*◌, ◌%◌, ◌^◌, ◌<◌, ◌≤◌, List, [], ◌∷◌, ◌++◌, length, drop, refl, ◌∙◌, ap, subst, Bool, true, false, not, ◌&&◌, ◌||◌, arith, slice_get}
-use Rattle.std.specs.Prelude.{Option, Some, None, option_map, ◌==◌, nat_lt, nat_le, IsTrue}
+use Rattle.std.specs.Prelude.{Option, Some, None, option_map, ◌==◌, nat_le, IsTrue}
 use Rattle.std.specs.List.{list_all}
 use Rattle.std.proofs.lemmas.Bool.{eq-eqb, ne_eqb}
-use Rattle.std.proofs.lemmas.Bool.Decides.{nat_tests}
 use Rattle.std.proofs.lemmas.List.{length-drop}
 use Rattle.processor.specs.Bits.{flag as bit_of}
 use Rattle.processor.specs.Bytes.{page_size, ram_base}
@@ -21,19 +20,10 @@ use Rattle.snapshot_form.specs.HartForms.{aligned, begins_with_0, flag, hart, le
 use Rattle.snapshot_form.proofs.FormLaws.{both_true, first_true, second_true}
 use Rattle.resume_laws.specs.Keepable.{AreKeepable, IsKeepableHart, IsReservable}
 use Rattle.resume_laws.specs.SavedForm.{are_words, hart_numbers, is_typed_hart}
-use Rattle.resume_laws.proofs.FormParts.{most_is}
+use Rattle.resume_laws.proofs.FormParts.{least_is, less_is, most_is, small_word}
 use Rattle.std.proofs.lemmas.Bool.{eqb-true}
 
 -- ---- numbers
-
-pub small_word : (n : ℕ) → n < 2 ^ 64 → is_word n ≡ true
-small_word n e = grind (arith, nat_tests)
-
-pub less_is : (a b : ℕ) → a < b → nat_lt a b ≡ true
-less_is a b e = grind (arith, nat_tests)
-
-pub least_is : (a b : ℕ) → a ≤ b → nat_le a b ≡ true
-least_is a b e = grind (arith, nat_tests)
 
 pub word_at : (xs : List ℕ) (i n : ℕ) → are_words xs ≡ true → slice_get xs i ≡ Some n → is_word n ≡ true
 word_at [] i n all at = cc

@@ -18,7 +18,8 @@ use Rattle.snapshot_form.specs.JournalForms.{answer, code, count, counts, demote
 use Rattle.snapshot_form.proofs.FormLaws.{both_true, first_true, second_true}
 use Rattle.resume_laws.specs.Keepable.{AreKeepableNotes, IsKeepableJournal, IsKeepableNote, IsKeepableVerdict}
 use Rattle.resume_laws.specs.SavedForm.{are_words, note_numbers, verdict_numbers}
-use Rattle.resume_laws.proofs.SavedHarts.{aligned_has, least_is, less_is, small_word, word_at}
+use Rattle.resume_laws.proofs.FormParts.{least_is, less_is, small_word}
+use Rattle.resume_laws.proofs.SavedHarts.{aligned_has, word_at}
 
 -- ---- counts
 

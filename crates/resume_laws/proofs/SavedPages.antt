@@ -24,8 +24,8 @@ use Rattle.resumption.proofs.ModuleSites.{some_pages}
 use Rattle.run_laws.proofs.Lookups.{all_found, same_number}
 use Rattle.resume_laws.specs.Keepable.{AreAligned, AscendFrom, IsKeepableLoad, MayGoOn}
 use Rattle.resume_laws.specs.SavedForm.{are_words, load_numbers, module_numbers}
-use Rattle.resume_laws.proofs.FormParts.{last_of, most_is}
-use Rattle.resume_laws.proofs.SavedHarts.{aligned_has, least_is, less_is, small_word, word_at, words_behind}
+use Rattle.resume_laws.proofs.FormParts.{last_of, least_is, less_is, most_is, small_word}
+use Rattle.resume_laws.proofs.SavedHarts.{aligned_has, word_at, words_behind}
 use Rattle.resume_laws.proofs.TakenPages.{AllBelow, tail_below}
 use Rattle.std.proofs.lemmas.Bool.{eqb-true}
 

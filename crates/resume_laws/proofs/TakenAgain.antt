@@ -22,7 +22,7 @@ AreOnce [] = Unit {0}
 AreOnce (page ∷ pages) = (has_number pages page ≡ false) × AreOnce pages
 
 -- no number below the first is one of an ascending list
-not_below : (first k : ℕ) (pages : List ℕ) → AscendFrom first pages → k < first → has_number pages k ≡ false
+pub not_below : (first k : ℕ) (pages : List ℕ) → AscendFrom first pages → k < first → has_number pages k ≡ false
 not_below first k [] up less = refl
 not_below first k (page ∷ pages) up less =
     rw (ne_eqb page k (λ same. omega (arith, same, less, up.0)), not_below (page + 1) k pages up.1 (omega (arith, less, up.0))) refl

@@ -5,6 +5,8 @@ use Rattle.std.proofs.lemmas.Bool.{eq-eqb, eqb-true, ne_eqb}
 use Rattle.sv_types.specs.ApprovedPages.{numbers_from}
 use Rattle.reference.specs.States.{has_number}
 use Rattle.resume_laws.specs.Keepable.{AscendFrom}
+use Rattle.resume_laws.proofs.TakenAgain.{not_below}
+use Rattle.resume_laws.proofs.TakenPages.{or_true}
 use Rattle.run_laws.proofs.Lookups.{both, same_number}
 
 -- ---- what a test picks
@@ -20,22 +22,12 @@ picked_none first (suc n) = picked_none (first + 1) n
 
 -- ---- an ascending list
 
--- no number below the first is one of it
-not_below : (first k : ℕ) (pages : List ℕ) → AscendFrom first pages → k < first → has_number pages k ≡ false
-not_below first k [] up less = refl
-not_below first k (page ∷ pages) up less =
-    rw (ne_eqb page k (λ same. omega (arith, same, less, up.0)), not_below (page + 1) k pages up.1 (omega (arith, less, up.0))) refl
-
 -- behind its first number the others alone are met
 rest_same : (page k : ℕ) (pages : List ℕ) → page + 1 ≤ k → has_number (page ∷ pages) k ≡ has_number pages k
 rest_same page k pages past = rw (ne_eqb page k (λ same. omega (arith, same, past))) refl
 
 abbrev LieBelow : ℕ → List ℕ → Type 0
 LieBelow end pages = (page : ℕ) → has_number pages page ≡ true → page < end
-
-pub or_true : (b : Bool) → (b || true) ≡ true
-or_true true = refl
-or_true false = refl
 
 -- the rest of an ascending list lies below the same end
 rest_below : (end page : ℕ) (pages : List ℕ) → LieBelow end (page ∷ pages) → LieBelow end pages

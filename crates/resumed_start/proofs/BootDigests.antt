@@ -1,46 +1,32 @@
 -- The digests of a machine's text behind its boot are those that the run keeps.
-use Rattle.std.proofs.Common.{◌≡◌, ℕ, inl, inr, zero, suc, ◌+◌, ◌*◌, ◌/◌, ◌<◌, ◌≤◌, List, [], ◌∷◌, flat_map, length, map, take, refl, sym, ◌∙◌, ap, subst, Bool, true, false, ◌||◌, arith, slice_get, length-append}
-use Rattle.std.specs.Prelude.{Some, None, ◌==◌}
+use Rattle.std.proofs.Common.{◌≡◌, ℕ, inl, inr, zero, suc, ◌+◌, ◌*◌, ◌/◌, ◌<◌, ◌≤◌, List, [], ◌∷◌, flat_map, length, map, refl, sym, ◌∙◌, ap, subst, Bool, true, false, ◌||◌, arith, slice_get, length-append}
+use Rattle.std.specs.Prelude.{Some, ◌==◌}
 use Rattle.processor.specs.Bytes.{page_bytes, page_size}
 use Rattle.sv_types.specs.ApprovedPages.{approved_pages}
 use Rattle.sv_types.specs.Kernel.{kernel_segments, header_entry, segments_ram, text_pages}
 use Rattle.sv_types.specs.Measure.{joined_digests, measure, page_digest, page_digests}
 use Rattle.sv_types.specs.Policies.{Rules}
-use Rattle.sv_types.specs.declared.event.Event.{Event}
 use Rattle.reference.specs.Protections.{protection_at}
 use Rattle.reference.specs.Soundness.{IsSound}
-use Rattle.reference.specs.Run.{run}
 use Rattle.reference.specs.Start.{IsStart, block_disk, boot_start, start}
 use Rattle.reference.specs.States.{State, Disk, has_number, is_approved_in, protection_in, protection_by}
 use Rattle.machine_model.specs.StandsFor.{protections_of}
-use Rattle.saved_machine.specs.SavedStates.{IsSaved}
-use Rattle.snapshot_form.specs.Snapshots.{Contents, contents, snapshot}
-use Rattle.snapshot_form.specs.declared.whole.Snapshot.{Snapshot}
 use Rattle.snapshot_form.specs.declared.whole.TextPage.{TextPage}
 use Rattle.processor_laws.proofs.ByteLemmas.{drop_front, take_front}
-use Rattle.snapshot_form.proofs.SnapshotLaws.{snapshot_law}
 use Rattle.elf64_load.proofs.LoadedBytes.{length_part}
 use Rattle.elf64_load.proofs.LoadedText.{text_in_ram}
 use Rattle.answer_laws.proofs.ProtectionsChange.{at_page}
-use Rattle.resumption.specs.Judgements.{resume_refusal}
-use Rattle.resumption.specs.ResumedStates.{resumed_state}
-use Rattle.resume_laws.specs.Continues.{Alike}
 use Rattle.resume_laws.specs.Keepable.{AscendFrom}
 use Rattle.resume_laws.specs.Resumed.{KeepsDigests}
-use Rattle.resume_laws.specs.SavedForm.{HasBlock, IsCounted, IsTyped}
-use Rattle.resume_laws.proofs.ContinuesHolds.{continues_law}
-use Rattle.resume_laws.proofs.KeepableStarts.{keepable_law, text_pages_ascend}
-use Rattle.resume_laws.proofs.ResumedHolds.{resumed_law}
+use Rattle.resume_laws.proofs.KeepableStarts.{text_pages_ascend}
 use Rattle.resume_laws.proofs.ResumedPages.{approved_is}
-use Rattle.resume_laws.proofs.SavedAccepted.{saved_accepted_law}
-use Rattle.resume_laws.proofs.SavedForms.{saved_form_law}
-use Rattle.resume_laws.proofs.SavedResumes.{saved_resumes_law}
+use Rattle.resume_laws.proofs.TakenPages.{or_true}
 use Rattle.run_laws.proofs.StateLawsHold.{reached_sound}
 use Rattle.run_laws.proofs.Lookups.{same_number}
 use Rattle.standing_laws.proofs.Standings.{length_pages}
-use Rattle.resumed_start.specs.SnapLaws.{BootDigestsLaw, IsMeasuredBoot, IsSnapAfter, SnapAcceptedLaw, SnapContinuesLaw, SnapReadLaw}
+use Rattle.resumed_start.specs.SnapLaws.{BootDigestsLaw, IsMeasuredBoot}
 use Rattle.resumed_start.specs.TextPages.{approved_among, digest_in, digested_text, is_approved, text_in}
-use Rattle.resumed_start.proofs.Ascending.{or_true, picked, picked_same}
+use Rattle.resumed_start.proofs.Ascending.{picked, picked_same}
 
 -- ---- digests of pages
 
@@ -177,7 +163,7 @@ of_start rules ram text entry disk up kernel sound =
 
 -- ---- the laws
 
-boot_is : (rules : Rules) (file disk : List ℕ) → IsMeasuredBoot rules file → IsStart (boot_start rules file disk)
+pub boot_is : (rules : Rules) (file disk : List ℕ) → IsMeasuredBoot rules file → IsStart (boot_start rules file disk)
 boot_is rules file disk k = inr (inl (record {
   rules = rules;
   file = file;
@@ -198,50 +184,3 @@ digests_of_boot rules file disk k sound =
 
 pub boot_digests_law : BootDigestsLaw
 boot_digests_law rules file disk k = digests_of_boot rules file disk k (reached_sound (boot_start rules file disk) [] (boot_is rules file disk k))
-
-rules_are : (rules : Rules) (file disk : List ℕ) → (boot_start rules file disk).rules ≡ rules
-unfolding boot_start start
-rules_are rules file disk = refl
-
-nothing_printed : (rules : Rules) (s : Contents) → (resumed_state rules s).journal.printed ≡ []
-unfolding resumed_state
-nothing_printed rules s = refl
-
--- behind any events of the run
-record IsGood (start : State) (rules : Rules) (events : List Event) (s : Snapshot) : Type 0 where
-  alike : Alike (run start events).journal.printed (run start events) (resumed_state rules (contents s))
-  accepted : resume_refusal rules (contents s) ≡ None
-  form : IsTyped (contents s) → HasBlock (contents s) → IsCounted (contents s) → snapshot.has (contents s) ≡ true
-
-good_at : (start : State) (rules : Rules) (events : List Event) (s : Snapshot) → IsStart start → start.rules ≡ rules → KeepsDigests start s.text.items
-    → IsSaved (run start events) s.«machine» → IsGood start rules events s
-good_at start rules events s is same digests saved =
-    let r = run start events in
-    let goes = resumed_law start events (reached_sound start [] is) in
-    let keepable = keepable_law start events is in
-    let right = goes.digests s.text.items digests in
-    record {
-      alike = subst (λ (x : Rules). Alike r.journal.printed r (resumed_state x (contents s))) (goes.origins.rules ∙ same)
-          (saved_resumes_law r s goes.sound keepable saved right);
-      accepted = subst (λ (x : Rules). resume_refusal x (contents s) ≡ None) (goes.origins.rules ∙ same)
-          (saved_accepted_law r s goes.sound keepable saved right);
-      form = saved_form_law r s goes.sound keepable saved right;
-    }
-
-snap_is_good : (rules : Rules) (file disk : List ℕ) (events : List Event) (k : ℕ) (s : Snapshot) → IsMeasuredBoot rules file → IsSnapAfter rules file disk events k s
-    → IsGood (boot_start rules file disk) rules (take k events) s
-snap_is_good rules file disk events k s boot snap =
-    good_at (boot_start rules file disk) rules (take k events) s (boot_is rules file disk boot) (rules_are rules file disk)
-    (subst (KeepsDigests (boot_start rules file disk)) (sym snap.text) (boot_digests_law rules file disk boot)) snap.state
-
-pub snap_accepted_law : SnapAcceptedLaw
-snap_accepted_law rules file disk events k s boot snap = (snap_is_good rules file disk events k s boot snap).accepted
-
-pub snap_read_law : SnapReadLaw
-snap_read_law rules file disk events k s boot snap typed block counted =
-    snapshot_law.again (contents s) ((snap_is_good rules file disk events k s boot snap).form typed block counted)
-
-pub snap_continues_law : SnapContinuesLaw
-snap_continues_law rules file disk events k s boot snap =
-    continues_law (boot_start rules file disk) k events (resumed_state rules (contents s)) (nothing_printed rules (contents s))
-    (snap_is_good rules file disk events k s boot snap).alike

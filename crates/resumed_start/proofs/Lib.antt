@@ -2,4 +2,5 @@ pub mod Ascending
 pub mod BootDigests
 pub mod ResumedHosts
 pub mod ResumedStands
+pub mod SnapHolds
 pub mod TextPages

@@ -5,6 +5,8 @@
 ghost use Rattle.resumed_start.specs.Resuming.{ResumedStartLaw};
 ghost use Rattle.resumed_start.specs.SnapLaws.{BootDigestsLaw, SnapAcceptedLaw, SnapContinuesLaw, SnapReadLaw};
 
+#[cfg(test)]
+mod tests;
 mod text;
 
 pub use text::text_pages;

@@ -26,7 +26,7 @@ use console_run::run;
 use machine::Machine;
 use outside::{Files, Sink, write_all};
 use script::Script;
-use secvisor_cli::{Bench, Booted, Status, Stop, Trouble, refuse};
+use secvisor_cli::{Bench, Booted, Status, Stop, Trouble, refuse, settled};
 use std::alloc::Global;
 use std::thread::Threads;
 
@@ -69,16 +69,6 @@ pub fn secvisor_snap<R: Threads + Sync, F: Files, O: Sink>(
     ensures held { (name : List ℕ) → name ≢ out_of (snap_judged (map string_bytes words.now)) → (F.state files.new).held name ≡ (F.state files.old).held name }
 {
     settled(answer(rt, alloc, words, files, out, bench))
-}
-
-fn settled(answer: Result<Status, Trouble>) -> Status
-    ensures { result ≡ settled answer }
-{
-    match answer {
-        Ok(status) => status,
-        Err(Trouble::Write) => Status::WriteFault,
-        Err(Trouble::Memory) => Status::Memory,
-    }
 }
 
 // What the words ask for is carried out, or refused.

@@ -1,4 +1,4 @@
-use Rattle.resumed_start.proofs.BootDigests.{snap_accepted_law}
+use Rattle.resumed_start.proofs.SnapHolds.{snap_accepted_law}
 use Rattle.resumed_start.proofs.law_snap_accepted.Goals as goal
 
 pub returns : goal.returns

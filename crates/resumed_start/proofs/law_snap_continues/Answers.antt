@@ -1,4 +1,4 @@
-use Rattle.resumed_start.proofs.BootDigests.{snap_continues_law}
+use Rattle.resumed_start.proofs.SnapHolds.{snap_continues_law}
 use Rattle.resumed_start.proofs.law_snap_continues.Goals as goal
 
 pub returns : goal.returns

@@ -1,4 +1,4 @@
-use Rattle.resumed_start.proofs.BootDigests.{snap_read_law}
+use Rattle.resumed_start.proofs.SnapHolds.{snap_read_law}
 use Rattle.resumed_start.proofs.law_snap_read.Goals as goal
 
 pub returns : goal.returns
