@@ -44,8 +44,8 @@ pub fn flush_due<O: Sink>(machine: &mut Machine, out: &mut O) -> Result<(), Fail
     Ok(())
 }
 
-/// Runs a fresh machine over the first events of a script, up to its verdict, and writes its console at each line feed and
-/// whenever 4,096 bytes stand. Where a write fails it stands after some of the events.
+/// Runs a machine of which nothing is printed yet over the first events of a script, up to its verdict, and writes its console
+/// at each line feed and whenever 4,096 bytes stand. Where a write fails it stands after some of the events.
 pub fn run<O: Sink>(
     machine: &mut Machine,
     script: Script,
@@ -55,7 +55,7 @@ pub fn run<O: Sink>(
     requires sink { MayWrite (O.state out.old) }
     requires events { events ≤ 2 ^ 32 }
     requires state { HasState machine.old }
-    requires counts { CountsAtMost 0 machine.old.journal.counts }
+    requires counts { CountsAtMost (2 ^ 32) machine.old.journal.counts }
     requires console { machine.old.journal.printed ≡ [] }
     ensures all { OnOk result (HasRunFromStart machine.old (first_events events script) machine.new (O.state out.old) (O.state out.new)) }
     ensures taken { OnOk result (HasTaken (O.state out.old) (O.state out.new)) }

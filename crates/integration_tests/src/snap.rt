@@ -7,6 +7,7 @@ use crate::program::{
 use guest_gen::generate;
 use outside::{Files, MemSink, Sink};
 use processor::PAGE_SIZE;
+use resume_cli::secvisor_resume;
 use resumption::resume_refusal;
 use secvisor_cli::{Bench, Status};
 use show_cli::secvisor_show;
@@ -34,6 +35,29 @@ fn answer_snap_on<R: Threads + Sync, F: Files, O: Sink>(
 {
     let mut bench = Bench { machine: None };
     let status = secvisor_snap(rt, alloc, line, files, out, &mut bench);
+    Answer {
+        status,
+        is_booted: bench.machine.is_some(),
+    }
+}
+
+// The same of `resume`.
+fn answer_resume_on<R: Threads + Sync, F: Files, O: Sink>(
+    rt: &R,
+    alloc: Global,
+    line: &[String],
+    files: &mut F,
+    out: &mut O,
+) -> Answer
+    requires names { (asked : List (List ℕ × ℕ)) → IsTrue ((F.state files.old).permits asked) }
+    requires saving { (saves : List (List ℕ × List ℕ)) → IsTrue ((F.state files.old).permits_save saves) }
+    requires is_open { IsTrue (O.state out.old).is_open }
+    requires reads { (F.state files.old).read_faults < 2 ^ 64 - 1 }
+    requires saves { (F.state files.old).save_faults < 2 ^ 64 - 1 }
+    requires writes { (O.state out.old).faults < 2 ^ 64 - 1 }
+{
+    let mut bench = Bench { machine: None };
+    let status = secvisor_resume(rt, alloc, line, files, out, &mut bench);
     Answer {
         status,
         is_booted: bench.machine.is_some(),
@@ -76,6 +100,21 @@ fn snap<R: Threads + Sync>(
     let mut files = hold(alloc, guest, outside)?;
     let mut out = sink_of(alloc, outside)?;
     let answer = answer_snap_on(rt, alloc, &line, &mut files, &mut out);
+    left_behind(alloc, answer, &files, &out)
+}
+
+// What comes of a snapshot that stands under `image`, up to so many events of the harts in turn.
+fn resume<R: Threads + Sync>(
+    rt: &R,
+    alloc: Global,
+    guest: &Handed,
+    events: &str,
+) -> Result<Left, AllocError> {
+    let words = ["resume", "image", "policy", "none", events, "saved"];
+    let line = line_of(alloc, &words)?;
+    let mut files = hold(alloc, guest, GOOD)?;
+    let mut out = sink_of(alloc, GOOD)?;
+    let answer = answer_resume_on(rt, alloc, &line, &mut files, &mut out);
     left_behind(alloc, answer, &files, &out)
 }
 
@@ -202,5 +241,32 @@ fn what_a_snapshot_prints_is_the_front_of_a_run(rt: HostRuntime) -> Result<(), F
     let whole = call(&rt, alloc, &guest, &words, GOOD)?;
     let left = snap(&rt, alloc, &guest, "1000", GOOD)?;
     assert!(rt; whole.taken.starts_with(&left.taken));
+    Ok(())
+}
+
+#[test]
+fn a_run_goes_on_from_a_snapshot_as_the_whole_one(rt: HostRuntime) -> Result<(), Fail> {
+    let alloc = rt.alloc();
+    let guest = guest(alloc)?;
+    let words = ["run", "image", "policy", "none", "none", "1000", "saved"];
+    let whole = call(&rt, alloc, &guest, &words, GOOD)?;
+    let front = snap(&rt, alloc, &guest, "5", GOOD)?;
+    let Some(saved) = &front.saved else {
+        assert_eq!(rt; front.status, Status::Done);
+        return Ok(());
+    };
+    let handed = Handed {
+        image: saved.to_vec(alloc)?,
+        policy: guest.policy.to_vec(alloc)?,
+        disk: Vec::new(alloc),
+        script: Vec::new(alloc),
+    };
+    let rest = resume(&rt, alloc, &handed, "1000")?;
+    assert_eq!(rt; rest.status, whole.status);
+    assert!(rt; front.taken.is_empty() && rest.taken.as_slice() == whole.taken.as_slice());
+    match (&rest.saved, &whole.saved) {
+        (Some(disk), Some(other)) => assert!(rt; disk.as_slice() == other.as_slice()),
+        _ => assert!(rt; false),
+    }
     Ok(())
 }

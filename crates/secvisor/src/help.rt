@@ -19,6 +19,8 @@ How secvisor is used:
       OUT, a script for run
   secvisor snap IMAGE POLICY DISK SCRIPT EVENTS OUT
       runs a kernel, prints its console alone, and saves the machine as OUT, a snapshot
+  secvisor resume SNAPSHOT POLICY SCRIPT EVENTS SAVE
+      goes on from a snapshot with the same script, up to EVENTS of the whole run
   secvisor flat FILE MEASURE EVENTS
       runs 1 to 16 plain pages, all of them approved
   secvisor show SNAPSHOT

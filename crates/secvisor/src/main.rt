@@ -10,6 +10,7 @@ use live_cli::secvisor_live;
 use live_keys::{ReaderKeys, Still};
 use outside::{RealFiles, StdSink};
 use remarks::{MostBytes, remark};
+use resume_cli::secvisor_resume;
 use secvisor_cli::{
     Bench, MOST_DISK_BYTES, MOST_FLAT_BYTES, MOST_IMAGE_BYTES, MOST_OBJECT_BYTES,
     MOST_POLICY_BYTES, MOST_SCRIPT_BYTES, Status, secvisor,
@@ -50,6 +51,8 @@ fn main(rt: HostRuntime) -> ExitCode {
         )
     } else if asks(&words, "snap") {
         secvisor_snap(&rt, rt.alloc(), &words, &mut files, &mut out, &mut bench)
+    } else if asks(&words, "resume") {
+        secvisor_resume(&rt, rt.alloc(), &words, &mut files, &mut out, &mut bench)
     } else if asks(&words, "show") {
         secvisor_show(rt.alloc(), &words, &mut files, &mut out)
     } else {

@@ -1,5 +1,5 @@
 -- From what is ready to what is answered, and from the answer with its trouble to the status.
-use Rattle.std.proofs.Common.{◌≡◌, ◌≢◌, ℕ, ◌≤◌, ◌<◌, List, [], ◌∷◌, string_bytes, true, false, IsTrue, refl, sym, ◌∙◌, ap, subst, arith, inl, inr, ◌⊎◌, Option, Some, None, Result, Ok, Err, IsErrOf, if◌then◌else◌}
+use Rattle.std.proofs.Common.{◌≡◌, ◌≢◌, ℕ, ◌^◌, ◌≤◌, ◌<◌, List, [], ◌∷◌, string_bytes, true, false, IsTrue, refl, sym, ◌∙◌, ap, subst, arith, inl, inr, ◌⊎◌, Option, Some, None, Result, Ok, Err, IsErrOf, if◌then◌else◌}
 use Rattle.std.specs.Option.{option_copied}
 use Rattle.std.specs.Result.{is_ok}
 use Rattle.std.specs.Str.{bytes_eq}
@@ -22,6 +22,7 @@ use Rattle.entry_binding.specs.declared.fault.BindFault.{BindFault}
 use Rattle.entry_binding.specs.declared.fault.BindFault.TheVariants as binding
 use Rattle.reference.specs.Run.{run}
 use Rattle.machine_model.specs.Machine.{Machine}
+use Rattle.machine.proofs.Repeated.{counts_within}
 use Rattle.machine_model.specs.Reaches.{IsNew}
 use Rattle.sv_types.specs.Schedule.{Schedule, first_events}
 use Rattle.sv_types.specs.Limits.{most_events}
@@ -49,7 +50,7 @@ use Rattle.command_words.specs.declared.command.DiskKind.{DiskKind}
 use Rattle.secvisor_cli.specs.CommandLine.{Command, Flat, Generated, Run, RunWords, Source, Rounds, Auto, Text, MakePolicy, PolicyWords, Convert, ConvertWords, judged}
 use Rattle.secvisor_cli.specs.Plans.{Due, Refuse, RunFrom, Make, Exactly, Saving, policy_saving, saves_due, most_image_bytes, most_object_bytes, making_fault, made_judged, made_part, Kernel, digest_part, Modules, no_modules, with_module, module_part, modules_part, making_plan, measure_plan, Plan, End, bytes_due, status_due, found_plan, flat_plan, command_plan, plan_of, measure_judged, pages_judged, is_whole_pages, flat_events, gen_plan, gen_due, gen_disk, policy_judged, policy_part, part_judged, kernel_part, disk_refusal, disk_part, text_part, script_part, image_measure, boot_judged, boot_plan, image_plan, run_plan, start_with, measured, binding_refusal, converted_judged, bound_plan, binding_plan, convert_plan}
 use Rattle.secvisor_cli.specs.Reading.{Follows, MayFollow, MaySave, Saved, SaveBroke, SavesUnder}
-use Rattle.secvisor_cli.specs.Ready.{IsMade, IsReady, IsReadyWhere, IsFresh, MayCarryOut, MaySaveRun, Prepares}
+use Rattle.secvisor_cli.specs.Ready.{IsMade, IsReady, IsReadyWhere, IsFresh, IsRunnable, MayCarryOut, MaySaveRun, Prepares}
 use Rattle.secvisor_cli.specs.Answers.{Outside, outside, Writes, SavesAndWrites, WritesAndSaves, Answers, AnswersReached, Performs, MeetsSaves, MeetsSavesBehind, Meets, MeetsReached, Headline, BenchAfter, settled}
 use Rattle.secvisor_cli.proofs.WordLemmas.{NoReadFault, words_no_read_fault}
 use Rattle.secvisor_cli.proofs.EndLemmas.{runs_under}
@@ -65,10 +66,19 @@ wanting_answers (Some due) files sink bench it = absurd it
 
 -- ---- what is ready, and what is refused
 
-pub is_fresh : (due : Due) (ready : Booted) → IsReady due (Ok (Boots ready)) → IsFresh ready
-is_fresh (Refuse refusal) ready it = absurd it
-is_fresh (RunFrom start events save) ready it = it.3
-is_fresh (Make name rules line) ready it = absurd it
+-- a machine that has made no event may be run
+runs_fresh : (ready : Booted) → IsFresh ready → IsRunnable ready
+runs_fresh ready fresh = record {
+  events = fresh.events;
+  state = fresh.state;
+  counts = counts_within 0 (2 ^ 32) ready.machine.journal.counts (omega arith) fresh.counts;
+  console = fresh.console;
+}
+
+pub is_runnable : (due : Due) (ready : Booted) → IsReady due (Ok (Boots ready)) → IsRunnable ready
+is_runnable (Refuse refusal) ready it = absurd it
+is_runnable (RunFrom start events save) ready it = runs_fresh ready it.3
+is_runnable (Make name rules line) ready it = absurd it
 
 pub may_save_run : (due : Due) (ready : Booted) (files : FilesState) → IsReady due (Ok (Boots ready)) → MaySave (saves_due due) files →
     MaySaveRun ready.machine (first_events ready.events ready.script) (option_copied ready.save) files
@@ -367,7 +377,7 @@ read_count (Some due) read sink bench new result a = (answer_changes due (outsid
 
 -- ---- words that are refused
 
-refused_same : (refusal : Refusal) (reached : Option Due) (old new : Outside) (result : Result Status Trouble) → reached ≡ Some (Refuse refusal) → AnswersReached reached old new result →
+pub refused_same : (refusal : Refusal) (reached : Option Due) (old new : Outside) (result : Result Status Trouble) → reached ≡ Some (Refuse refusal) → AnswersReached reached old new result →
     new.files ≡ old.files
 refused_same refusal reached old new result is a =
     (subst (λ (r : Option Due). AnswersReached r old new result) is a).saves.0
@@ -380,7 +390,7 @@ unread (Ok command) old new result is p = absurd (cc is)
 
 -- ---- a read fault
 
-run_no_read_fault : (v : Verdict) → run_status v ≢ Status.ReadFault
+pub run_no_read_fault : (v : Verdict) → run_status v ≢ Status.ReadFault
 run_no_read_fault Running = λ e. cc e
 run_no_read_fault Shutdown = λ e. cc e
 run_no_read_fault (Stopped rule hart turn) = λ e. cc e
@@ -414,7 +424,7 @@ part_found_faults : {F : Type 0} (file_fault : F → FileFault) (next : Plan) (f
 part_found_faults file_fault next None never = never
 part_found_faults file_fault next (Some fault) never = λ e. cc e
 
-policy_found_faults : (next : Rules → Plan) (judged : Judged Rules) → ((rules : Rules) → HasFoundFaults (next rules)) → HasFoundFaults (policy_judged next judged)
+pub policy_found_faults : (next : Rules → Plan) (judged : Judged Rules) → ((rules : Rules) → HasFoundFaults (next rules)) → HasFoundFaults (policy_judged next judged)
 policy_found_faults next (Ok rules) never = never rules
 policy_found_faults next (Err refused) never = λ e. cc e
 
@@ -436,7 +446,7 @@ unfolding disk_part found_plan
 disk_found_faults None next never = never []
 disk_found_faults (Some name) next never = (λ e. cc e, λ bytes. part_found_faults (λ fault. fault) (next bytes) (disk_refusal bytes) (never bytes))
 
-script_found_faults : (harts : ℕ) (source : Source) (next : Schedule → Plan) → ((schedule : Schedule) → HasFoundFaults (next schedule)) → HasFoundFaults (script_part harts source next)
+pub script_found_faults : (harts : ℕ) (source : Source) (next : Schedule → Plan) → ((schedule : Schedule) → HasFoundFaults (next schedule)) → HasFoundFaults (script_part harts source next)
 unfolding script_part text_part found_plan
 script_found_faults harts Rounds next never = never _
 script_found_faults harts (Auto number) next never = never _
@@ -534,10 +544,15 @@ fault_at : (plan : Plan) (old read new : FilesState) → new.read_faults ≡ rea
 fault_at plan old read new same (inl missing) = inl missing
 fault_at plan old read new same (inr rose) = inr (omega arith)
 
+-- of any plan
+pub plan_fault : (plan : Plan) (old new : Outside) (result : Result Status Trouble) → HasFoundFaults plan → Performs plan old new result → settled result ≡ Status.ReadFault →
+    HasFault plan old.files new.files
+plan_fault plan old new result never p is =
+    let before : Outside = outside p.read old.sink old.bench in
+    fault_at plan old.files p.read new.files (read_count p.reached p.read old.sink old.bench new result p.answers)
+    (reached_fault plan p.reached old.files p.read before new never p.follows
+    (subst (λ (t : Status). MeetsReached p.reached before new t) is (reached_settled p.reached before new result p.answers)))
+
 pub performs_fault : (words : List (List ℕ)) (old new : Outside) (result : Result Status Trouble) → Performs (plan_of (judged words)) old new result → settled result ≡ Status.ReadFault →
     HasFault (plan_of (judged words)) old.files new.files
-performs_fault words old new result p is =
-    let before : Outside = outside p.read old.sink old.bench in
-    fault_at (plan_of (judged words)) old.files p.read new.files (read_count p.reached p.read old.sink old.bench new result p.answers)
-    (reached_fault (plan_of (judged words)) p.reached old.files p.read before new (judged_found_faults words) p.follows
-    (subst (λ (t : Status). MeetsReached p.reached before new t) is (reached_settled p.reached before new result p.answers)))
+performs_fault words old new result p is = plan_fault (plan_of (judged words)) old new result (judged_found_faults words) p is

@@ -77,6 +77,13 @@ pub record IsFresh (ready : Booted) : Type 0 where
   pub counts : CountsAtMost 0 ready.machine.journal.counts
   pub console : ready.machine.journal.printed ≡ []
 
+-- a machine of which nothing is printed yet and no count is above the most events, and the events that it is to make
+pub record IsRunnable (ready : Booted) : Type 0 where
+  pub events : ready.events ≤ 2 ^ 32
+  pub state : HasState ready.machine
+  pub counts : CountsAtMost (2 ^ 32) ready.machine.journal.counts
+  pub console : ready.machine.journal.printed ≡ []
+
 -- the events are drawn behind a number, for as many harts as the machine has
 abbrev pub DrawsFrom : (number : ℕ) → Ready → Type 0
 DrawsFrom number (Run booted) = booted.script ≡ Schedule.Auto booted.machine.rules.harts number

@@ -7,6 +7,8 @@ use Rattle.sv_types.specs.ImageFaults.{image_fault_number}
 use Rattle.policy_limits.specs.PolicyFaults.{policy_fault_number}
 use Rattle.elf64_reloc.specs.ObjectFaults.{object_fault_number}
 use Rattle.entry_binding.specs.Faults.{convert_fault_number}
+use Rattle.snapshot_form.specs.Refusals as form
+use Rattle.resumption.specs.Judgements as resuming
 use Rattle.secvisor_cli.specs.declared.file_fault.Part.{Part}
 use Rattle.secvisor_cli.specs.declared.file_fault.FileFault.{FileFault}
 use Rattle.secvisor_cli.specs.declared.file_fault.FileFault.TheVariants.{Longer, FlatPages, DiskSectors, ScriptLine}
@@ -22,6 +24,7 @@ part_name Part.Disk = codes "disk"
 part_name Part.Script = codes "script"
 part_name Part.Module = codes "module"
 part_name Part.Convert = codes "convert"
+part_name Part.Snapshot = codes "snapshot"
 
 abbrev pub word_name : Word → List ℕ
 word_name Word.Measure = codes "MEASURE"
@@ -44,6 +47,8 @@ fault_part (FileFault.Module fault) = Part.Module
 fault_part DiskSectors = Part.Disk
 fault_part (ScriptLine line) = Part.Script
 fault_part (FileFault.Convert fault) = Part.Convert
+fault_part (FileFault.Snapshot refusal) = Part.Snapshot
+fault_part (FileFault.Resume refusal) = Part.Snapshot
 
 abbrev pub fault_number : FileFault → ℕ
 fault_number (Longer part) = 0
@@ -54,6 +59,8 @@ fault_number (FileFault.Module fault) = object_fault_number fault
 fault_number DiskSectors = 1
 fault_number (ScriptLine line) = line
 fault_number (FileFault.Convert fault) = convert_fault_number fault
+fault_number (FileFault.Snapshot refusal) = form.refusal_number refusal
+fault_number (FileFault.Resume refusal) = resuming.refusal_number refusal
 
 unfoldable pub refusal_line : Refusal → List ℕ
 refusal_line NoCommand = codes "usage" ++ line_feed

@@ -16,7 +16,7 @@ ghost use Rattle.secvisor_cli.specs.CommandLine.{judged};
 ghost use Rattle.secvisor_cli.specs.Words.{command_of, IsInRange};
 ghost use Rattle.secvisor_cli.specs.Plans.{Due, Exactly, RunFrom, command_plan, plan_of};
 ghost use Rattle.secvisor_cli.specs.Reading.{MayFollow, IsNamed, SavesUnder};
-ghost use Rattle.secvisor_cli.specs.Ready.{Prepares, IsReady, IsFresh, MayCarryOut, MaySaveRun};
+ghost use Rattle.secvisor_cli.specs.Ready.{Prepares, IsReady, IsRunnable, MayCarryOut, MaySaveRun};
 ghost use Rattle.secvisor_cli.specs.Answers.{outside, Writes, Answers, SavesAndWrites, Performs, RunsTo, RunsAndSaves, Headline, settled};
 ghost use Rattle.outside.specs.Outside.{MayWrite};
 
@@ -213,8 +213,8 @@ fn save_policy<F: Files, O: Sink>(
     Ok(Status::Done)
 }
 
-// The machine is run, and stands on the bench from then on.
-fn run_on_bench<F: Files, O: Sink>(
+/// Runs a machine, writes its report and saves its disk. It stands on the bench from then on.
+pub fn run_on_bench<F: Files, O: Sink>(
     alloc: Global,
     ready: Booted<'_>,
     files: &mut F,
@@ -223,7 +223,7 @@ fn run_on_bench<F: Files, O: Sink>(
 ) -> Result<Status, Trouble>
     requires sink { MayWrite (O.state out.old) }
     requires saves { (F.state files.old).save_faults < 2 ^ 64 - 1 }
-    requires fresh { IsFresh ready }
+    requires runnable { IsRunnable ready }
     requires permitted { MaySaveRun ready.machine (first_events ready.events ready.script) (option_copied ready.save) (F.state files.old) }
     ensures { (start : State) → IsNew ready.entry.machine start → Answers (RunFrom start (first_events ready.entry.events ready.entry.script) (option_copied ready.entry.save))
         (outside (F.state files.old) (O.state out.old) bench.old.machine)
@@ -240,7 +240,7 @@ fn run_on_bench<F: Files, O: Sink>(
     result
 }
 
-// The run of a booted machine with its report, and then its disk, where it is saved. Seven parameters, since each is another
+// The run of a machine with its report, and then its disk, where it is saved. Seven parameters, since each is another
 // value of the caller's: what is run, for how long, where it is saved, and the outside world.
 fn run_and_save<F: Files, O: Sink>(
     alloc: Global,
@@ -255,7 +255,7 @@ fn run_and_save<F: Files, O: Sink>(
     requires saves { (F.state files.old).save_faults < 2 ^ 64 - 1 }
     requires events { events ≤ 2 ^ 32 }
     requires state { HasState machine.old }
-    requires counts { CountsAtMost 0 machine.old.journal.counts }
+    requires counts { CountsAtMost (2 ^ 32) machine.old.journal.counts }
     requires console { machine.old.journal.printed ≡ [] }
     requires permitted { MaySaveRun machine.old (first_events events script) (option_copied save) (F.state files.old) }
     ensures { (start : State) → IsNew machine.old start → RunsAndSaves start (first_events events script) (option_copied save.entry) machine.new
@@ -266,7 +266,7 @@ fn run_and_save<F: Files, O: Sink>(
     Ok(status)
 }
 
-// The run of a booted machine, and its report.
+// The run of a machine, and its report.
 fn run_and_report<O: Sink>(
     alloc: Global,
     machine: &mut Machine,
@@ -277,7 +277,7 @@ fn run_and_report<O: Sink>(
     requires sink { MayWrite (O.state out.old) }
     requires events { events ≤ 2 ^ 32 }
     requires state { HasState machine.old }
-    requires counts { CountsAtMost 0 machine.old.journal.counts }
+    requires counts { CountsAtMost (2 ^ 32) machine.old.journal.counts }
     requires console { machine.old.journal.printed ≡ [] }
     ensures writes { (start : State) → IsNew machine.old start → let last = run start (first_events events script) in
         Writes (run_status last.journal.verdict) (output last) (O.state out.old) (O.state out.new) result }

@@ -5,6 +5,8 @@ ghost use Rattle.secvisor_cli.specs.Refusals.{fault_number, fault_part, part_nam
 use elf64_reloc::ObjectFault;
 use entry_binding::ConvertFault;
 use policy_limits::PolicyFault;
+use resumption::ResumeRefusal;
+use snapshot_form::SnapRefusal;
 use sv_types::ImageFault;
 
 /// A file by what it is for.
@@ -18,6 +20,8 @@ pub enum Part {
     Module,
     /// A policy and a kernel, of which a policy with bound entries is made.
     Convert,
+    /// A machine that was saved.
+    Snapshot,
 }
 
 /// What is wrong with a file.
@@ -39,6 +43,10 @@ pub enum FileFault {
     ScriptLine { line: u64 },
     /// Why a policy's entries aren't bound.
     Convert(ConvertFault),
+    /// Why bytes are no snapshot.
+    Snapshot(SnapRefusal),
+    /// Why a machine can't go on from a snapshot.
+    Resume(ResumeRefusal),
 }
 
 impl Part {
@@ -54,6 +62,7 @@ impl Part {
             Part::Script => "script",
             Part::Module => "module",
             Part::Convert => "convert",
+            Part::Snapshot => "snapshot",
         }
     }
 }
@@ -72,6 +81,7 @@ impl FileFault {
             FileFault::DiskSectors => Part::Disk,
             FileFault::ScriptLine { line: _ } => Part::Script,
             FileFault::Convert(_) => Part::Convert,
+            FileFault::Snapshot(_) | FileFault::Resume(_) => Part::Snapshot,
         }
     }
 
@@ -87,6 +97,8 @@ impl FileFault {
             FileFault::Module(fault) => u64::from(fault.number()),
             FileFault::ScriptLine { line } => line,
             FileFault::Convert(fault) => u64::from(fault.number()),
+            FileFault::Snapshot(refusal) => u64::from(refusal.number()),
+            FileFault::Resume(refusal) => u64::from(refusal.number()),
         }
     }
 }

@@ -115,11 +115,7 @@ fn boot_with<R: Threads + Sync>(
 // ---- the policy
 
 /// The policy of a name, which is judged.
-pub(crate) fn read_policy<F: Files>(
-    alloc: Global,
-    name: &str,
-    files: &mut F,
-) -> Result<Policy, Stop>
+pub fn read_policy<F: Files>(alloc: Global, name: &str, files: &mut F) -> Result<Policy, Stop>
     requires permitted { MayStage (policy_part name.now) (F.state files.old) }
     requires reads { (F.state files.old).read_faults < 2 ^ 64 - 1 }
     ensures stage { Staged (policy_part name.now) rules_of (F.state files.old) (F.state files.new) result }
@@ -190,7 +186,8 @@ fn is_whole_sectors(bytes: &[u8]) -> bool
 
 // ---- the script
 
-fn read_script<F: Files>(
+/// The script of a source, which is judged.
+pub fn read_script<F: Files>(
     alloc: Global,
     source: &Source<'_>,
     harts: u8,

@@ -18,16 +18,18 @@ mod save;
 mod trouble;
 mod words;
 
-pub use answer::{Bench, finish, refuse, secvisor, settled};
+pub use answer::{Bench, finish, refuse, run_on_bench, secvisor, settled};
 pub use command_words::DiskKind;
 pub use file_fault::{FileFault, Part};
 pub use flat::MOST_FLAT_BYTES;
 pub use image_run::{
     MOST_DISK_BYTES, MOST_IMAGE_BYTES, MOST_POLICY_BYTES, MOST_SCRIPT_BYTES, prepare_run,
+    read_policy, read_script,
 };
 pub use judgement::any_has_dash;
 pub use laws::law_converted;
 pub use making::MOST_OBJECT_BYTES;
+pub use parts::read_part;
 pub use ready::{Booted, Made, Ready, Stop};
 pub use refusal::{Refusal, Word};
 pub use sv_types::Status;

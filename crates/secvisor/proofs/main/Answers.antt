@@ -7,6 +7,8 @@ use Rattle.secvisor_cli.proofs.PlanLemmas.{may_follow}
 use Rattle.live_cli.specs.LiveWords.{live_judged, live_plan}
 use Rattle.show_cli.specs.Answers.{MayAsk}
 use Rattle.snap_cli.specs.SnapWords.{snap_judged, snap_plan}
+use Rattle.resume_cli.specs.ResumePlans.{resume_plan}
+use Rattle.resume_cli.specs.ResumeWords.{resume_judged}
 use Rattle.secvisor.proofs.main.Goals as goal
 
 words_follow : (words : List (List ℕ)) (files : FilesState) → ((asked : List (List ℕ × ℕ)) → IsTrue (files.permits asked)) →
@@ -29,6 +31,13 @@ snap_follows words files all saves = may_follow (snap_plan (snap_judged words)) 
 
 pub secvisor_snap-requires-clause-permitted : goal.secvisor_snap-requires-clause-permitted
 secvisor_snap-requires-clause-permitted g c = λ κs. snap_follows _ _ (λ asked. refl) (λ saves. refl)
+
+resume_follows : (words : List (List ℕ)) (files : FilesState) → ((asked : List (List ℕ × ℕ)) → IsTrue (files.permits asked)) →
+    ((saves : List (List ℕ × List ℕ)) → IsTrue (files.permits_save saves)) → MayFollow (resume_plan (resume_judged words)) files
+resume_follows words files all saves = may_follow (resume_plan (resume_judged words)) files all saves
+
+pub secvisor_resume-requires-clause-permitted : goal.secvisor_resume-requires-clause-permitted
+secvisor_resume-requires-clause-permitted g c = λ κs. resume_follows _ _ (λ asked. refl) (λ saves. refl)
 
 file_asked : (name : Option (List ℕ)) (files : FilesState) → ((asked : List (List ℕ × ℕ)) → IsTrue (files.permits asked)) → MayAsk name files
 file_asked None files all = tt

@@ -1,13 +1,13 @@
 use Rattle.std.proofs.Common.{subst, Ok}
 use Rattle.secvisor_cli.specs.declared.ready.Ready.{Ready}
 use Rattle.secvisor_cli.specs.Ready.{IsReady, MayCarryOut}
-use Rattle.secvisor_cli.proofs.TopLemmas.{is_fresh, may_save_run, may_save_made, booted_answers, made_answers}
+use Rattle.secvisor_cli.proofs.TopLemmas.{is_runnable, may_save_run, may_save_made, booted_answers, made_answers}
 use Rattle.secvisor_cli.proofs.answer.carry_out.Goals as goal
 
-pub run_on_bench-requires-clause-fresh : goal.run_on_bench-requires-clause-fresh
-run_on_bench-requires-clause-fresh g c =
+pub run_on_bench-requires-clause-runnable : goal.run_on_bench-requires-clause-runnable
+run_on_bench-requires-clause-runnable g c =
     let it = subst (λ (ready : Ready). MayCarryOut ready (g.F.Files.state c.args.files.now)) c.in-Run.is c.requires.permitted in
-    is_fresh it.due c.in-Run.booted it.ready_is
+    is_runnable it.due c.in-Run.booted it.ready_is
 
 pub run_on_bench-requires-clause-permitted : goal.run_on_bench-requires-clause-permitted
 run_on_bench-requires-clause-permitted g c =

@@ -1,7 +1,8 @@
-use Rattle.std.proofs.Common.{◌≡◌, ℕ, List, subst}
+use Rattle.std.proofs.Common.{◌≡◌, ◌^◌, ℕ, List, subst, arith}
 use Rattle.sv_types.specs.Schedule.{first_events}
 use Rattle.sv_types.specs.declared.status.Status.{Status}
 use Rattle.reference.specs.Run.{run}
+use Rattle.machine.proofs.Repeated.{counts_within}
 use Rattle.outside.specs.Outside.{after_taking, BreaksOff}
 use Rattle.secvisor_cli.proofs.ReadyLemmas.{err_by}
 use Rattle.secvisor_cli.specs.Answers.{Writes}
@@ -43,3 +44,6 @@ pub returns-clause-stands : goal.returns-clause-stands
 returns-clause-stands g c = λ start new.
     ran_stands c.args.machine.now start _ c.run.new.machine _ (g.O.Sink.state c.run.new.out) _ new (c.in_ok-run.ensures.all start new)
     (subst (λ (bytes : List ℕ). g.O.Sink.state c.write_all.new.out ≡ after_taking (g.O.Sink.state c.run.new.out) bytes) c.printed.ensures c.in_ok-write_all.ensures.whole)
+
+pub run-requires-clause-counts : goal.run-requires-clause-counts
+run-requires-clause-counts g c = counts_within 0 (2 ^ 32) c.args.machine.now.journal.counts (omega arith) c.requires.counts

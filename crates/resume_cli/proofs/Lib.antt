@@ -1,0 +1,6 @@
+pub mod WordLemmas
+pub mod SkipLemmas
+pub mod CountLemmas
+pub mod StageLemmas
+pub mod AnswerLemmas
+pub mod ClauseLemmas

@@ -1,0 +1,19 @@
+use Rattle.std.proofs.Common.{refl, sym, ◌∙◌, ap}
+use Rattle.core.specs.Option.{option_map}
+use Rattle.script.specs.declared.event_run.EventRun.{EventRun}
+use Rattle.resume_cli.proofs.SkipLemmas.{behind_end, behind_all, behind_row}
+use Rattle.resume_cli.proofs.skipping.skip.Goals as goal
+
+pub rows-init : goal.rows-init
+rows-init c = refl
+
+pub rows-preserved : goal.rows-preserved
+rows-preserved c =
+    behind_row c.rows.undrawn c.args.events c.rows.left c.next_run.new.self c.in-Some.row c.in-Some.ensures.most c.in-Some.ensures.first ∙ c.rows.invariant
+
+pub returns-in_default-clause-left : goal.returns-in_default-clause-left
+returns-in_default-clause-left c =
+    behind_end c.rows.undrawn c.args.made c.args.events c.rows.left c.next_run.new.self c.args.script (sym c.in_default.ensures.event) c.rows.invariant
+
+pub returns-clause-left : goal.returns-clause-left
+returns-clause-left c = behind_all c.rows.undrawn c.args.made c.args.events c.rows.left c.args.script c.rows-test.false c.rows.invariant

@@ -1,0 +1,3 @@
+pub mod ResumeWords
+pub mod ResumePlans
+pub mod ResumeReady

@@ -1,0 +1,10 @@
+//! The command `resume`: a run that goes on from a snapshot.
+#![tactic(auto)]
+
+mod answer;
+mod ready;
+mod skipping;
+mod snapshot_file;
+mod words;
+
+pub use answer::secvisor_resume;
