@@ -1,5 +1,5 @@
 -- From what is ready of `resume` to what is answered.
-use Rattle.std.proofs.Common.{◌≡◌, ℕ, List, IsTrue, refl, sym, ◌∙◌, subst, Option, Some, None, Result, Ok, Err, IsErrOf}
+use Rattle.std.proofs.Common.{◌≡◌, ℕ, List, IsTrue, refl, sym, subst, Option, Some, None, Result, Ok, Err, IsErrOf}
 use Rattle.std.specs.Option.{option_copied}
 use Rattle.sv_types.specs.Schedule.{first_events}
 use Rattle.sv_types.specs.declared.event.Event.{Event}

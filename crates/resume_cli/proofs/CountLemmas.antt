@@ -1,5 +1,5 @@
 -- The counts of a snapshot are no more than its events.
-use Rattle.std.proofs.Common.{◌≡◌, ◌×◌, ℕ, ◌^◌, ◌≤◌, true, arith}
+use Rattle.std.proofs.Common.{◌≡◌, ℕ, ◌^◌, ◌≤◌, true, arith}
 use Rattle.std.specs.Prelude.{nat_le}
 use Rattle.std.proofs.lemmas.Bool.Decides.{nat_tests}
 use Rattle.sv_types.specs.declared.event.Counts.{Counts}

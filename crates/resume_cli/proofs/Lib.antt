@@ -4,3 +4,4 @@ pub mod CountLemmas
 pub mod StageLemmas
 pub mod AnswerLemmas
 pub mod ClauseLemmas
+pub mod OneRun

@@ -1,5 +1,5 @@
 -- A script behind its first events.
-use Rattle.std.proofs.Common.{◌≡◌, ℕ, zero, suc, ◌+◌, ◌-◌, ◌≤◌, List, [], ◌∷◌, ◌++◌, length, drop, replicate, refl, sym, ◌∙◌, ap, subst, arith, Option, Some, None}
+use Rattle.std.proofs.Common.{◌≡◌, ℕ, zero, suc, ◌+◌, ◌-◌, ◌≤◌, List, [], ◌∷◌, ◌++◌, length, drop, replicate, refl, sym, ◌∙◌, ap, arith, Option, Some, None}
 use Rattle.sv_types.specs.Schedule.{Schedule, next_event, after_event, begun_with, first_events}
 use Rattle.sv_types.specs.declared.event.Event.{Event}
 use Rattle.script.specs.Runs.{BeginsWith}

@@ -1,3 +1,4 @@
 pub mod ResumeWords
 pub mod ResumePlans
 pub mod ResumeReady
+pub mod SnapAndResume

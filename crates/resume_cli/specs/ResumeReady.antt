@@ -1,5 +1,5 @@
 -- What is made ready of `resume`, before anything is written.
-use Rattle.std.specs.Prelude.{◌≡◌, ℕ, List, Option, Some, None, Result, Ok, Err, IsErrOf}
+use Rattle.std.specs.Prelude.{◌≡◌, Option, Some, None, Result, Ok, Err, IsErrOf}
 use Rattle.std.specs.Option.{option_copied}
 use Rattle.sv_types.specs.Policies.{Rules}
 use Rattle.sv_types.specs.Schedule.{first_events}

@@ -2,9 +2,11 @@
 #![tactic(auto)]
 
 mod answer;
+mod laws;
 mod ready;
 mod skipping;
 mod snapshot_file;
 mod words;
 
 pub use answer::secvisor_resume;
+pub use laws::law_snap_and_resume;

@@ -1,6 +1,4 @@
-use Rattle.std.proofs.Common.{refl, sym, ◌∙◌, ap}
-use Rattle.core.specs.Option.{option_map}
-use Rattle.script.specs.declared.event_run.EventRun.{EventRun}
+use Rattle.std.proofs.Common.{refl, sym, ◌∙◌}
 use Rattle.resume_cli.proofs.SkipLemmas.{behind_end, behind_all, behind_row}
 use Rattle.resume_cli.proofs.skipping.skip.Goals as goal
 

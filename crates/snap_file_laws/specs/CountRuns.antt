@@ -1,0 +1,10 @@
+-- How high a run raises the counts. This project's own.
+use Rattle.std.specs.Prelude.{ℕ, ◌+◌, List}
+use Rattle.sv_types.specs.declared.event.Event.{Event}
+use Rattle.reference.specs.Counting.{CountsAtMost}
+use Rattle.reference.specs.Run.{run}
+use Rattle.reference.specs.States.{State}
+use Rattle.resume_laws.specs.Continues.{drawn}
+
+abbrev pub CountsLaw : Type 0
+CountsLaw = (s : State) (events : List Event) (n : ℕ) → CountsAtMost n s.journal.counts → CountsAtMost (n + drawn s events) (run s events).journal.counts

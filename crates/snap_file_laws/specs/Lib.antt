@@ -1,0 +1,3 @@
+pub mod BlockRuns
+pub mod CountRuns
+pub mod SnapFile

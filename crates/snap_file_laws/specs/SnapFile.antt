@@ -1,0 +1,23 @@
+-- When the bytes of a snapshot are read again as they were. This project's own.
+use Rattle.std.specs.Prelude.{◌≡◌, ℕ, ◌%◌, ◌≤◌, List, length, Ok}
+use Rattle.sv_types.specs.Limits.{most_disk_bytes, most_events}
+use Rattle.sv_types.specs.Policies.{Rules}
+use Rattle.sv_types.specs.Schedule.{Schedule, first_events}
+use Rattle.reference.specs.BlockDisk.{sector_size}
+use Rattle.reference.specs.Start.{boot_start}
+use Rattle.snapshot_form.specs.Snapshots.{contents, snapshot, snapshot_read}
+use Rattle.snapshot_form.specs.declared.whole.Snapshot.{Snapshot}
+use Rattle.resume_laws.specs.SavedForm.{IsTyped}
+use Rattle.resumed_start.specs.SnapLaws.{IsMeasuredBoot}
+use Rattle.snap_cli.specs.SnapAnswers.{IsSnapshotOf}
+
+-- a disk that a plan doesn't refuse: whole sectors, within the limit
+pub record IsDisk (disk : List ℕ) : Type 0 where
+  pub sectors : length disk % sector_size ≡ 0
+  pub few : length disk ≤ most_disk_bytes
+
+-- What `snap` saves of a run from a measured boot is read again as it was, where the numbers are in the ranges of their types.
+abbrev pub SnapFileLaw : Type 0
+SnapFileLaw = (rules : Rules) (file disk : List ℕ) (script : Schedule) (k : ℕ) (s : Snapshot) → IsMeasuredBoot rules file → IsDisk disk → k ≤ most_events
+    → IsSnapshotOf (boot_start rules file disk) (first_events k script) s → IsTyped (contents s)
+    → snapshot_read (snapshot.spell (contents s)) ≡ Ok (contents s)
