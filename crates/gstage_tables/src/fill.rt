@@ -2,7 +2,7 @@
 
 ghost use Rattle.std.specs.Prelude.{◌≡◌, ◌+◌, ◌*◌, ◌/◌, ◌%◌, ◌≤◌, length};
 ghost use Rattle.processor.specs.Bytes.{word, write_word, page_size};
-ghost use Rattle.gstage_tables.specs.Layout.{root_word, root_words, root_pages};
+ghost use Rattle.gstage_tables.specs.Layout.{root_word, root_words, root_pages, most_trees};
 ghost use Rattle.gstage_tables.specs.Written.{Wrote};
 
 use crate::words::{ROOT_WORDS, root_word};
@@ -39,7 +39,7 @@ pub(crate) fn put_counted<L: Ledger>(mem: &mut HostMem, k: u64, value: u64, step
 
 /// Writes the roots.
 pub(crate) fn fill_roots(mem: &mut HostMem, trees: u64)
-    requires trees { trees ≤ 66 }
+    requires trees { trees ≤ most_trees }
     requires size { page_size * root_pages * trees ≤ length mem.old.tables }
     ensures ram { mem.new.ram ≡ mem.old.ram }
     ensures words { Wrote mem.old.tables mem.new.tables (root_words * trees) (λ k. k) (λ k. root_word trees (k / root_words) (k % root_words)) }

@@ -9,8 +9,8 @@ use processor::Instr;
 use rv64_decode::decode;
 use std::alloc::{AllocError, Global};
 
-/// The places for words: one for each place of an instruction modulo 64 KiB.
-const PLACES: usize = 16384;
+/// The places for words: one for each place of an instruction modulo 256 KiB.
+const PLACES: usize = 65536;
 
 /// A word and its instruction, none where no row of the instruction table has the word.
 #[derive(Clone, Copy, Drop)]
@@ -35,7 +35,7 @@ impl Decoded {
 #[derive(Drop)]
 pub struct Words {
     places: Vec<Decoded>,
-    ghost size: { length places.items ≡ 2 ^ 14 },
+    ghost size: { length places.items ≡ 2 ^ 16 },
 }
 
 impl Words {
