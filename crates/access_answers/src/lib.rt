@@ -2,8 +2,6 @@
 #![tactic(auto)]
 
 mod accesses;
-#[cfg(test)]
-mod tests;
 mod values;
 
 pub use accesses::{Load, Store, device_load, device_store};

@@ -7,8 +7,6 @@ mod decisions;
 mod laws;
 mod masks;
 mod places;
-#[cfg(test)]
-mod tests;
 
 pub use calls::give;
 pub use decisions::answer_of;

@@ -6,8 +6,6 @@ mod commands;
 mod dash;
 mod found;
 mod reading;
-#[cfg(test)]
-mod tests;
 
 pub use command::{CommandWords, ConvertWords, DiskKind, FlatWords, MeasureWords, RunWords};
 pub use dash::has_dash;

@@ -282,6 +282,3 @@ fn low_bytes(register: Register, value: u64) -> u64
         Register::Count | Register::Command | Register::Status => value % (1 << 32),
     }
 }
-
-#[cfg(test)]
-mod tests;

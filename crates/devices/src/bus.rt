@@ -188,6 +188,3 @@ impl<D: DiskPort> Devices<D> {
         self.disk.disk()
     }
 }
-
-#[cfg(test)]
-mod tests;

@@ -6,8 +6,6 @@ mod bus;
 mod clock;
 mod console;
 mod ports;
-#[cfg(test)]
-mod tests;
 
 pub use block::Block;
 pub use bus::Devices;

@@ -90,6 +90,3 @@ impl DiskPort for Port {
         }
     }
 }
-
-#[cfg(test)]
-mod tests;

@@ -8,8 +8,6 @@ mod image;
 mod laws;
 mod read;
 mod shared_text;
-#[cfg(test)]
-mod tests;
 mod whole_text;
 
 pub use exports::read_exports;

@@ -16,8 +16,6 @@ mod relocations;
 mod section_names;
 mod sites;
 mod symbols;
-#[cfg(test)]
-mod tests;
 mod text;
 
 pub use fault::ObjectFault;

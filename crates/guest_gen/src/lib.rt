@@ -6,8 +6,6 @@ mod elf;
 mod fields;
 mod guest;
 mod laws;
-#[cfg(test)]
-mod tests;
 
 pub use code::MOST_CALLS;
 pub use elf::image;

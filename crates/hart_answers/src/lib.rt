@@ -4,8 +4,6 @@
 mod answers;
 mod asked;
 mod seats;
-#[cfg(test)]
-mod tests;
 
 pub use answers::{
     Trap, answer, demote, pass, return_from_trap, send_again, set, start, stay, stop, take_trap,

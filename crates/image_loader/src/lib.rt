@@ -4,8 +4,6 @@
 mod laws;
 mod owners;
 mod segments;
-#[cfg(test)]
-mod tests;
 mod text;
 mod zeros;
 

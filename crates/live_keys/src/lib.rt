@@ -10,8 +10,6 @@ mod memory_keys;
 mod protocol;
 mod real_keys;
 mod recording;
-#[cfg(test)]
-mod tests;
 mod text;
 
 pub use journal::Journal;

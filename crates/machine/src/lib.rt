@@ -14,8 +14,6 @@ mod resume;
 mod row_turns;
 mod saved;
 mod start;
-#[cfg(test)]
-mod tests;
 mod wires;
 
 pub use boot::BootRefusal;

@@ -13,6 +13,3 @@ pub use gate::Gate;
 pub use load::Load;
 pub use places::is_good_place;
 pub use rules::rule_of;
-
-#[cfg(test)]
-mod tests;

@@ -8,8 +8,6 @@ mod calls;
 mod memory_files;
 mod memory_sink;
 mod real;
-#[cfg(test)]
-mod tests;
 mod writing;
 
 pub use memory_files::MemFiles;

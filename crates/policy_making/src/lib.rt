@@ -25,6 +25,3 @@ pub use names::want_names;
 pub use object_file::ObjectFile;
 pub use policy::{Settings, policy_behind};
 pub use refusal::{MakingFault, MakingRefusal};
-
-#[cfg(test)]
-mod tests;

@@ -3,8 +3,6 @@
 
 mod counts;
 mod notes;
-#[cfg(test)]
-mod tests;
 mod verdict;
 mod whole;
 

@@ -5,8 +5,6 @@
 ghost use Rattle.resumed_start.specs.Resuming.{ResumedStartLaw};
 ghost use Rattle.resumed_start.specs.SnapLaws.{BootDigestsLaw, SnapAcceptedLaw, SnapContinuesLaw, SnapReadLaw};
 
-#[cfg(test)]
-mod tests;
 mod text;
 
 pub use text::text_pages;

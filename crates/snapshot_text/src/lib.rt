@@ -6,8 +6,6 @@ mod harts;
 mod lines;
 mod modules;
 mod pages;
-#[cfg(test)]
-mod tests;
 mod whole;
 
 pub use whole::snapshot_text;

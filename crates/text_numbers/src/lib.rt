@@ -5,8 +5,6 @@ mod addresses;
 mod decimals;
 mod digests;
 mod printed;
-#[cfg(test)]
-mod tests;
 
 pub use addresses::address_of;
 pub use decimals::number_within;

@@ -7,8 +7,6 @@ mod addresses;
 mod exits;
 mod fetches;
 mod instructions;
-#[cfg(test)]
-mod tests;
 mod traps;
 
 pub use exits::exit_answer;

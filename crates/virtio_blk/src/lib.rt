@@ -31,6 +31,3 @@ impl Model for Virtio {
 
     ghost invariant = { λ v. IsSound (record { state = v.state; bytes = v.bytes.items }) };
 }
-
-#[cfg(test)]
-mod tests;

@@ -1,0 +1,15 @@
+//! Tests of what SecVisor answers to exits and calls, and of what a machine starts with for its modules.
+#![tactic(auto)]
+
+#[cfg(test)]
+mod accesses;
+#[cfg(test)]
+mod calls;
+#[cfg(test)]
+mod gate;
+#[cfg(test)]
+mod harts;
+#[cfg(test)]
+mod loading;
+#[cfg(test)]
+mod traps;

@@ -1,0 +1,15 @@
+//! Tests of the journal, of the devices and of the virtio block device.
+#![tactic(auto)]
+
+#[cfg(test)]
+mod blocks;
+#[cfg(test)]
+mod bus;
+#[cfg(test)]
+mod journal;
+#[cfg(test)]
+mod kinds;
+#[cfg(test)]
+mod rows;
+#[cfg(test)]
+mod virtio;

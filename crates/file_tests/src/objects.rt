@@ -1,0 +1,587 @@
+// An object that clang 14 made of `call print; ret` for RV64IMA without relaxation, changed and grown.
+
+ghost use Rattle.std.specs.Prelude.{◌≡◌, ◌≤◌, IfOk, length, vec_len};
+
+use elf64_reloc::*;
+use std::alloc::{AllocError, Global};
+use std::test::Fail;
+use sv_types::{Export, Name, RelocationKind, Site};
+
+/// A field of an object: its place, its width in bytes and its value.
+type Field = (u16, u8, u64);
+
+/// The bytes of the object.
+const OBJECT_BYTES: usize = 512;
+
+/// Its fields that aren't 0: the header; three instructions; the symbol; the relocation; the names; and the headers of
+/// names, text, relocations and symbols.
+const FIELDS: [Field; 46] = [
+    (0, 4, 0x464C_457F),
+    (4, 1, 2),
+    (5, 1, 1),
+    (6, 1, 1),
+    (16, 2, 1),
+    (18, 2, 243),
+    (20, 4, 1),
+    (40, 8, 0xC0),
+    (52, 2, 64),
+    (58, 2, 64),
+    (60, 2, 5),
+    (62, 2, 1),
+    (0x40, 4, 0x97),
+    (0x44, 4, 0x80E7),
+    (0x48, 4, 0x8067),
+    (0x68, 4, 12),
+    (0x6C, 1, 0x10),
+    (0x88, 4, 18),
+    (0x8C, 4, 1),
+    (0x98, 8, 0x742E_616C_6572_2E00),
+    (0xA0, 8, 0x6E69_7270_0074_7865),
+    (0xA8, 8, 0x6174_7274_732E_0074),
+    (0xB0, 8, 0x6261_746D_7973_2E62),
+    (0x104, 4, 3),
+    (0x118, 8, 0x98),
+    (0x120, 8, 0x22),
+    (0x130, 8, 1),
+    (0x144, 4, 1),
+    (0x148, 8, 6),
+    (0x158, 8, 0x40),
+    (0x160, 8, 12),
+    (0x170, 8, 4),
+    (0x184, 4, 4),
+    (0x188, 8, 0x40),
+    (0x198, 8, 0x80),
+    (0x1A0, 8, 0x18),
+    (0x1A8, 4, 4),
+    (0x1AC, 4, 2),
+    (0x1B0, 8, 8),
+    (0x1B8, 8, 0x18),
+    (0x1C4, 4, 2),
+    (0x1D8, 8, 0x50),
+    (0x1E0, 8, 0x30),
+    (0x1E8, 4, 1),
+    (0x1F0, 8, 8),
+    (0x1F8, 8, 0x18),
+];
+
+fn put(object: &mut [u8], field: Field) {
+    let (at, width, value) = field;
+    for (i, byte) in value.to_le_bytes().iter().enumerate() {
+        if i < width as usize
+            && let Some(slot) = object.get_mut(at as usize + i)
+        {
+            *slot = *byte;
+        }
+    }
+}
+
+// The object with fields changed, cut or filled with zeros to a length.
+fn changed(alloc: Global, fields: &[Field], length: usize) -> Result<Vec<u8>, AllocError> {
+    let mut object = vec![in alloc; 0; OBJECT_BYTES]?;
+    for field in FIELDS {
+        put(&mut object, field);
+    }
+    object.resize(length, 0)?;
+    for field in fields {
+        put(&mut object, *field);
+    }
+    Ok(object)
+}
+
+fn print_exported(alloc: Global) -> Result<Vec<Export>, AllocError>
+    ensures { IfOk result (λ exports. vec_len exports ≡ 1) }
+{
+    let mut exports = Vec::new(alloc);
+    let Some(name) = Name::new("print") else {
+        return Err(AllocError);
+    };
+    exports.push(Export {
+        name,
+        addr: 0x8000_3010,
+    })?;
+    Ok(exports)
+}
+
+// The fault for which the names of an object are refused, 0 where they are given.
+fn name_fault(alloc: Global, object: &[u8]) -> Option<u8> {
+    match undefined_names(alloc, object) {
+        Ok(_) => Some(0),
+        Err(RelocRefusal::Fault(fault)) => Some(fault.number()),
+        Err(RelocRefusal::Memory) => None,
+    }
+}
+
+fn module_fault(alloc: Global, object: &[u8], exports: &[Export]) -> Option<u8>
+    requires { length exports.now ≤ 4096 }
+{
+    match read_module(alloc, object, exports) {
+        Ok(_) => Some(0),
+        Err(RelocRefusal::Fault(fault)) => Some(fault.number()),
+        Err(RelocRefusal::Memory) => None,
+    }
+}
+
+// An object with fields changed, cut to a length; the numbers that refuse its names and the module, 0 where it is good.
+#[derive(Clone, Copy, Drop)]
+struct FaultRow<'a> {
+    what: &'a str,
+    fields: &'a [Field],
+    length: usize,
+    names: u8,
+    number: u8,
+}
+
+#[test]
+fn first_faults(rt: HostRuntime) -> Result<(), Fail> {
+    let table: [FaultRow<'_>; 41] = [
+        FaultRow {
+            what: "whole",
+            fields: &[],
+            length: 512,
+            names: 0,
+            number: 0,
+        },
+        FaultRow {
+            what: "short",
+            fields: &[],
+            length: 63,
+            names: 1,
+            number: 1,
+        },
+        FaultRow {
+            what: "magic",
+            fields: &[(0, 1, 0)],
+            length: 512,
+            names: 2,
+            number: 2,
+        },
+        FaultRow {
+            what: "class",
+            fields: &[(4, 1, 1)],
+            length: 512,
+            names: 3,
+            number: 3,
+        },
+        FaultRow {
+            what: "version",
+            fields: &[(20, 4, 2)],
+            length: 512,
+            names: 4,
+            number: 4,
+        },
+        FaultRow {
+            what: "machine",
+            fields: &[(18, 2, 62)],
+            length: 512,
+            names: 5,
+            number: 5,
+        },
+        FaultRow {
+            what: "an executable file",
+            fields: &[(16, 2, 2)],
+            length: 512,
+            names: 6,
+            number: 6,
+        },
+        FaultRow {
+            what: "compressed",
+            fields: &[(48, 4, 1)],
+            length: 512,
+            names: 7,
+            number: 7,
+        },
+        FaultRow {
+            what: "section headers behind the end",
+            fields: &[(40, 8, 193)],
+            length: 512,
+            names: 8,
+            number: 8,
+        },
+        FaultRow {
+            what: "section headers that wrap",
+            fields: &[(40, 8, u64::MAX - 63)],
+            length: 512,
+            names: 8,
+            number: 8,
+        },
+        FaultRow {
+            what: "section headers of 40 bytes",
+            fields: &[(58, 2, 40)],
+            length: 512,
+            names: 8,
+            number: 8,
+        },
+        FaultRow {
+            what: "a section behind the end",
+            fields: &[(0x160, 8, 0x1C1)],
+            length: 512,
+            names: 9,
+            number: 9,
+        },
+        FaultRow {
+            what: "a section that wraps",
+            fields: &[(0x158, 8, u64::MAX)],
+            length: 512,
+            names: 9,
+            number: 9,
+        },
+        FaultRow {
+            what: "zeros behind the end",
+            fields: &[(0x144, 4, 8), (0x160, 8, 0x1C1)],
+            length: 512,
+            names: 0,
+            number: 18,
+        },
+        FaultRow {
+            what: "no symbols",
+            fields: &[(0x1C4, 4, 1)],
+            length: 512,
+            names: 10,
+            number: 10,
+        },
+        FaultRow {
+            what: "symbols of 16 bytes",
+            fields: &[(0x1F8, 8, 16)],
+            length: 512,
+            names: 10,
+            number: 10,
+        },
+        FaultRow {
+            what: "names in another section",
+            fields: &[(0x1E8, 4, 2)],
+            length: 512,
+            names: 10,
+            number: 10,
+        },
+        FaultRow {
+            what: "names in no section",
+            fields: &[(0x1E8, 4, 5)],
+            length: 512,
+            names: 10,
+            number: 10,
+        },
+        FaultRow {
+            what: "alignment of 3",
+            fields: &[(0x170, 8, 3)],
+            length: 512,
+            names: 0,
+            number: 11,
+        },
+        FaultRow {
+            what: "alignment of 8,192",
+            fields: &[(0x1B0, 8, 8192)],
+            length: 512,
+            names: 0,
+            number: 11,
+        },
+        FaultRow {
+            what: "alignment of 0",
+            fields: &[(0x170, 8, 0)],
+            length: 512,
+            names: 0,
+            number: 0,
+        },
+        FaultRow {
+            what: "a field at byte 2",
+            fields: &[(0x80, 8, 2)],
+            length: 512,
+            names: 0,
+            number: 11,
+        },
+        FaultRow {
+            what: "8 bytes at byte 4",
+            fields: &[(0x80, 8, 4), (0x88, 4, 2)],
+            length: 512,
+            names: 0,
+            number: 11,
+        },
+        FaultRow {
+            what: "kind 20",
+            fields: &[(0x88, 4, 20)],
+            length: 512,
+            names: 0,
+            number: 12,
+        },
+        FaultRow {
+            what: "an alignment to be kept by a linker",
+            fields: &[(0x88, 4, 43)],
+            length: 512,
+            names: 0,
+            number: 12,
+        },
+        FaultRow {
+            what: "a kind of more than a byte",
+            fields: &[(0x88, 4, 0x102)],
+            length: 512,
+            names: 0,
+            number: 12,
+        },
+        FaultRow {
+            what: "leave to relax",
+            fields: &[(0x88, 4, 51), (0x8C, 4, 9)],
+            length: 512,
+            names: 0,
+            number: 0,
+        },
+        FaultRow {
+            what: "no such symbol",
+            fields: &[(0x8C, 4, 0xFFFF_FFFF)],
+            length: 512,
+            names: 0,
+            number: 13,
+        },
+        FaultRow {
+            what: "symbol 0",
+            fields: &[(0x8C, 4, 0)],
+            length: 512,
+            names: 19,
+            number: 13,
+        },
+        FaultRow {
+            what: "a name that isn't exported",
+            fields: &[(0x68, 4, 13)],
+            length: 512,
+            names: 0,
+            number: 13,
+        },
+        FaultRow {
+            what: "a common symbol",
+            fields: &[(0x6E, 2, 0xFFF2)],
+            length: 512,
+            names: 0,
+            number: 13,
+        },
+        FaultRow {
+            what: "a symbol of names",
+            fields: &[(0x6E, 2, 1)],
+            length: 512,
+            names: 0,
+            number: 13,
+        },
+        FaultRow {
+            what: "a symbol of no section",
+            fields: &[(0x6E, 2, 5)],
+            length: 512,
+            names: 0,
+            number: 13,
+        },
+        FaultRow {
+            what: "an absolute symbol",
+            fields: &[(0x6E, 2, 0xFFF1)],
+            length: 512,
+            names: 0,
+            number: 0,
+        },
+        FaultRow {
+            what: "a call at the end",
+            fields: &[(0x80, 8, 8)],
+            length: 512,
+            names: 0,
+            number: 14,
+        },
+        FaultRow {
+            what: "a low part of no high part",
+            fields: &[(0x88, 4, 24), (0x6E, 2, 2)],
+            length: 512,
+            names: 0,
+            number: 15,
+        },
+        FaultRow {
+            what: "a low part with an addend",
+            fields: &[(0x88, 4, 24), (0x90, 8, 4)],
+            length: 512,
+            names: 0,
+            number: 15,
+        },
+        FaultRow {
+            what: "two calls at one place",
+            fields: &[
+                (0x198, 8, 512),
+                (0x1A0, 8, 48),
+                (520, 8, 0x1_0000_0012),
+                (544, 8, 0x1_0000_0012),
+            ],
+            length: 560,
+            names: 0,
+            number: 17,
+        },
+        FaultRow {
+            what: "a field in a call",
+            fields: &[
+                (0x198, 8, 512),
+                (0x1A0, 8, 48),
+                (520, 8, 0x1_0000_0012),
+                (536, 8, 4),
+                (544, 8, 0x1_0000_0011),
+            ],
+            length: 560,
+            names: 0,
+            number: 17,
+        },
+        FaultRow {
+            what: "no text",
+            fields: &[(0x160, 8, 0), (0x1A0, 8, 0)],
+            length: 512,
+            names: 0,
+            number: 18,
+        },
+        FaultRow {
+            what: "a name without an end",
+            fields: &[(0x120, 8, 16)],
+            length: 512,
+            names: 19,
+            number: 13,
+        },
+    ];
+    let exports = print_exported(rt.alloc())?;
+    for row in table {
+        let FaultRow {
+            what,
+            fields,
+            length,
+            names,
+            number,
+        } = row;
+        let object = changed(rt.alloc(), fields, length)?;
+        assert_eq!(rt;
+            name_fault(rt.alloc(), &object),
+            Some(names),
+            "names of {what}"
+        );
+        assert_eq!(rt;
+            module_fault(rt.alloc(), &object, &exports),
+            Some(number),
+            "{what}"
+        );
+    }
+    let long = changed(
+        rt.alloc(),
+        &[(0x158, 8, 0), (0x160, 8, 0x40_0001)],
+        0x40_0200,
+    )?;
+    assert_eq!(rt; module_fault(rt.alloc(), &long, &exports), Some(16));
+    Ok(())
+}
+
+#[test]
+fn a_call_of_an_export(rt: HostRuntime) -> Result<(), Fail> {
+    let object = changed(rt.alloc(), &[], OBJECT_BYTES)?;
+    let names = undefined_names(rt.alloc(), &object)?;
+    assert_eq!(rt; names.len(), 1);
+    for name in &names {
+        assert_eq!(rt; name.text(), "print");
+    }
+    let exports = print_exported(rt.alloc())?;
+    let module = read_module(rt.alloc(), &object, &exports)?;
+    let wanted = vec![in rt.alloc();
+        Site {
+            offset: 0,
+            kind: RelocationKind::PcrelHi20,
+            base: 3,
+            addend: 0,
+            anchor: 0
+        },
+        Site {
+            offset: 4,
+            kind: RelocationKind::PcrelLo12I,
+            base: 3,
+            addend: 0,
+            anchor: 0
+        },
+    ]?;
+    assert_eq!(rt; module.sites, wanted);
+    assert_eq!(rt; module.text.len(), 4096);
+    assert!(rt;
+        module
+            .text
+            .starts_with(&[0x97, 0, 0, 0, 0xE7, 0x80, 0, 0, 0x67, 0x80, 0, 0, 0])
+    );
+    Ok(())
+}
+
+// A low part in front of its high part, which names data: text, data and zeros are laid out in their spaces.
+#[test]
+fn a_low_part_goes_by_its_high_part(rt: HostRuntime) -> Result<(), Fail> {
+    let fields = [
+        (0x198, 8, 512),
+        (0x1A0, 8, 48),
+        (512, 8, 4),
+        (520, 8, 0x1_0000_0018),
+        (536, 8, 0),
+        (544, 8, 0x2_0000_0017),
+        (552, 8, 40),
+        (0x1D8, 8, 560),
+        (0x1E0, 8, 72),
+        (0x6C, 4, 0),
+        (590, 2, 2),
+        (614, 2, 1),
+        (616, 8, 7),
+        (0x108, 8, 2),
+    ];
+    let object = changed(rt.alloc(), &fields, 640)?;
+    let names = undefined_names(rt.alloc(), &object)?;
+    assert_eq!(rt; names.len(), 0);
+    let module = read_module(rt.alloc(), &object, &[])?;
+    let wanted = vec![in rt.alloc();
+        Site {
+            offset: 0,
+            kind: RelocationKind::PcrelHi20,
+            base: 1,
+            addend: 47,
+            anchor: 0
+        },
+        Site {
+            offset: 4,
+            kind: RelocationKind::PcrelLo12I,
+            base: 1,
+            addend: 47,
+            anchor: 0
+        },
+    ]?;
+    assert_eq!(rt; module.sites, wanted);
+    Ok(())
+}
+
+// An object with fields changed, and where it is refused for a kernel that exports `print`; the empty text where it isn't.
+#[derive(Clone, Copy, Drop)]
+struct PlaceRow<'a> {
+    fields: &'a [Field],
+    place: &'a str,
+}
+
+#[test]
+fn refused_places(rt: HostRuntime) -> Result<(), Fail> {
+    let table: [PlaceRow<'_>; 5] = [
+        PlaceRow {
+            fields: &[],
+            place: "",
+        },
+        PlaceRow {
+            fields: &[(0x140, 4, 6), (0x170, 8, 3)],
+            place: "section .text",
+        },
+        PlaceRow {
+            fields: &[(0x140, 4, 6), (0x88, 4, 20)],
+            place: "section .text, offset 0x0, R_RISCV_GOT_HI20 (20), symbol print",
+        },
+        PlaceRow {
+            fields: &[(0x68, 4, 1), (0x88, 4, 99)],
+            place: "section 2, offset 0x0, relocation 99, symbol .rela.text",
+        },
+        PlaceRow {
+            fields: &[(0x140, 4, 6), (0x80, 8, 8), (62, 2, 9)],
+            place: "section 2, offset 0x8, R_RISCV_CALL (18), symbol print",
+        },
+    ];
+    let exports = print_exported(rt.alloc())?;
+    for row in &table {
+        let object = changed(rt.alloc(), row.fields, OBJECT_BYTES)?;
+        let place = refused_place(rt.alloc(), &object, &exports)?;
+        let told = match &place {
+            Some(place) => place.as_str(),
+            None => "",
+        };
+        assert!(rt; told == row.place, "{told}, not {}", row.place);
+    }
+    Ok(())
+}
