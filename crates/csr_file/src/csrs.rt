@@ -6,10 +6,10 @@ ghost use Rattle.processor.specs.HypervisorRegisters.{registers_at_boot, hip_val
 ghost use Rattle.processor.specs.Registers.{legal_satp};
 
 use crate::masks::{
-    INTERRUPT_BITS, MISALIGNED, SATP_BITS, STATUS_BITS, TIME_ENABLE, TVEC_RESERVED, UXL,
-    VIRTUAL_EXTERNAL, VIRTUAL_INTERRUPT_BITS, VIRTUAL_SOFTWARE, VIRTUAL_TIMER,
+    INTERRUPT_BITS, MISALIGNED, SATP_BITS, STATUS_BITS, TIME_ENABLE, TIME_ENABLE_PLACE,
+    TVEC_RESERVED, UXL, VIRTUAL_EXTERNAL, VIRTUAL_INTERRUPT_BITS, VIRTUAL_SOFTWARE, VIRTUAL_TIMER,
 };
-use processor::{Csr, CsrFault, HRegs, Lines, Mode, has_bit};
+use processor::{BARE, Csr, CsrFault, HRegs, Lines, Mode, ROOT_MODE_PLACE, SV39, has_bit};
 use std::marker::Model;
 
 /// The registers of one hart: those of the virtual supervisor, `scounteren`, the interrupts, and, from `sepc` on, those
@@ -82,7 +82,9 @@ fn refusal(mode: Mode, scounteren: u64, writes: bool, csr: Csr) -> Option<CsrFau
 {
     match (csr, mode) {
         (Csr::Time, _) if writes => Some(CsrFault::Illegal),
-        (Csr::Time, Mode::User) if !has_bit(scounteren, 1) => Some(CsrFault::Virtual),
+        (Csr::Time, Mode::User) if !has_bit(scounteren, TIME_ENABLE_PLACE) => Some(
+            CsrFault::Virtual,
+        ),
         (Csr::Time, _) | (_, Mode::Kernel) => None,
         (_, Mode::User) => Some(CsrFault::Virtual),
     }
@@ -110,8 +112,8 @@ fn with_alias(hideleg: u64, bits: u64, register: u64, value: u64) -> u64
 fn with_satp(old: u64, value: u64) -> u64
     ensures { result ≡ legal_satp old value }
 {
-    match value >> 60 {
-        0 | 8 => value & SATP_BITS,
+    match value >> ROOT_MODE_PLACE {
+        BARE | SV39 => value & SATP_BITS,
         _ => old,
     }
 }

@@ -1,11 +1,17 @@
 // Bits of the supervisor registers. Privileged manual, "Supervisor CSRs" and "Hypervisor and Virtual Supervisor CSRs".
 
 /// SIE of a status: kernel mode takes interrupts.
-pub const SIE: u64 = 1 << 1;
+pub const SIE: u64 = 1 << SIE_PLACE;
+/// The place of SIE.
+pub const SIE_PLACE: u8 = 1;
 /// SPIE of a status: SIE before the trap.
-pub const SPIE: u64 = 1 << 5;
+pub const SPIE: u64 = 1 << SPIE_PLACE;
+/// The place of SPIE.
+pub const SPIE_PLACE: u8 = 5;
 /// SPP of a status: the mode before the trap was kernel mode.
-pub const SPP: u64 = 1 << 8;
+pub const SPP: u64 = 1 << SPP_PLACE;
+/// The place of SPP.
+pub const SPP_PLACE: u8 = 8;
 /// SUM of a status: kernel mode may reach pages of user mode.
 const SUM: u64 = 1 << SUM_PLACE;
 /// The place of SUM.
@@ -20,20 +26,26 @@ pub const STATUS_BITS: u64 = SIE | SPIE | SPP | SUM | MXR;
 pub(crate) const UXL: u64 = 2 << 32;
 /// The guest's software interrupt in `sie` and `sip`.
 pub const SOFTWARE_INTERRUPT: u64 = 1 << 1;
-/// The guest's software, timer and external interrupt there.
-pub const INTERRUPT_BITS: u64 = SOFTWARE_INTERRUPT | 1 << 5 | 1 << 9;
+/// The guest's timer interrupt there.
+const TIMER_INTERRUPT: u64 = 1 << 5;
+/// The guest's external interrupt there.
+const EXTERNAL_INTERRUPT: u64 = 1 << 9;
+/// The three together.
+pub const INTERRUPT_BITS: u64 = SOFTWARE_INTERRUPT | TIMER_INTERRUPT | EXTERNAL_INTERRUPT;
 /// The same interrupts in `hie`, `hip` and `hideleg`.
 pub(crate) const VIRTUAL_INTERRUPT_BITS: u64 = INTERRUPT_BITS << 1;
 /// The guest's software interrupt there, the only one that `hvip` keeps.
 pub const VIRTUAL_SOFTWARE: u64 = SOFTWARE_INTERRUPT << 1;
 /// The guest's timer interrupt there, a wire.
-pub(crate) const VIRTUAL_TIMER: u64 = 1 << 6;
+pub(crate) const VIRTUAL_TIMER: u64 = TIMER_INTERRUPT << 1;
 /// The guest's external interrupt there, a wire.
-pub(crate) const VIRTUAL_EXTERNAL: u64 = 1 << 10;
+pub(crate) const VIRTUAL_EXTERNAL: u64 = EXTERNAL_INTERRUPT << 1;
 /// The second of the two bits of `stvec`'s mode.
 pub const TVEC_RESERVED: u64 = 1 << 1;
 /// TM of `scounteren`: user mode reads the time.
-pub const TIME_ENABLE: u64 = 1 << 1;
+pub const TIME_ENABLE: u64 = 1 << TIME_ENABLE_PLACE;
+/// The place of TM.
+pub(crate) const TIME_ENABLE_PLACE: u8 = 1;
 /// Instructions lie at multiples of 4.
 pub const MISALIGNED: u64 = 3;
 /// The mode and the root's page of `satp`.

@@ -36,4 +36,4 @@ pub use memory::{PAGE_BYTES, PAGE_SIZE, RAM_BASE, is_in_ram, page_of, ram_place}
 pub use mode::Mode;
 pub use outcome::{Exception, Outcome, Wrote};
 pub use pte_bits::PteBits;
-pub use translation::{Fault, GuestFault, Place};
+pub use translation::{BARE, Fault, GuestFault, Place, ROOT_MODE_PLACE, SV39};

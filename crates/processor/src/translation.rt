@@ -1,4 +1,13 @@
-// What a translation of addresses answers.
+// What chooses a translation of addresses, and what it answers.
+
+/// The place of the mode in `satp`, `vsatp` and `hgatp`. Privileged manual, "satp Register" and "hgatp Register".
+pub const ROOT_MODE_PLACE: u32 = 60;
+
+/// The mode of `satp` and `vsatp` in which an address is left as it is.
+pub const BARE: u64 = 0;
+
+/// The mode of `satp` and `vsatp` in which three levels of tables lead a virtual address of 39 bits.
+pub const SV39: u64 = 8;
 
 /// Where a virtual address leads: its guest-physical address and its host place.
 #[derive(Clone, Copy, Debug, PartialEq, Eq, Drop)]

@@ -8,6 +8,23 @@ ghost use Rattle.relocated_fields.specs.Fields.{field_view};
 
 use sv_types::RelocationKind;
 
+/// How many values the low part of an address has: the 12 bits of an immediate.
+const LOW_VALUES: u64 = 1 << 12;
+/// How many values the upper part has: the 20 bits of `lui` and `auipc`.
+const UPPER_VALUES: u64 = 1 << 20;
+/// The distances that a branch reaches: 13 signed bits, and even.
+const BRANCH_LOWEST: i64 = -4096;
+
+const BRANCH_HIGHEST: i64 = 4094;
+/// The distances that a jump reaches: 21 signed bits, and even.
+const JUMP_LOWEST: i64 = -1_048_576;
+
+const JUMP_HIGHEST: i64 = 1_048_574;
+/// The values that an upper and a low part make: 32 signed bits, less what the upper part is rounded by.
+const PARTS_LOWEST: i64 = -2_147_485_696;
+
+const PARTS_HIGHEST: i64 = 2_147_481_599;
+
 /// 8 bytes of data, or the immediate of an instruction's format.
 #[derive(Clone, Copy, Drop)]
 pub(crate) enum Field {
@@ -72,7 +89,7 @@ fn upper(value: u64) -> u64
     ensures value { result ≡ bits (value + 0x800) 12 32 }
     ensures bound { result < 2 ^ 20 }
 {
-    ((value as u128 + 0x800) / 0x1000 % 0x10_0000) as u64
+    ((value as u128 + (LOW_VALUES / 2) as u128) / LOW_VALUES as u128 % UPPER_VALUES as u128) as u64
 }
 
 /// A value as it stands in the field.
@@ -93,7 +110,7 @@ pub(crate) fn in_field(field: Field, value: u64) -> u64
                 + 0x20_0000 * bits(value, 1, 11)
                 + 0x8000_0000 * bits(value, 20, 21)
         }
-        Field::Upper => 0x1000 * upper(value),
+        Field::Upper => LOW_VALUES * upper(value),
         Field::Immediate => 0x10_0000 * bits(value, 0, 12),
         Field::Store => 0x80 * bits(value, 0, 5) + 0x200_0000 * bits(value, 5, 12),
     }
@@ -113,8 +130,8 @@ pub(crate) fn value_fits(field: Field, value: u64) -> bool
 {
     match field {
         Field::DoubleWord => true,
-        Field::Branch => is_between(-4096, 4094, value) && value % 2 == 0,
-        Field::Jump => is_between(-1_048_576, 1_048_574, value) && value % 2 == 0,
-        _ => is_between(-2_147_485_696, 2_147_481_599, value),
+        Field::Branch => is_between(BRANCH_LOWEST, BRANCH_HIGHEST, value) && value % 2 == 0,
+        Field::Jump => is_between(JUMP_LOWEST, JUMP_HIGHEST, value) && value % 2 == 0,
+        _ => is_between(PARTS_LOWEST, PARTS_HIGHEST, value),
     }
 }

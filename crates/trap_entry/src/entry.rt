@@ -4,7 +4,7 @@ ghost use Rattle.std.specs.Prelude.{◌≡◌, ◌%◌};
 ghost use Rattle.processor.specs.HypervisorRegisters.{registers_at_trap, registers_at_return, registers_at_exit};
 ghost use Rattle.processor.specs.Traps.{is_interrupt, guest_number, trap_target, trap_cause, status_at_trap, status_at_return, mode_at_return};
 
-use csr_file::{Csrs, SIE, SPIE, SPP};
+use csr_file::{Csrs, SIE, SIE_PLACE, SPIE, SPIE_PLACE, SPP, SPP_PLACE};
 use processor::{Exit, ExitCause, Mode, has_bit, with_bits};
 
 /// The mode of a trap vector stands in its low bits.
@@ -25,7 +25,7 @@ fn shown_cause(interrupt: bool, cause: u64) -> u64
 fn status_at_trap(status: u64, from: Mode) -> u64
     ensures { result ≡ status_at_trap status from }
 {
-    let kept = with_bits(status, SPIE, has_bit(status, 1));
+    let kept = with_bits(status, SPIE, has_bit(status, SIE_PLACE));
     let closed = with_bits(kept, SIE, false);
     with_bits(closed, SPP, matches!(from, Mode::Kernel))
 }
@@ -35,7 +35,7 @@ fn status_at_trap(status: u64, from: Mode) -> u64
 fn status_at_return(status: u64) -> u64
     ensures { result ≡ status_at_return status }
 {
-    let opened = with_bits(status, SIE, has_bit(status, 5));
+    let opened = with_bits(status, SIE, has_bit(status, SPIE_PLACE));
     let set = with_bits(opened, SPIE, true);
     with_bits(set, SPP, false)
 }
@@ -45,7 +45,7 @@ fn status_at_return(status: u64) -> u64
 fn mode_at_return(status: u64) -> Mode
     ensures { result ≡ mode_at_return status }
 {
-    if has_bit(status, 8) {
+    if has_bit(status, SPP_PLACE) {
         Mode::Kernel
     } else {
         Mode::User

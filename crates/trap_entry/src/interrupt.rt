@@ -4,7 +4,7 @@ ghost use Rattle.std.specs.Prelude.{◌≡◌};
 ghost use Rattle.processor.specs.HypervisorRegisters.{is_taken, pending};
 ghost use Rattle.processor.specs.Traps.{takes_interrupts};
 
-use csr_file::Csrs;
+use csr_file::{Csrs, SIE_PLACE};
 use processor::{HRegs, Interrupt, Lines, Mode, has_bit};
 
 /// Whether a hart takes delegated interrupts: user mode always, kernel mode where SIE of `vsstatus` is set.
@@ -13,7 +13,7 @@ fn takes_interrupts(mode: Mode, vsstatus: u64) -> bool
 {
     match mode {
         Mode::User => true,
-        Mode::Kernel => has_bit(vsstatus, 1),
+        Mode::Kernel => has_bit(vsstatus, SIE_PLACE),
     }
 }
 

@@ -14,7 +14,7 @@ ghost use Rattle.virtio_blk.specs.Held.{HaveRings, HasHeader, IsPlaced, IsOnDisk
 ghost use Rattle.reference.specs.VirtioDevice.{index_values};
 
 use crate::Virtio;
-use crate::chain::read_chain;
+use crate::chain::{DESCRIPTOR_BYTES, read_chain};
 use crate::requests::{DONE, is_good, lies_in_ram, result_by};
 use dma_guard::Beaten;
 use host_mem::{HostMem, word_at};
@@ -23,6 +23,14 @@ use sv_types::{MOST_VIRTIO_PARTS, VirtioPart, VirtioRequest};
 
 /// An index of a ring, and a head, is a number of 16 bits.
 pub(crate) const INDICES: u64 = 1 << 16;
+/// The flags and the index of a ring. Virtio 1.2, 2.7.6 and 2.7.8.
+pub(crate) const RING_HEADER_BYTES: u64 = 4;
+/// Where the index stands in a ring, behind the flags.
+pub(crate) const RING_INDEX_PLACE: u64 = 2;
+/// A head in the available ring.
+pub(crate) const AVAILABLE_ENTRY_BYTES: u64 = 2;
+/// A head and a length in the used ring.
+pub(crate) const USED_ENTRY_BYTES: u64 = 8;
 
 // So many parts as a chain may have, all of them empty.
 fn empty_parts() -> [VirtioPart; MOST_VIRTIO_PARTS]
@@ -115,9 +123,17 @@ impl Virtio {
         ensures rings { IsTrue result → HaveRings (device_of self.now) ram.now }
     {
         let size = self.state.size as u64;
-        lies_in_ram(ram, self.state.descriptors, 16 * size)
-            && lies_in_ram(ram, self.state.available, 4 + 2 * size)
-            && lies_in_ram(ram, self.state.used, 4 + 8 * size)
+        lies_in_ram(ram, self.state.descriptors, DESCRIPTOR_BYTES as u64 * size)
+            && lies_in_ram(
+                ram,
+                self.state.available,
+                RING_HEADER_BYTES + AVAILABLE_ENTRY_BYTES * size,
+            )
+            && lies_in_ram(
+                ram,
+                self.state.used,
+                RING_HEADER_BYTES + USED_ENTRY_BYTES * size,
+            )
     }
 
     // The index of the available ring.
@@ -126,7 +142,11 @@ impl Virtio {
         ensures value { result ≡ available_index (device_of self.now) ram.now }
         ensures small { result < index_values }
     {
-        word_at(ram, ram_place(self.state.available) as usize + 2, 2)
+        word_at(
+            ram,
+            ram_place(self.state.available) as usize + RING_INDEX_PLACE as usize,
+            2,
+        )
     }
 
     // The head that stands where the next request is expected.
@@ -139,7 +159,9 @@ impl Virtio {
         let place = (self.state.accepted % self.state.size as u64) as usize;
         word_at(
             ram,
-            ram_place(self.state.available) as usize + 4 + 2 * place,
+            ram_place(self.state.available) as usize
+                + RING_HEADER_BYTES as usize
+                + AVAILABLE_ENTRY_BYTES as usize * place,
             2,
         )
     }

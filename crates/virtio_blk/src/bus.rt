@@ -13,6 +13,12 @@ use sv_types::{SECTOR_BYTES, VirtioRegister, VirtioState};
 
 /// The most places of the queue.
 const MOST_PLACES: u64 = 64;
+/// The alignment of the table of descriptors. Virtio 1.2, 2.7.
+const DESCRIPTORS_ALIGN: u64 = 16;
+/// The alignment of the available ring.
+const AVAILABLE_ALIGN: u64 = 2;
+/// The alignment of the used ring.
+const USED_ALIGN: u64 = 4;
 
 /// Bits of the status: the features fit, and a reset is needed. The places of two others.
 const FEATURES_OK: u32 = 8;
@@ -163,9 +169,9 @@ impl Virtio {
         ensures { result ≡ can_be_used (device_of self.now) }
     {
         matches!(self.state.size, 1 | 2 | 4 | 8 | 16 | 32 | 64)
-            && self.state.descriptors % 16 == 0
-            && self.state.available % 2 == 0
-            && self.state.used % 4 == 0
+            && self.state.descriptors % DESCRIPTORS_ALIGN == 0
+            && self.state.available % AVAILABLE_ALIGN == 0
+            && self.state.used % USED_ALIGN == 0
     }
 
     #[tactic(auto, unfolding(reference::specs::VirtioStores::with_ready))]

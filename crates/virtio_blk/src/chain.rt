@@ -8,8 +8,14 @@ use host_mem::word_at;
 use processor::has_bit;
 use sv_types::{MOST_VIRTIO_PARTS, VirtioDescriptor, VirtioPart};
 
-/// The bytes of a descriptor.
-const DESCRIPTOR_BYTES: usize = 16;
+/// The bytes of a descriptor. Virtio 1.2, 2.7.5.
+pub const DESCRIPTOR_BYTES: usize = 16;
+/// The flag that says that a chain goes on.
+const NEXT_PLACE: u8 = 0;
+/// The flag that says that the device writes a part.
+const WRITE_PLACE: u8 = 1;
+/// The flag that says that a part is a table of descriptors.
+const INDIRECT_PLACE: u8 = 2;
 
 // The descriptor at a place in RAM.
 #[tactic(auto, unfolding(reference::specs::VirtioChain::descriptor_at))]
@@ -22,11 +28,11 @@ fn descriptor_at(ram: &[u8], at: usize) -> VirtioDescriptor
         part: VirtioPart {
             gpa: word_at(ram, at, 8),
             len: word_at(ram, at + 8, 4) as u32,
-            write: has_bit(flags, 1),
+            write: has_bit(flags, WRITE_PLACE),
         },
-        goes_on: has_bit(flags, 0),
+        goes_on: has_bit(flags, NEXT_PLACE),
         next: word_at(ram, at + 14, 2),
-        is_indirect: has_bit(flags, 2),
+        is_indirect: has_bit(flags, INDIRECT_PLACE),
     }
 }
 

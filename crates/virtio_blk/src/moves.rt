@@ -8,10 +8,13 @@ ghost use Rattle.saved_machine.specs.VirtioStates.{part_at, last_place, disk_pla
 ghost use Rattle.virtio_blk.specs.Held.{IsPlaced, IsOnDisk, IsSame, CanBeMade, first_move};
 ghost use Rattle.reference.specs.VirtioDevice.{index_values};
 
-use crate::accept::INDICES;
+use crate::accept::{INDICES, RING_HEADER_BYTES, RING_INDEX_PLACE, USED_ENTRY_BYTES};
 use crate::requests::bytes_in;
 use processor::PAGE_BYTES;
 use sv_types::{BEAT_BYTES, SECTOR_BYTES, VirtioMove, VirtioRequest};
+
+/// Where the length stands in an entry of the used ring, behind the head.
+const USED_LENGTH_PLACE: u64 = 4;
 
 // Passes over parts of which nothing is left.
 fn settle(q: &mut VirtioRequest)
@@ -85,7 +88,9 @@ fn used_entry(q: &VirtioRequest, accepted: u64) -> u64
     ensures aligned { result % 4 ≡ 0 }
     ensures small { result < 2 ^ 63 + 1024 }
 {
-    q.used + 4 + 8 * ((accepted + (INDICES - 1)) % INDICES % q.size as u64)
+    q.used
+        + RING_HEADER_BYTES
+        + USED_ENTRY_BYTES * ((accepted + (INDICES - 1)) % INDICES % q.size as u64)
 }
 
 // The next of the last moves, if there is one.
@@ -107,9 +112,11 @@ fn last_move(q: &VirtioRequest, accepted: u64) -> Option<VirtioMove>
             gpa: entry,
             head: q.head,
         }),
-        2 => Some(VirtioMove::PutLength { gpa: entry + 4 }),
+        2 => Some(VirtioMove::PutLength {
+            gpa: entry + USED_LENGTH_PLACE,
+        }),
         3 => Some(VirtioMove::PutIndex {
-            gpa: q.used + 2,
+            gpa: q.used + RING_INDEX_PLACE,
             index: accepted as u16,
         }),
         _ => None,
