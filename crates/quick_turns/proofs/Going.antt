@@ -90,7 +90,7 @@ Row n r core after next = (lines : Lines) → pending core.hregs core.csrs lines
 pub row_starts : (r : Region) (core : Core) → Row zero r core r core
 row_starts r core = λ lines none. (refl, refl)
 
-still_none : (core before : Core) (lines : Lines) → SameCourse core.csrs before.csrs → before.hregs ≡ core.hregs
+pub still_none : (core before : Core) (lines : Lines) → SameCourse core.csrs before.csrs → before.hregs ≡ core.hregs
     → pending core.hregs core.csrs lines ≡ None → pending before.hregs before.csrs lines ≡ None
 still_none core before lines course hregs none =
     ap (λ (h : HRegs). pending h before.csrs lines) hregs ∙ pending_kept core.hregs core.csrs before.csrs lines course ∙ none

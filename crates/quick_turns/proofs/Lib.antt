@@ -2,3 +2,5 @@ pub mod Windows
 pub mod Kept
 pub mod Going
 pub mod Reaching
+pub mod Exits
+pub mod Flats

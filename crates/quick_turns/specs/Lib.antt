@@ -1,2 +1,4 @@
 pub mod Rows
+pub mod Flat
 pub mod Quick
+pub mod Ends

@@ -23,7 +23,8 @@ pub(crate) struct Reference {
     pub(crate) width: u8,
 }
 
-// The host place of a virtual address by a walk, kept out of the way of addresses whose translation is held.
+// The host place of a virtual address by a walk, kept out of the way of addresses whose translation is held. It is handed
+// numbers alone, since for a reference in memory every access would write one.
 #[inline(never)]
 fn walk_to(
     core: &Core,
@@ -31,24 +32,19 @@ fn walk_to(
     cache: &mut Cache,
     reach: &mut Reach,
     mem: &HostMem,
-    reference: Reference,
+    access: Access,
+    address: u64,
 ) -> Option<u64>
     requires ready { MayWalk mem.now regs.now cache.old }
     requires reach { ReachAgrees mem.now.tables reach.old }
-    ensures value { (htinst : ℕ) → IfSome result (λ hpa. translated mem.now (core_of core.now regs.now) reference.access reference.address htinst ≡ Ok hpa) }
-    ensures place { (width : ℕ) → IsWidth width → reference.address % width ≡ 0 → IfSome result (λ hpa. IsHostPlace mem.now hpa width) }
+    ensures value { (htinst : ℕ) → IfSome result (λ hpa. translated mem.now (core_of core.now regs.now) access address htinst ≡ Ok hpa) }
+    ensures place { (width : ℕ) → IsWidth width → address % width ≡ 0 → IfSome result (λ hpa. IsHostPlace mem.now hpa width) }
     ensures ram { IfSome result (λ hpa. length mem.now.tables ≤ hpa) }
     ensures walked { Walked mem.now.tables regs.now.hgatp cache.old cache.new }
     ensures reach { ReachAgrees mem.now.tables reach.new }
 {
     let _table_bytes = mem.table_bytes();
-    reach.walk(
-        cache,
-        mem,
-        &regime(core, regs),
-        reference.address,
-        reference.access,
-    )
+    reach.walk(cache, mem, &regime(core, regs), address, access)
 }
 
 // The host place of a virtual address, where its translation is held: without a first stage that of the second one, else
@@ -103,7 +99,15 @@ pub(crate) fn place(
 {
     match held_place(core, regs, cache, reach, mem, reference) {
         Some(hpa) => Some(hpa),
-        None => walk_to(core, regs, cache, reach, mem, reference),
+        None => walk_to(
+            core,
+            regs,
+            cache,
+            reach,
+            mem,
+            reference.access,
+            reference.address,
+        ),
     }
 }
 

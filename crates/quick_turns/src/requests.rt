@@ -13,11 +13,12 @@ ghost use Rattle.hart.specs.Conditions.{MayAttempt, MayStep};
 ghost use Rattle.quick_turns.specs.Quick.{Comes, GoesOn, Steers};
 ghost use Rattle.reach.specs.Kept.{ReachAgrees};
 
+use crate::flat::Flat;
 use crate::memory::{Reference, aligned_place};
 use crate::registers::{CsrAccess, csr};
 use crate::tried::Tried;
 use gstage_cache::Cache;
-use hart::{Core, Decoded};
+use hart::Core;
 use host_mem::HostMem;
 use processor::{Access, AmoOp, Effect, HRegs, Mode};
 use reach::Reach;
@@ -197,20 +198,20 @@ pub(crate) fn carry_out(
     cache: &mut Cache,
     reach: &mut Reach,
     mem: &mut HostMem,
-    decoded: &Decoded,
+    flat: &Flat,
 ) -> Tried
     requires ready { MayAttempt mem.old core.old regs.now cache.old }
     requires free { core.old.reservation ≡ None }
     requires reach { ReachAgrees mem.old.tables reach.old }
-    ensures comes { (lines : Lines) → Comes result (after_word mem.old (core_of core.old regs.now) lines decoded.now.word) mem.old mem.new (core_of core.old regs.now) (core_of core.new regs.now) }
+    ensures comes { (lines : Lines) → Comes result (after_word mem.old (core_of core.old regs.now) lines flat.now.word) mem.old mem.new (core_of core.old regs.now) (core_of core.new regs.now) }
     ensures on { GoesOn mem.old mem.new core.old core.new regs.now cache.old cache.new }
     ensures course { Steers result core.old.csrs core.new.csrs }
     ensures reach { ReachAgrees mem.new.tables reach.new }
 {
-    let Some(instr) = &decoded.instr else {
+    let Some(instr) = flat.instr() else {
         return Tried::Stopped;
     };
-    match effect(instr, &core.regs, core.pc) {
+    match effect(&instr, &core.regs, core.pc) {
         Effect::Set { rd, value, next } => {
             core.regs.set(rd, value);
             core.pc = next;

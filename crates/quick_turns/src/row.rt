@@ -1,20 +1,23 @@
 // Turns in a row.
 
-ghost use Rattle.std.specs.Prelude.{◌≡◌, ◌≤◌, None};
+ghost use Rattle.std.specs.Prelude.{◌≡◌, ◌-◌, ◌<◌, ◌≤◌, ◌^◌, None};
 ghost use Rattle.processor.specs.HardwareAttempt.{attempt};
 ghost use Rattle.processor.specs.HypervisorRegisters.{pending};
 ghost use Rattle.processor.specs.declared.lines.Lines.{Lines};
 ghost use Rattle.hart.specs.Cores.{core_of};
 ghost use Rattle.hart.specs.Conditions.{MayAttempt};
 ghost use Rattle.quick_turns.specs.Quick.{Comes, GoesOn, Leads, Steers};
-ghost use Rattle.quick_turns.specs.Rows.{RetiresThrough};
+ghost use Rattle.quick_turns.specs.Ends.{turns_of};
+ghost use Rattle.quick_turns.specs.Rows.{EndsBy};
 ghost use Rattle.reach.specs.Kept.{ReachAgrees};
 
+use crate::leaving::{Leaving, leave};
 use crate::requests::carry_out;
 use crate::tried::Tried;
 use crate::window::{Window, at_pc};
+use crate::words::Words;
 use gstage_cache::Cache;
-use hart::{Core, Words};
+use hart::Core;
 use host_mem::HostMem;
 use processor::HRegs;
 use reach::Reach;
@@ -44,8 +47,11 @@ fn turn(
         return Tried::Stopped;
     };
     let word = here.word(core, regs, mem);
-    match carry_out(core, regs, cache, reach, mem, words.decoded(core.pc, word)) {
-        Tried::Stopped => Tried::Stopped,
+    match carry_out(core, regs, cache, reach, mem, words.flat(core.pc, word)) {
+        Tried::Stopped => {
+            *window = here;
+            Tried::Stopped
+        }
         Tried::Retired => {
             *window = here;
             Tried::Retired
@@ -61,10 +67,33 @@ fn turn(
     }
 }
 
-/// Up to `most` turns of a hart in a row, each of whose attempts carries out its instruction. Answers how many were made:
-/// what isn't a computation, a load, a store, an atomic operation, or an access to a register whose value doesn't go by the
-/// wires, or is refused, or misaligned, stops the row before its turn. Behind a write of `sstatus`, `sie` or `satp` the row
-/// ends, since an interrupt may be due then.
+/// A row of turns: how many carried out their instructions, and how the hart left the guest in the turn behind them.
+#[derive(Clone, Copy, Drop)]
+pub struct Row {
+    pub made: u64,
+    pub left: Leaving,
+}
+
+impl Row {
+    /// All turns that were made.
+    #[inline(always)]
+    pub fn turns(self) -> u64
+        requires { self.made < 2 ^ 64 - 1 }
+        ensures { result ≡ turns_of self }
+    {
+        match self.left {
+            Leaving::Stays => self.made,
+            Leaving::Calls | Leaving::Returns => self.made + 1,
+        }
+    }
+}
+
+/// Up to `most` turns of a hart in a row, each of whose attempts carries out its instruction, and one behind them that leaves
+/// the guest. Answers how many were made: what isn't a computation, a load, a store, an atomic operation, or an access to a
+/// register whose value doesn't go by the wires, or is refused, or misaligned, stops the row before its turn. Where the row
+/// stops at ECALL in user mode or SRET in kernel mode before it has `most` turns, that turn is made too, and isn't counted
+/// among them; its exit is the caller's to answer. Behind a write of `sstatus`, `sie` or `satp` the row ends, since an
+/// interrupt may be due then.
 ///
 /// The hart has no reservation. No other hart's is looked at. That no interrupt is taken at the start is what the
 /// clause on turns asks; none comes up on the way, since no register changes that decides it. All that the turns read and
@@ -78,12 +107,12 @@ pub fn quick_turns(
     reach: &mut Reach,
     mem: &mut HostMem,
     most: u64,
-) -> u64
+) -> Row
     requires ready { MayAttempt mem.old core.old regs.now cache.old }
     requires free { core.old.reservation ≡ None }
     requires reach { ReachAgrees mem.old.tables reach.old }
-    ensures retires { (lines : Lines) → pending regs.now core.old.csrs lines ≡ None → RetiresThrough result mem.old (core_of core.old regs.now) lines mem.new (core_of core.new regs.now) }
-    ensures most { result ≤ most }
+    ensures ends { (lines : Lines) → pending regs.now core.old.csrs lines ≡ None → EndsBy result.left result.made mem.old (core_of core.old regs.now) lines mem.new (core_of core.new regs.now) }
+    ensures most { turns_of result ≤ most }
     ensures on { GoesOn mem.old mem.new core.old core.new regs.now cache.old cache.new }
     ensures reach { ReachAgrees mem.new.tables reach.new }
 {
@@ -92,12 +121,19 @@ pub fn quick_turns(
     'turns: while made < most {
         let tried = turn(words, core, regs, cache, reach, mem, &mut window);
         if !tried.is_made() {
-            return made;
+            let left = leave(core, regs, mem, window);
+            return Row { made, left };
         }
         made += 1;
         if !tried.keeps_course() {
-            return made;
+            return Row {
+                made,
+                left: Leaving::Stays,
+            };
         }
     }
-    made
+    Row {
+        made,
+        left: Leaving::Stays,
+    }
 }

@@ -1,7 +1,8 @@
-use Rattle.std.proofs.Common.{sym, ◌∙◌, subst, refl, arith}
+use Rattle.std.proofs.Common.{◌+◌, sym, ◌∙◌, subst, refl, arith}
 use Rattle.hart.specs.Cores.{core_of}
 use Rattle.quick_turns.specs.Quick.{Leads}
 use Rattle.quick_turns.specs.declared.window.Window.{Window}
+use Rattle.quick_turns.proofs.Exits.{ends_left, ends_there, goes_left, leaving_within, stopped_course}
 use Rattle.quick_turns.proofs.Going.{course_further, course_kept, course_stays, goes_further, goes_nowhere, row_more, row_starts, row_stays}
 use Rattle.quick_turns.proofs.Windows.{no_window}
 use Rattle.quick_turns.proofs.row.quick_turns.Goals as goal
@@ -17,20 +18,32 @@ turns-init c = record {
   reach = c.requires.reach;
 }
 
-pub returns-then-not-is_made-clause-retires : goal.returns-then-not-is_made-clause-retires
-returns-then-not-is_made-clause-retires c =
-    row_stays c.turn-tried.result c.turns.made c.args.mem.now c.turns.mem c.turn-tried.new.mem (core_of c.args.core.now c.args.regs.now) (core_of c.turns.core c.args.regs.now)
-    (core_of c.turn-tried.new.core c.args.regs.now) c.turns.invariant.course refl c.turns.invariant.row (sym c.is_made.ensures ∙ c.if-not-is_made.true) c.turn-tried.ensures.comes
+pub returns-then-not-is_made-clause-ends : goal.returns-then-not-is_made-clause-ends
+returns-then-not-is_made-clause-ends c =
+    let stopped = sym c.is_made.ensures ∙ c.if-not-is_made.true in
+    ends_left c.leave-left.result c.turns.made c.args.mem.now c.turn-tried.new.mem (core_of c.args.core.now c.args.regs.now)
+    (core_of c.turn-tried.new.core c.args.regs.now) (core_of c.leave-left.new.core c.args.regs.now)
+    (row_stays c.turn-tried.result c.turns.made c.args.mem.now c.turns.mem c.turn-tried.new.mem (core_of c.args.core.now c.args.regs.now) (core_of c.turns.core c.args.regs.now)
+    (core_of c.turn-tried.new.core c.args.regs.now) c.turns.invariant.course refl c.turns.invariant.row stopped c.turn-tried.ensures.comes)
+    (course_further c.args.core.now.csrs c.turns.core.csrs c.turn-tried.new.core.csrs c.turns.invariant.course
+    (stopped_course c.turn-tried.result c.turns.core.csrs c.turn-tried.new.core.csrs stopped c.turn-tried.ensures.course))
+    refl c.leave-left.ensures.comes
+
+pub returns-then-not-is_made-clause-most : goal.returns-then-not-is_made-clause-most
+returns-then-not-is_made-clause-most c = leaving_within c.leave-left.result c.turns.made c.args.most (omega (arith, c.turns-test.true))
 
 pub returns-then-not-is_made-clause-on : goal.returns-then-not-is_made-clause-on
 returns-then-not-is_made-clause-on c =
-    goes_further c.args.mem.now c.turns.mem c.turn-tried.new.mem c.args.core.now c.turns.core c.turn-tried.new.core c.args.regs.now c.args.cache.now c.turns.cache c.turn-tried.new.cache
-    c.turns.invariant.on c.turn-tried.ensures.on
+    goes_left c.args.mem.now c.turn-tried.new.mem c.args.core.now c.turn-tried.new.core c.leave-left.new.core c.args.regs.now c.args.cache.now c.turn-tried.new.cache
+    (goes_further c.args.mem.now c.turns.mem c.turn-tried.new.mem c.args.core.now c.turns.core c.turn-tried.new.core c.args.regs.now c.args.cache.now c.turns.cache c.turn-tried.new.cache
+    c.turns.invariant.on c.turn-tried.ensures.on)
+    c.leave-left.ensures.pc c.leave-left.ensures.reservation
 
-pub returns-then-not-keeps_course-clause-retires : goal.returns-then-not-keeps_course-clause-retires
-returns-then-not-keeps_course-clause-retires c =
-    row_more c.turn-tried.result c.turns.made c.args.mem.now c.turns.mem c.turn-tried.new.mem (core_of c.args.core.now c.args.regs.now) (core_of c.turns.core c.args.regs.now)
-    (core_of c.turn-tried.new.core c.args.regs.now) c.turns.invariant.course refl c.turns.invariant.row (sym c.is_made.ensures ∙ c.if-not-is_made.false) c.turn-tried.ensures.comes
+pub returns-then-not-keeps_course-clause-ends : goal.returns-then-not-keeps_course-clause-ends
+returns-then-not-keeps_course-clause-ends c =
+    ends_there (c.turns.made + 1) c.args.mem.now c.turn-tried.new.mem (core_of c.args.core.now c.args.regs.now) (core_of c.turn-tried.new.core c.args.regs.now)
+    (row_more c.turn-tried.result c.turns.made c.args.mem.now c.turns.mem c.turn-tried.new.mem (core_of c.args.core.now c.args.regs.now) (core_of c.turns.core c.args.regs.now)
+    (core_of c.turn-tried.new.core c.args.regs.now) c.turns.invariant.course refl c.turns.invariant.row (sym c.is_made.ensures ∙ c.if-not-is_made.false) c.turn-tried.ensures.comes)
 
 pub returns-then-not-keeps_course-clause-on : goal.returns-then-not-keeps_course-clause-on
 returns-then-not-keeps_course-clause-on c =
@@ -50,8 +63,9 @@ turns-preserved c = record {
   reach = c.turn-tried.ensures.reach;
 }
 
-pub returns-clause-retires : goal.returns-clause-retires
-returns-clause-retires c = c.turns.invariant.row
+pub returns-clause-ends : goal.returns-clause-ends
+returns-clause-ends c =
+    ends_there c.turns.made c.args.mem.now c.turns.mem (core_of c.args.core.now c.args.regs.now) (core_of c.turns.core c.args.regs.now) c.turns.invariant.row
 
 pub returns-clause-on : goal.returns-clause-on
 returns-clause-on c = c.turns.invariant.on

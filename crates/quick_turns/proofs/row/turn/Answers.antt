@@ -14,8 +14,8 @@ returns-in-Stopped-clause-comes c = λ lines none. c.in-Stopped.ensures.comes li
 
 pub returns-in-Stopped-clause-leads : goal.returns-in-Stopped-clause-leads
 returns-in-Stopped-clause-leads c =
-    stayed_leads c.args.mem.now c.carry_out.new.mem c.args.core.now c.carry_out.new.core c.args.regs.now c.args.window.now.page c.args.window.now.host
-    (c.in-Stopped.ensures.comes low).0 c.in-Stopped.ensures.course c.requires.leads
+    stayed_leads c.args.mem.now c.carry_out.new.mem c.args.core.now c.carry_out.new.core c.args.regs.now c.in-Some.here.page c.in-Some.here.host
+    (c.in-Stopped.ensures.comes low).0 c.in-Stopped.ensures.course c.in-Some.ensures.leads
 
 pub returns-in-Retired-clause-leads : goal.returns-in-Retired-clause-leads
 returns-in-Retired-clause-leads c =
@@ -35,21 +35,21 @@ returns-in-Steered-clause-leads c =
 pub returns-in-Retired-clause-comes : goal.returns-in-Retired-clause-comes
 returns-in-Retired-clause-comes c = λ lines none.
     subst (λ (a : Attempted). Comes Retired a c.args.mem.now c.carry_out.new.mem (core_of c.args.core.now c.args.regs.now) (core_of c.carry_out.new.core c.args.regs.now))
-    (ap (after_word c.args.mem.now (core_of c.args.core.now c.args.regs.now) lines) (c.decoded.ensures ∙ c.word-word.ensures)
+    (ap (after_word c.args.mem.now (core_of c.args.core.now c.args.regs.now) lines) (c.flat.ensures ∙ c.word-word.ensures)
     ∙ sym (attempt_at c.args.mem.now (core_of c.args.core.now c.args.regs.now) lines c.in-Some.here.page c.in-Some.here.host none (omega arith) c.in-Some.ensures.page c.in-Some.ensures.leads))
     (c.in-Retired.ensures.comes lines)
 
 pub returns-in-Stored-clause-comes : goal.returns-in-Stored-clause-comes
 returns-in-Stored-clause-comes c = λ lines none.
     subst (λ (a : Attempted). Comes Stored a c.args.mem.now c.carry_out.new.mem (core_of c.args.core.now c.args.regs.now) (core_of c.carry_out.new.core c.args.regs.now))
-    (ap (after_word c.args.mem.now (core_of c.args.core.now c.args.regs.now) lines) (c.decoded.ensures ∙ c.word-word.ensures)
+    (ap (after_word c.args.mem.now (core_of c.args.core.now c.args.regs.now) lines) (c.flat.ensures ∙ c.word-word.ensures)
     ∙ sym (attempt_at c.args.mem.now (core_of c.args.core.now c.args.regs.now) lines c.in-Some.here.page c.in-Some.here.host none (omega arith) c.in-Some.ensures.page c.in-Some.ensures.leads))
     (c.in-Stored.ensures.comes lines)
 
 pub returns-in-Steered-clause-comes : goal.returns-in-Steered-clause-comes
 returns-in-Steered-clause-comes c = λ lines none.
     subst (λ (a : Attempted). Comes Steered a c.args.mem.now c.carry_out.new.mem (core_of c.args.core.now c.args.regs.now) (core_of c.carry_out.new.core c.args.regs.now))
-    (ap (after_word c.args.mem.now (core_of c.args.core.now c.args.regs.now) lines) (c.decoded.ensures ∙ c.word-word.ensures)
+    (ap (after_word c.args.mem.now (core_of c.args.core.now c.args.regs.now) lines) (c.flat.ensures ∙ c.word-word.ensures)
     ∙ sym (attempt_at c.args.mem.now (core_of c.args.core.now c.args.regs.now) lines c.in-Some.here.page c.in-Some.here.host none (omega arith) c.in-Some.ensures.page c.in-Some.ensures.leads))
     (c.in-Steered.ensures.comes lines)
 
