@@ -16,3 +16,4 @@ pub mod Kept
 pub mod Addressed
 pub mod Rows
 pub mod Resuming
+pub mod Behind

@@ -1,5 +1,5 @@
 -- A row of turns is as many events, one after another.
-use Rattle.std.proofs.Common.{◌≡◌, ℕ, zero, suc, ◌+◌, ◌<◌, ◌≤◌, List, [], ◌∷◌, length, map, refl, sym, ◌∙◌, ap, subst, arith, false, add-one, inl, inr}
+use Rattle.std.proofs.Common.{◌≡◌, ℕ, zero, suc, ◌+◌, ◌%◌, ◌<◌, ◌≤◌, List, [], ◌∷◌, length, map, refl, sym, ◌∙◌, ap, subst, arith, false, add-one, inl, inr}
 use Rattle.std.specs.Prelude.{Option, Some, None, is_some, slice_index_or, slice_set}
 use Rattle.std.proofs.lemmas.Bool.Decides.{eqb_tells}
 use Rattle.processor.specs.HypervisorRegisters.{pending}
@@ -25,7 +25,8 @@ use Rattle.machine_model.specs.Machine.{Machine, HostHart, raised, update, with_
 use Rattle.machine_model.specs.StandsFor.{StandsFor}
 use Rattle.machine_model.specs.Steps.{IsStep, IsTurn, StepsUnder}
 use Rattle.answer_laws.specs.Laws.{IsQuiet as IsQuietOutcome}
-use Rattle.quick_turns.specs.Rows.{IsRetired, Carries, RetiresThrough}
+use Rattle.quick_turns.specs.Rows.{IsRetired, Carries, EndsBy, RetiresThrough}
+use Rattle.quick_turns.specs.declared.leaving.Leaving.{Leaving}
 use Rattle.machine.proofs.Addressed.{step_addressed}
 use Rattle.machine.proofs.Repeated.{step_counts}
 use Rattle.machine.proofs.Stepped.{Bounded, step_bounded, step_happens, step_stands}
@@ -33,25 +34,25 @@ use Rattle.machine.proofs.Turns.{quiet_served, turn_served}
 use Rattle.machine.specs.Attempts.{hart_in}
 use Rattle.machine.specs.Machines.{HaveAddresses}
 use Rattle.machine.specs.Repeats.{IsQuiet, Repeats}
-use Rattle.machine.specs.Rows.{AreFree, counted_row, after_row, MayRow, MakesRow}
+use Rattle.machine.specs.Rows.{AreFree, counted_row, after_row, MayRow}
 use Rattle.machine.specs.Turns.{Finished}
 
 -- ---- one hart among all
 
-there_updated : (harts : List HostHart) (h : ℕ) (core : Core) → h < length harts → hart_in (update harts h (with_core core)) h ≡ with_core core (hart_in harts h)
+pub there_updated : (harts : List HostHart) (h : ℕ) (core : Core) → h < length harts → hart_in (update harts h (with_core core)) h ≡ with_core core (hart_in harts h)
 unfolding update
 there_updated [] h core below = absurd (omega arith)
 there_updated (x ∷ harts) zero core below = refl
 there_updated (x ∷ harts) (suc h) core below = there_updated harts h core (omega arith)
 
-still_there : (harts : List HostHart) (h k : ℕ) (core : Core) → h < length harts → h < length (update harts k (with_core core))
+pub still_there : (harts : List HostHart) (h k : ℕ) (core : Core) → h < length harts → h < length (update harts k (with_core core))
 unfolding update
 still_there [] h k core below = below
 still_there (x ∷ harts) h zero core below = below
 still_there (x ∷ harts) zero (suc k) core below = omega arith
 still_there (x ∷ harts) (suc h) (suc k) core below = let rest = still_there harts h k core (omega arith) in omega (arith, rest)
 
-updated_twice : (harts : List HostHart) (h : ℕ) (first second : Core) → update (update harts h (with_core first)) h (with_core second) ≡ update harts h (with_core second)
+pub updated_twice : (harts : List HostHart) (h : ℕ) (first second : Core) → update (update harts h (with_core first)) h (with_core second) ≡ update harts h (with_core second)
 unfolding update
 updated_twice [] h first second = refl
 updated_twice (x ∷ harts) zero first second = refl
@@ -208,16 +209,12 @@ no_turn m h r region core e f stands addresses bounded =
       counts = λ k counts. subst (λ (i : ℕ). CountsAtMost i m.journal.counts) (omega arith) counts;
     })
 
-one_turn : (m : Machine) (h n : ℕ) (mid : Region) (before : Core) (region : Region) (core : Core) → MayRow m h
-    → Carries (attempt mid before (lines_at m.devices h)) region core → Rowed n m h (after_row m h n mid before) → Rowed (suc n) m h (after_row m h (suc n) region core)
-one_turn m h n mid before region core may carries row =
-    let now : Machine = after_row m h n mid before in
-    let after : Machine = after_row m h (suc n) region core in
-    let is : IsStep now (Turn h) after = steps m h n mid before region core may carries in
+pub one_step : (m now after : Machine) (h n : ℕ) → Rowed n m h now → IsStep now (Turn h) after → IsQuiet m after → Rowed (suc n) m h after
+one_step m now after h n row is quiet =
     let behind : StandsFor after (step row.state (Turn h)) = step_stands now after (Turn h) is row.state row.stands in
     record {
       chain = (now, (row.chain, (row.quiet, record { stands = step_stands now after (Turn h) is; event = step_happens now after row.state (Turn h) row.stands is })));
-      quiet = ap (λ (xs : List ℕ). length xs) (row_printed (suc n) m.journal);
+      quiet = quiet;
       state = step row.state (Turn h);
       stands = behind;
       addresses = step_addressed row.state (Turn h) row.stands.unseen_is_right.region.most row.addresses;
@@ -227,16 +224,17 @@ one_turn m h n mid before region core may carries row =
           (step_counts (k + n) now after row.state (Turn h) row.stands behind (row.counts k counts));
     }
 
+one_turn : (m : Machine) (h n : ℕ) (mid : Region) (before : Core) (region : Region) (core : Core) → MayRow m h
+    → Carries (attempt mid before (lines_at m.devices h)) region core → Rowed n m h (after_row m h n mid before) → Rowed (suc n) m h (after_row m h (suc n) region core)
+one_turn m h n mid before region core may carries row =
+    one_step m (after_row m h n mid before) (after_row m h (suc n) region core) h n row (steps m h n mid before region core may carries)
+    (ap (λ (xs : List ℕ). length xs) (row_printed (suc n) m.journal))
+
 pub rowed : (n : ℕ) (m : Machine) (h : ℕ) (r : State) (region : Region) (core : Core) → MayRow m h → StandsFor m r → HaveAddresses r.harts → Bounded m
     → RetiresThrough n m.region (hart_in m.harts h).core (lines_at m.devices h) region core → Rowed n m h (after_row m h n region core)
 rowed zero m h r region core may stands addresses bounded row = no_turn m h r region core row.0 row.1 stands addresses bounded
 rowed (suc n) m h r region core may stands addresses bounded (mid, (before, (row, carries))) =
     one_turn m h n mid before region core may carries (rowed n m h r mid before may stands addresses bounded row)
-
-pub makes_rowed : (n : ℕ) (m after : Machine) (h : ℕ) (r : State) → MayRow m h → StandsFor m r → HaveAddresses r.harts → Bounded m
-    → MakesRow n m h after → Rowed n m h after
-makes_rowed n m after h r may stands addresses bounded makes =
-    subst (λ (x : Machine). Rowed n m h x) (sym makes.same) (rowed n m h r makes.region makes.core may stands addresses bounded makes.retires)
 
 -- ---- one count more
 
@@ -251,16 +249,19 @@ seat_there [] h new below = absurd (omega arith)
 seat_there (x ∷ seats) zero new below = refl
 seat_there (x ∷ seats) (suc h) new below = seat_there seats h new (omega arith)
 
--- what the clause on turns says
-abbrev pub Retire : ℕ → Region → Core → Region → Core → Type 0
-Retire n r core after next = (lines : Lines) → pending core.hregs core.csrs lines ≡ None → RetiresThrough n r core lines after next
+-- what the clause on a row's end says
+abbrev pub Ends : Leaving → ℕ → Region → Core → Region → Core → Type 0
+Ends left n r core after next = (lines : Lines) → pending core.hregs core.csrs lines ≡ None → EndsBy left n r core lines after next
 
-pub row_there : (seats : List Seat) (h n : ℕ) (d new : Seat) (r after : Region) → h < length seats
-    → Retire n r (host_at (slice_index_or seats h d)).core after (host_at new).core
-    → Retire n r (hart_in (hosts_of seats) h).core after (hart_in (hosts_of (slice_set seats h new)) h).core
-row_there seats h n d new r after below row =
-    subst (λ (x : HostHart). Retire n r x.core after (hart_in (hosts_of (slice_set seats h new)) h).core) (sym (host_there seats h d below))
-    (subst (λ (x : HostHart). Retire n r (host_at (slice_index_or seats h d)).core after x.core) (sym (seat_there seats h new below)) row)
+pub row_there : (seats : List Seat) (h : ℕ) (left : Leaving) (n : ℕ) (d new : Seat) (r after : Region) → h < length seats
+    → Ends left n r (host_at (slice_index_or seats h d)).core after (host_at new).core
+    → Ends left n r (hart_in (hosts_of seats) h).core after (hart_in (hosts_of (slice_set seats h new)) h).core
+row_there seats h left n d new r after below row =
+    subst (λ (x : HostHart). Ends left n r x.core after (hart_in (hosts_of (slice_set seats h new)) h).core) (sym (host_there seats h d below))
+    (subst (λ (x : HostHart). Ends left n r (host_at (slice_index_or seats h d)).core after x.core) (sym (seat_there seats h new below)) row)
+
+pub aligned_there : (seats : List Seat) (h : ℕ) (new : Seat) → h < length seats → (host_at new).core.pc % 4 ≡ 0 → (hart_in (hosts_of (slice_set seats h new)) h).core.pc % 4 ≡ 0
+aligned_there seats h new below aligned = subst (λ (x : HostHart). x.core.pc % 4 ≡ 0) (sym (seat_there seats h new below)) aligned
 
 pub harts_there : (seats : List Seat) (h : ℕ) (d new : Seat) → h < length seats → host_at new ≡ with_core (host_at new).core (host_at (slice_index_or seats h d))
     → hosts_of (slice_set seats h new) ≡ update (hosts_of seats) h (with_core (hart_in (hosts_of (slice_set seats h new)) h).core)

@@ -116,7 +116,7 @@ length_update [] h change = refl
 length_update (x ∷ harts) zero change = refl
 length_update (x ∷ harts) (suc h) change = ap (λ (n : ℕ). suc n) (length_update harts h change)
 
-forgets_none : (o : Outcome) (exit : Exit) (harts : List HostHart) → o ≡ Outcome.Exit exit → all_forget o harts ≡ harts
+pub forgets_none : (o : Outcome) (exit : Exit) (harts : List HostHart) → o ≡ Outcome.Exit exit → all_forget o harts ≡ harts
 unfolding all_forget
 forgets_none (Outcome.Retired wrote) exit harts e = cc
 forgets_none Outcome.GuestTrap exit harts e = cc
@@ -147,7 +147,7 @@ again_there m h exit below e =
     ∙ ap host_outside (left_there m h exit below e)
 
 -- the first attempt gave an exit
-exit_served : (m after : Machine) (h : ℕ) (exit : Exit) (again : Bool) → h < length m.harts → (attempted m h (hart_in m.harts h)).outcome ≡ Outcome.Exit exit
+pub exit_served : (m after : Machine) (h : ℕ) (exit : Exit) (again : Bool) → h < length m.harts → (attempted m h (hart_in m.harts h)).outcome ≡ Outcome.Exit exit
     → ExitServed again (left_by m h (hart_in m.harts h)) h exit after → AttemptsServed again m h (hart_in m.harts h) after
 exit_served m after h exit false below e served =
     subst (λ (o : Outcome). OutcomeServed o m h (hart_in m.harts h) after) (sym e) served

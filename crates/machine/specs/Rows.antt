@@ -1,18 +1,26 @@
 -- Turns of one hart in a row, each of which carries out an instruction: what they make of the machine. This project's own.
 use Rattle.std.specs.Prelude.{◌≡◌, ℕ, zero, suc, ◌+◌, ◌/◌, ◌%◌, ◌^◌, ◌<◌, List, length, None}
 use Rattle.processor.specs.Hardware.{Core}
+use Rattle.processor.specs.HardwareAttempt.{attempt}
 use Rattle.processor.specs.HypervisorRegisters.{pending}
 use Rattle.processor.specs.Regions.{Region}
 use Rattle.processor.specs.SecondStage.{WalksApart}
+use Rattle.processor.specs.declared.cause.Cause.{Cause}
+use Rattle.processor.specs.declared.exit.ExitCause.{ExitCause}
 use Rattle.hart.specs.Conditions.{KeepsMode}
+use Rattle.machine_model.specs.Steps.{WithTables}
+use Rattle.machine_model.specs.declared.exits.ExitAnswer.{ExitAnswer}
+use Rattle.machine_model.specs.declared.exits.ExitAnswer.TheVariants.{Traps}
 use Rattle.sv_types.specs.declared.event.Verdict.TheVariants.{Running}
 use Rattle.reference.specs.Counting.{counted, count_turn, count_retired}
 use Rattle.reference.specs.Devices.{lines_at}
 use Rattle.reference.specs.States.{Journal}
 use Rattle.machine_model.specs.Machine.{Machine, HostHart, update, with_core}
-use Rattle.quick_turns.specs.Rows.{RetiresThrough}
+use Rattle.quick_turns.specs.Rows.{LeavesBy, RetiresThrough}
+use Rattle.quick_turns.specs.declared.leaving.Leaving.{Leaving}
+use Rattle.quick_turns.specs.declared.leaving.Leaving.TheVariants.{Stays, Calls, Returns}
 use Rattle.machine.specs.Attempts.{hart_in}
-use Rattle.machine.specs.Turns.{Attempts}
+use Rattle.machine.specs.Turns.{Attempts, answered_exit}
 
 -- no hart has a reservation
 abbrev pub AreFree : List HostHart → Type 0
@@ -47,9 +55,25 @@ pub record MayRow (m : Machine) (h : ℕ) : Type 0 where
   pub free : AreFree m.harts
   pub quiet : pending (hart_in m.harts h).core.hregs (hart_in m.harts h).core.csrs (lines_at m.devices h) ≡ None
 
--- so many turns of hart h were made
-pub record MakesRow (n : ℕ) (m : Machine) (h : ℕ) (after : Machine) : Type 0 where
+-- so many turns of hart h were made, and an attempt behind them, where that left the guest
+pub record EndsRow (left : Leaving) (n : ℕ) (m : Machine) (h : ℕ) (after : Machine) : Type 0 where
   pub region : Region
+  pub last : Core
   pub core : Core
-  pub retires : RetiresThrough n m.region (hart_in m.harts h).core (lines_at m.devices h) region core
+  pub retires : RetiresThrough n m.region (hart_in m.harts h).core (lines_at m.devices h) region last
+  pub leaves : LeavesBy left (attempt region last (lines_at m.devices h)) region last core
   pub same : after ≡ after_row m h n region core
+
+-- a turn and its attempt, counted
+abbrev pub counted_leaving : Machine → Machine
+counted_leaving m = record m { journal = counted count_turn m.journal; attempts = m.attempts + 1 }
+
+-- what SecVisor answers ECALL of user mode
+abbrev pub call_answer : ExitAnswer
+call_answer = Traps (ExitCause.Exception Cause.UserCall) 0
+
+-- what SecVisor answers the turn behind a row, where it was made
+abbrev pub AnswersLeaving : Leaving → Machine → ℕ → Machine → Type 0
+AnswersLeaving Stays m h after = after ≡ m
+AnswersLeaving Calls m h after = WithTables (counted_leaving m) (answered_exit (counted_leaving m) h call_answer) after
+AnswersLeaving Returns m h after = WithTables (counted_leaving m) (answered_exit (counted_leaving m) h ExitAnswer.Returns) after

@@ -52,7 +52,8 @@ impl Parts {
 
     // A hart traps.
     #[tactic(auto, using(hart_answers::proofs::Hosts::hosts_length))]
-    fn guest_trap(&mut self, which: u8, trap: Trap)
+    #[inline(always)]
+    pub(crate) fn guest_trap(&mut self, which: u8, trap: Trap)
         requires hart { MayTrap self.old.harts which }
         requires counts { MayCount self.old.journal.counts }
         ensures { WithTables self.old (answered_exit self.old which (Traps trap.cause trap.tval)) self.new }
@@ -70,7 +71,8 @@ impl Parts {
 
     // It returns from its trap.
     #[tactic(auto, using(hart_answers::proofs::Hosts::hosts_length))]
-    fn guest_return(&mut self, which: u8)
+    #[inline(always)]
+    pub(crate) fn guest_return(&mut self, which: u8)
         requires there { which < length self.old.harts }
         requires kernel { (hart_in self.old.harts which).core.hregs.mode ≡ Kernel }
         requires counts { MayCount self.old.journal.counts }

@@ -1,7 +1,8 @@
 // The machine.
 
-ghost use Rattle.std.specs.Prelude.{◌≡◌, ℕ, ◌+◌, ◌-◌, ◌<◌, ◌≤◌, [], length, replicate};
+ghost use Rattle.std.specs.Prelude.{◌≡◌, ℕ, ◌+◌, ◌-◌, ◌<◌, ◌≤◌, [], length, replicate, true};
 ghost use Rattle.sv_types.specs.Limits.{most_printed};
+ghost use Rattle.sv_types.specs.declared.event.Event.TheVariants.{Turn};
 ghost use Rattle.sv_types.specs.declared.event.Verdict.TheVariants.{Running};
 ghost use Rattle.reference.specs.Counting.{CountsAtMost};
 ghost use Rattle.reference.specs.Disk.{disk_bytes};
@@ -12,8 +13,11 @@ ghost use Rattle.machine_model.specs.Reaches.{Cleared};
 ghost use Rattle.machine_model.specs.StandsFor.{StandsFor};
 ghost use Rattle.machine.specs.Limits.{most_counts};
 ghost use Rattle.machine.specs.Repeats.{IsQuiet, Makes, Repeats};
+ghost use Rattle.machine.specs.Rows.{MayRow};
+ghost use Rattle.quick_turns.specs.Ends.{turns_of};
 
 use crate::parts::Parts;
+use quick_turns::Row;
 use std::marker::Model;
 use sv_types::{Counts, Event, Note, Verdict};
 
@@ -37,6 +41,7 @@ impl Model for Machine {
 
 impl Machine {
     /// One event. The machine stands for the reference machine's state after it, and changes no more than the event may.
+    #[inline(never)]
     pub fn step(&mut self, event: Event)
         requires room { length self.old.journal.printed < most_printed }
         requires counts { CountsAtMost (most_counts - 1) self.old.journal.counts }
@@ -48,7 +53,7 @@ impl Machine {
 
     /// One event up to `count` times in a row, no more of it behind one that printed or that ended the run. Answers how
     /// often it was made.
-    #[inline(never)]
+    #[inline(always)]
     pub fn repeat(&mut self, event: Event, count: u64) -> u64
         requires asked { 0 < count }
         requires few { count ≤ most_counts }
@@ -92,7 +97,7 @@ impl Machine {
         made + 1
     }
 
-    // Turns that only carry out instructions, by a shorter way.
+    // Turns that only carry out instructions or that leave the guest by a call or a return, by a shorter way.
     #[inline(always)]
     fn row(&mut self, event: Event, most: u64) -> u64
         requires few { most ≤ most_counts }
@@ -102,13 +107,58 @@ impl Machine {
         ensures counts { (n : ℕ) → CountsAtMost n self.old.journal.counts → CountsAtMost (n + result) self.new.journal.counts }
         ensures most { result ≤ most }
     {
-        let Event::Turn(which) = event else {
-            return 0;
-        };
-        if !self.parts.may_row(which) {
-            return 0;
+        match event {
+            Event::Turn(which) => self.rows(which, most),
+            Event::Beat | Event::Key(_) | Event::Tick(_) => 0,
         }
-        self.parts.row(which, most)
+    }
+
+    // Rows of turns of a hart, one behind another.
+    #[inline(always)]
+    fn rows(&mut self, which: u8, most: u64) -> u64
+        requires few { most ≤ most_counts }
+        requires counts { CountsAtMost (most_counts - most) self.old.journal.counts }
+        ensures chain { Repeats result self.old (Turn which) self.new }
+        ensures quiet { IsQuiet self.old self.new }
+        ensures counts { (n : ℕ) → CountsAtMost n self.old.journal.counts → CountsAtMost (n + result) self.new.journal.counts }
+        ensures most { result ≤ most }
+    {
+        let mut made = 0;
+        'rows: while made < most {
+            if !self.may_row(which) {
+                return made;
+            }
+            let row = self.one_row(which, most - made);
+            made += row.turns();
+            if !row.left.is_left() {
+                return made;
+            }
+        }
+        made
+    }
+
+    // A hart makes attempts in its turns, no interrupt is due, and no write of it meets a reservation.
+    #[inline(always)]
+    fn may_row(&self, which: u8) -> bool
+        ensures { result ≡ true → MayRow self.now which }
+    {
+        self.parts.may_row(which)
+    }
+
+    // A row of turns of a hart, with the answer to the exit by which it left the guest behind them.
+    #[inline(always)]
+    fn one_row(&mut self, which: u8, most: u64) -> Row
+        requires may { MayRow self.old which }
+        requires few { most ≤ most_counts }
+        requires counts { CountsAtMost (most_counts - most) self.old.journal.counts }
+        ensures chain { Repeats (turns_of result) self.old (Turn which) self.new }
+        ensures quiet { IsQuiet self.old self.new }
+        ensures counts { (n : ℕ) → CountsAtMost n self.old.journal.counts → CountsAtMost (n + turns_of result) self.new.journal.counts }
+        ensures most { turns_of result ≤ most }
+    {
+        let row = self.parts.row(which, most);
+        self.parts.answer_leaving(which, row.left);
+        row
     }
 
     // One event, by the only caller of the parts' own step.

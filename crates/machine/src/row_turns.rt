@@ -1,23 +1,28 @@
 // Turns of one hart in a row, each of which carries out an instruction.
 
-ghost use Rattle.std.specs.Prelude.{◌≡◌, ◌+◌, ◌-◌, ◌<◌, ◌≤◌, ◌^◌, true, false, length, None};
+ghost use Rattle.std.specs.Prelude.{◌≡◌, ◌%◌, ◌+◌, ◌-◌, ◌<◌, ◌≤◌, ◌^◌, true, false, length, None};
 ghost use Rattle.processor.specs.HypervisorRegisters.{pending};
 ghost use Rattle.processor.specs.declared.lines.Lines.{Lines};
-ghost use Rattle.reference.specs.Counting.{CountsAtMost};
+ghost use Rattle.processor.specs.declared.mode.Mode.TheVariants.{Kernel};
+ghost use Rattle.reference.specs.Counting.{CountsAtMost, MayCount};
 ghost use Rattle.reference.specs.Devices.{lines_at};
 ghost use Rattle.machine_model.specs.Machine.{with_core, update};
 ghost use Rattle.hart_answers.specs.Hosts.{host_at, hosts_of};
-ghost use Rattle.quick_turns.specs.Rows.{RetiresThrough};
+ghost use Rattle.quick_turns.specs.Ends.{turns_of};
+ghost use Rattle.quick_turns.specs.Rows.{EndsBy};
+ghost use Rattle.quick_turns.specs.declared.leaving.Leaving.TheVariants.{Returns};
 ghost use Rattle.machine.specs.Attempts.{hart_in, IsReady, IsUsable, AreUsable};
 ghost use Rattle.machine.specs.Limits.{most_counts};
-ghost use Rattle.machine.specs.Rows.{AreFree, WalksUnderRoot, counted_row, MayRow, MakesRow};
+ghost use Rattle.machine.specs.Rows.{AnswersLeaving, AreFree, EndsRow, WalksUnderRoot, counted_leaving, counted_row, MayRow};
+ghost use Rattle.machine.specs.Turns.{MayTrap};
 
 use crate::caches::HartCaches;
 use crate::parts::Parts;
-use hart_answers::Seat;
+use hart_answers::{Seat, Trap};
 use host_mem::HostMem;
 use journal_records::Journal;
-use quick_turns::{Words, quick_turns};
+use processor::{Cause, ExitCause};
+use quick_turns::{Leaving, Row, Words, quick_turns};
 use sv_types::Verdict;
 use trap_entry::pending;
 
@@ -29,13 +34,14 @@ fn row_in_seat(
     own: &mut HartCaches,
     mem: &mut HostMem,
     most: u64,
-) -> u64
+) -> Row
     requires walks { WalksUnderRoot mem.old (host_at seat.old) }
     requires free { (host_at seat.old).core.reservation ≡ None }
     requires usable { IsUsable mem.old.tables own.old }
-    ensures retires { (lines : Lines) → pending (host_at seat.old).core.hregs (host_at seat.old).core.csrs lines ≡ None → RetiresThrough result mem.old (host_at seat.old).core lines mem.new (host_at seat.new).core }
+    ensures ends { (lines : Lines) → pending (host_at seat.old).core.hregs (host_at seat.old).core.csrs lines ≡ None → EndsBy result.left result.made mem.old (host_at seat.old).core lines mem.new (host_at seat.new).core }
     ensures host { host_at seat.new ≡ with_core (host_at seat.new).core (host_at seat.old) }
-    ensures most { result ≤ most }
+    ensures aligned { (host_at seat.new).core.pc % 4 ≡ 0 }
+    ensures most { turns_of result ≤ most }
     ensures tables { mem.new.tables ≡ mem.old.tables }
     ensures ram { length mem.new.ram ≡ length mem.old.ram }
     ensures usable { IsUsable mem.new.tables own.new }
@@ -61,15 +67,16 @@ fn row(
     which: u8,
     mem: &mut HostMem,
     most: u64,
-) -> u64
+) -> Row
     requires there { which < length seats.old }
     requires number { length caches.old ≡ length seats.old }
     requires walks { WalksUnderRoot mem.old (hart_in (hosts_of seats.old) which) }
     requires free { AreFree (hosts_of seats.old) }
     requires usable { AreUsable mem.old.tables caches.old }
-    ensures retires { (lines : Lines) → pending (hart_in (hosts_of seats.old) which).core.hregs (hart_in (hosts_of seats.old) which).core.csrs lines ≡ None → RetiresThrough result mem.old (hart_in (hosts_of seats.old) which).core lines mem.new (hart_in (hosts_of seats.new) which).core }
+    ensures ends { (lines : Lines) → pending (hart_in (hosts_of seats.old) which).core.hregs (hart_in (hosts_of seats.old) which).core.csrs lines ≡ None → EndsBy result.left result.made mem.old (hart_in (hosts_of seats.old) which).core lines mem.new (hart_in (hosts_of seats.new) which).core }
     ensures harts { hosts_of seats.new ≡ update (hosts_of seats.old) which (with_core (hart_in (hosts_of seats.new) which).core) }
-    ensures most { result ≤ most }
+    ensures aligned { (hart_in (hosts_of seats.new) which).core.pc % 4 ≡ 0 }
+    ensures most { turns_of result ≤ most }
     ensures seats { length seats.new ≡ length seats.old }
     ensures caches { length caches.new ≡ length caches.old }
     ensures tables { mem.new.tables ≡ mem.old.tables }
@@ -82,6 +89,7 @@ fn row(
 }
 
 // No hart has a reservation.
+#[inline(always)]
 fn are_free(seats: &[Seat]) -> bool
     ensures { result ≡ true → AreFree (hosts_of seats.now) }
 {
@@ -96,6 +104,7 @@ fn are_free(seats: &[Seat]) -> bool
 }
 
 // So many turns counted, each with its instruction.
+#[inline(always)]
 fn count_row(journal: &mut Journal, made: u64)
     requires turns { journal.old.counts.turns + made < 2 ^ 64 }
     requires retired { journal.old.counts.retired + made < 2 ^ 64 }
@@ -112,6 +121,7 @@ fn count_row(journal: &mut Journal, made: u64)
 impl Parts {
     // An interrupt is due for a hart. Where none is enabled, no wire is read.
     #[tactic(auto, unfolding(processor::specs::HypervisorRegisters::pending, processor::specs::HypervisorRegisters::is_taken))]
+    #[inline(always)]
     fn is_interrupted(&self, which: u8) -> bool
         requires there { which < length self.now.harts }
         ensures { result ≡ false → pending (hart_in self.now.harts which).core.hregs (hart_in self.now.harts which).core.csrs (lines_at self.now.devices which) ≡ None }
@@ -129,6 +139,7 @@ impl Parts {
     }
 
     /// A hart makes attempts in its turns, no interrupt is due, and no write of it meets a reservation.
+    #[inline(always)]
     pub(crate) fn may_row(&self, which: u8) -> bool
         ensures { result ≡ true → MayRow self.now which }
     {
@@ -144,17 +155,20 @@ impl Parts {
         are_free(&self.seats) && !self.is_interrupted(which)
     }
 
-    /// Up to so many turns of a hart, each of which carries out an instruction. Answers how many.
-    pub(crate) fn row(&mut self, which: u8, most: u64) -> u64
+    /// Up to so many turns of a hart, each of which carries out an instruction, and one behind them in which it leaves the
+    /// guest. Those that carry out instructions are counted.
+    #[inline(always)]
+    pub(crate) fn row(&mut self, which: u8, most: u64) -> Row
         requires may { MayRow self.old which }
         requires ready { IsReady self.old.region (hart_in self.old.harts which) (lines_at self.old.devices which) }
         requires few { most ≤ most_counts }
         requires counts { CountsAtMost (most_counts - most) self.old.journal.counts }
         requires attempts { self.old.attempts + most < 2 ^ 64 }
-        ensures makes { MakesRow result self.old which self.new }
-        ensures most { result ≤ most }
+        ensures ends { EndsRow result.left result.made self.old which self.new }
+        ensures aligned { (hart_in self.new.harts which).core.pc % 4 ≡ 0 }
+        ensures most { turns_of result ≤ most }
     {
-        let made = row(
+        let row = row(
             &mut self.words,
             &mut self.seats,
             &mut self.caches,
@@ -162,8 +176,43 @@ impl Parts {
             &mut self.mem,
             most,
         );
-        count_row(&mut self.journal, made);
-        self.row_attempts += made;
-        made
+        count_row(&mut self.journal, row.made);
+        self.row_attempts += row.made;
+        row
+    }
+
+    /// What SecVisor answers where a hart left the guest behind a row, in a turn that is counted here.
+    #[inline(always)]
+    pub(crate) fn answer_leaving(&mut self, which: u8, left: Leaving)
+        requires hart { MayTrap self.old.harts which }
+        requires mode { left ≡ Returns → (hart_in self.old.harts which).core.hregs.mode ≡ Kernel }
+        requires counts { MayCount self.old.journal.counts }
+        requires turns { self.old.journal.counts.turns < 2 ^ 64 - 1 }
+        requires attempts { self.old.attempts < 2 ^ 64 - 1 }
+        ensures { AnswersLeaving left self.old which self.new }
+    {
+        match left {
+            Leaving::Stays => {}
+            Leaving::Calls => {
+                self.count_leaving();
+                let cause = ExitCause::Exception(Cause::UserCall);
+                self.guest_trap(which, Trap { cause, tval: 0 });
+            }
+            Leaving::Returns => {
+                self.count_leaving();
+                self.guest_return(which);
+            }
+        }
+    }
+
+    // A turn and its attempt, counted.
+    #[inline(always)]
+    fn count_leaving(&mut self)
+        requires turns { self.old.journal.counts.turns < 2 ^ 64 - 1 }
+        requires attempts { self.old.attempts < 2 ^ 64 - 1 }
+        ensures { self.new ≡ counted_leaving self.old }
+    {
+        self.journal.count_turn();
+        self.row_attempts += 1;
     }
 }

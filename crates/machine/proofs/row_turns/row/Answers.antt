@@ -1,6 +1,6 @@
 use Rattle.std.proofs.Common.{sym, subst, ◌<◌, ℕ}
 use Rattle.machine.proofs.Hosts.{usable_there, usable_set}
-use Rattle.machine.proofs.Rows.{harts_there, row_there}
+use Rattle.machine.proofs.Rows.{aligned_there, harts_there, row_there}
 use Rattle.machine.proofs.row_turns.row.Goals as goal
 
 pub row_in_seat-requires-clause-usable : goal.row_in_seat-requires-clause-usable
@@ -8,10 +8,13 @@ row_in_seat-requires-clause-usable c =
     usable_there c.args.mem.now.tables c.args.caches.now c.args.which c.index-caches-which.result c.requires.usable
     (subst (λ (n : ℕ). c.args.which < n) (sym c.requires.number) c.requires.there)
 
-pub returns-clause-retires : goal.returns-clause-retires
-returns-clause-retires c =
-    row_there c.args.seats.now c.args.which c.row_in_seat.result c.index-seats-which.result c.row_in_seat.new.seat c.args.mem.now c.row_in_seat.new.mem
-    c.requires.there c.row_in_seat.ensures.retires
+pub returns-clause-ends : goal.returns-clause-ends
+returns-clause-ends c =
+    row_there c.args.seats.now c.args.which c.row_in_seat.result.left c.row_in_seat.result.made c.index-seats-which.result c.row_in_seat.new.seat c.args.mem.now
+    c.row_in_seat.new.mem c.requires.there c.row_in_seat.ensures.ends
+
+pub returns-clause-aligned : goal.returns-clause-aligned
+returns-clause-aligned c = aligned_there c.args.seats.now c.args.which c.row_in_seat.new.seat c.requires.there c.row_in_seat.ensures.aligned
 
 pub returns-clause-harts : goal.returns-clause-harts
 returns-clause-harts c = harts_there c.args.seats.now c.args.which c.index-seats-which.result c.row_in_seat.new.seat c.requires.there c.row_in_seat.ensures.host

@@ -1,0 +1,297 @@
+-- The turn behind a row, in which a hart leaves the guest, and what SecVisor answers it.
+use Rattle.std.proofs.Common.{◌≡◌, ℕ, ◌+◌, ◌-◌, ◌%◌, ◌<◌, ◌≤◌, Bool, true, false, List, length, refl, sym, ◌∙◌, ap, subst, arith, add-one}
+use Rattle.std.specs.Prelude.{Option, Some, None, if◌then◌else◌}
+use Rattle.processor.specs.Hardware.{Core, Attempted, leave, with_region}
+use Rattle.processor.specs.HardwareAttempt.{attempt}
+use Rattle.processor.specs.Instructions.{instruction_of, rows}
+use Rattle.processor.specs.Regions.{Region}
+use Rattle.processor.specs.Traps.{trap_target}
+use Rattle.processor.specs.declared.exit.Exit.{Exit}
+use Rattle.processor.specs.declared.mode.Mode.{Mode}
+use Rattle.processor.specs.declared.mode.Mode.TheVariants.{Kernel}
+use Rattle.processor.specs.declared.outcome.Outcome.{Outcome}
+use Rattle.sv_types.specs.declared.event.Event.{Event}
+use Rattle.sv_types.specs.declared.event.Event.TheVariants.{Turn}
+use Rattle.sv_types.specs.declared.event.Rule.TheVariants.{Entry}
+use Rattle.sv_types.specs.declared.event.Verdict.{Verdict}
+use Rattle.sv_types.specs.declared.event.Verdict.TheVariants.{Stopped}
+use Rattle.reference.specs.Counting.{CountsAtMost, MayCount, count_trap, count_turn, counted, machine_ended}
+use Rattle.reference.specs.Devices.{lines_at}
+use Rattle.reference.specs.States.{Binding, Journal, State}
+use Rattle.reference.specs.Trapping.{may_enter}
+use Rattle.machine_model.specs.HardwareEvent.{attempted, left_by}
+use Rattle.machine_model.specs.HostExits.{host_exit_answered, served_exit}
+use Rattle.machine_model.specs.HostHarts.{asks_again, host_at_trap, host_seen}
+use Rattle.machine_model.specs.Machine.{HostHart, Machine, all_forget, raised, update, with_core}
+use Rattle.machine_model.specs.Served.{Seen, answer_in, exit_answer, is_again, is_sret, plain_answer, virtual_answer}
+use Rattle.machine_model.specs.StandsFor.{StandsFor}
+use Rattle.machine_model.specs.Steps.{AttemptsServed, IsStep, IsTurn, StepsUnder, WithTables}
+use Rattle.machine_model.specs.declared.exits.ExitAnswer.{ExitAnswer}
+use Rattle.quick_turns.specs.Ends.{is_left, with_leaving}
+use Rattle.quick_turns.specs.Rows.{Leaves, LeavesBy, call_exit, return_exit}
+use Rattle.quick_turns.specs.declared.leaving.Leaving.{Leaving}
+use Rattle.quick_turns.specs.declared.leaving.Leaving.TheVariants.{Stays, Calls, Returns}
+use Rattle.machine.proofs.Repeated.{counts_on, counts_within, repeats_on}
+use Rattle.machine.proofs.Rows.{Rowed, one_step, row_printed, row_verdict, rowed, still_there, there_updated, updated_twice}
+use Rattle.machine.proofs.Stepped.{Bounded}
+use Rattle.machine.proofs.Turns.{carried, exit_served, forgets_none, turn_served}
+use Rattle.machine.specs.Attempts.{hart_in}
+use Rattle.machine.specs.Machines.{HaveAddresses}
+use Rattle.machine.specs.Repeats.{IsQuiet, Repeats}
+use Rattle.machine.specs.Rows.{AnswersLeaving, EndsRow, MayRow, after_row, call_answer, counted_leaving, counted_row}
+use Rattle.machine.specs.Turns.{MayTrap, answered_exit}
+
+-- ---- what is answered, whatever entry the hart is in
+
+called_in : (seen : Seen) (entry : Option Binding) (pc : ℕ) → answer_in seen (call_exit pc) entry ≡ call_answer
+unfolding answer_in plain_answer
+called_in seen None pc = refl
+called_in seen (Some binding) pc = refl
+
+call_asked : (seen : Seen) (pc : ℕ) → exit_answer seen (call_exit pc) ≡ call_answer
+unfolding exit_answer
+call_asked seen pc = called_in seen seen.entry pc
+
+returned_in : (seen : Seen) (entry : Option Binding) (pc : ℕ) → answer_in seen (return_exit pc) entry ≡ virtual_answer seen.mode (return_exit pc)
+unfolding answer_in plain_answer
+returned_in seen None pc = refl
+returned_in seen (Some binding) pc = refl
+
+kernel_returns : (pc : ℕ) → virtual_answer Kernel (return_exit pc) ≡ ExitAnswer.Returns
+unfolding virtual_answer instruction_of rows is_sret
+kernel_returns pc = refl
+
+return_asked : (seen : Seen) (pc : ℕ) → seen.mode ≡ Kernel → exit_answer seen (return_exit pc) ≡ ExitAnswer.Returns
+unfolding exit_answer
+return_asked seen pc kernel =
+    returned_in seen seen.entry pc ∙ ap (λ (mode : Mode). virtual_answer mode (return_exit pc)) kernel ∙ kernel_returns pc
+
+call_once : is_again call_answer ≡ false
+unfolding is_again
+call_once = refl
+
+return_once : is_again ExitAnswer.Returns ≡ false
+unfolding is_again
+return_once = refl
+
+-- ---- nothing is printed
+
+either_printed : (b : Bool) (x y : Machine) (printed : List ℕ) → x.journal.printed ≡ printed → y.journal.printed ≡ printed → (if b then x else y).journal.printed ≡ printed
+either_printed true x y printed e f = e
+either_printed false x y printed e f = f
+
+call_quiet : (m : Machine) (h : ℕ) (host : HostHart) (mode : Mode) → (host_exit_answered m h host mode call_answer).journal.printed ≡ m.journal.printed
+unfolding host_exit_answered
+call_quiet m h host mode =
+    either_printed (may_enter m.rules mode (trap_target host.core.csrs.vstvec false 8))
+    (record m { harts = update m.harts h (host_at_trap m.rules false 8 0); journal = counted (count_trap mode) m.journal })
+    (record m { journal = machine_ended (Stopped (Entry (trap_target host.core.csrs.vstvec false 8)) h m.journal.counts.turns) m.journal })
+    m.journal.printed refl refl
+
+return_quiet : (m : Machine) (h : ℕ) (host : HostHart) (mode : Mode) → (host_exit_answered m h host mode ExitAnswer.Returns).journal.printed ≡ m.journal.printed
+unfolding host_exit_answered
+return_quiet m h host mode = refl
+
+-- ---- the turn
+
+same_but : (m : Machine) (region other : Region) (harts others : List HostHart) (j : Journal) (n : ℕ) → region ≡ other → harts ≡ others
+    → record m { region = region; harts = harts; journal = j; attempts = n } ≡ record m { region = other; harts = others; journal = j; attempts = n }
+same_but m region other harts others j n e f = rw (e, f) refl
+
+left_outcome : (core : Core) (exit : Exit) → (leave core exit).outcome ≡ Outcome.Exit exit
+unfolding leave
+left_outcome core exit = refl
+
+left_mode : (core : Core) (exit : Exit) → (leave core exit).core.hregs.mode ≡ core.hregs.mode
+unfolding leave
+left_mode core exit = refl
+
+module _ (m : Machine) (h n : ℕ) (region : Region) (last core : Core) (exit : Exit) (answer : ExitAnswer) (after : Machine) (may : MayRow m h)
+    (leaves : Leaves (attempt region last (lines_at m.devices h)) exit region last core)
+    (asked : (seen : Seen) → seen.mode ≡ last.hregs.mode → exit_answer seen exit ≡ answer) (once : is_again answer ≡ false)
+    (done : WithTables (counted_leaving (after_row m h n region core)) (answered_exit (counted_leaving (after_row m h n region core)) h answer) after) where
+  abbrev now : Machine
+  now = after_row m h n region last
+
+  abbrev behind : Machine
+  behind = counted_leaving (after_row m h n region core)
+
+  abbrev host : HostHart
+  host = hart_in now.harts h
+
+  host_is : host ≡ with_core last (hart_in m.harts h)
+  host_is = there_updated m.harts h last may.below
+
+  core_is : host.core ≡ last
+  core_is = ap (λ (x : HostHart). x.core) host_is
+
+  made : Attempted
+  made = attempted (raised now count_turn) h host
+
+  made_is : made ≡ with_region region (leave last exit)
+  unfolding made
+  made_is = ap (λ (c : Core). attempt region c (lines_at m.devices h)) core_is ∙ leaves.attempted
+
+  outcome_is : made.outcome ≡ Outcome.Exit exit
+  outcome_is = ap (λ (a : Attempted). a.outcome) made_is ∙ left_outcome last exit
+
+  harts_are : all_forget made.outcome (update now.harts h (with_core made.core)) ≡ update m.harts h (with_core core)
+  harts_are =
+      forgets_none made.outcome exit (update now.harts h (with_core made.core)) outcome_is
+      ∙ ap (λ (c : Core). update now.harts h (with_core c)) (ap (λ (a : Attempted). a.core) made_is ∙ sym leaves.left)
+      ∙ updated_twice m.harts h last core
+
+  left_is : left_by (raised now count_turn) h host ≡ behind
+  unfolding made
+  left_is =
+      same_but m made.region region (all_forget made.outcome (update now.harts h (with_core made.core))) (update m.harts h (with_core core))
+      (counted count_turn (counted_row n m.journal)) (m.attempts + n + 1)
+      (ap (λ (a : Attempted). a.region) made_is) harts_are
+
+  -- the hart that it left is in the same mode
+  mode_is : (hart_in behind.harts h).core.hregs.mode ≡ last.hregs.mode
+  mode_is =
+      ap (λ (x : HostHart). x.core.hregs.mode) (there_updated m.harts h core may.below)
+      ∙ ap (λ (c : Core). c.hregs.mode) leaves.left ∙ left_mode last exit
+
+  answered : WithTables behind (served_exit behind h exit) after
+  answered =
+      carried behind after h exit answer (still_there m.harts h h core may.below)
+      (sym (asked (host_seen behind.region.ram behind.rules (hart_in behind.harts h) (hart_in behind.harts h).core.hregs.mode exit) mode_is)) done
+
+  not_again : asks_again region.ram m.rules host made.outcome ≡ false
+  unfolding asks_again
+  not_again =
+      ap (λ (o : Outcome). asks_again region.ram m.rules host o) outcome_is
+      ∙ ap is_again (asked (host_seen region.ram m.rules host host.core.hregs.mode exit) (ap (λ (c : Core). c.hregs.mode) core_is)) ∙ once
+
+  served : AttemptsServed (asks_again region.ram m.rules host made.outcome) (raised now count_turn) h host after
+  unfolding made
+  served =
+      subst (λ (again : Bool). AttemptsServed again (raised now count_turn) h host after) (sym not_again)
+      (exit_served (raised now count_turn) after h exit false (still_there m.harts h h last may.below) outcome_is
+      (subst (λ (x : Machine). WithTables x (served_exit x h exit) after) (sym left_is) answered))
+
+  turned : IsTurn now h after
+  unfolding made
+  turned =
+      turn_served (raised now count_turn) after h (still_there m.harts h h last may.below)
+      (ap (λ (x : HostHart). x.started) host_is ∙ may.attempts.started) may.attempts.free served
+
+  pub steps_behind : IsStep now (Turn h) after
+  unfolding IsStep
+  steps_behind = subst (λ (v : Verdict). StepsUnder v now (Turn h) after) (sym (row_verdict n m.journal ∙ may.running)) turned
+
+  -- and one more turn of the row
+  pub behind_rowed : Rowed n m h now → (answered_exit behind h answer).journal.printed ≡ behind.journal.printed → Rowed (n + 1) m h after
+  behind_rowed row quiet =
+      subst (λ (k : ℕ). Rowed k m h after) (sym (add-one n))
+      (one_step m now after h n row steps_behind
+      (ap (λ (x : Machine). length x.journal.printed) done.same ∙ ap (λ (xs : List ℕ). length xs) (quiet ∙ row_printed n m.journal)))
+
+-- ---- a row with its end
+
+ended : (left : Leaving) (n : ℕ) (m after : Machine) (h : ℕ) (region : Region) (last core : Core) → MayRow m h → Rowed n m h (after_row m h n region last)
+    → LeavesBy left (attempt region last (lines_at m.devices h)) region last core → AnswersLeaving left (after_row m h n region core) h after
+    → Rowed (with_leaving left n) m h after
+ended Stays n m after h region last core may row same answer =
+    subst (λ (x : Machine). Rowed n m h x) (ap (λ (c : Core). after_row m h n region c) (sym same) ∙ sym answer) row
+ended Calls n m after h region last core may row (user, leaves) answer =
+    behind_rowed m h n region last core (call_exit last.pc) call_answer after may leaves (λ seen same. call_asked seen last.pc) call_once answer row
+    (call_quiet (counted_leaving (after_row m h n region core)) h (hart_in (update m.harts h (with_core core)) h) (hart_in (update m.harts h (with_core core)) h).core.hregs.mode)
+ended Returns n m after h region last core may row (kernel, leaves) answer =
+    behind_rowed m h n region last core (return_exit last.pc) ExitAnswer.Returns after may leaves (λ seen same. return_asked seen last.pc (same ∙ kernel)) return_once answer row
+    (return_quiet (counted_leaving (after_row m h n region core)) h (hart_in (update m.harts h (with_core core)) h) (hart_in (update m.harts h (with_core core)) h).core.hregs.mode)
+
+-- what is known of a machine that may make a row
+pub record Begins (m : Machine) (h : ℕ) : Type 0 where
+  pub state : State
+  pub may : MayRow m h
+  pub stands : StandsFor m state
+  pub addresses : HaveAddresses state.harts
+  pub bounded : Bounded m
+
+first_rowed : (left : Leaving) (n : ℕ) (m mid : Machine) (h : ℕ) → Begins m h → (ends : EndsRow left n m h mid) → Rowed n m h (after_row m h n ends.region ends.last)
+first_rowed left n m mid h begins ends =
+    rowed n m h begins.state ends.region ends.last begins.may begins.stands begins.addresses begins.bounded ends.retires
+
+pub ends_rowed : (left : Leaving) (n : ℕ) (m mid after : Machine) (h : ℕ) → Begins m h → EndsRow left n m h mid → AnswersLeaving left mid h after
+    → Rowed (with_leaving left n) m h after
+ends_rowed left n m mid after h begins ends answer =
+    ended left n m after h ends.region ends.last ends.core begins.may (first_rowed left n m mid h begins ends) ends.leaves
+    (subst (λ (x : Machine). AnswersLeaving left x h after) ends.same answer)
+
+-- ---- what the answer asks for
+
+kernel_left : (left : Leaving) (a : Attempted) (r : Region) (last core : Core) → left ≡ Returns → LeavesBy left a r last core → core.hregs.mode ≡ Kernel
+kernel_left Stays a r last core e leaves = absurd (cc)
+kernel_left Calls a r last core e leaves = absurd (cc)
+kernel_left Returns a r last core e (kernel, leaves) = ap (λ (c : Core). c.hregs.mode) leaves.left ∙ left_mode last (return_exit last.pc) ∙ kernel
+
+pub in_kernel : (left : Leaving) (n : ℕ) (m mid : Machine) (h : ℕ) → MayRow m h → EndsRow left n m h mid → left ≡ Returns → (hart_in mid.harts h).core.hregs.mode ≡ Kernel
+in_kernel left n m mid h may ends e =
+    ap (λ (x : Machine). (hart_in x.harts h).core.hregs.mode) ends.same
+    ∙ ap (λ (x : HostHart). x.core.hregs.mode) (there_updated m.harts h ends.core may.below)
+    ∙ kernel_left left (attempt ends.region ends.last (lines_at m.devices h)) ends.region ends.last ends.core e ends.leaves
+
+pub may_trap : (left : Leaving) (n : ℕ) (m mid : Machine) (h : ℕ) → MayRow m h → EndsRow left n m h mid → (hart_in mid.harts h).core.pc % 4 ≡ 0 → MayTrap mid.harts h
+may_trap left n m mid h may ends aligned = record {
+  there = subst (λ (x : Machine). h < length x.harts) (sym ends.same) (still_there m.harts h h ends.core may.below);
+  aligned = aligned;
+}
+
+pub row_within : (left : Leaving) (n : ℕ) → n ≤ with_leaving left n
+row_within Stays n = omega arith
+row_within Calls n = omega arith
+row_within Returns n = omega arith
+
+-- the counts behind the row's own turns
+pub behind_counts : (left : Leaving) (n most : ℕ) (m mid : Machine) (h : ℕ) → Begins m h → EndsRow left n m h mid → most ≤ 9223372036854775807 → with_leaving left n ≤ most
+    → CountsAtMost (9223372036854775807 - most) m.journal.counts → CountsAtMost 9223372036854775807 mid.journal.counts
+behind_counts left n most m mid h begins ends few within counts =
+    let row = first_rowed left n m mid h begins ends in
+    subst (λ (x : Machine). CountsAtMost 9223372036854775807 x.journal.counts) (sym ends.same)
+    (counts_within (9223372036854775807 - most + n) 9223372036854775807 (counted_row n m.journal).counts
+    (let own = row_within left n in omega (arith, own, few, within)) (row.counts (9223372036854775807 - most) counts))
+
+pub may_count : (m : Machine) → CountsAtMost 9223372036854775807 m.journal.counts → MayCount m.journal.counts
+may_count m counts = record {
+  retired = omega (arith, counts.retired);
+  traps = omega (arith, counts.traps);
+  enters = omega (arith, counts.enters);
+  leaves = omega (arith, counts.leaves);
+  demotes = omega (arith, counts.demotes);
+  denied = omega (arith, counts.denied);
+  dropped = omega (arith, counts.dropped);
+  loads = omega (arith, counts.loads);
+  unloads = omega (arith, counts.unloads);
+  refused = omega (arith, counts.refused);
+  notes = omega (arith, counts.notes);
+}
+
+pub behind_bounded : (left : Leaving) (n : ℕ) (m mid : Machine) (h : ℕ) → Begins m h → EndsRow left n m h mid → Bounded mid
+behind_bounded left n m mid h begins ends =
+    let row = first_rowed left n m mid h begins ends in
+    subst Bounded (sym ends.same) (record { attempts = row.bounded.attempts; printed = row.bounded.printed })
+
+-- a row that ends with an exit has a turn
+pub row_counts : (left : Leaving) (n : ℕ) → is_left left ≡ true → 0 < with_leaving left n
+row_counts Stays n e = absurd (cc)
+row_counts Calls n e = omega arith
+row_counts Returns n e = omega arith
+
+-- rows that were made, and one more
+pub record More (first turns : ℕ) (m mid after : Machine) (e : Event) : Type 0 where
+  pub chain : Repeats (first + turns) m e after
+  pub quiet : IsQuiet m after
+  pub counts : (n : ℕ) → CountsAtMost n m.journal.counts → CountsAtMost (n + (first + turns)) after.journal.counts
+
+pub more_on : (first turns k : ℕ) (m mid after : Machine) (e : Event) → turns ≡ k → Repeats first m e mid → IsQuiet m mid
+    → ((n : ℕ) → CountsAtMost n m.journal.counts → CountsAtMost (n + first) mid.journal.counts) → Repeats k mid e after → IsQuiet mid after
+    → ((n : ℕ) → CountsAtMost n mid.journal.counts → CountsAtMost (n + k) after.journal.counts) → More first turns m mid after e
+more_on first turns k m mid after e same chain quiet counts more still rise =
+    subst (λ (i : ℕ). More first i m mid after e) (sym same) (record {
+      chain = repeats_on first k m mid after e chain quiet more;
+      quiet = still ∙ quiet;
+      counts = counts_on first k m.journal.counts mid.journal.counts after.journal.counts counts rise;
+    })
