@@ -33,6 +33,7 @@ impl Drawing {
     }
 
     /// The next events that are equal. They stay until they were made. None where none is left.
+    #[inline(always)]
     pub fn draw(&mut self) -> Option<EventRun>
         ensures row { IfSome result (IsAtHand self.old self.new) }
         ensures none { result ≡ None → events_left self.old ≡ [] }
@@ -48,6 +49,7 @@ impl Drawing {
     }
 
     /// So many of the equal events were made.
+    #[inline(always)]
     pub fn made(&mut self, count: u64)
         requires { count ≤ self.old.row.count }
         ensures left { events_left self.old ≡ replicate count self.old.row.event ++ events_left self.new }

@@ -15,6 +15,7 @@ use script::Script;
 use sv_types::{MOST_PRINTED, Verdict};
 
 /// Whether the console's bytes are to be written now: the last of them is a line feed, or 4,096 of them stand.
+#[inline(always)]
 fn is_due(printed: &[u8]) -> bool
     ensures { result ≡ is_due printed.now }
 {
@@ -26,6 +27,7 @@ fn is_due(printed: &[u8]) -> bool
 
 /// Writes the console's bytes where they are due.
 #[tactic(auto, using(crate::proofs::Standing::flushed_all, crate::proofs::Standing::flushed_none, crate::proofs::Standing::cleared_none))]
+#[inline(always)]
 pub fn flush_due<O: Sink>(machine: &mut Machine, out: &mut O) -> Result<(), Failed>
     requires sink { MayWrite (O.state out.old) }
     requires room { length machine.old.journal.printed ≤ most_printed }
