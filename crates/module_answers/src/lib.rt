@@ -4,11 +4,9 @@
 mod decisions;
 mod giving;
 mod modules;
-#[cfg(test)]
-mod tests;
 mod turns;
 
 pub use decisions::module_answer;
 pub use giving::give_pages;
 pub use modules::{Modules, UnderWay};
-pub use turns::load_turn;
+pub use turns::{load_turn, next_page};

@@ -22,8 +22,8 @@ use processor::page_of;
 use reference::{Answer, pages_of};
 use sv_types::Policy;
 
-// The bytes of the next page of the module, as RAM has them now.
-fn next_page<'a>(load: &Load, mem: &'a HostMem, policy: &Policy) -> &'a [u8]
+/// The bytes of the next page of a load's module, as RAM has them now.
+pub fn next_page<'a>(load: &Load, mem: &'a HostMem, policy: &Policy) -> &'a [u8]
     requires policy { pages_in_rule (slice_get (rules_of policy.now).modules load.now.about.id) ≡ load.now.pages }
     requires left { 0 < load.now.left }
     requires few { load.now.left ≤ load.now.pages }

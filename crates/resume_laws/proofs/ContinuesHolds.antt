@@ -6,7 +6,8 @@ use Rattle.sv_types.specs.declared.event.Verdict.TheVariants.{Running, Shutdown,
 use Rattle.reference.specs.Disk.{disk_bytes}
 use Rattle.reference.specs.States.{State}
 use Rattle.reference.specs.Report.{output, report}
-use Rattle.reference.specs.Run.{step, run, happen_under, HasEnded}
+use Rattle.reference.specs.Run.{step, run, HasEnded}
+use Rattle.reference.proofs.Runs.{ended_stays}
 use Rattle.resume_laws.proofs.AlikeSteps.{alike_law}
 use Rattle.resume_laws.specs.Continues.{Alike, drawn_under, drawn, ContinuesLaw}
 
@@ -15,20 +16,8 @@ run_alike : (front : List ℕ) (r next : State) (events : List Event) → Alike 
 run_alike front r next [] alike = alike
 run_alike front r next (e ∷ events) alike = run_alike front (step r e) (step next e) events (alike_law front r next e alike)
 
--- a machine that has ended stays as it is
-stays_by : (verdict : Verdict) (r : State) (e : Event) → HasEnded verdict → happen_under verdict r e ≡ r
-unfolding happen_under
-stays_by Running r e ended = absurd ended
-stays_by Shutdown r e ended = refl
-stays_by (Stopped rule h at) r e ended = refl
-
 stays : (r : State) (e : Event) → HasEnded r.journal.verdict → step r e ≡ r
-unfolding step
-stays r e ended = stays_by r.journal.verdict r e ended
-
-run_stays : (r : State) (events : List Event) → HasEnded r.journal.verdict → run r events ≡ r
-run_stays r [] ended = refl
-run_stays r (e ∷ events) ended = ap (λ (next : State). run next events) (stays r e ended) ∙ run_stays r events ended
+stays r e ended = ended_stays r (e ∷ []) ended
 
 -- the events that are left, made by the state behind the first ones
 goes_on_by : (verdict : Verdict) (s : State) (k : ℕ) (e : Event) (events : List Event) → s.journal.verdict ≡ verdict
@@ -39,11 +28,11 @@ goes_on_by Running s k e events is rest = rest
 goes_on_by Shutdown s k e events is rest =
     let ended : HasEnded s.journal.verdict = subst HasEnded (sym is) tt in
     let same = stays s e ended in
-    rw (same, run_stays s (take k events) ended, same) refl
+    rw (same, ended_stays s (take k events) ended, same) refl
 goes_on_by (Stopped rule h at) s k e events is rest =
     let ended : HasEnded s.journal.verdict = subst HasEnded (sym is) tt in
     let same = stays s e ended in
-    rw (same, run_stays s (take k events) ended, same) refl
+    rw (same, ended_stays s (take k events) ended, same) refl
 
 goes_on : (s : State) (k : ℕ) (events : List Event) → run (run s (take k events)) (drop (drawn s (take k events)) events) ≡ run s events
 unfolding drawn

@@ -23,7 +23,7 @@ one_same Approved Free e = absurd cc
 one_same Approved Held e = absurd cc
 one_same Approved Approved e = refl
 
-all_same : (ps qs : List Protection) → are_same ps qs ≡ true → ps ≡ qs
+pub all_same : (ps qs : List Protection) → are_same ps qs ≡ true → ps ≡ qs
 all_same [] [] e = refl
 all_same [] (q ∷ qs) e = absurd cc
 all_same (p ∷ ps) [] e = absurd cc

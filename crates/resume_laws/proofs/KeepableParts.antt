@@ -2,6 +2,7 @@
 use Rattle.std.proofs.Common.{◌≡◌, ℕ, zero, suc, ◌+◌, ◌%◌, ◌<◌, ◌≤◌, List, [], ◌∷◌, ◌++◌, map, take, length, min, refl, sym, ◌∙◌, ap, subst, Bool, true, false, not, arith, slice_get, slice_set, length-append, length-take}
 use Rattle.std.specs.Prelude.{Option, Some, None, if◌then◌else◌, ◌==◌, slice_index, option_map}
 use Rattle.std.proofs.lemmas.Bool.{eq-eqb}
+use Rattle.std.proofs.lemmas.List.{length-set}
 use Rattle.processor.specs.Bytes.{page_size}
 use Rattle.processor.specs.Effects.{set_register}
 use Rattle.processor.specs.Requests.{reserved_at, touches, after_write}
@@ -201,18 +202,13 @@ index_beside (x ∷ timers) zero (suc k) at other = refl
 index_beside (x ∷ timers) (suc h) zero at other = refl
 index_beside (x ∷ timers) (suc h) (suc k) at other = index_beside timers h k at (λ s. other (ap suc s))
 
-length_timers : (timers : List ℕ) (h at : ℕ) → length (slice_set timers h at) ≡ length timers
-length_timers [] h at = refl
-length_timers (x ∷ timers) zero at = refl
-length_timers (x ∷ timers) (suc h) at = ap suc (length_timers timers h at)
-
 apart : (h k harts : ℕ) → h < harts → harts ≤ k → h ≡ k → ⊥
 apart h k harts there past same = omega (arith, same)
 
 -- the timer of a hart that is there is set
 pub clock_set : (harts : ℕ) (clock : Clock) (h at : ℕ) → h < harts → IsKeepableClock harts clock → IsKeepableClock harts (with_timer clock h at)
 clock_set harts clock h at there k = record {
-  four = length_timers clock.timers h at ∙ k.four;
+  four = length-set clock.timers h at ∙ k.four;
   unset = λ other past few. index_beside clock.timers h other at (apart h other harts there past) ∙ k.unset other past few;
 }
 

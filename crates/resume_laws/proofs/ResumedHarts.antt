@@ -3,6 +3,7 @@ use Rattle.std.proofs.Common.{◌≡◌, ℕ, zero, suc, ◌+◌, ◌-◌, ◌*�
 use Rattle.std.specs.Prelude.{Option, Some, None, option_map, is_some, ◌==◌, nat_lt, nat_le, slice_index}
 use Rattle.std.specs.List.{list_all}
 use Rattle.std.proofs.lemmas.Bool.{eqb-true}
+use Rattle.std.proofs.lemmas.List.{length-map, length-replicate}
 use Rattle.processor.specs.Bytes.{page_size, ram_base, ram_place}
 use Rattle.processor.specs.Registers.{legal_status, legal_interrupts, legal_tvec, legal_counteren, legal_epc, legal_satp}
 use Rattle.processor.specs.declared.mode.Mode.{Mode}
@@ -34,7 +35,7 @@ use Rattle.run_laws.proofs.Lookups.{not_false}
 
 -- ---- values of a hart
 
-number_legal : (bits : ℕ → ℕ) (n : ℕ) → (legal bits).has n ≡ true → bits n ≡ n
+pub number_legal : (bits : ℕ → ℕ) (n : ℕ) → (legal bits).has n ≡ true → bits n ≡ n
 unfolding legal
 number_legal bits n h = eqb-true (bits n) n (second_true (is_word n) (bits n == n) h)
 
@@ -50,7 +51,7 @@ kernel_of false User h stopped = absurd cc
 never_one : (n : ℕ) → (n + 1 == 0) ≡ true → ⊥
 never_one n e = let same : n + 1 ≡ 0 = eqb-true (n + 1) 0 e in omega (arith, same)
 
-no_place : (entry : Option ℕ) → (place_number entry == 0) ≡ true → entry ≡ None
+pub no_place : (entry : Option ℕ) → (place_number entry == 0) ≡ true → entry ≡ None
 no_place None e = refl
 no_place (Some i) e = absurd (never_one i e)
 
@@ -74,11 +75,11 @@ stopped_place : (started : Bool) (m : Mode) (entry : Option ℕ) → Sided start
 stopped_place true m entry k stopped = absurd cc
 stopped_place false m entry k stopped = no_place entry k.place
 
-user_place : (started : Bool) (entry : Option ℕ) → ((started && false) || place_number entry == 0) ≡ true → entry ≡ None
+pub user_place : (started : Bool) (entry : Option ℕ) → ((started && false) || place_number entry == 0) ≡ true → entry ≡ None
 user_place true entry e = no_place entry e
 user_place false entry e = no_place entry e
 
-some_binding : (x : Option Binding) → is_some x ≡ true → (entry : Binding) × (x ≡ Some entry)
+pub some_binding : (x : Option Binding) → is_some x ≡ true → (entry : Binding) × (x ≡ Some entry)
 some_binding None e = absurd cc
 some_binding (Some entry) e = (entry, refl)
 
@@ -190,10 +191,6 @@ pub harts_kept : (rules : Rules) (pages : ℕ) (hs : List SavedHart) → (harts 
 unfolding harts
 harts_kept rules pages hs has bound = each_kept rules pages (length hs) [] hs has bound
 
-pub length_resumed : (hs : List SavedHart) → length (map resumed_hart hs) ≡ length hs
-length_resumed [] = refl
-length_resumed (x ∷ hs) = ap suc (length_resumed hs)
-
 -- ---- the load under way
 
 get_resumed : (hs : List SavedHart) (i : ℕ) (x : SavedHart) → slice_get hs i ≡ Some x → slice_get (map resumed_hart hs) i ≡ Some (resumed_hart x)
@@ -300,19 +297,11 @@ index_behind (x ∷ xs) ys (suc h) past =
     let same : h - length xs ≡ suc h - suc (length xs) = omega arith in
     index_behind xs ys h (omega (arith, past)) ∙ ap (slice_index ys) same
 
-length_timers : (hs : List SavedHart) → length (map (λ (h : SavedHart). h.timer) hs) ≡ length hs
-length_timers [] = refl
-length_timers (x ∷ hs) = ap suc (length_timers hs)
-
-length_never : (n : ℕ) → length (replicate n latest) ≡ n
-length_never zero = refl
-length_never (suc n) = ap suc (length_never n)
-
 pub clock_kept : (hs : List SavedHart) (time : ℕ) → length hs ≤ 4 → IsKeepableClock (length hs) (record { time = time; timers = timers_of hs })
 clock_kept hs time few =
-    let own = length_timers hs in
+    let own = length-map hs (λ (h : SavedHart). h.timer) in
     let whole = length-append (map (λ (h : SavedHart). h.timer) hs) (replicate (4 - length hs) latest) in
-    let rest = length_never (4 - length hs) in
+    let rest = length-replicate (4 - length hs) latest in
     record {
       four = whole ∙ sum_four (length hs) _ _ own rest few;
       unset = λ h past below.

@@ -21,7 +21,7 @@ use Rattle.resumption.specs.Judgements.{page_numbers, loaded_pages, fits}
 use Rattle.resume_laws.specs.Keepable.{AreAligned, AscendFrom}
 use Rattle.resume_laws.proofs.FormParts.{below_is, most_is, last_of}
 use Rattle.resume_laws.proofs.KeepableParts.{some_is}
-use Rattle.resume_laws.proofs.TakenPages.{Taking, AllBelow, taken_in_two, length_taken, apart}
+use Rattle.resume_laws.proofs.TakenPages.{Taking, AllBelow, taken_in_two, length_taken, apart, or_true}
 use Rattle.run_laws.proofs.Lookups.{approved_alone, numbers_bounds}
 
 -- ---- text
@@ -174,7 +174,7 @@ fits_is rules m e =
 pub place_aligned : (gpa : ℕ) → ram_base ≤ gpa → gpa % page_size ≡ 0 → ram_place gpa % page_size ≡ 0
 place_aligned gpa base whole = omega (arith, base, whole)
 
-page_inside : (place n pages page : ℕ) → place % 4096 ≡ 0 → place + 4096 * n ≤ 4096 * pages → page < place / 4096 + n → page < pages
+pub page_inside : (place n pages page : ℕ) → place % 4096 ≡ 0 → place + 4096 * n ≤ 4096 * pages → page < place / 4096 + n → page < pages
 page_inside place n pages page whole fits less = omega (arith, whole, fits, less)
 
 pub module_inside : (rules : Rules) (m : SavedModule) → Fits rules m → m.gpa % page_size ≡ 0 → AllBelow rules.ram_pages (module_pages rules m)
@@ -195,12 +195,8 @@ has_either (x ∷ xs) ys page = ap (λ (b : Bool). (x == page) || b) (has_either
 pub in_first : (xs ys : List ℕ) (page : ℕ) → has_number xs page ≡ true → has_number (xs ++ ys) page ≡ true
 in_first xs ys page e = has_either xs ys page ∙ ap (λ (b : Bool). b || has_number ys page) e
 
-or_last : (b : Bool) → (b || true) ≡ true
-or_last true = refl
-or_last false = refl
-
 pub in_second : (xs ys : List ℕ) (page : ℕ) → has_number ys page ≡ true → has_number (xs ++ ys) page ≡ true
-in_second xs ys page e = has_either xs ys page ∙ ap (λ (b : Bool). has_number xs page || b) e ∙ or_last (has_number xs page)
+in_second xs ys page e = has_either xs ys page ∙ ap (λ (b : Bool). has_number xs page || b) e ∙ or_true (has_number xs page)
 
 split_by : (a b : Bool) → (a || b) ≡ true → (a ≡ true) ⊎ (b ≡ true)
 split_by true b e = inl refl

@@ -4,6 +4,7 @@ use Rattle.std.specs.Prelude.{Option, Some, None, option_map, if◌then◌else�
 use Rattle.std.specs.List.{list_all}
 use Rattle.std.proofs.lemmas.Bool.{eqb-true}
 use Rattle.std.proofs.lemmas.Slice.Eq.{bytes_eq-Decides}
+use Rattle.std.proofs.lemmas.List.{length-map, length-replicate}
 use Rattle.processor.specs.Bytes.{page_size, page_bytes}
 use Rattle.sv_types.specs.ApprovedPages.{approved_pages, numbers_from}
 use Rattle.sv_types.specs.Console.{most_queued}
@@ -41,7 +42,7 @@ use Rattle.resume_laws.specs.Resumed.{KeepsDigests}
 use Rattle.resume_laws.specs.ResumedSound.{ResumedGoesOnLaw, ResumedSoundLaw}
 use Rattle.resume_laws.proofs.DueProtections.{due_is, all_free, by_marks, listed}
 use Rattle.resume_laws.proofs.FormParts.{HasParts, parts_of, most_is}
-use Rattle.resume_laws.proofs.ResumedHarts.{harts_sound, harts_kept, length_resumed, LoadParts, load_parts_of, load_kept, journal_kept, clock_kept}
+use Rattle.resume_laws.proofs.ResumedHarts.{harts_sound, harts_kept, LoadParts, load_parts_of, load_kept, journal_kept, clock_kept}
 use Rattle.resume_laws.proofs.KeepableSteps.{keeps_law}
 use Rattle.resume_laws.proofs.ResumedHolds.{resumed_law}
 use Rattle.resume_laws.proofs.ResumedPages.{text_ascends, text_inside, ModuleParts, modules_parts, found_all, found_begins, Fits, fits_is, place_aligned, module_inside, in_first, in_second, in_one, both_below, loaded_inside, among_loaded, of_module, one_module, approved_is, keeps_text}
@@ -50,12 +51,12 @@ use Rattle.run_laws.proofs.Lookups.{not_true, not_false, all_found, number_filte
 
 -- ---- the judgements, one by one
 
-record IsAccepted (rules : Rules) (s : Contents) : Type 0 where
-  policy : is_of_policy rules s ≡ true
-  guarded : is_guarded_right rules s ≡ true
-  joined : joins rules s ≡ true
-  text : has_text rules s ≡ true
-  modules : has_modules rules s ≡ true
+pub record IsAccepted (rules : Rules) (s : Contents) : Type 0 where
+  pub policy : is_of_policy rules s ≡ true
+  pub guarded : is_guarded_right rules s ≡ true
+  pub joined : joins rules s ≡ true
+  pub text : has_text rules s ≡ true
+  pub modules : has_modules rules s ≡ true
 
 abbrev first_of : (a b c d e : Bool) → Option ResumeRefusal
 first_of a b c d e =
@@ -70,21 +71,21 @@ none_first true true false d e h = absurd cc
 none_first true true true false e h = absurd cc
 none_first true true true true false h = absurd cc
 
-accepted : (rules : Rules) (s : Contents) → resume_refusal rules s ≡ None → IsAccepted rules s
+pub accepted : (rules : Rules) (s : Contents) → resume_refusal rules s ≡ None → IsAccepted rules s
 unfolding resume_refusal
 accepted rules s h =
     let all = none_first (is_of_policy rules s) (is_guarded_right rules s) (joins rules s) (has_text rules s) (has_modules rules s) h in
     record { policy = all.0; guarded = all.1.0; joined = all.1.1.0; text = all.1.1.1.0; modules = all.1.1.1.1 }
 
 -- the snapshot is of the policy's machine
-record OfPolicy (rules : Rules) (s : Contents) : Type 0 where
-  harts : length s.harts ≡ rules.harts
-  pages : length s.protection ≡ rules.ram_pages
-  bound : list_all (λ (h : SavedHart). is_bound rules h.entry) s.harts ≡ true
-  modules : list_all (fits rules) s.modules ≡ true
-  load : load_fits rules s.modules s.loading ≡ true
+pub record OfPolicy (rules : Rules) (s : Contents) : Type 0 where
+  pub harts : length s.harts ≡ rules.harts
+  pub pages : length s.protection ≡ rules.ram_pages
+  pub bound : list_all (λ (h : SavedHart). is_bound rules h.entry) s.harts ≡ true
+  pub modules : list_all (fits rules) s.modules ≡ true
+  pub load : load_fits rules s.modules s.loading ≡ true
 
-of_policy : (rules : Rules) (s : Contents) → is_of_policy rules s ≡ true → OfPolicy rules s
+pub of_policy : (rules : Rules) (s : Contents) → is_of_policy rules s ≡ true → OfPolicy rules s
 unfolding is_of_policy
 of_policy rules s e =
     let a : Bool = length s.harts == rules.harts in
@@ -132,10 +133,6 @@ are_taken rules s e =
       load_is = held.1.1;
     }
 
-length_free : (n : ℕ) → length (replicate n Free) ≡ n
-length_free zero = refl
-length_free (suc n) = ap suc (length_free n)
-
 -- ---- what all of it gives
 
 record Known (rules : Rules) (s : Contents) : Type 0 where
@@ -172,7 +169,7 @@ modules_below : (rules : Rules) (s : Contents) → Known rules s → AllBelow ru
 modules_below rules s k = loaded_inside rules s.modules k.policy.modules k.modules.begin
 
 free_below : (rules : Rules) (pages : List ℕ) → AllBelow rules.ram_pages pages → AllBelow (length (replicate rules.ram_pages Free)) pages
-free_below rules pages all = subst (λ (n : ℕ). AllBelow n pages) (sym (length_free rules.ram_pages)) all
+free_below rules pages all = subst (λ (n : ℕ). AllBelow n pages) (sym (length-replicate rules.ram_pages Free)) all
 
 -- a page of the kernel's is one of the text that is left
 is_left : (rules : Rules) (s : Contents) (page : ℕ) → is_kernel_text (ownership (resumed_state rules s)) page ≡ has_number (text_left rules s) page
@@ -202,7 +199,7 @@ pages_owned rules s k = record {
       ∙ in_second (text_left rules s) (loaded_pages rules s.modules) page (among_loaded rules s.modules m page p.loaded_is p.inside);
   no_text = λ m page p. not_true _ (λ t. text_and_module rules s page k (sym (is_left rules s page) ∙ t) (among_loaded rules s.modules m page p.loaded_is p.inside));
   one_module = λ m n page p q. one_module rules k.pages.text k.pages.approved s.modules m n page k.pages.modules_are k.policy.modules k.modules.begin
-      (length_taken Approved (replicate rules.ram_pages Free) k.pages.text (text_left rules s) k.pages.text_is ∙ length_free rules.ram_pages)
+      (length_taken Approved (replicate rules.ram_pages Free) k.pages.text (text_left rules s) k.pages.text_is ∙ length-replicate rules.ram_pages Free)
       p.loaded_is q.loaded_is p.inside q.inside;
   inside = λ page e. both_below rules.ram_pages (text_left rules s) (loaded_pages rules s.modules) (text_below rules s k) (modules_below rules s k) page
       (sym (approved_is s.ram (approved_of rules s) page) ∙ e);
@@ -296,7 +293,7 @@ protection_is : (rules : Rules) (s : Contents) (page : ℕ) → Known rules s
 unfolding protection_in
 protection_is rules s page k =
     let free : List Protection = replicate rules.ram_pages Free in
-    let size = length_taken Approved free k.pages.approved (approved_of rules s) k.pages.all_are ∙ length_free rules.ram_pages in
+    let size = length_taken Approved free k.pages.approved (approved_of rules s) k.pages.all_are ∙ length-replicate rules.ram_pages Free in
     by_marks (is_approved_in (approved_pages s.ram (approved_of rules s)) page) (has_number (load_pages rules s.loading) page)
     (protection_at s.protection page) (protection_at k.pages.approved page)
     (taken_at Held k.pages.approved s.protection (load_pages rules s.loading) page
@@ -348,7 +345,7 @@ unfolding resumed_state
 sound_of rules s within words k = record {
   within = within;
   words = words;
-  number = length_resumed s.harts ∙ k.policy.harts;
+  number = length-map s.harts resumed_hart ∙ k.policy.harts;
   harts = λ i hart at. harts_sound rules (length s.protection) s.harts i hart k.parts.harts k.policy.bound at;
   size = k.parts.ram ∙ ap (λ (n : ℕ). page_size * n) k.policy.pages;
   text = keeps_text s.ram (approved_of rules s);

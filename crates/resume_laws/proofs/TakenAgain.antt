@@ -9,11 +9,12 @@ use Rattle.reference.specs.Origins.{AllAbove, Ascends}
 use Rattle.reference.specs.Protections.{is_free, protection_at}
 use Rattle.reference.specs.States.{has_number, module_pages}
 use Rattle.resumption.specs.Judgements.{loaded_pages, taken}
+use Rattle.resumption.proofs.TakenSpans.{set_beside}
 use Rattle.run_laws.proofs.Lookups.{both, not_true, same_number}
 use Rattle.resume_laws.specs.Keepable.{AscendFrom}
 use Rattle.resume_laws.proofs.KeepableStarts.{numbers_ascend}
 use Rattle.resume_laws.proofs.ResumedPages.{in_one, of_module}
-use Rattle.resume_laws.proofs.TakenPages.{Taking, or_true, set_beside}
+use Rattle.resume_laws.proofs.TakenPages.{Taking, or_true}
 
 -- ---- each page stands once
 

@@ -2,30 +2,20 @@
 use Rattle.std.proofs.Common.{◌≡◌, ℕ, zero, suc, ◌<◌, List, [], ◌∷◌, ◌++◌, length, refl, sym, ◌∙◌, ap, subst, Bool, true, false, ◌||◌, arith, slice_set}
 use Rattle.std.specs.Prelude.{Some, None, if◌then◌else◌, ◌==◌}
 use Rattle.std.proofs.lemmas.Bool.{eqb-true}
+use Rattle.std.proofs.lemmas.List.{length-set}
 use Rattle.sv_types.specs.declared.protection.Protection.{Protection}
 use Rattle.reference.specs.Protections.{is_free, protection_at}
 use Rattle.reference.specs.States.{has_number}
 use Rattle.resumption.specs.Judgements.{taken}
+use Rattle.resumption.proofs.TakenSpans.{set_beside}
 use Rattle.run_laws.proofs.Lookups.{both, same_number}
 
 -- ---- one page
-
-pub length_set : (guard : List Protection) (page : ℕ) (p : Protection) → length (slice_set guard page p) ≡ length guard
-length_set [] page p = refl
-length_set (x ∷ guard) zero p = refl
-length_set (x ∷ guard) (suc page) p = ap suc (length_set guard page p)
 
 set_here : (guard : List Protection) (page : ℕ) (p : Protection) → page < length guard → protection_at (slice_set guard page p) page ≡ p
 set_here [] page p inside = absurd (omega (arith, inside))
 set_here (x ∷ guard) zero p inside = refl
 set_here (x ∷ guard) (suc page) p inside = set_here guard page p (omega (arith, inside))
-
-pub set_beside : (guard : List Protection) (page q : ℕ) (p : Protection) → (page ≡ q → ⊥) → protection_at (slice_set guard page p) q ≡ protection_at guard q
-set_beside [] page q p other = refl
-set_beside (x ∷ guard) zero zero p other = absurd (other refl)
-set_beside (x ∷ guard) zero (suc q) p other = refl
-set_beside (x ∷ guard) (suc page) zero p other = refl
-set_beside (x ∷ guard) (suc page) (suc q) p other = set_beside guard page q p (λ s. other (ap suc s))
 
 not_same : (a b : ℕ) → (a == b) ≡ false → a ≡ b → ⊥
 not_same a b apart same = both (a == b) (ap (λ (n : ℕ). n == b) same ∙ same_number b) apart
@@ -63,7 +53,7 @@ tail_below n page pages all q there = all q (ap (λ (b : Bool). (page == q) || b
 
 pub length_taken : (p : Protection) (guard after : List Protection) (pages : List ℕ) → Taking p guard pages after → length after ≡ length guard
 length_taken p guard after [] e = let same : guard ≡ after = cc in ap length (sym same)
-length_taken p guard after (page ∷ pages) e = length_taken p (slice_set guard page p) after pages (first_taken p guard after page pages e).1 ∙ length_set guard page p
+length_taken p guard after (page ∷ pages) e = length_taken p (slice_set guard page p) after pages (first_taken p guard after page pages e).1 ∙ length-set guard page p
 
 abbrev pub either_one : Bool → Protection → Protection → Protection
 either_one b p q = if b then p else q
@@ -82,7 +72,7 @@ pub taken_at : (p : Protection) (guard after : List Protection) (pages : List �
 taken_at p guard after [] q all e = let same : guard ≡ after = cc in ap (λ (g : List Protection). protection_at g q) (sym same)
 taken_at p guard after (page ∷ pages) q all e =
     let inside = head_below (length guard) page pages all in
-    let rest : AllBelow (length (slice_set guard page p)) pages = subst (λ (n : ℕ). AllBelow n pages) (sym (length_set guard page p)) (tail_below (length guard) page pages all) in
+    let rest : AllBelow (length (slice_set guard page p)) pages = subst (λ (n : ℕ). AllBelow n pages) (sym (length-set guard page p)) (tail_below (length guard) page pages all) in
     taken_at p (slice_set guard page p) after pages q rest (first_taken p guard after page pages e).1
     ∙ at_by p guard page q (page == q) (has_number pages q) refl inside
 

@@ -67,7 +67,7 @@ pub record IsKeepableJournal (harts : ℕ) (notes : List Note) (all : ℕ) (verd
 
 -- of the four timers those of harts that aren't there are never set
 pub record IsKeepableClock (harts : ℕ) (clock : Clock) : Type 0 where
-  pub four : length clock.timers ≡ 4
+  pub four : length clock.timers ≡ most_harts
   pub unset : (h : ℕ) → harts ≤ h → h < most_harts → timer_of clock h ≡ latest
 
 -- ---- modules

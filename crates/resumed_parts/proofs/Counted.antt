@@ -49,6 +49,10 @@ page_there ram from n pages aligned less =
     let place : from + page_size * n ≡ page_size * (from / 4096 + n) = omega arith in
     part_of ram from (page_size * pages) (page_size * n) page_size (omega arith) ∙ ap (λ (at : ℕ). part ram at page_size) place
 
+-- whole pages that begin with a page end where their bytes end
+pub pages_inside : (place pages size : ℕ) → place % 4096 ≡ 0 → place + 4096 * pages ≤ size → 4096 * (place / 4096 + pages) ≤ size
+pages_inside place pages size aligned inside = omega (arith, aligned, inside)
+
 -- ---- one page more
 
 counted_left : (pages left : ℕ) → suc left ≤ pages → pages - left ≡ suc (pages - suc left)

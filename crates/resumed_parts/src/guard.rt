@@ -14,11 +14,11 @@ ghost use Rattle.resumption.specs.Judgements.{approved_of, fits, is_guarded_righ
 ghost use Rattle.resumption.specs.Taking.{left_of};
 ghost use Rattle.resumed_parts.specs.Approving.{Approves, CanApprove};
 
-use crate::retired::is_retired;
 use host_mem::HostMem;
 use page_guard::Guard;
 use processor::page_of;
 use reference::pages_of;
+use resumption::is_retired;
 use snapshot_form::{Snapshot, TextPage};
 use std::alloc::{AllocError, Global};
 use sv_types::{Policy, SavedModule, Span};

@@ -5,7 +5,6 @@ mod device_states;
 mod guard;
 mod load;
 mod parts;
-mod retired;
 mod seats;
 
 pub use parts::{ResumedParts, resume_parts};

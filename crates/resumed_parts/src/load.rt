@@ -1,7 +1,6 @@
 // The load under way of a machine that goes on. Nothing that was kept of its pages is believed: they are counted again.
 
-ghost use Rattle.std.specs.Prelude.{◌≡◌, ◌+◌, ◌-◌, ◌<◌, ◌≤◌, IfSome, IsTrue, Some, false, is_some, length, option_map, true};
-ghost use Rattle.processor.specs.Bytes.{page_bytes, page_of, page_size};
+ghost use Rattle.std.specs.Prelude.{◌≡◌, ◌+◌, ◌<◌, ◌≤◌, IfSome, IsTrue, Some, false, is_some, length, option_map, true};
 ghost use Rattle.sv_types.specs.Policies.{rules_of, rules_within};
 ghost use Rattle.sv_types.specs.declared.protection.Protection.TheVariants.{Held};
 ghost use Rattle.reference.specs.States.{module_pages};
@@ -14,10 +13,9 @@ ghost use Rattle.resumed_parts.specs.Approving.{CanTake};
 ghost use Rattle.resumed_parts.specs.Counting.{IsCounted, IsWithin};
 
 use host_mem::HostMem;
-use module_answers::UnderWay;
+use module_answers::{UnderWay, next_page};
 use module_gate::{Gate, Load};
 use page_guard::Guard;
-use processor::page_of;
 use reference::pages_of;
 use saved_machine::SavedLoad;
 use sv_types::Policy;
@@ -103,19 +101,4 @@ fn count_next(load: &mut Load, mem: &HostMem, policy: &Policy)
     ensures pages { load.new.pages ≡ load.old.pages }
 {
     load.page(policy, next_page(load, mem, policy));
-}
-
-// The bytes of the next page of the module, as RAM has them now.
-fn next_page<'a>(load: &Load, mem: &'a HostMem, policy: &Policy) -> &'a [u8]
-    requires counted { IsCounted (rules_of policy.now) mem.now.ram load.now }
-    requires left { 0 < load.now.left }
-    ensures bytes { result.now ≡ page_bytes mem.now.ram (page_of load.now.about.gpa + (load.now.pages - load.now.left)) }
-    ensures size { length result.now ≡ page_size }
-{
-    let about = load.about();
-    let first = page_of(about.gpa);
-    let ram_pages = mem.ram_pages() as u64;
-    prove!(first < ram_pages);
-    let counted = pages_of(policy, about.id) - load.left();
-    mem.page(first as u32 + counted)
 }

@@ -10,7 +10,7 @@ use Rattle.resumption.specs.Judgements.{taken}
 
 -- ---- one page set
 
-set_beside : (guard : List Protection) (page q : ℕ) (p : Protection) → (page ≡ q → ⊥) → protection_at (slice_set guard page p) q ≡ protection_at guard q
+pub set_beside : (guard : List Protection) (page q : ℕ) (p : Protection) → (page ≡ q → ⊥) → protection_at (slice_set guard page p) q ≡ protection_at guard q
 set_beside [] page q p other = refl
 set_beside (x ∷ guard) zero zero p other = absurd (other refl)
 set_beside (x ∷ guard) zero (suc q) p other = refl

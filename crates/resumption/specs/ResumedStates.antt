@@ -5,6 +5,7 @@ use Rattle.processor.specs.Bytes.{ram_place}
 use Rattle.sv_types.specs.ApprovedPages.{approved_pages}
 use Rattle.sv_types.specs.Clock.{latest}
 use Rattle.sv_types.specs.Policies.{Rules}
+use Rattle.sv_types.specs.Limits.{most_harts}
 use Rattle.reference.specs.States.{State, Hart, Loading}
 use Rattle.saved_machine.specs.SavedStates.{disk_of}
 use Rattle.saved_machine.specs.declared.harts.SavedHart.{SavedHart}
@@ -39,7 +40,7 @@ resumed_load load = record { hart = load.hart; about = load.«module»; left = l
 
 -- a hart that isn't there has no timer set
 abbrev pub timers_of : List SavedHart → List ℕ
-timers_of harts = map (λ (h : SavedHart). h.timer) harts ++ replicate (4 - length harts) latest
+timers_of harts = map (λ (h : SavedHart). h.timer) harts ++ replicate (most_harts - length harts) latest
 
 -- nothing is printed yet
 unfoldable pub resumed_state : Rules → Contents → State

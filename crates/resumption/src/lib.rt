@@ -14,4 +14,4 @@ pub use modules::has_modules;
 pub use pages::is_guarded_right;
 pub use policy::is_of_policy;
 pub use refusal::ResumeRefusal;
-pub use text::{has_text, joins};
+pub use text::{has_text, is_retired, joins};

@@ -52,7 +52,8 @@ fn are_right(policy: &Policy, retired: bool, ram: &[u8], text: &[TextPage]) -> b
     text.iter().all(|page| is_retired(policy, retired, page.page) || is_there(ram, page))
 }
 
-pub(crate) fn is_retired(policy: &Policy, retired: bool, page: u32) -> bool
+/// Whether a page of the text is retired.
+pub fn is_retired(policy: &Policy, retired: bool, page: u32) -> bool
     ensures { result ≡ is_retired (rules_of policy.now) retired page }
 {
     retired && is_init(&policy.init, page)

@@ -1,6 +1,18 @@
+use Rattle.std.proofs.Common.{length}
+use Rattle.processor.specs.Bytes.{ram_place}
 use Rattle.sv_types.specs.Policies.{rules_of}
-use Rattle.resumed_parts.proofs.Counted.{counted_next}
+use Rattle.resumed_parts.proofs.Counted.{counted_next, pages_inside}
 use Rattle.resumed_parts.proofs.load.count_next.Goals as goal
+
+pub next_page-requires-clause-policy : goal.next_page-requires-clause-policy
+next_page-requires-clause-policy c = c.requires.counted.pages
+
+pub next_page-requires-clause-few : goal.next_page-requires-clause-few
+next_page-requires-clause-few c = c.requires.counted.few
+
+pub next_page-requires-clause-inside : goal.next_page-requires-clause-inside
+next_page-requires-clause-inside c =
+    pages_inside (ram_place c.args.load.now.about.gpa) c.args.load.now.pages (length c.args.mem.now.ram) c.requires.counted.begins c.requires.counted.inside
 
 pub returns-clause-counted : goal.returns-clause-counted
 returns-clause-counted c =
