@@ -35,7 +35,7 @@ use Rattle.resume_laws.proofs.DueProtections.{all_free, by_marks, listed}
 use Rattle.resume_laws.proofs.FormParts.{least_is, less_is}
 use Rattle.resume_laws.proofs.KeepableStarts.{filter_ascends, numbers_ascend}
 use Rattle.resume_laws.proofs.ResumedHolds.{held_free}
-use Rattle.resume_laws.proofs.ResumedPages.{of_module}
+use Rattle.resume_laws.proofs.ResumedPages.{of_module, page_inside}
 use Rattle.resume_laws.proofs.SavedResumes.{SameText, contents_are, contents_of, from_owned, held_back, left_is, length_saved, same_truth, to_approved}
 use Rattle.resume_laws.proofs.TakenAgain.{AreOnce, ShareNone, once_both, once_loaded, once_up, takes}
 use Rattle.resume_laws.proofs.TakenPages.{AllBelow, Taking, either_one, length_taken, or_true, taken_at}
@@ -174,9 +174,6 @@ record Holds (r : State) : Type 0 where
   once : AreOnce r.held
   below : AllBelow r.rules.ram_pages r.held
 
-load_inside : (place n pages page : ℕ) → place % 4096 ≡ 0 → place + 4096 * n ≤ 4096 * pages → page < place / 4096 + n → page < pages
-load_inside place n pages page whole fits less = omega (arith, whole, fits, less)
-
 holds_by : (r : State) (x : Option Loading) → IsSoundLoad r.rules r.approved r.loaded r.held x → Holds r
 holds_by r None k = record {
   once = subst AreOnce (sym k) tt;
@@ -187,7 +184,7 @@ holds_by r (Some load) k =
     record {
       once = subst AreOnce (sym k.pages) (once_up _ (module_pages r.rules load.about) (numbers_ascend _ _));
       below = subst (AllBelow r.rules.ram_pages) (sym k.pages)
-          (λ page there. load_inside (ram_place load.about.gpa) n r.rules.ram_pages page k.aligned k.inside (numbers_bounds (page_of load.about.gpa) n page there).1);
+          (λ page there. page_inside (ram_place load.about.gpa) n r.rules.ram_pages page k.aligned k.inside (numbers_bounds (page_of load.about.gpa) n page there).1);
     }
 
 -- ---- protections that are taken again

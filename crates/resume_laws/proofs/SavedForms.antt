@@ -1,11 +1,12 @@
 -- What was saved of a state has a spelling.
-use Rattle.std.proofs.Common.{◌≡◌, ℕ, ◌*◌, ◌^◌, ◌≤◌, List, [], length, refl, sym, ◌∙◌, ap, subst, true, ◌&&◌, arith}
+use Rattle.std.proofs.Common.{◌≡◌, ℕ, ◌*◌, ◌≤◌, List, [], length, refl, sym, ◌∙◌, ap, subst, true, ◌&&◌, arith}
 use Rattle.std.specs.Prelude.{◌==◌, nat_le, IsTrue}
 use Rattle.std.proofs.lemmas.Bool.{eq-eqb}
 use Rattle.processor.specs.Bytes.{page_size}
 use Rattle.sv_types.specs.Policies.{Rules, rules_within, format_within, harts_within, ram_pages_within, numbers_within, lists_within, init_within, modules_count_within, modules_within}
 use Rattle.sv_types.specs.declared.port.PortState.{PortState}
 use Rattle.sv_types.specs.declared.protection.Protection.{Protection}
+use Rattle.sv_types.specs.Limits.{most_events}
 use Rattle.reference.specs.Soundness.{IsSound}
 use Rattle.reference.specs.States.{State, protection_in}
 use Rattle.saved_machine.specs.SavedStates.{saved_harts, saved_protections}
@@ -15,11 +16,12 @@ use Rattle.snapshot_form.specs.HartForms.{flag, harts}
 use Rattle.snapshot_form.specs.JournalForms.{counts, journal}
 use Rattle.snapshot_form.specs.PageForms.{gate, modules, pages, protections, text}
 use Rattle.snapshot_form.specs.Snapshots.{Contents, beginning, body, contents, events_made, hart_count, header, magic, page_count, snapshot, whole_header}
+use Rattle.snapshot_form.specs.Typed.{IsTyped}
 use Rattle.snapshot_form.specs.declared.whole.TextPage.{TextPage}
 use Rattle.snapshot_form.proofs.FormLaws.{both_true, first_true, second_true}
 use Rattle.resume_laws.specs.Keepable.{AscendFrom, IsKeepable, IsKeepableJournal}
 use Rattle.resume_laws.specs.Resumed.{KeepsDigests}
-use Rattle.resume_laws.specs.SavedForm.{HasBlock, IsCounted, IsTyped, SavedFormLaw}
+use Rattle.resume_laws.specs.SavedForm.{HasBlock, IsCounted, SavedFormLaw}
 use Rattle.resume_laws.proofs.FormParts.{least_is, most_is, small_word}
 use Rattle.resume_laws.proofs.SavedAccepted.{length_pages, snapped}
 use Rattle.resume_laws.proofs.SavedHarts.{flag_has, harts_have}
@@ -67,11 +69,11 @@ record HasSizes (r : State) (c : Contents) : Type 0 where
   harts : length c.harts ≡ r.rules.harts
   pages : length c.protection ≡ r.rules.ram_pages
 
-header_has : (r : State) (c : Contents) → AreWithin r.rules → HasSizes r c → c.events ≤ 2 ^ 32 → is_word c.time ≡ true → header.has (whole_header c) ≡ true
+header_has : (r : State) (c : Contents) → AreWithin r.rules → HasSizes r c → c.events ≤ most_events → is_word c.time ≡ true → header.has (whole_header c) ≡ true
 unfolding header
 header_has r c w k few time =
     both_true (beginning.has magic) _ refl
-    (both_true (events_made.has c.events) _ (both_true (is_word c.events) _ (small_word c.events (omega (arith, few))) (least_is c.events (2 ^ 32) few))
+    (both_true (events_made.has c.events) _ (both_true (is_word c.events) _ (small_word c.events (omega (arith, few))) (least_is c.events most_events few))
     (both_true (hart_count.has (length c.harts)) _
     (subst (λ (n : ℕ). hart_count.has n ≡ true) (sym k.harts) (both_true (is_word r.rules.harts) _ (small_word r.rules.harts (let most = w.four in omega (arith, most))) w.harts))
     (both_true (page_count.has (length c.protection)) _

@@ -17,9 +17,9 @@ use Rattle.saved_machine.specs.SavedStates.{gpa_at, saved_hart, saved_harts}
 use Rattle.saved_machine.specs.declared.harts.SavedHart.{SavedHart}
 use Rattle.snapshot_form.specs.Forms.{number, is_word, has_all}
 use Rattle.snapshot_form.specs.HartForms.{aligned, begins_with_0, flag, hart, legal, mode, place, registers, reservation, is_reservable, is_ram_address, side, status, trap_status}
+use Rattle.snapshot_form.specs.Typed.{are_registers, are_words, is_typed_hart, supervisor_numbers}
 use Rattle.snapshot_form.proofs.FormLaws.{both_true, first_true, second_true}
 use Rattle.resume_laws.specs.Keepable.{AreKeepable, IsKeepableHart, IsReservable}
-use Rattle.resume_laws.specs.SavedForm.{are_words, hart_numbers, is_typed_hart}
 use Rattle.resume_laws.proofs.FormParts.{least_is, less_is, most_is, small_word}
 use Rattle.std.proofs.lemmas.Bool.{eqb-true}
 
@@ -126,9 +126,11 @@ zero_first : (registers : List ℕ) → slice_get registers 0 ≡ Some 0 → beg
 zero_first [] e = cc
 zero_first (n ∷ rest) e = let same : n ≡ 0 = cc in eq-eqb n 0 same
 
-registers_have : (xs : List ℕ) → length xs ≡ 32 → are_words xs ≡ true → registers.has (drop 1 xs) ≡ true
+registers_have : (xs : List ℕ) → are_registers xs ≡ true → registers.has (drop 1 xs) ≡ true
 unfolding registers
-registers_have xs long words =
+registers_have xs typed =
+    let long = eqb-true (length xs) 32 (first_true (length xs == 32) (are_words xs) typed) in
+    let words = second_true (length xs == 32) (are_words xs) typed in
     let left : length (drop 1 xs) ≡ 31 = length-drop 1 xs ∙ less (length xs) long in
     subst (λ (n : ℕ). has_all (λ before. number) [] n (drop 1 xs) ≡ true) left (numbers_have [] (drop 1 xs) (words_behind xs 1 words))
   where
@@ -144,27 +146,28 @@ hart_has : (rules : Rules) (clock : Clock) (h : ℕ) (one : Hart) → IsTrue (ru
 unfolding hart status trap_status
 hart_has rules clock h one within few sound kept typed =
     let x : SavedHart = saved_hart clock h one in
-    let long = eqb-true (length one.registers) 32 (first_true (length one.registers == 32) (are_words (hart_numbers x)) typed) in
-    let words = second_true (length one.registers == 32) (are_words (hart_numbers x)) typed in
+    let ns : List ℕ = supervisor_numbers x in
+    let numbers : (are_registers one.registers && are_words ns) ≡ true = first_true (are_registers one.registers && are_words ns) (is_word x.timer) typed in
+    let words : are_words ns ≡ true = second_true (are_registers one.registers) (are_words ns) numbers in
     let s = one.supervisor in
     both_true (begins_with_0 one.registers) _ (zero_first one.registers kept.zero)
     (both_true (side.has (one.started, (one.mode, one.entry))) _
     (side_has rules one.started one.mode one.entry within sound.entry (λ off. let still = sound.stopped off in (still.mode, still.entry)))
     (both_true ((aligned 4).has one.pc) _ (aligned_has 4 one.pc (small_word one.pc sound.small) sound.aligned)
-    (both_true (registers.has (drop 1 one.registers)) _ (registers_have one.registers long (words_behind (hart_numbers x) 10 words))
+    (both_true (registers.has (drop 1 one.registers)) _ (registers_have one.registers (first_true (are_registers one.registers) (are_words ns) numbers))
     (both_true _ ((reservation rules.ram_pages).has x.reservation && is_word x.timer)
-    (both_true ((legal legal_status).has s.sstatus) _ (legal_has legal_status s.sstatus (word_at (hart_numbers x) 0 s.sstatus words refl) sound.legal.sstatus)
-    (both_true ((legal legal_interrupts).has s.sie) _ (legal_has legal_interrupts s.sie (word_at (hart_numbers x) 1 s.sie words refl) sound.legal.sie)
-    (both_true ((legal legal_tvec).has s.stvec) _ (legal_has legal_tvec s.stvec (word_at (hart_numbers x) 2 s.stvec words refl) sound.legal.stvec)
-    (both_true ((legal legal_counteren).has s.scounteren) _ (legal_has legal_counteren s.scounteren (word_at (hart_numbers x) 3 s.scounteren words refl) sound.legal.scounteren)
-    (both_true (is_word s.sscratch) _ (word_at (hart_numbers x) 4 s.sscratch words refl)
-    (both_true ((legal legal_epc).has s.sepc) _ (legal_has legal_epc s.sepc (word_at (hart_numbers x) 5 s.sepc words refl) sound.legal.sepc)
-    (both_true (is_word s.scause) _ (word_at (hart_numbers x) 6 s.scause words refl)
-    (both_true (is_word s.stval) _ (word_at (hart_numbers x) 7 s.stval words refl)
+    (both_true ((legal legal_status).has s.sstatus) _ (legal_has legal_status s.sstatus (word_at ns 0 s.sstatus words refl) sound.legal.sstatus)
+    (both_true ((legal legal_interrupts).has s.sie) _ (legal_has legal_interrupts s.sie (word_at ns 1 s.sie words refl) sound.legal.sie)
+    (both_true ((legal legal_tvec).has s.stvec) _ (legal_has legal_tvec s.stvec (word_at ns 2 s.stvec words refl) sound.legal.stvec)
+    (both_true ((legal legal_counteren).has s.scounteren) _ (legal_has legal_counteren s.scounteren (word_at ns 3 s.scounteren words refl) sound.legal.scounteren)
+    (both_true (is_word s.sscratch) _ (word_at ns 4 s.sscratch words refl)
+    (both_true ((legal legal_epc).has s.sepc) _ (legal_has legal_epc s.sepc (word_at ns 5 s.sepc words refl) sound.legal.sepc)
+    (both_true (is_word s.scause) _ (word_at ns 6 s.scause words refl)
+    (both_true (is_word s.stval) _ (word_at ns 7 s.stval words refl)
     (both_true (is_word x.sip && (x.sip == 0 || x.sip == 2)) _ (sip_has s.software)
-    (legal_has (legal_satp 0) s.satp (word_at (hart_numbers x) 8 s.satp words refl) sound.legal.satp))))))))))
+    (legal_has (legal_satp 0) s.satp (word_at ns 8 s.satp words refl) sound.legal.satp))))))))))
     (both_true ((reservation rules.ram_pages).has x.reservation) (is_word x.timer) (reservation_has rules.ram_pages one.reservation few kept.reservation)
-    (word_at (hart_numbers x) 9 x.timer words refl))))))
+    (second_true (are_registers one.registers && are_words ns) (is_word x.timer) typed))))))
 
 -- ---- all of them
 

@@ -1,9 +1,9 @@
 -- The counts, the notes and the verdict of a state have a spelling.
-use Rattle.std.proofs.Common.{◌≡◌, ℕ, ◌^◌, ◌<◌, ◌≤◌, List, [], ◌∷◌, ◌++◌, length, min, refl, true, arith}
+use Rattle.std.proofs.Common.{◌≡◌, ℕ, ◌<◌, ◌≤◌, List, [], ◌∷◌, ◌++◌, length, min, refl, true, arith}
 use Rattle.std.specs.Prelude.{◌==◌, nat_lt, nat_le}
 use Rattle.std.specs.List.{list_all}
 use Rattle.std.proofs.lemmas.Bool.{eq-eqb}
-use Rattle.sv_types.specs.Limits.{most_notes}
+use Rattle.sv_types.specs.Limits.{most_notes, most_events}
 use Rattle.sv_types.specs.declared.event.Counts.{Counts}
 use Rattle.sv_types.specs.declared.event.Note.{Note}
 use Rattle.sv_types.specs.declared.event.Note.TheVariants.{Demote, Denied, Load, Unload, Retire}
@@ -15,19 +15,19 @@ use Rattle.reference.specs.Counting.{CountsAtMost}
 use Rattle.snapshot_form.specs.Forms.{is_word, has_all}
 use Rattle.snapshot_form.specs.HartForms.{aligned}
 use Rattle.snapshot_form.specs.JournalForms.{answer, code, count, counts, demote, denied, event_counts, hart_counts, hart_number, is_among, load_note, note, note_behind, notes, retire, rule_counts, stopped_entry, stopped_write, unload, verdict, verdict_behind}
+use Rattle.snapshot_form.specs.Typed.{are_words, is_typed_note, note_numbers, verdict_numbers}
 use Rattle.snapshot_form.proofs.FormLaws.{both_true, first_true, second_true}
 use Rattle.resume_laws.specs.Keepable.{AreKeepableNotes, IsKeepableJournal, IsKeepableNote, IsKeepableVerdict}
-use Rattle.resume_laws.specs.SavedForm.{are_words, note_numbers, verdict_numbers}
 use Rattle.resume_laws.proofs.FormParts.{least_is, less_is, small_word}
 use Rattle.resume_laws.proofs.SavedHarts.{aligned_has, word_at}
 
 -- ---- counts
 
-count_has : (events n : ℕ) → events ≤ 2 ^ 32 → n ≤ events → (count events).has n ≡ true
+count_has : (events n : ℕ) → events ≤ most_events → n ≤ events → (count events).has n ≡ true
 unfolding count
 count_has events n few most = both_true (is_word n) (nat_le n events) (small_word n (omega (arith, few, most))) (least_is n events most)
 
-pub counts_have : (events : ℕ) (c : Counts) → events ≤ 2 ^ 32 → CountsAtMost events c → (counts events).has c ≡ true
+pub counts_have : (events : ℕ) (c : Counts) → events ≤ most_events → CountsAtMost events c → (counts events).has c ≡ true
 unfolding counts event_counts hart_counts rule_counts
 counts_have events c few k =
     let one : (n : ℕ) → n ≤ events → (count events).has n ≡ true = λ n most. count_has events n few most in
@@ -76,7 +76,7 @@ note_has harts (Retire h turn c) k words =
     both_true ((hart_number harts).has h) _ (hart_has harts h (word_at ns 0 h words refl) k)
     (both_true (is_word turn) _ (word_at ns 1 turn words refl) (code_has c))
 
-notes_each : (harts : ℕ) (before ns : List Note) → AreKeepableNotes harts ns → list_all (λ (n : Note). are_words (note_numbers n)) ns ≡ true
+notes_each : (harts : ℕ) (before ns : List Note) → AreKeepableNotes harts ns → list_all is_typed_note ns ≡ true
     → has_all (λ before. note harts) before (length ns) ns ≡ true
 unfolding has_all
 notes_each harts before [] k words = refl
@@ -84,7 +84,7 @@ notes_each harts before (n ∷ ns) k words =
     both_true ((note harts).has n) _ (note_has harts n k.0 (first_true (are_words (note_numbers n)) _ words))
     (notes_each harts (before ++ n ∷ []) ns k.1 (second_true (are_words (note_numbers n)) _ words))
 
-pub notes_have : (harts all : ℕ) (ns : List Note) (v : Verdict) → IsKeepableJournal harts ns all v → list_all (λ (n : Note). are_words (note_numbers n)) ns ≡ true
+pub notes_have : (harts all : ℕ) (ns : List Note) (v : Verdict) → IsKeepableJournal harts ns all v → list_all is_typed_note ns ≡ true
     → (notes harts all).has ns ≡ true
 unfolding notes
 notes_have harts all ns v k words =

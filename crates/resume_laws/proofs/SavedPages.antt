@@ -17,13 +17,13 @@ use Rattle.saved_machine.specs.SavedStates.{saved_hart, saved_harts, saved_load}
 use Rattle.snapshot_form.specs.Forms.{is_word, has_all}
 use Rattle.snapshot_form.specs.HartForms.{aligned, flag, is_user}
 use Rattle.snapshot_form.specs.PageForms.{is_above, last_id, last_page, load, load_behind, loading, may_load, module_within, modules, next_module, protection, protections, text, text_page}
+use Rattle.snapshot_form.specs.Typed.{are_words, is_typed_module, is_typed_page, load_numbers, module_numbers}
 use Rattle.snapshot_form.specs.declared.whole.TextPage.{TextPage}
 use Rattle.snapshot_form.proofs.FormLaws.{both_true, first_true, second_true}
 use Rattle.resumption.specs.Judgements.{page_numbers}
 use Rattle.resumption.proofs.ModuleSites.{some_pages}
 use Rattle.run_laws.proofs.Lookups.{all_found, same_number}
 use Rattle.resume_laws.specs.Keepable.{AreAligned, AscendFrom, IsKeepableLoad, MayGoOn}
-use Rattle.resume_laws.specs.SavedForm.{are_words, load_numbers, module_numbers}
 use Rattle.resume_laws.proofs.FormParts.{last_of, least_is, less_is, most_is, small_word}
 use Rattle.resume_laws.proofs.SavedHarts.{aligned_has, word_at, words_behind}
 use Rattle.resume_laws.proofs.TakenPages.{AllBelow, tail_below}
@@ -74,7 +74,7 @@ length_numbers (t ∷ ts) = ap suc (length_numbers ts)
 -- ---- text
 
 text_each : (pages : ℕ) (before ts : List TextPage) (last : Option ℕ) → last_page before ≡ last → pages ≤ 262144 → AscendFrom (behind last) (page_numbers ts)
-    → AllBelow pages (page_numbers ts) → list_all (λ (t : TextPage). length t.digest == 32) ts ≡ true → has_all (text_page pages) before (length ts) ts ≡ true
+    → AllBelow pages (page_numbers ts) → list_all is_typed_page ts ≡ true → has_all (text_page pages) before (length ts) ts ≡ true
 unfolding has_all text_page
 text_each pages before [] last at few up below typed = refl
 text_each pages before (t ∷ ts) last at few up below typed =
@@ -88,7 +88,7 @@ text_each pages before (t ∷ ts) last at few up below typed =
     (tail_below pages t.page (page_numbers ts) below) (second_true (length t.digest == 32) _ typed))
 
 pub text_has : (pages : ℕ) (ts : List TextPage) → pages ≤ 262144 → AscendFrom 0 (page_numbers ts) → AllBelow pages (page_numbers ts)
-    → list_all (λ (t : TextPage). length t.digest == 32) ts ≡ true → (text pages).has ts ≡ true
+    → list_all is_typed_page ts ≡ true → (text pages).has ts ≡ true
 unfolding text
 text_has pages ts few up below typed =
     let most : length ts ≤ pages = plain (length (page_numbers ts)) (length ts) (length_numbers ts) (ascending_few 0 pages (page_numbers ts) up below (omega arith)) in
@@ -135,7 +135,7 @@ module_has good m id k va words =
 
 modules_each : (before ms : List SavedModule) (last : Option ℕ) → last_id before ≡ last → AscendFrom (behind last) (ids_of ms)
     → ((i : ℕ) (m : SavedModule) → slice_get ms i ≡ Some m → IsGoodModule m) → AreAligned ms
-    → list_all (λ (m : SavedModule). are_words (module_numbers m)) ms ≡ true → has_all next_module before (length ms) ms ≡ true
+    → list_all is_typed_module ms ≡ true → has_all next_module before (length ms) ms ≡ true
 unfolding has_all
 modules_each before [] last at up good va typed = refl
 modules_each before (m ∷ ms) last at up good va typed =
@@ -164,7 +164,7 @@ ids_below end [] all id there = cc
 ids_below end (m ∷ ms) all id there =
     first_or_later end id m (has_number (ids_of ms) id) (m.id == id) refl (all 0 m refl) (λ e. ids_below end ms (λ i x f. all (suc i) x f) id e) there
 
-pub modules_have : (r : State) → IsSound r → AreAligned r.loaded → list_all (λ (m : SavedModule). are_words (module_numbers m)) r.loaded ≡ true → modules.has r.loaded ≡ true
+pub modules_have : (r : State) → IsSound r → AreAligned r.loaded → list_all is_typed_module r.loaded ≡ true → modules.has r.loaded ≡ true
 unfolding modules
 modules_have r sound va typed =
     let found : (i : ℕ) (m : SavedModule) → slice_get r.loaded i ≡ Some m → find_module r.loaded m.id ≡ Some m = λ i m at. all_found r.loaded i m sound.ascends at in

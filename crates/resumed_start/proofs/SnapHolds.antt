@@ -8,13 +8,14 @@ use Rattle.reference.specs.Start.{IsStart, boot_start, start}
 use Rattle.reference.specs.States.{State}
 use Rattle.saved_machine.specs.SavedStates.{IsSaved}
 use Rattle.snapshot_form.specs.Snapshots.{Contents, contents, snapshot}
+use Rattle.snapshot_form.specs.Typed.{IsTyped}
 use Rattle.snapshot_form.specs.declared.whole.Snapshot.{Snapshot}
 use Rattle.snapshot_form.proofs.SnapshotLaws.{snapshot_law}
 use Rattle.resumption.specs.Judgements.{resume_refusal}
 use Rattle.resumption.specs.ResumedStates.{resumed_state}
 use Rattle.resume_laws.specs.Continues.{Alike}
 use Rattle.resume_laws.specs.Resumed.{KeepsDigests}
-use Rattle.resume_laws.specs.SavedForm.{HasBlock, IsCounted, IsTyped}
+use Rattle.resume_laws.specs.SavedForm.{HasBlock, IsCounted}
 use Rattle.resume_laws.proofs.ContinuesHolds.{continues_law}
 use Rattle.resume_laws.proofs.KeepableStarts.{keepable_law}
 use Rattle.resume_laws.proofs.ResumedHolds.{resumed_law}

@@ -9,12 +9,13 @@ use Rattle.reference.specs.Start.{AreWords, boot_start}
 use Rattle.reference.specs.States.{has_number}
 use Rattle.saved_machine.specs.SavedStates.{IsSaved}
 use Rattle.snapshot_form.specs.Snapshots.{contents, snapshot, snapshot_read}
+use Rattle.snapshot_form.specs.Typed.{IsTyped}
 use Rattle.snapshot_form.specs.declared.whole.Snapshot.{Snapshot}
 use Rattle.resumption.specs.Judgements.{resume_refusal}
 use Rattle.resumption.specs.ResumedStates.{resumed_state}
 use Rattle.resume_laws.specs.Continues.{Continues}
 use Rattle.resume_laws.specs.Resumed.{KeepsDigests}
-use Rattle.resume_laws.specs.SavedForm.{HasBlock, IsCounted, IsTyped}
+use Rattle.resume_laws.specs.SavedForm.{HasBlock, IsCounted}
 use Rattle.resumed_start.specs.TextPages.{digested_text}
 
 -- a policy within its limits and an image that isn't refused, which begins at a permitted entry, and whose text has the

@@ -1,5 +1,5 @@
 -- The run of `snap`: the console's bytes and nothing else.
-use Rattle.std.proofs.Common.{◌≡◌, ℕ, zero, suc, ◌+◌, ◌<◌, ◌≤◌, ◌^◌, List, [], ◌∷◌, ◌++◌, length, true, refl, sym, ◌∙◌, ap, subst, arith, append_assoc, Option, Some, None, Result, Ok, Err, OnOk}
+use Rattle.std.proofs.Common.{◌≡◌, ℕ, zero, suc, ◌<◌, ◌≤◌, ◌^◌, List, [], ◌∷◌, ◌++◌, length, true, refl, sym, ◌∙◌, ap, subst, arith, append_assoc, Option, Some, None, Result, Ok, Err, OnOk}
 use Rattle.std.proofs.lemmas.List.{append-nil}
 use Rattle.sv_types.specs.Schedule.{Schedule, first_events, next_event, after_event, begun_with}
 use Rattle.sv_types.specs.declared.event.Counts.{Counts}
@@ -199,7 +199,7 @@ drawn_few_by Running later n few = omega (arith, few)
 drawn_few_by Shutdown later n few = omega arith
 drawn_few_by (Stopped rule h at) later n few = omega arith
 
-drawn_few : (s : State) (events : List Event) → drawn s events ≤ length events
+pub drawn_few : (s : State) (events : List Event) → drawn s events ≤ length events
 unfolding drawn
 drawn_few s [] = omega arith
 drawn_few s (e ∷ events) = drawn_few_by s.journal.verdict (drawn (step s e) events) (length events) (drawn_few (step s e) events)
@@ -208,7 +208,7 @@ begun_few : (first : Option Event) (events : List Event) (n : ℕ) → length ev
 begun_few None events n few = omega arith
 begun_few (Some e) events n few = omega (arith, few)
 
-first_few : (n : ℕ) (script : Schedule) → length (first_events n script) ≤ n
+pub first_few : (n : ℕ) (script : Schedule) → length (first_events n script) ≤ n
 unfolding first_events
 first_few zero script = omega arith
 first_few (suc n) script = begun_few (next_event script) (first_events n (after_event script)) n (first_few n (after_event script))

@@ -14,6 +14,7 @@ use Rattle.saved_machine.specs.SavedStates.{disk_of, IsSaved}
 use Rattle.saved_machine.specs.declared.whole.Saved.{Saved}
 use Rattle.snapshot_form.specs.DeviceForms.{is_block}
 use Rattle.snapshot_form.specs.Snapshots.{contents, snapshot}
+use Rattle.snapshot_form.specs.Typed.{IsTyped}
 use Rattle.snapshot_form.specs.declared.whole.Snapshot.{Snapshot}
 use Rattle.snapshot_form.specs.declared.whole.TextPage.{TextPage}
 use Rattle.resumed_start.specs.TextPages.{digested_text}
@@ -43,10 +44,11 @@ port_is_block m s h kind saved = port_by s.port s.disk.items (ap is_block_disk s
 
 -- ---- the bytes
 
-pub spells : {E : Type 0} (m : Machine) (text : List TextPage) (s : Snapshot) (result : Result (Vec ℕ Global) E) → IsMachineSnapshot m text s → IfOk result (λ bytes. bytes.items ≡ snapshot.spell (contents s)) →
-    IfOk result (λ bytes. SpellsMachine m text bytes.items)
-spells m text s (Ok bytes) is written = record { it = s; snapshot_is = is; bytes_are = written }
-spells m text s (Err e) is written = tt
+-- what is written is typed
+pub spells : {E : Type 0} (m : Machine) (text : List TextPage) (s : Snapshot) (result : Result (Vec ℕ Global) E) → (IsTyped (contents s) → IsMachineSnapshot m text s)
+    → IfOk result (λ bytes. bytes.items ≡ snapshot.spell (contents s)) → IfOk result (λ bytes. IsTyped (contents s)) → IfOk result (λ bytes. SpellsMachine m text bytes.items)
+spells m text s (Ok bytes) is written typed = record { it = s; snapshot_is = is typed; bytes_are = written }
+spells m text s (Err e) is written typed = tt
 
 -- ---- the snapshot of a run
 
@@ -56,6 +58,7 @@ snapshot_of_run first m start events text s is_new few stands text_is it = recor
   state = it.state (run start events) stands;
   made = it.made ∙ counts_drawn first m start events is_new few stands;
   text = it.text_is ∙ text_is;
+  typed = it.typed;
 }
 
 -- what a run that was written comes to, by how saving ended

@@ -9,6 +9,7 @@ use Rattle.machine_model.specs.Machine.{Machine}
 use Rattle.machine_model.specs.Reaches.{Reaches}
 use Rattle.saved_machine.specs.SavedStates.{IsSaved}
 use Rattle.snapshot_form.specs.Snapshots.{contents, snapshot}
+use Rattle.snapshot_form.specs.Typed.{IsTyped}
 use Rattle.snapshot_form.specs.declared.whole.Snapshot.{Snapshot}
 use Rattle.resume_laws.specs.Continues.{drawn}
 use Rattle.resumed_start.specs.TextPages.{digested_text}
@@ -24,11 +25,13 @@ use Rattle.snap_cli.specs.SnapWords.{SnapWords, out_of, snap_plan}
 
 -- ---- the snapshot
 
--- the state behind the events, how many of them were made while the machine ran, and the text that the start approves
+-- the state behind the events, how many of them were made while the machine ran, and the text that the start approves; its
+-- numbers are words, a hart's registers 32 and a digest 32 bytes
 pub record IsSnapshotOf (start : State) (events : List Event) (s : Snapshot) : Type 0 where
   pub state : IsSaved (run start events) s.«machine»
   pub made : s.events ≡ drawn start events
   pub text : s.text.items ≡ digested_text start
+  pub typed : IsTyped (contents s)
 
 -- exactly its spelling, under a name
 abbrev pub spelled : (name : List ℕ) → Snapshot → Saving

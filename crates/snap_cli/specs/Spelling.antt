@@ -5,6 +5,7 @@ use Rattle.machine_model.specs.Machine.{Machine}
 use Rattle.machine_model.specs.StandsFor.{StandsFor}
 use Rattle.saved_machine.specs.SavedStates.{IsSaved}
 use Rattle.snapshot_form.specs.Snapshots.{contents, snapshot}
+use Rattle.snapshot_form.specs.Typed.{IsTyped}
 use Rattle.snapshot_form.specs.declared.whole.Snapshot.{Snapshot}
 use Rattle.snapshot_form.specs.declared.whole.TextPage.{TextPage}
 use Rattle.snap_laws.specs.EventCounts.{events_counted}
@@ -19,6 +20,7 @@ pub record IsMachineSnapshot (m : Machine) (text : List TextPage) (s : Snapshot)
   pub state : (r : State) → StandsFor m r → IsSaved r s.«machine»
   pub made : s.events ≡ events_counted m.journal.counts
   pub text_is : s.text.items ≡ text
+  pub typed : IsTyped (contents s)
 
 pub record SpellsMachine (m : Machine) (text : List TextPage) (bytes : List ℕ) : Type 0 where
   pub it : Snapshot

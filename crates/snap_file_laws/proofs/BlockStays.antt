@@ -119,7 +119,7 @@ store_holds d n offset width value holds = any_holds d n width value (block_regi
 
 -- ---- beats
 
-abbrev block_by : (sector gpa count : ℕ) → BlockStatus → BlockState
+abbrev pub block_by : (sector gpa count : ℕ) → BlockStatus → BlockState
 block_by sector gpa count status = record { sector = sector; gpa = gpa; count = count; status = status }
 
 further : (sector gpa count done n : ℕ) (command : BlockCommand) (last : Bool) → (64 * (done + 1) == 512 * count) ≡ last

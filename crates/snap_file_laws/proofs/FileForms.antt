@@ -10,16 +10,12 @@ use Rattle.sv_types.specs.declared.port.PortState.{PortState}
 use Rattle.reference.specs.BlockDisk.{is_under_way}
 use Rattle.snapshot_form.specs.DeviceForms.{block, block_in, standing, transfer, port, disk, holds_transfer}
 use Rattle.snapshot_form.specs.Forms.{is_word}
+use Rattle.resume_laws.proofs.FormParts.{small_word}
+use Rattle.snap_file_laws.proofs.BlockStays.{block_by}
 use Rattle.snap_file_laws.specs.BlockRuns.{IsOnDisk, HoldsBlock, HoldsDisk, Transfers}
 use Rattle.saved_machine.specs.SavedStates.{disk_of}
 
-word_is : (n : ℕ) → n < 2 ^ 64 → is_word n ≡ true
-word_is n small = lt-ltb n (2 ^ 64) small
-
 -- ---- the device
-
-abbrev block_by : (sector gpa count : ℕ) → BlockStatus → BlockState
-block_by sector gpa count status = record { sector = sector; gpa = gpa; count = count; status = status }
 
 -- what its numbers say
 record HasNumbers (b : BlockState) : Type 0 where
@@ -30,9 +26,9 @@ record HasNumbers (b : BlockState) : Type 0 where
 
 numbers_in : (n : ℕ) (b : BlockState) → HoldsBlock n b → HasNumbers b
 numbers_in n b holds = record {
-  sector = word_is b.sector holds.sector;
-  gpa = word_is b.gpa holds.gpa;
-  count = let small = holds.count in word_is b.count (omega (arith, small));
+  sector = small_word b.sector holds.sector;
+  gpa = small_word b.gpa holds.gpa;
+  count = let small = holds.count in small_word b.count (omega (arith, small));
   few = lt-ltb b.count (2 ^ 32) holds.count;
 }
 
@@ -49,7 +45,7 @@ transfer_in n b done small on =
     record {
       some = lt-ltb 0 b.count (omega (arith, left));
       aligned = eq-eqb (b.gpa % 64) 0 on.aligned;
-      word = word_is done (omega (arith, left, small));
+      word = small_word done (omega (arith, left, small));
       left = lt-ltb done (8 * b.count) (omega (arith, left));
     }
 
@@ -93,7 +89,7 @@ holds_in n b few sectors holds =
 measured_has : (b : BlockState) (bytes : List ℕ) (n : ℕ) → n ≤ most_disk_bytes → holds_transfer b n ≡ true → length bytes ≡ n → (disk b).has bytes ≡ true
 unfolding disk
 measured_has b bytes n few on size =
-    let word : is_word (length bytes) ≡ true = word_is (length bytes) (omega (arith, few, size)) in
+    let word : is_word (length bytes) ≡ true = small_word (length bytes) (omega (arith, few, size)) in
     let inside : holds_transfer b (length bytes) ≡ true = subst (λ (m : ℕ). holds_transfer b m ≡ true) (sym size) on in
     let same : (length bytes == length bytes) ≡ true = eq-eqb (length bytes) (length bytes) refl in
     rw (word, inside, same) refl

@@ -1,54 +1,30 @@
 -- A snapshot of a run from a measured boot is read again as it was.
-use Rattle.std.proofs.Common.{◌≡◌, ℕ, zero, suc, ◌+◌, ◌^◌, ◌≤◌, List, [], ◌∷◌, length, arith, refl, subst, sym, lit<}
-use Rattle.std.specs.Prelude.{Option, Some, None}
+use Rattle.std.proofs.Common.{◌≡◌, ℕ, ◌+◌, ◌^◌, ◌≤◌, List, length, arith, refl, subst, sym, lit<}
 use Rattle.std.proofs.lemmas.List.{take_all}
 use Rattle.sv_types.specs.Boot.{no_counts}
 use Rattle.sv_types.specs.Limits.{most_events}
 use Rattle.sv_types.specs.Policies.{Rules}
-use Rattle.sv_types.specs.Schedule.{Schedule, first_events, next_event, after_event, begun_with}
+use Rattle.sv_types.specs.Schedule.{first_events}
 use Rattle.sv_types.specs.declared.event.Counts.{Counts}
 use Rattle.sv_types.specs.declared.event.Event.{Event}
-use Rattle.sv_types.specs.declared.event.Verdict.{Verdict}
-use Rattle.sv_types.specs.declared.event.Verdict.TheVariants.{Running, Shutdown, Stopped}
 use Rattle.reference.specs.Counting.{CountsAtMost}
-use Rattle.reference.specs.Run.{run, step}
+use Rattle.reference.specs.Run.{run}
 use Rattle.reference.specs.Start.{boot_start, start}
 use Rattle.reference.specs.States.{State}
 use Rattle.saved_machine.specs.SavedStates.{IsSaved}
 use Rattle.snapshot_form.specs.Snapshots.{contents}
 use Rattle.snapshot_form.specs.declared.whole.Snapshot.{Snapshot}
-use Rattle.resume_laws.specs.Continues.{drawn_under, drawn}
+use Rattle.resume_laws.specs.Continues.{drawn}
 use Rattle.resume_laws.specs.SavedForm.{HasBlock, IsCounted}
 use Rattle.resumed_start.specs.SnapLaws.{IsSnapAfter}
 use Rattle.resumed_start.proofs.SnapHolds.{snap_read_law}
 use Rattle.snap_cli.specs.SnapAnswers.{IsSnapshotOf}
+use Rattle.snap_cli.proofs.RunLemmas.{drawn_few, first_few}
 use Rattle.snap_file_laws.specs.BlockRuns.{HoldsDisk}
 use Rattle.snap_file_laws.specs.SnapFile.{IsDisk, SnapFileLaw}
 use Rattle.snap_file_laws.proofs.CountsRise.{counts_law}
 use Rattle.snap_file_laws.proofs.DisksStay.{block_law}
 use Rattle.snap_file_laws.proofs.FileForms.{forms_in}
-
--- ---- how many events were made
-
-drawn_few_by : (verdict : Verdict) (later n : ℕ) → later ≤ n → drawn_under verdict suc later ≤ suc n
-unfolding drawn_under
-drawn_few_by Running later n few = omega (arith, few)
-drawn_few_by Shutdown later n few = omega arith
-drawn_few_by (Stopped rule h at) later n few = omega arith
-
-drawn_few : (s : State) (events : List Event) → drawn s events ≤ length events
-unfolding drawn
-drawn_few s [] = omega arith
-drawn_few s (e ∷ events) = drawn_few_by s.journal.verdict (drawn (step s e) events) (length events) (drawn_few (step s e) events)
-
-begun_few : (first : Option Event) (events : List Event) (n : ℕ) → length events ≤ n → length (begun_with first events) ≤ suc n
-begun_few None events n few = omega arith
-begun_few (Some e) events n few = omega (arith, few)
-
-first_few : (n : ℕ) (script : Schedule) → length (first_events n script) ≤ n
-unfolding first_events
-first_few zero script = omega arith
-first_few (suc n) script = begun_few (next_event script) (first_events n (after_event script)) n (first_few n (after_event script))
 
 -- ---- the start
 
@@ -115,8 +91,8 @@ snap_after rules file disk events s snap = record {
 }
 
 pub snap_file_law : SnapFileLaw
-snap_file_law rules file disk script k s boot is few snap typed =
+snap_file_law rules file disk script k s boot is few snap =
     let events = first_events k script in
-    snap_read_law rules file disk events (length events) s boot (snap_after rules file disk events s snap) typed
+    snap_read_law rules file disk events (length events) s boot (snap_after rules file disk events s snap) snap.typed
     (block_in_file (boot_start rules file disk) events disk s (boot_disk rules file disk) is snap)
     (counted_in (boot_start rules file disk) events k s (boot_counts rules file disk) (first_few k script) few snap)

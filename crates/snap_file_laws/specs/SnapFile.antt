@@ -7,7 +7,6 @@ use Rattle.reference.specs.BlockDisk.{sector_size}
 use Rattle.reference.specs.Start.{boot_start}
 use Rattle.snapshot_form.specs.Snapshots.{contents, snapshot, snapshot_read}
 use Rattle.snapshot_form.specs.declared.whole.Snapshot.{Snapshot}
-use Rattle.resume_laws.specs.SavedForm.{IsTyped}
 use Rattle.resumed_start.specs.SnapLaws.{IsMeasuredBoot}
 use Rattle.snap_cli.specs.SnapAnswers.{IsSnapshotOf}
 
@@ -16,8 +15,7 @@ pub record IsDisk (disk : List ℕ) : Type 0 where
   pub sectors : length disk % sector_size ≡ 0
   pub few : length disk ≤ most_disk_bytes
 
--- What `snap` saves of a run from a measured boot is read again as it was, where the numbers are in the ranges of their types.
+-- What `snap` saves of a run from a measured boot is read again as it was.
 abbrev pub SnapFileLaw : Type 0
 SnapFileLaw = (rules : Rules) (file disk : List ℕ) (script : Schedule) (k : ℕ) (s : Snapshot) → IsMeasuredBoot rules file → IsDisk disk → k ≤ most_events
-    → IsSnapshotOf (boot_start rules file disk) (first_events k script) s → IsTyped (contents s)
-    → snapshot_read (snapshot.spell (contents s)) ≡ Ok (contents s)
+    → IsSnapshotOf (boot_start rules file disk) (first_events k script) s → snapshot_read (snapshot.spell (contents s)) ≡ Ok (contents s)

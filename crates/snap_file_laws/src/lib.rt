@@ -15,7 +15,7 @@ pub fn law_counts()
     ensures { CountsLaw }
 {}
 
-/// The bytes of a snapshot of a run are read again as they were, where the numbers of its values are in the ranges of their types.
+/// The bytes that `snap` saves of a run from a measured boot are read again as they were.
 pub fn law_snap_file()
     ensures { SnapFileLaw }
 {}

@@ -1,2 +1,3 @@
 pub mod EventsCounted
+pub mod DiskWalk
 pub mod KindsStay

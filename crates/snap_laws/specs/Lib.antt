@@ -1,2 +1,3 @@
 pub mod EventCounts
 pub mod DiskKinds
+pub mod DiskMoves

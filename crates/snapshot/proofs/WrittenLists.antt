@@ -1,7 +1,12 @@
 -- Spelling values one after another, as a loop does.
-use Rattle.std.proofs.Common.{◌≡◌, ℕ, ◌+◌, ◌<◌, ◌≤◌, List, [], ◌∷◌, ◌++◌, length, get_or, take, refl, sym, ap, ◌∙◌, append_assoc}
+use Rattle.std.proofs.Common.{◌≡◌, ℕ, ◌+◌, suc, ◌^◌, ◌<◌, ◌≤◌, List, [], ◌∷◌, ◌++◌, length, get_or, take, refl, sym, ap, ◌∙◌, append_assoc, Bool, true}
+use Rattle.std.proofs.lemmas.Bool.{lt-ltb}
 use Rattle.std.proofs.lemmas.List.{append-nil, take_all, take_more}
-use Rattle.snapshot_form.specs.Forms.{Form, spell_all}
+use Rattle.std.proofs.lemmas.List.Folds.{list_all_more}
+use Rattle.std.specs.List.{list_all}
+use Rattle.snapshot_form.specs.Forms.{Form, is_word, spell_all}
+use Rattle.snapshot_form.specs.Typed.{are_words}
+use Rattle.snapshot_form.proofs.FormLaws.{both_true}
 
 -- one value more is spelled
 pub spelled_one : {A : Type 0} (f : List A → Form A) (before values : List A) (a : A) → spell_all f before (values ++ a ∷ []) ≡ spell_all f before values ++ (f (before ++ values)).spell a
@@ -36,3 +41,18 @@ all_written f values i front out le so_far = so_far ∙ ap (λ taken. front ++ s
 pub all_counted : {A : Type 0} (f : List A → Form A) (values : List A) (i : ℕ) (front count out : List ℕ) → length values ≤ i
     → out ≡ (front ++ count) ++ spell_all f [] (take i values) → out ≡ front ++ (count ++ spell_all f [] values)
 all_counted f values i front count out le so_far = all_written f values i (front ++ count) out le so_far ∙ append_assoc front count (spell_all f [] values)
+
+-- ---- the same loop, of a test that each value passes
+
+pub one_more_typed : {A : Type 0} (d : A) (p : A → Bool) (values : List A) (i : ℕ) → i < length values
+    → list_all p (take i values) ≡ true → p (get_or values i d) ≡ true → list_all p (take (i + 1) values) ≡ true
+one_more_typed d p values i lt so_far one = list_all_more p values i d lt ∙ both_true (list_all p (take i values)) (p (get_or values i d)) so_far one
+
+pub all_typed : {A : Type 0} (p : A → Bool) (values : List A) (i : ℕ) → length values ≤ i → list_all p (take i values) ≡ true → list_all p values ≡ true
+all_typed p values i le so_far = ap (list_all p) (sym (take_all i values le)) ∙ so_far
+
+-- ---- numbers of a type of 64 bits
+
+pub words_in : (xs : List ℕ) → ((i : ℕ) → get_or xs i 0 < 2 ^ 64) → are_words xs ≡ true
+words_in [] fits = refl
+words_in (x ∷ xs) fits = both_true (is_word x) (are_words xs) (lt-ltb x (2 ^ 64) (fits 0)) (words_in xs (λ i. fits (suc i)))

@@ -1,7 +1,9 @@
 // The bytes of harts.
 
-ghost use Rattle.std.specs.Prelude.{◌≡◌, ℕ, ◌*◌, ◌∷◌, ◌++◌, drop, length, OnOk, IfOk};
+ghost use Rattle.std.specs.Prelude.{◌≡◌, ℕ, ◌*◌, ◌∷◌, ◌++◌, drop, length, true, OnOk, IfOk};
+ghost use Rattle.std.specs.List.{list_all};
 ghost use Rattle.snapshot_form.specs.HartForms.{hart, hart_parts, harts, mode, registers, reservation, side};
+ghost use Rattle.snapshot_form.specs.Typed.{are_registers, is_typed_hart};
 ghost use Rattle.snapshot.specs.Reading.{Gives, Reads};
 
 use crate::read_error::ReadError;
@@ -18,7 +20,8 @@ use std::alloc::{AllocError, Global};
 const RESERVED_BYTES: u64 = 8;
 
 pub(crate) fn write_harts(out: &mut Vec<u8>, saved: &[SavedHart]) -> Result<(), AllocError>
-    ensures { (ram_pages count : ℕ) → OnOk result (out.new.items ≡ out.old.items ++ (harts ram_pages count).spell saved.now) }
+    ensures spelled { (ram_pages count : ℕ) → OnOk result (out.new.items ≡ out.old.items ++ (harts ram_pages count).spell saved.now) }
+    ensures typed { OnOk result (list_all is_typed_hart saved.now ≡ true) }
 {
     'harts: for h in saved {
         write_hart(out, h)?;
@@ -28,12 +31,12 @@ pub(crate) fn write_harts(out: &mut Vec<u8>, saved: &[SavedHart]) -> Result<(), 
 
 #[tactic(auto, unfolding(snapshot_form::specs::HartForms::hart, snapshot_form::specs::HartForms::aligned, snapshot_form::specs::HartForms::reservation))]
 fn write_hart(out: &mut Vec<u8>, h: &SavedHart) -> Result<(), AllocError>
-    ensures { (ram_pages : ℕ) → OnOk result (out.new.items ≡ out.old.items ++ (hart ram_pages).spell h.now) }
+    ensures spelled { (ram_pages : ℕ) → OnOk result (out.new.items ≡ out.old.items ++ (hart ram_pages).spell h.now) }
+    ensures typed { OnOk result (is_typed_hart h.now ≡ true) }
 {
-    let (_zero, registers) = h.registers.split_at(1);
     write_side(out, h)?;
     write_number(out, h.pc)?;
-    write_registers(out, registers)?;
+    write_registers(out, &h.registers)?;
     write_status(out, h)?;
     write_address(out, h.reservation)?;
     write_number(out, h.timer)
@@ -49,7 +52,16 @@ fn write_side(out: &mut Vec<u8>, h: &SavedHart) -> Result<(), AllocError>
     write_place(out, h.entry)
 }
 
-fn write_registers(out: &mut Vec<u8>, values: &[u64]) -> Result<(), AllocError>
+// Registers 1 to 31, behind register 0.
+fn write_registers(out: &mut Vec<u8>, register_file: &[u64; 32]) -> Result<(), AllocError>
+    ensures spelled { OnOk result (out.new.items ≡ out.old.items ++ registers.spell (drop 1 register_file.now)) }
+    ensures typed { are_registers register_file.now ≡ true }
+{
+    let (_zero, values) = register_file.split_at(1);
+    write_values(out, values)
+}
+
+fn write_values(out: &mut Vec<u8>, values: &[u64]) -> Result<(), AllocError>
     ensures { OnOk result (out.new.items ≡ out.old.items ++ registers.spell values.now) }
 {
     'values: for value in values {

@@ -1,7 +1,9 @@
 // The bytes of what a machine recorded: its counts, notes and verdict.
 
-ghost use Rattle.std.specs.Prelude.{◌≡◌, ℕ, ◌++◌, OnOk};
+ghost use Rattle.std.specs.Prelude.{◌≡◌, ℕ, ◌++◌, true, OnOk};
+ghost use Rattle.std.specs.List.{list_all};
 ghost use Rattle.snapshot_form.specs.JournalForms.{journal};
+ghost use Rattle.snapshot_form.specs.Typed.{are_words, is_typed_note, verdict_numbers};
 ghost use Rattle.snapshot.specs.Reading.{Reads};
 ghost use Rattle.snapshot.specs.Views.{recorded_parts};
 
@@ -15,7 +17,9 @@ use sv_types::{Counts, Note, Verdict};
 
 #[tactic(auto, unfolding(snapshot_form::specs::JournalForms::journal))]
 pub(crate) fn write_journal(out: &mut Vec<u8>, machine: &Saved) -> Result<(), AllocError>
-    ensures { (events harts : ℕ) → OnOk result (out.new.items ≡ out.old.items ++ (journal events harts).spell (machine.now.counts, (machine.now.notes.items, machine.now.verdict))) }
+    ensures spelled { (events harts : ℕ) → OnOk result (out.new.items ≡ out.old.items ++ (journal events harts).spell (machine.now.counts, (machine.now.notes.items, machine.now.verdict))) }
+    ensures notes { OnOk result (list_all is_typed_note machine.now.notes.items ≡ true) }
+    ensures verdict { OnOk result (are_words (verdict_numbers machine.now.verdict) ≡ true) }
 {
     write_counts(out, &machine.counts)?;
     write_notes(out, &machine.notes)?;

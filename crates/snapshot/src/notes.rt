@@ -1,9 +1,11 @@
 // The bytes of notes: a kind, and the fields of each.
 
-ghost use Rattle.std.specs.Prelude.{◌≡◌, ℕ, [], ◌++◌, Some, None, if◌then◌else◌, OnOk};
+ghost use Rattle.std.specs.Prelude.{◌≡◌, ℕ, [], ◌++◌, true, Some, None, if◌then◌else◌, OnOk};
+ghost use Rattle.std.specs.List.{list_all};
 ghost use Rattle.sv_types.specs.SbiCodes.{code_word};
 ghost use Rattle.snapshot_form.specs.Forms.{listed, spell_number};
 ghost use Rattle.snapshot_form.specs.JournalForms.{answer, code, codes_known, demote, denied, found_among, is_among, load_note, note, note_behind, notes, retire, unload};
+ghost use Rattle.snapshot_form.specs.Typed.{is_typed_note};
 ghost use Rattle.snapshot.specs.Reading.{Gives, Reads};
 
 use crate::read_error::ReadError;
@@ -24,7 +26,8 @@ const UNLOAD: u64 = 4;
 const RETIRE: u64 = 5;
 
 pub(crate) fn write_notes(out: &mut Vec<u8>, kept: &[Note]) -> Result<(), AllocError>
-    ensures { (harts all : ℕ) → OnOk result (out.new.items ≡ out.old.items ++ (notes harts all).spell kept.now) }
+    ensures spelled { (harts all : ℕ) → OnOk result (out.new.items ≡ out.old.items ++ (notes harts all).spell kept.now) }
+    ensures typed { OnOk result (list_all is_typed_note kept.now ≡ true) }
 {
     write_number(out, kept.len() as u64)?;
     'notes: for n in kept {
@@ -35,7 +38,8 @@ pub(crate) fn write_notes(out: &mut Vec<u8>, kept: &[Note]) -> Result<(), AllocE
 
 #[tactic(auto, unfolding(snapshot_form::specs::JournalForms::note, snapshot_form::specs::JournalForms::note_behind, snapshot_form::specs::JournalForms::demote, snapshot_form::specs::JournalForms::denied, snapshot_form::specs::JournalForms::load_note, snapshot_form::specs::JournalForms::unload, snapshot_form::specs::JournalForms::retire, snapshot_form::specs::JournalForms::answer, snapshot_form::specs::JournalForms::code, snapshot_form::specs::JournalForms::hart_number, snapshot_form::specs::HartForms::aligned))]
 fn write_note(out: &mut Vec<u8>, n: Note) -> Result<(), AllocError>
-    ensures { (harts : ℕ) → OnOk result (out.new.items ≡ out.old.items ++ (note harts).spell n) }
+    ensures spelled { (harts : ℕ) → OnOk result (out.new.items ≡ out.old.items ++ (note harts).spell n) }
+    ensures typed { OnOk result (is_typed_note n ≡ true) }
 {
     match n {
         Note::Demote {

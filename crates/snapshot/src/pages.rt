@@ -1,8 +1,10 @@
 // The bytes of protections and of the kernel's text.
 
-ghost use Rattle.std.specs.Prelude.{◌≡◌, ℕ, List, [], ◌++◌, OnOk};
+ghost use Rattle.std.specs.Prelude.{◌≡◌, ℕ, List, [], ◌++◌, true, OnOk};
+ghost use Rattle.std.specs.List.{list_all};
 ghost use Rattle.snapshot_form.specs.Forms.{listed};
 ghost use Rattle.snapshot_form.specs.PageForms.{is_above, last_page, pages, protection, protection_number, protections, text, text_page};
+ghost use Rattle.snapshot_form.specs.Typed.{is_typed_page};
 ghost use Rattle.snapshot.specs.Reading.{Gives, Reads};
 ghost use Rattle.snapshot.specs.Views.{pages_parts};
 
@@ -18,7 +20,8 @@ pub(crate) fn write_pages(
     protection: &[Protection],
     kernel_text: &[TextPage],
 ) -> Result<(), AllocError>
-    ensures { (ram_pages : ℕ) → OnOk result (out.new.items ≡ out.old.items ++ (pages ram_pages).spell (protection.now, kernel_text.now)) }
+    ensures spelled { (ram_pages : ℕ) → OnOk result (out.new.items ≡ out.old.items ++ (pages ram_pages).spell (protection.now, kernel_text.now)) }
+    ensures typed { OnOk result (list_all is_typed_page kernel_text.now ≡ true) }
 {
     write_protections(out, protection)?;
     write_text(out, kernel_text)
@@ -44,7 +47,8 @@ fn protection_byte(protection: Protection) -> u8
 }
 
 fn write_text(out: &mut Vec<u8>, text_pages: &[TextPage]) -> Result<(), AllocError>
-    ensures { (ram_pages : ℕ) → OnOk result (out.new.items ≡ out.old.items ++ (text ram_pages).spell text_pages.now) }
+    ensures spelled { (ram_pages : ℕ) → OnOk result (out.new.items ≡ out.old.items ++ (text ram_pages).spell text_pages.now) }
+    ensures typed { OnOk result (list_all is_typed_page text_pages.now ≡ true) }
 {
     write_number(out, text_pages.len() as u64)?;
     'pages: for page in text_pages {
@@ -55,7 +59,8 @@ fn write_text(out: &mut Vec<u8>, text_pages: &[TextPage]) -> Result<(), AllocErr
 
 #[tactic(auto, unfolding(snapshot_form::specs::PageForms::text_page))]
 fn write_text_page(out: &mut Vec<u8>, page: &TextPage) -> Result<(), AllocError>
-    ensures { (ram_pages : ℕ) (before : List TextPage) → OnOk result (out.new.items ≡ out.old.items ++ (text_page ram_pages before).spell page.now) }
+    ensures spelled { (ram_pages : ℕ) (before : List TextPage) → OnOk result (out.new.items ≡ out.old.items ++ (text_page ram_pages before).spell page.now) }
+    ensures typed { OnOk result (is_typed_page page.now ≡ true) }
 {
     write_number(out, u64::from(page.page))?;
     out.extend_from_slice(&page.digest)

@@ -1,9 +1,10 @@
 // The bytes of a hart's supervisor registers.
 
-ghost use Rattle.std.specs.Prelude.{◌≡◌, ◌++◌, ◌==◌, ◌||◌, OnOk};
+ghost use Rattle.std.specs.Prelude.{◌≡◌, ◌++◌, ◌==◌, ◌||◌, [], ◌∷◌, true, OnOk};
 ghost use Rattle.processor.specs.Registers.{legal_counteren, legal_epc, legal_interrupts, legal_satp, legal_status, legal_tvec};
 ghost use Rattle.snapshot_form.specs.Forms.{number, within};
 ghost use Rattle.snapshot_form.specs.HartForms.{hart_parts, legal, status, trap_status};
+ghost use Rattle.snapshot_form.specs.Typed.{are_words, supervisor_numbers};
 ghost use Rattle.snapshot.specs.Reading.{Gives};
 
 use crate::values::{in_range, read_number, write_number};
@@ -17,7 +18,8 @@ use std::alloc::AllocError;
 
 #[tactic(auto, unfolding(snapshot_form::specs::HartForms::status, snapshot_form::specs::HartForms::legal))]
 pub(crate) fn write_status(out: &mut Vec<u8>, h: &SavedHart) -> Result<(), AllocError>
-    ensures { OnOk result (out.new.items ≡ out.old.items ++ status.spell (hart_parts h.now).1.1.1.0) }
+    ensures spelled { OnOk result (out.new.items ≡ out.old.items ++ status.spell (hart_parts h.now).1.1.1.0) }
+    ensures typed { OnOk result (are_words (supervisor_numbers h.now) ≡ true) }
 {
     write_number(out, h.sstatus)?;
     write_number(out, h.sie)?;
@@ -30,7 +32,8 @@ pub(crate) fn write_status(out: &mut Vec<u8>, h: &SavedHart) -> Result<(), Alloc
 // What a trap writes, the software interrupt and the root of translation.
 #[tactic(auto, unfolding(snapshot_form::specs::HartForms::trap_status, snapshot_form::specs::HartForms::legal))]
 fn write_trap_status(out: &mut Vec<u8>, h: &SavedHart) -> Result<(), AllocError>
-    ensures { OnOk result (out.new.items ≡ out.old.items ++ trap_status.spell (hart_parts h.now).1.1.1.0.1.1.1.1.1) }
+    ensures spelled { OnOk result (out.new.items ≡ out.old.items ++ trap_status.spell (hart_parts h.now).1.1.1.0.1.1.1.1.1) }
+    ensures typed { OnOk result (are_words (h.now.sepc ∷ h.now.scause ∷ h.now.stval ∷ h.now.satp ∷ []) ≡ true) }
 {
     write_number(out, h.sepc)?;
     write_number(out, h.scause)?;

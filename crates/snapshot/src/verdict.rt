@@ -1,8 +1,9 @@
 // The bytes of the verdict: a kind, and the fields of each.
 
-ghost use Rattle.std.specs.Prelude.{◌≡◌, ℕ, ◌++◌, OnOk};
+ghost use Rattle.std.specs.Prelude.{◌≡◌, ℕ, ◌++◌, true, OnOk};
 ghost use Rattle.snapshot_form.specs.Forms.{spell_number};
 ghost use Rattle.snapshot_form.specs.JournalForms.{stopped_entry, stopped_write, verdict, verdict_behind};
+ghost use Rattle.snapshot_form.specs.Typed.{are_words, verdict_numbers};
 ghost use Rattle.snapshot.specs.Reading.{Gives};
 
 use crate::values::{in_range, read_hart_number, read_number, read_pc, write_number};
@@ -21,7 +22,8 @@ const STOPPED_WRITE: u64 = 3;
 
 #[tactic(auto, unfolding(snapshot_form::specs::JournalForms::verdict, snapshot_form::specs::JournalForms::verdict_behind, snapshot_form::specs::JournalForms::stopped_entry, snapshot_form::specs::JournalForms::stopped_write, snapshot_form::specs::JournalForms::hart_number, snapshot_form::specs::HartForms::aligned))]
 pub(crate) fn write_verdict(out: &mut Vec<u8>, v: Verdict) -> Result<(), AllocError>
-    ensures { (harts : ℕ) → OnOk result (out.new.items ≡ out.old.items ++ (verdict harts).spell v) }
+    ensures spelled { (harts : ℕ) → OnOk result (out.new.items ≡ out.old.items ++ (verdict harts).spell v) }
+    ensures typed { OnOk result (are_words (verdict_numbers v) ≡ true) }
 {
     match v {
         Verdict::Running => write_number(out, RUNNING),

@@ -1,11 +1,13 @@
 // The bytes of a whole snapshot.
 
 ghost use Rattle.std.specs.Prelude.{◌≡◌, ◌≤◌, ◌*◌, ◌++◌, true, Ok, OnOk, IfOk};
+ghost use Rattle.std.specs.List.{list_all};
 ghost use Rattle.processor.specs.Bytes.{page_size};
 ghost use Rattle.sv_types.specs.Limits.{most_harts};
 ghost use Rattle.snapshot_form.specs.DeviceForms.{is_block};
-ghost use Rattle.snapshot_form.specs.Forms.{plain};
+ghost use Rattle.snapshot_form.specs.Forms.{is_word, plain};
 ghost use Rattle.snapshot_form.specs.Snapshots.{Contents, beginning, body, contents, hart_count, header, magic, page_count, snapshot, snapshot_read, whole_body, whole_header, whole_of};
+ghost use Rattle.snapshot_form.specs.Typed.{IsTyped, are_words, is_typed_hart, is_typed_module, is_typed_note, is_typed_page, load_numbers, verdict_numbers};
 ghost use Rattle.snapshot.specs.Reading.{Gives, Reads};
 ghost use Rattle.snapshot.specs.Views.{body_parts, header_view};
 
@@ -32,7 +34,8 @@ pub const MOST_SNAPSHOT_BYTES: usize = 1300 << 20;
 #[tactic(auto, unfolding(snapshot_form::specs::Snapshots::snapshot))]
 pub fn write(alloc: Global, s: &Snapshot) -> Result<Vec<u8>, AllocError>
     requires { is_block s.now.machine.port ≡ true }
-    ensures { IfOk result (λ bytes. bytes.items ≡ snapshot.spell (contents s.now)) }
+    ensures spelled { IfOk result (λ bytes. bytes.items ≡ snapshot.spell (contents s.now)) }
+    ensures typed { IfOk result (λ bytes. IsTyped (contents s.now)) }
 {
     let mut out = Vec::new(alloc);
     write_header(&mut out, s)?;
@@ -42,7 +45,8 @@ pub fn write(alloc: Global, s: &Snapshot) -> Result<Vec<u8>, AllocError>
 
 #[tactic(auto, unfolding(snapshot_form::specs::Snapshots::header))]
 fn write_header(out: &mut Vec<u8>, s: &Snapshot) -> Result<(), AllocError>
-    ensures { OnOk result (out.new.items ≡ out.old.items ++ header.spell (whole_header (contents s.now))) }
+    ensures spelled { OnOk result (out.new.items ≡ out.old.items ++ header.spell (whole_header (contents s.now))) }
+    ensures time { OnOk result (is_word s.now.machine.time ≡ true) }
 {
     out.extend_from_slice(MAGIC)?;
     write_number(out, s.events)?;
@@ -54,7 +58,13 @@ fn write_header(out: &mut Vec<u8>, s: &Snapshot) -> Result<(), AllocError>
 #[tactic(auto, unfolding(snapshot_form::specs::Snapshots::body))]
 fn write_body(out: &mut Vec<u8>, s: &Snapshot) -> Result<(), AllocError>
     requires { is_block s.now.machine.port ≡ true }
-    ensures { OnOk result (out.new.items ≡ out.old.items ++ (body (whole_header (contents s.now))).spell (whole_body (contents s.now))) }
+    ensures spelled { OnOk result (out.new.items ≡ out.old.items ++ (body (whole_header (contents s.now))).spell (whole_body (contents s.now))) }
+    ensures harts { OnOk result (list_all is_typed_hart s.now.machine.harts.items ≡ true) }
+    ensures text { OnOk result (list_all is_typed_page s.now.text.items ≡ true) }
+    ensures modules { OnOk result (list_all is_typed_module s.now.machine.modules.items ≡ true) }
+    ensures loading { OnOk result (are_words (load_numbers s.now.machine.loading) ≡ true) }
+    ensures notes { OnOk result (list_all is_typed_note s.now.machine.notes.items ≡ true) }
+    ensures verdict { OnOk result (are_words (verdict_numbers s.now.machine.verdict) ≡ true) }
 {
     let machine = &s.machine;
     write_harts(out, &machine.harts)?;

@@ -7,3 +7,4 @@ pub mod DeviceForms
 pub mod JournalForms
 pub mod Snapshots
 pub mod SnapshotLaw
+pub mod Typed

@@ -12,4 +12,5 @@ pub returns : goal.returns
 returns c =
     let made : Snapshot = record { events = c.events_made.result; «machine» = c.in_ok-saved.saved; text = c.args.text } in
     spells c.args.machine.now c.args.text.items made c.write.result
-    (record { state = c.in_ok-saved.ensures.state; made = c.events_made.ensures ∙ ap events_counted c.counts.ensures; text_is = refl }) c.write.ensures
+    (λ typed. record { state = c.in_ok-saved.ensures.state; made = c.events_made.ensures ∙ ap events_counted c.counts.ensures; text_is = refl; typed = typed })
+    c.write.ensures.spelled c.write.ensures.typed

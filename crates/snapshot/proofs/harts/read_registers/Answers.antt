@@ -1,4 +1,4 @@
-use Rattle.std.proofs.Common.{◌+◌, [], length, take, ◌∙◌, arith}
+use Rattle.std.proofs.Common.{◌+◌, [], ◌∙◌, arith}
 use Rattle.std.proofs.lemmas.List.{take-set-le, length-set}
 use Rattle.snapshot_form.specs.Forms.{all_taken, number}
 use Rattle.snapshot_form.specs.HartForms.{registers}

@@ -1,14 +1,12 @@
-use Rattle.snapshot_form.specs.Forms.{number}
-use Rattle.snapshot_form.specs.HartForms.{registers}
-use Rattle.snapshot.proofs.WrittenLists.{nothing_yet, one_more, all_written}
+use Rattle.std.proofs.Common.{length, arith}
+use Rattle.std.specs.Prelude.{◌==◌}
+use Rattle.std.proofs.lemmas.Bool.{eq-eqb}
+use Rattle.snapshot_form.specs.Typed.{are_words}
+use Rattle.snapshot_form.proofs.FormLaws.{both_true}
+use Rattle.snapshot.proofs.WrittenLists.{words_in}
 use Rattle.snapshot.proofs.harts.write_registers.Goals as goal
 
-pub values-init : goal.values-init
-values-init c = nothing_yet (λ before. number) c.args.out.now.items
-
-pub values-preserved : goal.values-preserved
-values-preserved c = one_more _ (λ before. number) c.args.values.now c.values.value-index c.args.out.now.items c.values.out.items _ c.values-test.true c.values.invariant c.in_ok-write_number.ensures
-
-pub returns : goal.returns
-unfolding registers
-returns c = all_written (λ before. number) c.args.values.now c.values.value-index c.args.out.now.items c.values.out.items c.values-test.false c.values.invariant
+pub returns-clause-typed : goal.returns-clause-typed
+returns-clause-typed c =
+    let registers = c.args.register_file.now in
+    both_true (length registers == 32) (are_words registers) (eq-eqb (length registers) 32 c.told-register_file) (words_in registers (λ i. omega (arith, c.fits-register_file i)))
