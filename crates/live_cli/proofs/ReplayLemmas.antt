@@ -35,8 +35,10 @@ use Rattle.secvisor_cli.specs.Reading.{Follows}
 use Rattle.secvisor_cli.proofs.PlanLemmas.{Keeps}
 use Rattle.live_cli.specs.LiveAnswers.{IsScriptOf}
 use Rattle.live_cli.specs.LiveWords.{LiveWords, drawn_run, live_words, live_judged, live_shape, most_live_events}
-use Rattle.live_cli.specs.Replays.{LiveLine, live_line, run_line, NamesScript, due_in, Parts, HoldDisk, HoldParts}
-use Rattle.live_cli.proofs.PlanLemmas.{some_same, held_before, part_gives, judge_gives, due_held}
+use Rattle.secvisor_cli.specs.DueIn.{due_in}
+use Rattle.secvisor_cli.proofs.DueLemmas.{some_same, held_before, due_held}
+use Rattle.live_cli.specs.Replays.{LiveLine, live_line, run_line, NamesScript, Parts, HoldDisk, HoldParts}
+use Rattle.live_cli.proofs.PlanLemmas.{part_gives, judge_gives}
 
 -- ---- what was judged good
 

@@ -1,5 +1,5 @@
 -- That `run` replays what `live` did: what it is due, where the text that `live` saved is its script.
-use Rattle.std.specs.Prelude.{◌≡◌, ◌<◌, ◌≤◌, ◌⊎◌, ◌^◌, ℕ, List, [], ◌∷◌, length, nat_le, Bool, true, false, IsTrue, if◌then◌else◌, Option, Some, None, codes}
+use Rattle.std.specs.Prelude.{◌≡◌, ◌<◌, ◌≤◌, ◌⊎◌, ◌^◌, ℕ, List, [], ◌∷◌, length, Bool, true, false, IsTrue, Option, Some, None, codes}
 use Rattle.std.specs.Fmt.{decimal}
 use Rattle.sv_types.specs.declared.event.Event.{Event}
 use Rattle.sv_types.specs.declared.status.Status.{Status}
@@ -10,11 +10,11 @@ use Rattle.reference.specs.Report.{output}
 use Rattle.reference.specs.Run.{run}
 use Rattle.machine_model.specs.Machine.{Machine}
 use Rattle.command_words.specs.Commands.{has_dash}
-use Rattle.outside.specs.Outside.{FilesState, after_taking}
+use Rattle.outside.specs.Outside.{after_taking}
 use Rattle.live_keys.specs.Keys.{KeysState}
 use Rattle.secvisor_cli.specs.CommandLine.{Text, judged, source_of, unless_none}
-use Rattle.secvisor_cli.specs.Plans.{Due, RunFrom, Plan, End, Read, Judge, Found, Missing, Longer, Held, plan_of}
-use Rattle.secvisor_cli.specs.Reading.{Follows}
+use Rattle.secvisor_cli.specs.DueIn.{due_in}
+use Rattle.secvisor_cli.specs.Plans.{RunFrom, plan_of}
 use Rattle.live_cli.specs.LiveAnswers.{LiveOutside}
 
 -- ---- the words
@@ -39,25 +39,6 @@ run_line line script events save =
 pub record NamesScript (word : List ℕ) : Type 0 where
   pub dash : has_dash word ≡ false
   pub file : source_of word ≡ Some (Text word)
-
--- ---- what is due in files that hold something
-
--- what reading a name gives that holds this, where the read doesn't fail
-unfoldable pub found_in : (limit : ℕ) → Option (List ℕ) → Found
-found_in limit None = Missing
-found_in limit (Some bytes) = if nat_le (length bytes) limit then Held bytes else Longer
-
--- what is due at a plan's end in files whose names hold this, where no read fails and memory isn't wanting
-abbrev pub due_in : (held : List ℕ → Option (List ℕ)) → Plan → Due
-due_in held (End due) = due
-due_in held (Read name limit next) = due_in held (next (found_in limit (held name)))
-due_in held (Judge next) = due_in held next
-
--- So it is with files that tell what they hold: where they were asked as the plan says and no read failed, this is due at its
--- end.
-abbrev pub ComesToDue : Type 0
-ComesToDue = (plan : Plan) (old new : FilesState) (due : Due) → IsTrue old.tells → new.read_faults ≡ old.read_faults →
-    Follows plan old new (Some due) → due_in old.held plan ≡ due
 
 -- ---- what is read
 

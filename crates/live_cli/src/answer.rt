@@ -15,7 +15,7 @@ ghost use Rattle.sv_types.specs.declared.status.Status.{Status as Answer};
 ghost use Rattle.live_cli.specs.LiveWords.{live_judged, live_plan};
 ghost use Rattle.live_cli.specs.LiveReady.{IsLiveFresh, out_of, MaySaveUnder};
 ghost use Rattle.live_cli.specs.LiveAnswers.{live_outside, SavesScript, after_reading, is_refusal, Reports, RunsLive, PerformsLive, LiveHeadline};
-ghost use Rattle.live_cli.specs.Replays.{LiveLine, live_line, HasEnded, Replays, ComesToDue};
+ghost use Rattle.live_cli.specs.Replays.{LiveLine, live_line, HasEnded, Replays};
 ghost use Rattle.outside.specs.Outside.{MayWrite};
 
 use crate::ready::{LiveReady, prepare_live};
@@ -209,8 +209,3 @@ pub fn secvisor_live<R: Threads + Wait + Sync, F: Files, K: Keys + Send, O: Sink
 {
     settled(answer(rt, alloc, words, files, keys, out, pace, bench))
 }
-
-/// In files that tell what they hold, what is due at the end of a plan is what they hold asks for, where no read failed.
-pub fn law_due()
-    ensures due { ComesToDue }
-{}

@@ -5,4 +5,4 @@ mod answer;
 mod ready;
 mod words;
 
-pub use answer::{law_due, secvisor_live};
+pub use answer::secvisor_live;

@@ -5,3 +5,4 @@ pub mod StageLemmas
 pub mod AnswerLemmas
 pub mod ClauseLemmas
 pub mod OneRun
+pub mod EndLemmas

@@ -2,3 +2,4 @@ pub mod ResumeWords
 pub mod ResumePlans
 pub mod ResumeReady
 pub mod SnapAndResume
+pub mod ResumeEnds

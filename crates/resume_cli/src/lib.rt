@@ -9,4 +9,4 @@ mod snapshot_file;
 mod words;
 
 pub use answer::secvisor_resume;
-pub use laws::law_snap_and_resume;
+pub use laws::{law_resume_ends, law_snap_and_resume};

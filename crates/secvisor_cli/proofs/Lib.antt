@@ -8,3 +8,4 @@ pub mod TopLemmas
 pub mod MakingLemmas
 pub mod ConvertLemmas
 pub mod ConvertDone
+pub mod DueLemmas

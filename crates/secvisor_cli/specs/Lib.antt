@@ -6,3 +6,4 @@ pub mod Reading
 pub mod Answers
 pub mod Ready
 pub mod Converted
+pub mod DueIn

@@ -27,7 +27,7 @@ pub use image_run::{
     read_policy, read_script,
 };
 pub use judgement::any_has_dash;
-pub use laws::law_converted;
+pub use laws::{law_converted, law_due, law_run_ends};
 pub use making::MOST_OBJECT_BYTES;
 pub use parts::read_part;
 pub use ready::{Booted, Made, Ready, Stop};

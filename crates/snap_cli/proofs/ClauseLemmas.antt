@@ -43,7 +43,7 @@ abbrev exact_saving : (name bytes : List ℕ) → Saving
 exact_saving name bytes = record { name = name; content = Exactly bytes }
 
 -- what is saved changes no other name
-record ChangesOut (name : List ℕ) (old new : FilesState) : Type 0 where
+pub record ChangesOut (name : List ℕ) (old new : FilesState) : Type 0 where
   pub bytes : List ℕ
   pub changes : Changes (Some (exact_saving name bytes)) old new
 
@@ -58,7 +58,7 @@ saves_changes : (start : State) (events : List Event) (name : List ℕ) (old new
 saves_changes start events name old new (Err trouble) saved it = changes_none name old new it.1
 saves_changes start events name old new (Ok status) saved it = made_changes start events name old new status saved it
 
-reached_changes : (name : List ℕ) (reached : Option Due) (old new : Outside) (result : Result Status Trouble) → AnswersSnapReached name reached old new result → ChangesOut name old.files new.files
+pub reached_changes : (name : List ℕ) (reached : Option Due) (old new : Outside) (result : Result Status Trouble) → AnswersSnapReached name reached old new result → ChangesOut name old.files new.files
 reached_changes name None old new result a = changes_none name old.files new.files (ap (λ (o : Outside). o.files) a.1)
 reached_changes name (Some (Refuse refusal)) old new result a = changes_none name old.files new.files a.saves.0
 reached_changes name (Some (RunFrom start events save)) old new result a = saves_changes start events name old.files new.files a.2.written result a.2.saves

@@ -5,3 +5,5 @@ pub mod RunLemmas
 pub mod SaveLemmas
 pub mod AnswerLemmas
 pub mod ClauseLemmas
+pub mod AcceptedLemmas
+pub mod EndLemmas

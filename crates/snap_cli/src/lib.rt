@@ -2,9 +2,11 @@
 #![tactic(auto)]
 
 mod answer;
+mod laws;
 mod ready;
 mod saving;
 mod text;
 mod words;
 
 pub use answer::secvisor_snap;
+pub use laws::law_snap_ends;
