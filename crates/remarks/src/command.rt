@@ -3,6 +3,7 @@
 use crate::converting::{ConvertNames, convert_files};
 use crate::files::{Again, Found, MostBytes};
 use crate::making::{MakingNames, making_files};
+use crate::resuming::{ResumeNames, resume_files, snapshot_file};
 use crate::running::{RunNames, flat_file, run_files};
 use std::alloc::Global;
 use std::thread::Threads;
@@ -32,10 +33,12 @@ fn judged<R: Threads + Sync, A: Again>(
     match words {
         [name, rest @ ..] => match name.as_str() {
             "flat" => flat_words(alloc, rest, files, most),
-            "run" | "vrun" => run_words(alloc, rest, files, most),
+            "run" | "vrun" | "snap" => run_words(alloc, rest, files, most),
             "live" => live_words(alloc, rest, files, most),
             "measure" => measure_words(alloc, rest, files, most),
             "convert" => convert_words(rt, alloc, rest, files, most),
+            "resume" => resume_words(rt, alloc, rest, files, most),
+            "show" => show_words(alloc, rest, files, most),
             _ => Ok(()),
         },
         [] => Ok(()),
@@ -128,6 +131,41 @@ fn convert_words<R: Threads + Sync, A: Again>(
                 given: given.as_str(),
             };
             convert_files(rt, alloc, files, most, &names)
+        }
+        _ => Ok(()),
+    }
+}
+
+fn resume_words<R: Threads + Sync, A: Again>(
+    rt: &R,
+    alloc: Global,
+    words: &[String],
+    files: &A,
+    most: &MostBytes,
+) -> Result<(), Found> {
+    match words {
+        [saved, policy, script, _, _] => {
+            let names = ResumeNames {
+                saved: saved.as_str(),
+                policy: policy.as_str(),
+                script: script.as_str(),
+            };
+            resume_files(rt, alloc, files, most, &names)
+        }
+        _ => Ok(()),
+    }
+}
+
+fn show_words<A: Again>(
+    alloc: Global,
+    words: &[String],
+    files: &A,
+    most: &MostBytes,
+) -> Result<(), Found> {
+    match words {
+        [saved] => {
+            let _good = snapshot_file(alloc, files, most.snapshot, saved.as_str())?;
+            Ok(())
         }
         _ => Ok(()),
     }

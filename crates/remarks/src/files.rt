@@ -20,6 +20,7 @@ pub struct MostBytes {
     pub disk: usize,
     pub script: usize,
     pub module: usize,
+    pub snapshot: usize,
 }
 
 /// Why a command's files are looked at no further.

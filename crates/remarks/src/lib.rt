@@ -8,6 +8,7 @@ mod converting;
 mod faults;
 mod files;
 mod making;
+mod resuming;
 mod running;
 #[cfg(test)]
 mod tests;

@@ -1,4 +1,4 @@
-// The files of `flat`, `run` and `live`.
+// The files of `flat`, of `run` and of the commands that take the same.
 
 ghost use Rattle.std.specs.Prelude.{◌<◌, ◌≤◌, IfOk, IsTrue};
 ghost use Rattle.sv_types.specs.Limits.{most_harts};
@@ -99,7 +99,8 @@ fn disk_file<A: Again>(alloc: Global, files: &A, most: usize, name: &str) -> Res
     Ok(())
 }
 
-fn script_file<A: Again>(
+/// The file of a script, unless the word stands for none.
+pub(crate) fn script_file<A: Again>(
     alloc: Global,
     files: &A,
     most: usize,

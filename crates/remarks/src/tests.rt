@@ -28,7 +28,7 @@ struct Row {
     said: &'static str,
 }
 
-static ROWS: [Row; 12] = [
+static ROWS: [Row; 16] = [
     Row {
         words: &["flat", "one", "00", "5"],
         said: "one: no whole pages of 4096 bytes",
@@ -78,6 +78,22 @@ static ROWS: [Row; 12] = [
         said: "one: shorter than an ELF-64 header",
     },
     Row {
+        words: &["snap", "one", "good.policy", "none", "none", "5", "out"],
+        said: "one: shorter than an ELF-64 header",
+    },
+    Row {
+        words: &["resume", "one", "good.policy", "none", "5", "none"],
+        said: "one: the snapshot is shorter or longer than its own counts say",
+    },
+    Row {
+        words: &["show", "good.policy"],
+        said: "good.policy: the file does not begin as a snapshot",
+    },
+    Row {
+        words: &["show", "two"],
+        said: "",
+    },
+    Row {
         words: &["run", "one", "good.policy"],
         said: "",
     },
@@ -94,6 +110,7 @@ const MOST: MostBytes = MostBytes {
     disk: 1024,
     script: 1024,
     module: 1024,
+    snapshot: 1024,
 };
 
 #[test]

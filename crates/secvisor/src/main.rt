@@ -17,6 +17,7 @@ use secvisor_cli::{
 };
 use show_cli::secvisor_show;
 use snap_cli::secvisor_snap;
+use snapshot::MOST_SNAPSHOT_BYTES;
 use std::alloc::AllocError;
 use std::env;
 use std::io::{ErrorKind, IsTerminal};
@@ -80,6 +81,7 @@ const MOST_BYTES: MostBytes = MostBytes {
     disk: MOST_DISK_BYTES,
     script: MOST_SCRIPT_BYTES,
     module: MOST_OBJECT_BYTES,
+    snapshot: MOST_SNAPSHOT_BYTES,
 };
 
 // To a person at a terminal alone, so that other programs read of a refusal the one line. A failure changes nothing.
