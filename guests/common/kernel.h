@@ -69,6 +69,9 @@ void tell(const char *label, long value);
 u32 disk_read(u64 sector, u64 gpa, u32 count);
 u32 disk_write(u64 sector, u64 gpa, u32 count);
 
+/* Places of the image. */
+extern char _start[], trap_vector[], init_start[], init_end[], user_start[], user_end[], free_start[];
+
 /* Page tables of three levels, one page of 4 KiB at a time. */
 #define PTE_V 1ul
 #define PTE_R 2ul
@@ -84,6 +87,15 @@ void map(u64 va, u64 gpa, u64 bits);
 void paging_on(void);
 u64 new_page(void);
 static inline void fence(void) { __asm__ volatile("sfence.vma" ::: "memory"); }
+/* Under paging: the user's code at its own addresses, a page of stack, and then user mode. */
+static inline void run_user(void (*user)(void))
+{
+    for (u64 page = (u64)user_start; page < (u64)user_end; page += PAGE)
+        map(page, page, RX | PTE_U);
+    u64 stack = new_page();
+    map(stack, stack, RW | PTE_U);
+    fence();
+    enter_user((u64)user, stack + PAGE);
+}
 
-extern char _start[], trap_vector[], init_start[], init_end[], user_start[], user_end[], free_start[];
 #endif

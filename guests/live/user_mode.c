@@ -41,11 +41,6 @@ void trap(struct frame *frame, u64 cause, u64 value)
 int main(void)
 {
     paging_on();
-    for (u64 page = (u64)user_start; page < (u64)user_end; page += PAGE)
-        map(page, page, RX | PTE_U);
-    u64 stack = new_page();
-    map(stack, stack, RW | PTE_U);
-    fence();
-    enter_user((u64)user_main, stack + PAGE);
+    run_user(user_main);
     return 0;
 }
