@@ -6,9 +6,10 @@ ghost use Rattle.machine_model.specs.HostCalls.{host_replied};
 ghost use Rattle.machine_model.specs.Machine.{update};
 ghost use Rattle.hart_answers.specs.Hosts.{host_at, hosts_of};
 
-use hart::{A0, Hart};
+use hart::Hart;
 use hart_answers::{Seat, answer, set, start, stay, stop};
 use page_guard::Guard;
+use processor::A0;
 use reference::Reply;
 
 // What becomes of the hart that called.

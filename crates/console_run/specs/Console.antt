@@ -1,5 +1,6 @@
 -- A run and its console, while it goes on.
 use Rattle.std.specs.Prelude.{◌≡◌, ◌≤◌, ℕ, List, ◌++◌, length, Bool, false, ◌||◌, ◌==◌, ◌-◌, IsTrue, Option, Some, None, slice_get}
+use Rattle.sv_types.specs.Schedule.{line_feed}
 use Rattle.sv_types.specs.Limits.{most_printed}
 use Rattle.sv_types.specs.declared.event.Event.{Event}
 use Rattle.reference.specs.States.{State}
@@ -13,7 +14,7 @@ use Rattle.console_run.specs.Standing.{Stands, TakesAway}
 
 abbrev pub is_line_feed : Option ℕ → Bool
 is_line_feed None = false
-is_line_feed (Some byte) = byte == 10
+is_line_feed (Some byte) = byte == line_feed
 
 -- They are written where 4,096 of them stand, or where the last of them is a line feed.
 abbrev pub is_due : List ℕ → Bool

@@ -1,6 +1,6 @@
 // A machine's run, with its console.
 ghost use Rattle.std.specs.Prelude.{◌≡◌, ◌<◌, ◌≤◌, ◌-◌, ◌^◌, [], length, IsTrue, IsFalse, OnOk, OnErr};
-ghost use Rattle.sv_types.specs.Limits.{most_printed};
+ghost use Rattle.sv_types.specs.Limits.{most_events, most_printed};
 ghost use Rattle.reference.specs.Counting.{CountsAtMost};
 ghost use Rattle.sv_types.specs.Schedule.{first_events};
 ghost use Rattle.machine_model.specs.Reaches.{Cleared};
@@ -55,9 +55,9 @@ pub fn run<O: Sink>(
     out: &mut O,
 ) -> Result<(), Failed>
     requires sink { MayWrite (O.state out.old) }
-    requires events { events ≤ 2 ^ 32 }
+    requires events { events ≤ most_events }
     requires state { HasState machine.old }
-    requires counts { CountsAtMost (2 ^ 32) machine.old.journal.counts }
+    requires counts { CountsAtMost most_events machine.old.journal.counts }
     requires console { machine.old.journal.printed ≡ [] }
     ensures all { OnOk result (HasRunFromStart machine.old (first_events events script) machine.new (O.state out.old) (O.state out.new)) }
     ensures taken { OnOk result (HasTaken (O.state out.old) (O.state out.new)) }

@@ -1,5 +1,6 @@
 -- What a relocation asks for. RISC-V ELF psABI, "Relocations".
 use Rattle.std.specs.Prelude.{ℕ, Bool, true, false, ◌*◌, ◌||◌, ◌==◌, if◌then◌else◌, Option, Some, None, option_map}
+use Rattle.processor.specs.Bytes.{instruction_size}
 use Rattle.sv_types.specs.Policies.{site_size}
 use Rattle.sv_types.specs.RelocationKinds.{kind_of}
 use Rattle.sv_types.specs.declared.relocation_kind.RelocationKind.{RelocationKind}
@@ -11,10 +12,6 @@ use Rattle.sv_types.specs.Elf.{r_riscv_call, r_riscv_call_plt}
 -- R_RISCV_CALL and R_RISCV_CALL_PLT: the high part of an address by an AUIPC, and its low part by the JALR behind it
 abbrev pub is_call : ℕ → Bool
 is_call number = number == r_riscv_call || number == r_riscv_call_plt
-
--- the bytes of an instruction, and of a call
-abbrev pub instruction_size : ℕ
-instruction_size = 4
 
 abbrev pub call_size : ℕ
 call_size = 2 * instruction_size

@@ -15,7 +15,7 @@ use Rattle.elf64_sections.specs.Judged.{◌>>=◌}
 use Rattle.elf64_sections.specs.Sections.{Tables, section_bytes, symbol_count, symbol_at, name_at}
 use Rattle.elf64_sections.specs.declared.sections.SectionHeader.{SectionHeader}
 use Rattle.elf64_sections.specs.declared.tables.Symbol.{Symbol}
-use Rattle.elf64_reloc.specs.Asking.{instruction_size, asked_of, asked_bytes, place_alignment, is_high}
+use Rattle.elf64_reloc.specs.Asking.{asked_of, asked_bytes, place_alignment, is_high}
 use Rattle.elf64_reloc.specs.Layouts.{space_of, is_good_alignment, padding, placed_sections, text_size}
 use Rattle.elf64_reloc.specs.Objects.{Object, object_judged}
 use Rattle.elf64_reloc.specs.Refusals.{Judged}
@@ -27,7 +27,7 @@ use Rattle.elf64_reloc.specs.declared.fault.ObjectFault.{ObjectFault}
 use Rattle.elf64_reloc.specs.declared.relocations.Relocation.{Relocation}
 use Rattle.elf64_reloc.specs.declared.sites.Found.{Found}
 use Rattle.elf64_reloc.specs.declared.symbols.Target.{Target}
-use Rattle.processor.specs.Bytes.{page_size}
+use Rattle.processor.specs.Bytes.{page_size, instruction_size}
 use Rattle.sv_types.specs.Elf.{shn_undef}
 use Rattle.sv_types.specs.Limits.{most_module_pages, most_module_sites, text_base, no_base}
 

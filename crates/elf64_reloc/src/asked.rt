@@ -5,10 +5,8 @@ ghost use Rattle.elf64_reloc.specs.Asking as spec;
 
 use elf64_sections::elf::{R_RISCV_CALL, R_RISCV_CALL_PLT};
 use policy_limits::site_size;
+use processor::INSTRUCTION_BYTES;
 use sv_types::RelocationKind;
-
-/// The bytes of an instruction.
-pub(crate) const INSTRUCTION_BYTES: u64 = 4;
 
 /// The bytes of a call: two instructions.
 const CALL_BYTES: u64 = 2 * INSTRUCTION_BYTES;

@@ -8,7 +8,7 @@ ghost use Rattle.elf64_reloc.specs.Modules as spec;
 ghost use Rattle.elf64_reloc.specs.Refusals.{Refuses};
 ghost use Rattle.elf64_reloc.specs.JudgingViews.{judging_view};
 
-use crate::asked::{Asked, INSTRUCTION_BYTES, asked_bytes, is_high, place_alignment};
+use crate::asked::{Asked, asked_bytes, is_high, place_alignment};
 use crate::fault::ObjectFault;
 use crate::refusal::RelocRefusal;
 use crate::relocations::Relocation;
@@ -16,6 +16,7 @@ use crate::symbols::{Names, Target, symbol_target};
 use policy_limits::is_low_part;
 use std::alloc::{AllocError, Global};
 use std::collections::BTreeMap;
+use processor::INSTRUCTION_BYTES;
 use sv_types::{NO_BASE, RelocationKind, Site, TEXT_BASE};
 
 /// What relocations are judged by: the symbols, and the first high part of an address at each place.

@@ -4,6 +4,7 @@ use Rattle.std.specs.Prelude.{ℕ, ◌+◌, ◌-◌, ◌%◌, Bool, ◌&&◌, �
 use Rattle.std.specs.List.{list_any}
 use Rattle.std.specs.Str.{bytes_eq}
 use Rattle.processor.specs.Bytes.{page_size}
+use Rattle.sv_types.specs.Limits.{plain_format, bound_format}
 use Rattle.sv_types.specs.Kernel.{LoadedSegment, text_of}
 use Rattle.sv_types.specs.Measure.{measure}
 use Rattle.sv_types.specs.Policies.{Rules}
@@ -63,7 +64,7 @@ bound_places ss entries = each (bound_place ss) [] entries
 -- ---- the policy
 
 abbrev pub with_places : Rules → (entries places : List ℕ) → Rules
-with_places r entries places = record r { format = 2; entries = entries; bound = places }
+with_places r entries places = record r { format = bound_format; entries = entries; bound = places }
 
 unfoldable pub entries_bound : Rules → List LoadedSegment → Judged Rules
 entries_bound r ss = bound_places ss (each_once r.entries) >>= λ places. Ok (with_places r (each_once r.entries) places)
@@ -74,4 +75,4 @@ measured_bound r ss digest = if bytes_eq digest r.kernel then entries_bound r ss
 
 -- the format is judged first, then the measure of the kernel's text, then entry by entry
 unfoldable pub bound_rules : Rules → List LoadedSegment → Judged Rules
-bound_rules r ss = if r.format == 1 then measured_bound r ss (measure (text_of ss)) else Err (Convert OtherFormat)
+bound_rules r ss = if r.format == plain_format then measured_bound r ss (measure (text_of ss)) else Err (Convert OtherFormat)

@@ -5,6 +5,7 @@ ghost use Rattle.std.specs.Option.{ok_or};
 ghost use Rattle.processor.specs.SecondStage.{walk_guest, WalksApart};
 ghost use Rattle.processor.specs.CachedWalks.{line_permits, no_lines, LineAgrees, CacheAgrees, FilledUnder};
 ghost use Rattle.processor.specs.Bytes.{page_size};
+ghost use Rattle.processor.specs.Roots.{IsSv39x4};
 ghost use Rattle.gstage_cache.specs.Lookup.{line_for, is_held, place_by, place_held, line_of_mapping, IsKept};
 ghost use Rattle.gstage_cache.specs.Fills.{nothing_filled, filled_further};
 
@@ -99,7 +100,7 @@ impl Cache {
         gpa: u64,
         access: Access,
     ) -> Result<u64, GuestFault>
-        requires second { hgatp / 2 ^ 60 ≡ 8 }
+        requires second { IsSv39x4 hgatp }
         requires apart { WalksApart mem.now hgatp }
         requires agrees { CacheAgrees mem.now.tables self.old }
         ensures value { result ≡ ok_or (walk_guest mem.now hgatp gpa access) (record { gpa = gpa }) }
@@ -122,7 +123,7 @@ impl Cache {
         requires name { blank.name ≡ L.name }
         requires parts { blank.parts ≡ L.parts }
         requires some { 0 < blank.parts }
-        requires second { hgatp / 2 ^ 60 ≡ 8 }
+        requires second { IsSv39x4 hgatp }
         requires apart { WalksApart mem.now hgatp }
         requires agrees { CacheAgrees mem.now.tables self.old }
         ensures value { result ≡ ok_or (walk_guest mem.now hgatp gpa access) (record { gpa = gpa }) }
@@ -143,7 +144,7 @@ impl Cache {
         access: Access,
         steps: &mut Steps<L>,
     ) -> Result<u64, GuestFault>
-        requires second { hgatp / 2 ^ 60 ≡ 8 }
+        requires second { IsSv39x4 hgatp }
         requires apart { WalksApart mem.now hgatp }
         requires agrees { CacheAgrees mem.now.tables self.old }
         ensures value { result ≡ ok_or (walk_guest mem.now hgatp gpa access) (record { gpa = gpa }) }

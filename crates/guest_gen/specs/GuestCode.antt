@@ -3,6 +3,10 @@
 -- RISC-V Unprivileged manual, "Integer Register-Immediate Instructions"; RISC-V ELF psABI, "Integer Register
 -- Convention".
 use Rattle.std.specs.Prelude.{ℕ, ◌+◌, ◌*◌, ◌/◌, ℤ, pos, neg_ℤ, ◌-ℤ◌, List, [], ◌∷◌}
+use Rattle.processor.specs.IntegerRegisters.{x0, t0, t1, t2, t3, t4, s0, s1, a0, a7}
+use Rattle.processor.specs.Registers.{csr_number}
+use Rattle.processor.specs.declared.csr.Csr.{Csr}
+use Rattle.processor.specs.declared.csr.Csr.TheVariants.{Stvec, Sepc}
 use Rattle.processor.specs.declared.instruction.Instr.{Instr}
 use Rattle.processor.specs.declared.instruction.BranchOp.TheVariants.{Beq}
 use Rattle.processor.specs.declared.instruction.StoreOp.TheVariants.{Sw, Sd}
@@ -16,44 +20,6 @@ use Rattle.sv_types.specs.declared.block.BlockCommand.TheVariants.{DiskToMemory}
 -- the most calls of the user
 abbrev pub most_calls : ℕ
 most_calls = 1000000
-
--- ---- registers
-
-abbrev pub x0 : ℕ
-x0 = 0
-
-abbrev pub t0 : ℕ
-t0 = 5
-
-abbrev pub t1 : ℕ
-t1 = 6
-
-abbrev pub t2 : ℕ
-t2 = 7
-
-abbrev pub s0 : ℕ
-s0 = 8
-
-abbrev pub s1 : ℕ
-s1 = 9
-
-abbrev pub a0 : ℕ
-a0 = 10
-
-abbrev pub a7 : ℕ
-a7 = 17
-
-abbrev pub t3 : ℕ
-t3 = 28
-
-abbrev pub t4 : ℕ
-t4 = 29
-
-abbrev pub stvec : ℕ
-stvec = 0x105
-
-abbrev pub sepc : ℕ
-sepc = 0x141
 
 -- ---- instructions, with their operands in the assembler's order
 
@@ -74,8 +40,8 @@ abbrev pub sd : (rs2 : ℕ) → ℤ → (rs1 : ℕ) → Instr
 sd rs2 imm rs1 = Instr.Store Sd rs1 rs2 imm
 
 -- a control register is set
-abbrev pub csrw : (csr rs1 : ℕ) → Instr
-csrw csr rs1 = Instr.Csr Csrrw x0 rs1 csr
+abbrev pub csrw : Csr → (rs1 : ℕ) → Instr
+csrw csr rs1 = Instr.Csr Csrrw x0 rs1 (csr_number csr)
 
 -- ---- a number in two instructions: its upper bits, rounded so that the rest is one of 12 bits with a sign
 
@@ -123,13 +89,13 @@ letter_k = 75
 -- entered
 unfoldable pub setup : (calls : ℕ) → List Instr
 setup calls =
-    Instr.Auipc t0 (pos 0) ∷ addi t0 t0 (pos trap_place) ∷ csrw stvec t0
+    Instr.Auipc t0 (pos 0) ∷ addi t0 t0 (pos trap_place) ∷ csrw Stvec t0
     ∷ Instr.Auipc s1 (pos 0x1000) ∷ addi s1 s1 (minus 12)
     ∷ Instr.Lui s0 (upper calls) ∷ addiw s0 s0 (lower calls)
     ∷ Instr.Lui t2 (pos disk) ∷ addi t3 t0 (minus 768) ∷ sd t3 (pos disk_gpa) t2
     ∷ addi t4 x0 (pos 2) ∷ sw t4 (pos disk_count) t2
     ∷ addi t4 x0 (pos (command_number DiskToMemory)) ∷ sw t4 (pos disk_command) t2
-    ∷ csrw sepc s1 ∷ Instr.Sret ∷ []
+    ∷ csrw Sepc s1 ∷ Instr.Sret ∷ []
 
 -- the trap vector: the number of calls left is stored a page behind the user's loop and counted down. While some are
 -- left the user's loop is entered again; at the end K is printed, and the machine shut down
@@ -137,7 +103,7 @@ unfoldable pub trap_handler : List Instr
 trap_handler =
     Instr.Lui t1 (pos 0x1000) ∷ Instr.Op Add t1 t1 s1 ∷ sd s0 (pos 0) t1
     ∷ addi s0 s0 (minus 1) ∷ Instr.Branch Beq s0 x0 (pos 12)
-    ∷ csrw sepc s1 ∷ Instr.Sret
+    ∷ csrw Sepc s1 ∷ Instr.Sret
     ∷ addi a0 x0 (pos letter_k) ∷ addi a7 x0 (pos print_call) ∷ Instr.Ecall
     ∷ addi a7 x0 (pos shutdown_call) ∷ Instr.Ecall ∷ []
 

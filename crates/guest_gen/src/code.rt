@@ -5,33 +5,11 @@ ghost use Rattle.std.specs.List.{list_all};
 ghost use Rattle.processor.specs.Encoding.{fits, is_immediate};
 ghost use Rattle.guest_gen.specs.GuestCode as spec;
 
-use processor::{BranchOp, CsrOp, OpImm32Op, OpImmOp, OpOp, StoreOp};
+use processor::{
+    A0, A7, BranchOp, Csr, CsrOp, OpImm32Op, OpImmOp, OpOp, S0, S1, StoreOp, T0, T1, T2, T3, T4, X0,
+};
 use rv64_encode::Instr;
 use sv_types::BlockCommand;
-
-const X0: u8 = 0;
-
-const T0: u8 = 5;
-
-const T1: u8 = 6;
-
-const T2: u8 = 7;
-
-const S0: u8 = 8;
-
-const S1: u8 = 9;
-
-const A0: u8 = 10;
-
-const A7: u8 = 17;
-
-const T3: u8 = 28;
-
-const T4: u8 = 29;
-
-const STVEC: u16 = 0x105;
-
-const SEPC: u16 = 0x141;
 
 /// The block device.
 const DISK: i64 = 0x1000_1000;
@@ -124,14 +102,14 @@ fn sd(rs2: u8, imm: i64, rs1: u8) -> Instr
     }
 }
 
-fn csrw(csr: u16, rs1: u8) -> Instr
+fn csrw(csr: Csr, rs1: u8) -> Instr
     ensures { result ≡ spec.csrw csr rs1 }
 {
     Instr::Csr {
         op: CsrOp::Csrrw,
         rd: X0,
         rs1,
-        csr,
+        csr: csr.number(),
     }
 }
 
@@ -145,7 +123,7 @@ pub fn setup(calls: u64) -> [Instr; 16]
     [
         Instr::Auipc { rd: T0, imm: 0 },
         addi(T0, T0, TRAP_PLACE as i64),
-        csrw(STVEC, T0),
+        csrw(Csr::Stvec, T0),
         Instr::Auipc {
             rd: S1,
             imm: 0x1000,
@@ -163,7 +141,7 @@ pub fn setup(calls: u64) -> [Instr; 16]
         sw(T4, DISK_COUNT, T2),
         addi(T4, X0, i64::from(BlockCommand::DiskToMemory.number())),
         sw(T4, DISK_COMMAND, T2),
-        csrw(SEPC, S1),
+        csrw(Csr::Sepc, S1),
         Instr::Sret,
     ]
 }
@@ -193,7 +171,7 @@ pub fn trap_handler() -> [Instr; 12]
             rs2: X0,
             imm: 12,
         },
-        csrw(SEPC, S1),
+        csrw(Csr::Sepc, S1),
         Instr::Sret,
         addi(A0, X0, LETTER_K),
         addi(A7, X0, PRINT_CALL),

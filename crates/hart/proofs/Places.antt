@@ -9,6 +9,7 @@ use Rattle.processor.specs.Translation.{Destination, At, PageFault, Unreadable, 
 use Rattle.processor.specs.SecondStage.{walk_guest, place_through, after_first_stage, two_stages, entry_through, WalksInside, WalksApart}
 use Rattle.processor.specs.Hardware.{Core}
 use Rattle.processor.specs.HardwareMemory.{settings_at, translated}
+use Rattle.processor.specs.Roots.{IsBare}
 use Rattle.processor_laws.proofs.RegionLemmas.{keeps_width, ends_inside, whole_sum}
 use Rattle.processor_laws.proofs.Walks.{Fits, first_stage_fits, walk_guest_fits}
 
@@ -64,13 +65,13 @@ stages_behind r hgatp va s mode access place apart e =
 
 -- ---- without a first stage
 
-bare_stages : (r : Region) (hgatp va hpa : ℕ) (s : Settings) (mode : Mode) (access : Access) → s.satp / 2 ^ 60 ≡ 0
+bare_stages : (r : Region) (hgatp va hpa : ℕ) (s : Settings) (mode : Mode) (access : Access) → IsBare s.satp
     → walk_guest r hgatp va access ≡ Some hpa → two_stages r hgatp s mode va access ≡ Ok (record { gpa = va; hpa = hpa })
 unfolding two_stages first_stage after_first_stage
 bare_stages r hgatp va hpa s mode access bare walked = rw (bare, walked) refl
 
 -- an address leads where the second stage leads
-pub bare_place : (r : Region) (core : Core) (va hpa htinst : ℕ) (access : Access) → core.csrs.vsatp / 2 ^ 60 ≡ 0
+pub bare_place : (r : Region) (core : Core) (va hpa htinst : ℕ) (access : Access) → IsBare core.csrs.vsatp
     → walk_guest r core.hregs.hgatp va access ≡ Some hpa → translated r core access va htinst ≡ Ok hpa
 unfolding translated
 bare_place r core va hpa htinst access bare walked =

@@ -3,6 +3,7 @@ use Rattle.std.specs.Prelude.{◌≡◌, ℕ, ◌/◌, ◌%◌, ◌^◌, List, O
 use Rattle.processor.specs.Regions.{Region}
 use Rattle.processor.specs.SecondStage.{WalksApart}
 use Rattle.processor.specs.CachedWalks.{CacheAgrees, FilledUnder}
+use Rattle.processor.specs.Roots.{IsSv39x4}
 use Rattle.processor.specs.declared.cached.CacheLine.{CacheLine}
 use Rattle.processor.specs.declared.hregs.HRegs.{HRegs}
 use Rattle.processor.specs.declared.mode.Mode.TheVariants.{User}
@@ -23,7 +24,7 @@ pub record MayStep (core : Kept) (regs : HRegs) : Type 0 where
 
 -- the second stage is Sv39x4, its walks read the tables alone and lead to RAM, and every line of the cache agrees with the tables
 pub record MayWalk (r : Region) (regs : HRegs) (lines : List (Option CacheLine)) : Type 0 where
-  pub second : regs.hgatp / 2 ^ 60 ≡ 8
+  pub second : IsSv39x4 regs.hgatp
   pub apart : WalksApart r regs.hgatp
   pub agrees : CacheAgrees r.tables lines
 

@@ -4,6 +4,7 @@ ghost use Rattle.std.specs.Prelude.{◌≡◌, ◌+◌, ◌-◌, ◌<◌, ◌/�
 ghost use Rattle.processor.specs.SecondStage.{WalksApart};
 ghost use Rattle.processor.specs.CachedWalks.{CacheAgrees, FilledUnder};
 ghost use Rattle.processor.specs.HardwareAttempt.{attempt, OnlyWrites};
+ghost use Rattle.processor.specs.Roots.{IsSv39x4};
 ghost use Rattle.hart.specs.Cores.{core_of, attempted_of};
 ghost use Rattle.hart.specs.Conditions.{KeepsMode};
 
@@ -65,7 +66,7 @@ impl Cpu {
         requires count { self.old < 2 ^ 64 - 1 }
         requires aligned { core.old.pc % 4 ≡ 0 }
         requires mode { KeepsMode regs.now }
-        requires second { regs.now.hgatp / 2 ^ 60 ≡ 8 }
+        requires second { IsSv39x4 regs.now.hgatp }
         requires apart { WalksApart mem.old regs.now.hgatp }
         requires agrees { CacheAgrees mem.old.tables cache.old }
         ensures counted { self.new ≡ self.old + 1 }

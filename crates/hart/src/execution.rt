@@ -6,6 +6,7 @@ ghost use Rattle.processor.specs.HypervisorRegisters.{pending};
 ghost use Rattle.processor.specs.HardwareMemory.{translated};
 ghost use Rattle.processor.specs.declared.access.Access.TheVariants as Access;
 ghost use Rattle.processor.specs.HardwareAttempt.{after_word, after_fetch, attempt, OnlyWrites};
+ghost use Rattle.processor.specs.IntegerRegisters.{register_count};
 ghost use Rattle.hart.specs.Cores.{core_of, attempted_of};
 ghost use Rattle.hart.specs.Conditions.{MayAttempt, StaysReady};
 
@@ -87,7 +88,7 @@ fn fetch<W: Wires>(
 
 #[inline(always)]
 fn set(core: &mut Core, rd: u8, value: u64, next: u64) -> Outcome
-    requires { rd < 32 }
+    requires { rd < register_count }
     ensures core { core.new ≡ record core.old { regs = set_register core.old.regs rd value; pc = next } }
     ensures outcome { result ≡ Outcome.Retired None }
 {

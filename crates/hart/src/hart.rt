@@ -3,6 +3,7 @@
 ghost use Rattle.std.specs.Prelude.{◌≡◌, replicate, None, false};
 ghost use Rattle.processor.specs.HypervisorRegisters.{registers_at_boot};
 ghost use Rattle.processor.specs.Requests.{touches, after_write};
+ghost use Rattle.processor.specs.IntegerRegisters.{register_count};
 
 use csr_file::Csrs;
 use rv64_exec::Regs;
@@ -20,7 +21,7 @@ pub struct Core {
 impl Core {
     /// A core whose registers and pc are 0, without a reservation.
     pub fn at_boot() -> Core
-        ensures { result ≡ record { regs = replicate 32 0; pc = 0; csrs = registers_at_boot; reservation = None } }
+        ensures { result ≡ record { regs = replicate register_count 0; pc = 0; csrs = registers_at_boot; reservation = None } }
     {
         Core {
             regs: Regs::new(),
@@ -53,7 +54,7 @@ pub struct Hart {
 impl Hart {
     /// A stopped hart whose registers and pc are 0, without a reservation.
     pub fn at_boot() -> Hart
-        ensures { result ≡ record { core = record { regs = replicate 32 0; pc = 0; csrs = registers_at_boot; reservation = None }; started = false } }
+        ensures { result ≡ record { core = record { regs = replicate register_count 0; pc = 0; csrs = registers_at_boot; reservation = None }; started = false } }
     {
         Hart {
             core: Core::at_boot(),

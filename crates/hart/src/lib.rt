@@ -1,7 +1,6 @@
 //! A hart of hardware with the hypervisor extension: one attempt of an instruction under two stages of translation.
 #![tactic(auto)]
 
-mod call_registers;
 mod cpu;
 mod execution;
 mod hart;
@@ -12,7 +11,6 @@ mod trap;
 mod wires;
 mod words;
 
-pub use call_registers::{A0, A1, A2, A3, A6, A7};
 pub use cpu::Cpu;
 pub use hart::{Core, Hart};
 pub use memory::{IMPLICIT_READ, regime};

@@ -5,6 +5,7 @@ ghost use Rattle.processor.specs.Regions.{IsWidth, IsHostPlace};
 ghost use Rattle.processor.specs.SecondStage.{WalksApart};
 ghost use Rattle.processor.specs.CachedWalks.{CacheAgrees};
 ghost use Rattle.processor.specs.HardwareMemory.{misaligned, page_fault, guest_page_fault, fault_exception, settings_at, translated, reached, load_htinst, store_htinst, atomic_htinst};
+ghost use Rattle.processor.specs.Roots.{IsFirstStageRoot};
 ghost use Rattle.processor.specs.declared.access.Access.TheVariants as Access;
 ghost use Rattle.hart.specs.Cores.{core_of};
 ghost use Rattle.hart.specs.Conditions.{MayWalk, Walked};
@@ -128,7 +129,7 @@ pub fn regime(core: &Core, regs: &HRegs) -> Regime
     ensures hgatp { result.hgatp ≡ regs.now.hgatp }
     ensures mode { result.mode ≡ regs.now.mode }
     ensures settings { settings_of result ≡ settings_at (core_of core.now regs.now) }
-    ensures first { (result.vsatp / 2 ^ 60 ≡ 0) ⊎ (result.vsatp / 2 ^ 60 ≡ 8) }
+    ensures first { IsFirstStageRoot result.vsatp }
 {
     let status = core.csrs.vsstatus;
     Regime {

@@ -5,13 +5,14 @@ ghost use Rattle.processor.specs.Effects.{set_register, next_pc};
 ghost use Rattle.processor.specs.Regions.{IsWidth, IsHostPlace};
 ghost use Rattle.processor.specs.Requests.{loaded_value, covers};
 ghost use Rattle.processor.specs.HardwareMemory.{retire, retire_with, after_load, after_load_reserved, after_store, after_store_conditional, after_amo};
+ghost use Rattle.processor.specs.IntegerRegisters.{register_count};
 ghost use Rattle.hart.specs.Cores.{core_of, step_of, attempted_of};
 ghost use Rattle.hart.specs.Conditions.{MayStep};
 
 use crate::hart::Core;
 use crate::trap::raise;
 use host_mem::HostMem;
-use processor::{AmoOp, Exception, HRegs, Outcome, Wrote};
+use processor::{AmoOp, Exception, HRegs, INSTRUCTION_BYTES, Outcome, Wrote};
 use rv64_exec::{amo, loaded_value};
 
 /// The hart goes on behind an instruction that is done.
@@ -20,14 +21,14 @@ pub(crate) fn retire(core: &mut Core, wrote: Option<Wrote>) -> Outcome
     ensures core { core.new ≡ record core.old { pc = next_pc core.old.pc } }
     ensures outcome { result ≡ Outcome.Retired wrote }
 {
-    core.pc = core.pc.wrapping_add(4);
+    core.pc = core.pc.wrapping_add(INSTRUCTION_BYTES);
     Outcome::Retired { wrote }
 }
 
 /// The same with a register set.
 #[inline(always)]
 pub(crate) fn retire_with(core: &mut Core, rd: u8, value: u64, wrote: Option<Wrote>) -> Outcome
-    requires { rd < 32 }
+    requires { rd < register_count }
     ensures core { core.new ≡ record core.old { regs = set_register core.old.regs rd value; pc = next_pc core.old.pc } }
     ensures outcome { result ≡ Outcome.Retired wrote }
 {
@@ -54,7 +55,7 @@ pub(crate) fn load(
     place: Result<u64, Exception>,
 ) -> Outcome
     requires ready { MayStep core.old regs.now }
-    requires register { rd < 32 }
+    requires register { rd < register_count }
     requires width { IsWidth format.width }
     requires place { IfOk place (λ hpa. IsHostPlace mem.now hpa format.width) }
     ensures step { step_of core.new regs.now result ≡ after_load mem.now (core_of core.old regs.now) rd format.width format.signed place }
@@ -86,7 +87,7 @@ pub(crate) fn load_reserved(
     place: Result<u64, Exception>,
 ) -> Outcome
     requires ready { MayStep core.old regs.now }
-    requires register { rd < 32 }
+    requires register { rd < register_count }
     requires width { IsWidth width }
     requires place { IfOk place (λ hpa. IsHostPlace mem.now hpa width) }
     ensures step { step_of core.new regs.now result ≡ after_load_reserved mem.now (core_of core.old regs.now) rd width place }
@@ -164,7 +165,7 @@ pub(crate) fn store_conditional(
     place: Result<u64, Exception>,
 ) -> Outcome
     requires ready { MayStep core.old regs.now }
-    requires register { rd < 32 }
+    requires register { rd < register_count }
     requires place { IfOk place (λ hpa. IsHostPlace mem.old hpa stored.width) }
     requires ram { IfOk place (λ hpa. length mem.old.tables ≤ hpa) }
     ensures attempted { attempted_of mem.new core.new regs.now result ≡ after_store_conditional mem.old (core_of core.old regs.now) rd stored.width stored.value place }
@@ -214,7 +215,7 @@ pub(crate) fn atomic(
     place: Result<u64, Exception>,
 ) -> Outcome
     requires ready { MayStep core.old regs.now }
-    requires register { rd < 32 }
+    requires register { rd < register_count }
     requires width { (operation.width ≡ 4) ⊎ (operation.width ≡ 8) }
     requires place { IfOk place (λ hpa. IsHostPlace mem.old hpa operation.width) }
     requires ram { IfOk place (λ hpa. length mem.old.tables ≤ hpa) }

@@ -4,6 +4,7 @@ ghost use Rattle.std.specs.Prelude.{◌≡◌, ◌<◌, ◌%◌, if◌then◌els
 ghost use Rattle.processor.specs.Requests.{csr_value};
 ghost use Rattle.processor.specs.Hardware.{plain_exception, raise};
 ghost use Rattle.processor.specs.HardwareAttempt.{illegal, virtual_instruction, csr_exception, csr_reached, csr_read, with_csr, after_csr, after_supervisor_only, after_sret, call_cause};
+ghost use Rattle.processor.specs.IntegerRegisters.{register_count};
 ghost use Rattle.hart.specs.Cores.{core_of, step_of};
 ghost use Rattle.hart.specs.Conditions.{MayStep};
 
@@ -97,7 +98,7 @@ pub(crate) fn csr(
     reached: Result<Csr, Exception>,
 ) -> Outcome
     requires ready { MayStep core.old regs.now }
-    requires register { rd < 32 }
+    requires register { rd < register_count }
     ensures step { step_of core.new regs.now result ≡ after_csr (core_of core.old regs.now) lines.now rd access.op access.value access.writes reached }
     ensures pc { core.new.pc % 4 ≡ 0 }
 {

@@ -13,9 +13,9 @@ ghost use Rattle.hart_answers.specs.Trapped.{in_handler, back_from_handler};
 ghost use Rattle.hart.specs.declared.hart.Hart.{Hart as Kept};
 
 use csr_file::Csrs;
-use hart::{A0, A1, Hart};
+use hart::Hart;
 use page_guard::{Entries, Forbidden, Guard, Side};
-use processor::{ExitCause, Mode};
+use processor::{A0, A1, ExitCause, INSTRUCTION_BYTES, Mode};
 use rv64_exec::Regs;
 use trap_entry::{into_guest, return_to_guest, target};
 
@@ -111,7 +111,7 @@ pub fn demote(hart: &mut Hart, side: &mut Side, guard: &Guard)
 pub fn pass(hart: &mut Hart)
     ensures hart { (view : View) → host_of hart.new view ≡ host_passed (host_of hart.old view) }
 {
-    hart.core.pc = hart.core.pc.wrapping_add(4);
+    hart.core.pc = hart.core.pc.wrapping_add(INSTRUCTION_BYTES);
     hart.core.reservation = None;
 }
 

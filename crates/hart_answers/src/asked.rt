@@ -5,7 +5,7 @@ ghost use Rattle.reference.specs.Calls.{Facts, asked_by};
 ghost use Rattle.reference.specs.ModuleCalls.{answer_of, module_call};
 ghost use Rattle.hart_answers.specs.Asking.{is_about_modules};
 
-use hart::{A0, A1, A2, A3, A6, A7};
+use processor::{A0, A1, A2, A3, A6, A7};
 use reference::Extension;
 use rv64_exec::Regs;
 use std::marker::Model;

@@ -1,6 +1,7 @@
 // Attempts on 16 pages of RAM behind two trees of tables, with page 0 approved.
 
 ghost use Rattle.std.specs.Prelude.{◌≡◌, ◌⊎◌, ◌%◌, ◌*◌, ◌/◌, ◌^◌, [], length, IfOk};
+ghost use Rattle.processor.specs.Roots.{IsSv39x4};
 ghost use Rattle.sv_types.specs.Views.{AreViews, protect, all_free, view_hgatp};
 ghost use Rattle.sv_types.specs.declared.protection.Protection.TheVariants.{Approved};
 ghost use Rattle.sv_types.specs.declared.view.View.TheVariants.{Kernel, User};
@@ -66,7 +67,7 @@ fn region(rt: &impl Abort, alloc: Global, words: &[(usize, u64)]) -> Result<Host
 
 fn hypervisor_registers(mode: Mode) -> HRegs
     ensures mode { KeepsMode result }
-    ensures second { result.hgatp / 2 ^ 60 ≡ 8 }
+    ensures second { IsSv39x4 result.hgatp }
     ensures root { (result.hgatp ≡ view_hgatp Kernel) ⊎ (result.hgatp ≡ view_hgatp User) }
 {
     match mode {

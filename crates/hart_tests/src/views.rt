@@ -1,6 +1,7 @@
 // Trees for 16 pages of RAM, and walks of them.
 
 ghost use Rattle.std.specs.Prelude.{◌≡◌, ◌⊎◌, ◌/◌, ◌^◌};
+ghost use Rattle.processor.specs.Roots.{IsFirstStageRoot, IsSv39x4};
 
 use gstage_tables::Trees;
 use host_mem::HostMem;
@@ -14,7 +15,7 @@ const RAM_PAGES: usize = 16;
 
 // The answers to a fetch, a load and a store.
 fn answers(mem: &HostMem, hgatp: u64, gpa: u64) -> [Option<u64>; 3]
-    requires { hgatp / 2 ^ 60 ≡ 8 }
+    requires { IsSv39x4 hgatp }
 {
     [
         walk_g(mem, hgatp, gpa, Access::Fetch).ok(),
@@ -89,7 +90,7 @@ fn load(
     leaf: u64,
     va: u64,
 ) -> Result<Result<Place, Fault>, AllocError>
-    requires { (vsatp / 2 ^ 60 ≡ 0) ⊎ (vsatp / 2 ^ 60 ≡ 8) }
+    requires { IsFirstStageRoot vsatp }
 {
     let size = Trees::table_bytes(RAM_PAGES, 0);
     let mut mem = HostMem::new(alloc, size, RAM_PAGES)?;

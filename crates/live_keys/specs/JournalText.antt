@@ -1,13 +1,14 @@
 -- The text of a journal, as a script: a line for each key, and one for each run of other events.
 use Rattle.std.specs.Prelude.{ℕ, zero, suc, ◌-◌, List, [], ◌∷◌, ◌++◌, flat_map, codes}
+use Rattle.sv_types.specs.Schedule.{blank, line_feed}
 use Rattle.std.specs.Fmt.{decimal}
 use Rattle.live_keys.specs.declared.live_key.LiveKey.{LiveKey}
 
 abbrev pub key_line : ℕ → List ℕ
-key_line byte = codes "key" ++ 32 ∷ decimal byte
+key_line byte = codes "key" ++ blank ∷ decimal byte
 
 abbrev pub auto_line : ℕ → List ℕ
-auto_line count = codes "auto" ++ 32 ∷ decimal count
+auto_line count = codes "auto" ++ blank ∷ decimal count
 
 -- one line for a run of events, none for no event
 abbrev pub auto_lines : ℕ → List (List ℕ)
@@ -20,7 +21,7 @@ journal_lines first [] last = auto_lines (last - first)
 journal_lines first (key ∷ keys) last = auto_lines (key.before - first) ++ key_line key.byte ∷ journal_lines key.before keys last
 
 abbrev pub ended_line : List ℕ → List ℕ
-ended_line line = line ++ 10 ∷ []
+ended_line line = line ++ line_feed ∷ []
 
 abbrev pub text_of : List (List ℕ) → List ℕ
 text_of all = flat_map ended_line all

@@ -6,6 +6,8 @@ use Rattle.processor.specs.HardwareAttempt.{attempt}
 use Rattle.processor.specs.HypervisorRegisters.{registers_at_boot}
 use Rattle.processor.specs.Regions.{Region}
 use Rattle.processor.specs.SecondStage.{WalksApart}
+use Rattle.processor.specs.Roots.{IsSv39x4}
+use Rattle.processor.specs.IntegerRegisters.{register_count}
 use Rattle.processor.specs.declared.lines.Lines.{Lines}
 use Rattle.processor.specs.declared.mode.Mode.TheVariants.{Kernel}
 use Rattle.hart.specs.Conditions.{KeepsMode}
@@ -18,7 +20,7 @@ use Rattle.machine.specs.declared.caches.HartCaches.{HartCaches}
 abbrev pub nobody : HostHart
 nobody = record {
   core = record {
-    registers = replicate 32 0;
+    registers = replicate register_count 0;
     pc = 0;
     csrs = registers_at_boot;
     hregs = hregs_in Kernel None;
@@ -36,7 +38,7 @@ pub record IsReady (region : Region) (host : HostHart) (lines : Lines) : Type 0 
   pub started : host.started ≡ true
   pub aligned : host.core.pc % 4 ≡ 0
   pub keeps : KeepsMode host.core.hregs
-  pub stage : host.core.hregs.hgatp / 2 ^ 60 ≡ 8
+  pub stage : IsSv39x4 host.core.hregs.hgatp
   pub apart : WalksApart region host.core.hregs.hgatp
   pub ram : length (attempt region host.core lines).region.ram ≡ length region.ram
 

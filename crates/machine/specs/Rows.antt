@@ -5,6 +5,7 @@ use Rattle.processor.specs.HardwareAttempt.{attempt}
 use Rattle.processor.specs.HypervisorRegisters.{pending}
 use Rattle.processor.specs.Regions.{Region}
 use Rattle.processor.specs.SecondStage.{WalksApart}
+use Rattle.processor.specs.Roots.{IsSv39x4}
 use Rattle.processor.specs.declared.cause.Cause.{Cause}
 use Rattle.processor.specs.declared.exit.ExitCause.{ExitCause}
 use Rattle.hart.specs.Conditions.{KeepsMode}
@@ -30,7 +31,7 @@ AreFree harts = (h : ℕ) → (hart_in harts h).core.reservation ≡ None
 pub record WalksUnderRoot (region : Region) (host : HostHart) : Type 0 where
   pub aligned : host.core.pc % 4 ≡ 0
   pub keeps : KeepsMode host.core.hregs
-  pub stage : host.core.hregs.hgatp / 2 ^ 60 ≡ 8
+  pub stage : IsSv39x4 host.core.hregs.hgatp
   pub apart : WalksApart region host.core.hregs.hgatp
 
 -- so many turns counted, each with its instruction

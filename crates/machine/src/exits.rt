@@ -1,6 +1,7 @@
 // What SecVisor answers where a hart exits.
 
 ghost use Rattle.std.specs.Prelude.{◌≡◌, ◌<◌, length};
+ghost use Rattle.processor.specs.IntegerRegisters.{register_count};
 ghost use Rattle.reference.specs.Calls.{asked_by};
 ghost use Rattle.reference.specs.Counting.{MayCount};
 ghost use Rattle.reference.specs.ModuleCalls.{answer_of};
@@ -119,7 +120,7 @@ impl Parts {
     fn device_load(&mut self, which: u8, load: Load)
         requires hart { MayTrap self.old.harts which }
         requires counts { MayCount self.old.journal.counts }
-        requires register { load.rd < 32 }
+        requires register { load.rd < register_count }
         ensures { WithTables self.old (answered_exit self.old which (LoadsDevice load.rd load.address load.width load.signed load.gpa)) self.new }
     {
         let seat = &mut self.seats[which as usize];

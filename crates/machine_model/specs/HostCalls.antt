@@ -2,7 +2,7 @@
 use Rattle.std.specs.Prelude.{ℕ, Bool, true, false, not, ◌&&◌, List, [], map, filter, Some, None, slice_get, is_some}
 use Rattle.std.specs.List.{list_any}
 use Rattle.processor.specs.Bytes.{page_of}
-use Rattle.sv_types.specs.SbiRegisters as sbi
+use Rattle.processor.specs.IntegerRegisters as abi
 use Rattle.sv_types.specs.declared.module.Span.{Span}
 use Rattle.sv_types.specs.declared.protection.Protection.{Protection}
 use Rattle.sv_types.specs.declared.protection.Protection.TheVariants.{Free, Held, Approved}
@@ -24,7 +24,7 @@ use Rattle.machine_model.specs.Machine.{Machine, HostHart, update}
 -- ---- to the hart, and to other harts; to devices and journal as in the reference machine
 
 unfoldable pub host_replied : Reply → HostHart → HostHart
-host_replied (Gives a0) hart = host_with sbi.a0 a0 hart
+host_replied (Gives a0) hart = host_with abi.a0 a0 hart
 host_replied (Replies a0 a1) hart = host_answered a0 a1 hart
 host_replied Stays hart = host_stayed hart
 host_replied Stops hart = host_stopped hart

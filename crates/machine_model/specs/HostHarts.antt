@@ -5,7 +5,7 @@ use Rattle.processor.specs.Causes.{cause_number}
 use Rattle.processor.specs.Effects.{set_register, next_pc}
 use Rattle.processor.specs.HypervisorRegisters.{registers_at_trap, registers_at_return, registers_at_boot}
 use Rattle.sv_types.specs.Policies.{Rules}
-use Rattle.sv_types.specs.SbiRegisters as sbi
+use Rattle.processor.specs.IntegerRegisters as abi
 use Rattle.processor.specs.Requests.{loaded_value}
 use Rattle.processor.specs.Traps.{trap_target, mode_at_return}
 use Rattle.processor.specs.declared.cause.Cause.{Cause}
@@ -77,7 +77,7 @@ host_with rd value hart = record hart {
 unfoldable pub host_answered : (a0 a1 : ℕ) → HostHart → HostHart
 host_answered a0 a1 hart = record hart {
   core = record hart.core {
-    registers = set_register (set_register hart.core.registers sbi.a0 a0) sbi.a1 a1;
+    registers = set_register (set_register hart.core.registers abi.a0 a0) abi.a1 a1;
     pc = next_pc hart.core.pc;
     reservation = None;
   };

@@ -7,6 +7,7 @@ use Rattle.hex.specs.Hex.{encode_lower}
 use Rattle.toml.specs.Data.{Data, string, integer, array, table, Members, no_members, member}
 use Rattle.toml.specs.View.{items_of}
 use Rattle.processor.specs.Bytes.{page_size, ram_base}
+use Rattle.sv_types.specs.Limits.{plain_format}
 use Rattle.sv_types.specs.Output.{address_text}
 use Rattle.sv_types.specs.Policies.{Rules, ModuleRule}
 use Rattle.sv_types.specs.RelocationKinds.{kind_number}
@@ -47,7 +48,7 @@ binding_data b = array (items_of (address_data b.va ∷ address_data b.gpa ∷ [
 -- format 1 lists the entries alone, and format 2 each with the address that it is bound to
 abbrev pub entries_data : (format : ℕ) → (entries bound : List ℕ) → Data
 entries_data format entries bound =
-    array (items_of (if format == 1 then map address_data entries else map binding_data (bindings_of entries bound)))
+    array (items_of (if format == plain_format then map address_data entries else map binding_data (bindings_of entries bound)))
 
 abbrev pub exports_data : List Export → Data
 exports_data exports = array (items_of (map export_data exports))

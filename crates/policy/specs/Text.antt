@@ -6,6 +6,7 @@ use Rattle.std.specs.Str.{is_utf8}
 use Rattle.toml.specs.Data.{Data, Items, no_items, item, Members, get_member}
 use Rattle.toml.specs.Parse.{parse_document}
 use Rattle.processor.specs.Bytes.{page_size, ram_base}
+use Rattle.sv_types.specs.Limits.{plain_format}
 use Rattle.sv_types.specs.Policies.{Rules, ModuleRule, format_within, harts_within, ram_pages_within, entries_count_within, exports_count_within, modules_count_within, module_pages_within, sites_count_within, is_exported, span_within, place_within, is_aligned, base_within, anchor_within, is_behind, is_module, sites_of}
 use Rattle.sv_types.specs.RelocationKinds as kinds
 use Rattle.sv_types.specs.declared.module.Span.{Span}
@@ -39,7 +40,7 @@ abbrev pub bound_entries : ℕ → Items → Judged (List ℕ × List ℕ)
 bound_entries ram_pages items = each_binding ram_pages [] items >>= λ bindings. Ok (entries_in bindings, bound_in bindings)
 
 abbrev pub entries_by : (format ram_pages : ℕ) → Items → Judged (List ℕ × List ℕ)
-entries_by format ram_pages items = if format == 1 then plain_entries items else bound_entries ram_pages items
+entries_by format ram_pages items = if format == plain_format then plain_entries items else bound_entries ram_pages items
 
 -- the entries, and the addresses that they are bound to
 abbrev pub entries_of : (format ram_pages : ℕ) → Data → Judged (List ℕ × List ℕ)

@@ -33,6 +33,10 @@ write_word list at n value = overwrite list at (low_bytes n value)
 abbrev pub padded : List ℕ → ℕ → List ℕ
 padded bytes size = bytes ++ replicate (size - length bytes) 0
 
+-- the bytes of an instruction
+abbrev pub instruction_size : ℕ
+instruction_size = 4
+
 -- where guest RAM begins, and the bytes of a page
 abbrev pub ram_base : ℕ
 ram_base = 0x80000000

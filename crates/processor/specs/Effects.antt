@@ -5,6 +5,7 @@
 use Rattle.std.specs.Prelude.{ℕ, ◌+◌, ◌-◌, ◌*◌, ◌/◌, ◌%◌, ◌^◌, ◌==◌, if◌then◌else◌, Bool, true, false, not, List, ℤ, pos, ◌*ℤ◌, nat_lt, int_lt, int_div, int_rem, bit_and, bit_or, bit_xor, min, max, slice_index, slice_set}
 use Rattle.std.specs.Int.{Width, w32, w64, w128, cast_signed, cast_unsigned, int_shr}
 use Rattle.processor.specs.Bits.{flag}
+use Rattle.processor.specs.Bytes.{instruction_size}
 use Rattle.processor.specs.declared.instruction.Instr.{Instr}
 use Rattle.processor.specs.declared.instruction.BranchOp.{BranchOp}
 use Rattle.processor.specs.declared.instruction.BranchOp.TheVariants.{Beq, Bne, Blt, Bge, Bltu, Bgeu}
@@ -252,7 +253,7 @@ amo_value op width old src =
 -- ---- the table
 
 abbrev pub next_pc : ℕ → ℕ
-next_pc pc = plus pc 4
+next_pc pc = plus pc instruction_size
 
 -- a jump that leaves a link in rd
 abbrev pub jump : ℕ → ℕ → ℕ → Effect

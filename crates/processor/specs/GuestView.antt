@@ -5,7 +5,7 @@
 use Rattle.std.specs.Prelude.{ℕ, ◌*◌}
 use Rattle.processor.specs.Bits.{flag}
 use Rattle.processor.specs.Registers.{Supervisor}
-use Rattle.processor.specs.HypervisorRegisters.{HypervisorRegisters, virtual_interrupt_bits, virtual_software_bit}
+use Rattle.processor.specs.HypervisorRegisters.{HypervisorRegisters, at_hypervisor_places, virtual_interrupt_bits, virtual_software_bit}
 use Rattle.processor.specs.declared.mode.Mode.{Mode}
 use Rattle.processor.specs.declared.mode.Mode.TheVariants.{Kernel, User}
 
@@ -20,7 +20,7 @@ with_guest c s = record c {
   vstval = s.stval;
   vsatp = s.satp;
   scounteren = s.scounteren;
-  hie = 2 * s.sie;
+  hie = at_hypervisor_places s.sie;
   hvip = virtual_software_bit * flag s.software;
 }
 

@@ -6,7 +6,7 @@ use Rattle.std.specs.Prelude.{◌≡◌, ℕ, ◌+◌, ◌*◌, ◌/◌, ◌^◌
 use Rattle.std.specs.List.{list_any}
 use Rattle.processor.specs.Bits.{bit, flag, without}
 use Rattle.processor.specs.Causes.{cause_number}
-use Rattle.processor.specs.Registers.{csr_named, legal_status, uxl, interrupt_bits, legal_tvec, legal_counteren, legal_epc, legal_satp}
+use Rattle.processor.specs.Registers.{csr_named, legal_status, uxl, legal_interrupts, legal_tvec, legal_counteren, legal_epc, legal_satp}
 use Rattle.processor.specs.Traps.{trap_cause, status_at_trap, status_at_return, takes_interrupts, interrupt_number, is_interrupt, first_interrupt}
 use Rattle.processor.specs.declared.csr.Csr.{Csr}
 use Rattle.processor.specs.declared.csr.CsrFault.{CsrFault}
@@ -84,7 +84,7 @@ abbrev pub at_guest_places : ℕ → ℕ
 at_guest_places bits = bits / 2
 
 abbrev pub at_hypervisor_places : ℕ → ℕ
-at_hypervisor_places value = 2 * bit_and value interrupt_bits
+at_hypervisor_places bits = 2 * bits
 
 -- the guest's sie and sip are the delegated bits of hie and hip, at the guest's places
 unfoldable pub aliased : ℕ → ℕ → ℕ
@@ -93,7 +93,7 @@ aliased hideleg register = at_guest_places (bit_and register (delegated hideleg 
 -- a write of sie or sip sets the delegated bits of hie or hvip as the value has them, and leaves the others
 unfoldable pub with_alias : ℕ → ℕ → ℕ → ℕ → ℕ
 with_alias hideleg register_bits register value =
-    bit_or (without register (delegated hideleg register_bits)) (bit_and (at_hypervisor_places value) (delegated hideleg register_bits))
+    bit_or (without register (delegated hideleg register_bits)) (bit_and (at_hypervisor_places (legal_interrupts value)) (delegated hideleg register_bits))
 
 -- each register holds only bits that may stand
 pub record IsLegal (c : HypervisorRegisters) : Type 0 where

@@ -4,10 +4,12 @@ pub mod Regions
 pub mod Instructions
 pub mod Effects
 pub mod Encoding
+pub mod Roots
 pub mod Translation
 pub mod SecondStage
 pub mod CachedWalks
 pub mod Bits
+pub mod IntegerRegisters
 pub mod Registers
 pub mod Traps
 pub mod HypervisorRegisters

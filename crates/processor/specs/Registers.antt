@@ -3,6 +3,7 @@
 -- time.
 use Rattle.std.specs.Prelude.{◌≡◌, ℕ, ◌+◌, ◌-◌, ◌*◌, ◌/◌, ◌^◌, Bool, true, false, ◌||◌, ◌==◌, if◌then◌else◌, bit_and, Option, Some, None}
 use Rattle.processor.specs.Bits.{bit, flag}
+use Rattle.processor.specs.Roots.{root_mode, bare_mode, sv39_mode}
 use Rattle.processor.specs.declared.csr.Csr.{Csr}
 use Rattle.processor.specs.declared.mode.Mode.{Mode}
 use Rattle.processor.specs.declared.mode.Mode.TheVariants.{Kernel, User}
@@ -23,19 +24,32 @@ pub record Supervisor : Type 0 where
 
 -- ---- the register of a number
 
+abbrev pub csr_number : Csr → ℕ
+csr_number Csr.Sstatus = 0x100
+csr_number Csr.Sie = 0x104
+csr_number Csr.Stvec = 0x105
+csr_number Csr.Scounteren = 0x106
+csr_number Csr.Sscratch = 0x140
+csr_number Csr.Sepc = 0x141
+csr_number Csr.Scause = 0x142
+csr_number Csr.Stval = 0x143
+csr_number Csr.Sip = 0x144
+csr_number Csr.Satp = 0x180
+csr_number Csr.Time = 0xC01
+
 unfoldable pub csr_named : ℕ → Option Csr
 csr_named number =
-    if number == 0x100 then Some Csr.Sstatus
-    else if number == 0x104 then Some Csr.Sie
-    else if number == 0x105 then Some Csr.Stvec
-    else if number == 0x106 then Some Csr.Scounteren
-    else if number == 0x140 then Some Csr.Sscratch
-    else if number == 0x141 then Some Csr.Sepc
-    else if number == 0x142 then Some Csr.Scause
-    else if number == 0x143 then Some Csr.Stval
-    else if number == 0x144 then Some Csr.Sip
-    else if number == 0x180 then Some Csr.Satp
-    else if number == 0xC01 then Some Csr.Time
+    if number == csr_number Csr.Sstatus then Some Csr.Sstatus
+    else if number == csr_number Csr.Sie then Some Csr.Sie
+    else if number == csr_number Csr.Stvec then Some Csr.Stvec
+    else if number == csr_number Csr.Scounteren then Some Csr.Scounteren
+    else if number == csr_number Csr.Sscratch then Some Csr.Sscratch
+    else if number == csr_number Csr.Sepc then Some Csr.Sepc
+    else if number == csr_number Csr.Scause then Some Csr.Scause
+    else if number == csr_number Csr.Stval then Some Csr.Stval
+    else if number == csr_number Csr.Sip then Some Csr.Sip
+    else if number == csr_number Csr.Satp then Some Csr.Satp
+    else if number == csr_number Csr.Time then Some Csr.Time
     else None
 
 -- ---- the bits that may stand
@@ -75,10 +89,10 @@ abbrev pub satp_bits : ℕ
 satp_bits = 15 * 2 ^ 60 + (2 ^ 44 - 1)
 
 abbrev pub is_satp_mode : ℕ → Bool
-is_satp_mode mode = mode == 0 || mode == 8
+is_satp_mode mode = mode == bare_mode || mode == sv39_mode
 
 abbrev pub legal_satp : ℕ → ℕ → ℕ
-legal_satp old value = if is_satp_mode (value / 2 ^ 60) then bit_and value satp_bits else old
+legal_satp old value = if is_satp_mode (root_mode value) then bit_and value satp_bits else old
 
 -- ---- which register an access reaches, none where it is refused
 

@@ -6,6 +6,7 @@ use Rattle.std.specs.Prelude.{◌≡◌, ◌⊎◌, ℕ, ◌+◌, ◌-◌, ◌%�
 use Rattle.std.specs.Int.{Width, w8, w16, w32, w64, cast_signed}
 use Rattle.processor.specs.Bits.{without}
 use Rattle.processor.specs.Effects.{machine_word}
+use Rattle.processor.specs.IntegerRegisters.{register_count}
 use Rattle.processor.specs.Regions.{IsWidth}
 use Rattle.processor.specs.declared.effect.Effect.{Effect}
 use Rattle.processor.specs.declared.instruction.CsrOp.{CsrOp}
@@ -57,13 +58,13 @@ after_write place width (Some reserved) = if touches reserved place width then N
 
 -- the register exists, the next pc is a multiple of 4, and the width is one of memory's
 abbrev pub IsRequest : Effect → Type 0
-IsRequest (Effect.Set rd value next) = (rd < 32) × (next % 4 ≡ 0)
-IsRequest (Effect.Load rd address width signed) = (rd < 32) × IsWidth width
+IsRequest (Effect.Set rd value next) = (rd < register_count) × (next % 4 ≡ 0)
+IsRequest (Effect.Load rd address width signed) = (rd < register_count) × IsWidth width
 IsRequest (Effect.Store address width value) = IsWidth width
-IsRequest (Effect.LoadReserved rd address width) = (rd < 32) × IsWidth width
-IsRequest (Effect.StoreConditional rd address width value) = (rd < 32) × IsWidth width
-IsRequest (Effect.Amo rd address width op value) = (rd < 32) × (((width ≡ 4) ⊎ (width ≡ 8)) × IsWidth width)
-IsRequest (Effect.Csr rd number op operand writes) = rd < 32
+IsRequest (Effect.LoadReserved rd address width) = (rd < register_count) × IsWidth width
+IsRequest (Effect.StoreConditional rd address width value) = (rd < register_count) × IsWidth width
+IsRequest (Effect.Amo rd address width op value) = (rd < register_count) × (((width ≡ 4) ⊎ (width ≡ 8)) × IsWidth width)
+IsRequest (Effect.Csr rd number op operand writes) = rd < register_count
 IsRequest _ = Unit {0}
 
 -- it writes so many bytes at an address

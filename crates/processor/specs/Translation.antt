@@ -5,6 +5,7 @@ use Rattle.std.specs.Prelude.{ℕ, ◌+◌, ◌*◌, ◌/◌, ◌%◌, ◌^◌, 
 use Rattle.processor.specs.Bits.{bit}
 use Rattle.processor.specs.Bytes.{word, in_ram, ram_place, page_size}
 use Rattle.processor.specs.Instructions.{bits}
+use Rattle.processor.specs.Roots.{root_mode, bare_mode}
 use Rattle.processor.specs.declared.access.Access.{Access}
 use Rattle.processor.specs.declared.access.Access.TheVariants.{Fetch, Load, Store}
 use Rattle.processor.specs.declared.mode.Mode.{Mode}
@@ -116,7 +117,7 @@ root_of atp = page_size * bits atp 0 44
 -- a first stage over whatever gives its entries
 unfoldable pub first_stage : (ℕ → Option ℕ) → Settings → Mode → ℕ → Access → Destination
 first_stage read s mode va access =
-    if s.satp / 2 ^ 60 == 0 then At va
+    if root_mode s.satp == bare_mode then At va
     else if is_canonical va then walk read (permits_access s mode access) (sv39_indices va) (root_of s.satp) va
     else PageFault
 

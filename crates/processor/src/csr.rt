@@ -1,7 +1,30 @@
 // The supervisor registers that a guest can name.
 
 ghost use Rattle.std.specs.Prelude.{◌≡◌};
-ghost use Rattle.processor.specs.Registers.{csr_named};
+ghost use Rattle.processor.specs.Registers.{csr_named, csr_number};
+
+// The numbers of the registers. Privileged manual, "CSR Listing".
+const SSTATUS: u16 = 0x100;
+
+const SIE: u16 = 0x104;
+
+const STVEC: u16 = 0x105;
+
+const SCOUNTEREN: u16 = 0x106;
+
+const SSCRATCH: u16 = 0x140;
+
+const SEPC: u16 = 0x141;
+
+const SCAUSE: u16 = 0x142;
+
+const STVAL: u16 = 0x143;
+
+const SIP: u16 = 0x144;
+
+const SATP: u16 = 0x180;
+
+const TIME: u16 = 0xC01;
 
 /// A supervisor register of the register table in `specs/Registers.antt`, or the time.
 #[derive(Clone, Copy, Debug, PartialEq, Eq, Drop)]
@@ -20,6 +43,25 @@ pub enum Csr {
 }
 
 impl Csr {
+    /// The number of a register, by the same listing.
+    pub fn number(self) -> u16
+        ensures { result ≡ csr_number self }
+    {
+        match self {
+            Csr::Sstatus => SSTATUS,
+            Csr::Sie => SIE,
+            Csr::Stvec => STVEC,
+            Csr::Scounteren => SCOUNTEREN,
+            Csr::Sscratch => SSCRATCH,
+            Csr::Sepc => SEPC,
+            Csr::Scause => SCAUSE,
+            Csr::Stval => STVAL,
+            Csr::Sip => SIP,
+            Csr::Satp => SATP,
+            Csr::Time => TIME,
+        }
+    }
+
     /// The register of a number of 12 bits, by the Privileged manual's listing. None where no supervisor register of
     /// the table has that number.
     #[tactic(auto, unfolding(crate::specs::Registers::csr_named))]
@@ -27,17 +69,17 @@ impl Csr {
         ensures { result ≡ csr_named number }
     {
         match number {
-            0x100 => Some(Csr::Sstatus),
-            0x104 => Some(Csr::Sie),
-            0x105 => Some(Csr::Stvec),
-            0x106 => Some(Csr::Scounteren),
-            0x140 => Some(Csr::Sscratch),
-            0x141 => Some(Csr::Sepc),
-            0x142 => Some(Csr::Scause),
-            0x143 => Some(Csr::Stval),
-            0x144 => Some(Csr::Sip),
-            0x180 => Some(Csr::Satp),
-            0xC01 => Some(Csr::Time),
+            SSTATUS => Some(Csr::Sstatus),
+            SIE => Some(Csr::Sie),
+            STVEC => Some(Csr::Stvec),
+            SCOUNTEREN => Some(Csr::Scounteren),
+            SSCRATCH => Some(Csr::Sscratch),
+            SEPC => Some(Csr::Sepc),
+            SCAUSE => Some(Csr::Scause),
+            STVAL => Some(Csr::Stval),
+            SIP => Some(Csr::Sip),
+            SATP => Some(Csr::Satp),
+            TIME => Some(Csr::Time),
             _ => None,
         }
     }

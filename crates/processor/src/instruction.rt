@@ -138,6 +138,9 @@ pub enum HyperOp {
     HfenceGvma,
 }
 
+/// The bytes of an instruction. Unprivileged manual, "Base Instruction-Length Encoding".
+pub const INSTRUCTION_BYTES: u64 = 4;
+
 /// An instruction. Immediates are sign-extended, register numbers are below 32, widths are 4 or 8 bytes. A shift
 /// by an immediate has `imm` 0, and the other computations have `shamt` 0. A register access with an immediate keeps
 /// it in `rs1`. In `Hyper` a field that the row fixes is 0.

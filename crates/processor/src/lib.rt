@@ -17,6 +17,7 @@ mod memory;
 mod mode;
 mod outcome;
 mod pte_bits;
+mod registers;
 mod translation;
 
 pub use access::Access;
@@ -28,7 +29,8 @@ pub use effect::Effect;
 pub use exit::{Exit, ExitCause};
 pub use hregs::HRegs;
 pub use instruction::{
-    AmoOp, BranchOp, CsrOp, HyperOp, Instr, LoadOp, Op32Op, OpImm32Op, OpImmOp, OpOp, StoreOp,
+    AmoOp, BranchOp, CsrOp, HyperOp, INSTRUCTION_BYTES, Instr, LoadOp, Op32Op, OpImm32Op, OpImmOp,
+    OpOp, StoreOp,
 };
 pub use interrupt::Interrupt;
 pub use lines::Lines;
@@ -36,4 +38,5 @@ pub use memory::{PAGE_BYTES, PAGE_SIZE, RAM_BASE, is_in_ram, page_of, ram_place}
 pub use mode::Mode;
 pub use outcome::{Exception, Outcome, Wrote};
 pub use pte_bits::PteBits;
+pub use registers::{A0, A1, A2, A3, A6, A7, REGISTERS, S0, S1, T0, T1, T2, T3, T4, X0};
 pub use translation::{BARE, Fault, GuestFault, Place, ROOT_MODE_PLACE, SV39};

@@ -8,6 +8,7 @@ use Rattle.processor.specs.Hardware.{Core, Attempted}
 use Rattle.processor.specs.HardwareAttempt.{attempt, after_pending, after_fetch, after_word}
 use Rattle.processor.specs.HypervisorRegisters.{HypervisorRegisters, pending, is_taken}
 use Rattle.processor.specs.Regions.{Region, host_word, write_host, IsHostPlace}
+use Rattle.processor.specs.Roots.{IsBare}
 use Rattle.processor.specs.declared.cached.CacheLine.{CacheLine}
 use Rattle.processor.specs.declared.hregs.HRegs.{HRegs}
 use Rattle.processor.specs.declared.lines.Lines.{Lines}
@@ -135,11 +136,11 @@ stayed_leads r after core next regs page host same course leads =
     subst (λ (x : Region). Leads x (core_of next regs) page host) (sym same) (leads_core r (core_of core regs) (core_of next regs) page host course refl leads)
 
 pub stored_leads : (r after : Region) (core next : Kept) (regs : HRegs) (x y : List (Option CacheLine)) (here there : Window) → GoesOn r after core next regs x y
-    → SameCourse core.csrs next.csrs → WalksApart r regs.hgatp → Leads r (core_of core regs) here.page here.host → (next.csrs.vsatp / 2 ^ 60 ≡ 0 → there ≡ here)
-    → ((next.csrs.vsatp / 2 ^ 60 ≡ 0 → ⊥) → there ≡ record { page = 18446744073709551615; host = 0 }) → Leads after (core_of next regs) there.page there.host
+    → SameCourse core.csrs next.csrs → WalksApart r regs.hgatp → Leads r (core_of core regs) here.page here.host → (IsBare next.csrs.vsatp → there ≡ here)
+    → ((IsBare next.csrs.vsatp → ⊥) → there ≡ record { page = 18446744073709551615; host = 0 }) → Leads after (core_of next regs) there.page there.host
 stored_leads r after core next regs x y here there on course apart leads bare paged = elim (eqb_tells (next.csrs.vsatp / 2 ^ 60) 0) [
   | inl same ↦
-      let was : core.csrs.vsatp / 2 ^ 60 ≡ 0 = ap (λ (n : ℕ). n / 2 ^ 60) (sym course.first) ∙ same.1 in
+      let was : IsBare core.csrs.vsatp = ap (λ (n : ℕ). n / 2 ^ 60) (sym course.first) ∙ same.1 in
       subst (λ (w : Window). Leads after (core_of next regs) w.page w.host) (sym (bare same.1))
       (leads_core after (core_of core regs) (core_of next regs) here.page here.host course refl
       (leads_kept r after (core_of core regs) here.page here.host was on.tables on.ram apart leads))

@@ -8,6 +8,7 @@ use Rattle.processor.specs.HardwareMemory.{settings_at, place_or_exception, tran
 use Rattle.processor.specs.Regions.{Region, IsRegion, IsHostPlace}
 use Rattle.processor.specs.Translation.{walk, is_pointer, is_leaf, entry_page, leaf_address, at_leaf, at_entry, root_of, is_canonical, sv39_indices, permits_access, first_stage, Settings, Destination, At, PageFault, Unreadable}
 use Rattle.processor.specs.SecondStage.{walk_guest, address_at, entry_in_region, entry_through, guest_destination, place_through, after_first_stage, two_stages, WalksApart}
+use Rattle.processor.specs.Roots.{IsBare}
 use Rattle.processor.specs.declared.access.Access.{Access}
 use Rattle.processor.specs.declared.access.Access.TheVariants.{Fetch}
 use Rattle.processor.specs.declared.mode.Mode.{Mode}
@@ -162,19 +163,19 @@ leads_from r core pc hpa region place e = record {
   };
 }
 
-bare_kept : (r after : Region) (hgatp va : ℕ) (s : Settings) (mode : Mode) (access : Access) → s.satp / 2 ^ 60 ≡ 0 → after.tables ≡ r.tables → WalksApart r hgatp
+bare_kept : (r after : Region) (hgatp va : ℕ) (s : Settings) (mode : Mode) (access : Access) → IsBare s.satp → after.tables ≡ r.tables → WalksApart r hgatp
     → two_stages after hgatp s mode va access ≡ two_stages r hgatp s mode va access
 unfolding two_stages first_stage after_first_stage
 bare_kept r after hgatp va s mode access bare same apart = rw bare (ap (place_through va) (walks_kept r after hgatp va access same apart))
 
-bare_translated : (r after : Region) (core : Core) (va : ℕ) → core.csrs.vsatp / 2 ^ 60 ≡ 0 → after.tables ≡ r.tables → WalksApart r core.hregs.hgatp
+bare_translated : (r after : Region) (core : Core) (va : ℕ) → IsBare core.csrs.vsatp → after.tables ≡ r.tables → WalksApart r core.hregs.hgatp
     → translated after core Fetch va 0 ≡ translated r core Fetch va 0
 unfolding translated
 bare_translated r after core va bare same apart =
     ap (place_or_exception Fetch va 0) (bare_kept r after core.hregs.hgatp va (settings_at core) core.hregs.mode Fetch bare same apart)
 
 -- without a first stage a window outlives a store
-pub leads_kept : (r after : Region) (core : Core) (page host : ℕ) → core.csrs.vsatp / 2 ^ 60 ≡ 0 → after.tables ≡ r.tables → length after.ram ≡ length r.ram
+pub leads_kept : (r after : Region) (core : Core) (page host : ℕ) → IsBare core.csrs.vsatp → after.tables ≡ r.tables → length after.ram ≡ length r.ram
     → WalksApart r core.hregs.hgatp → Leads r core page host → Leads after core page host
 leads_kept r after core page host bare same size apart leads = record {
   fetches = λ va small at. bare_translated r after core va bare same apart ∙ leads.fetches va small at;

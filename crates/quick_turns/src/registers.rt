@@ -6,6 +6,7 @@ ghost use Rattle.processor.specs.Requests.{csr_value};
 ghost use Rattle.processor.specs.Hardware.{with_region};
 ghost use Rattle.processor.specs.HardwareAttempt.{csr_reached, after_csr};
 ghost use Rattle.processor.specs.HypervisorRegisters.{HypervisorRegisters, read_virtual, write_virtual};
+ghost use Rattle.processor.specs.IntegerRegisters.{register_count};
 ghost use Rattle.processor.specs.declared.lines.Lines.{Lines};
 ghost use Rattle.hart.specs.Cores.{core_of};
 ghost use Rattle.hart.specs.Conditions.{MayStep};
@@ -14,7 +15,7 @@ ghost use Rattle.quick_turns.specs.Quick.{Comes, SameCourse, Steers};
 use crate::tried::Tried;
 use csr_file::Csrs;
 use hart::{Core, csr_value};
-use processor::{Csr, CsrOp, HRegs, Lines};
+use processor::{Csr, CsrOp, HRegs, INSTRUCTION_BYTES, Lines};
 
 // Some wires, for registers that are read without them.
 const LOW: Lines = Lines {
@@ -103,7 +104,7 @@ fn exchange(csrs: &mut Csrs, hideleg: u64, access: CsrAccess, csr: Csr) -> Optio
 pub(crate) fn csr(core: &mut Core, regs: &HRegs, access: CsrAccess) -> Tried
     requires ready { MayStep core.old regs.now }
     requires free { core.old.reservation ≡ None }
-    requires register { access.rd < 32 }
+    requires register { access.rd < register_count }
     ensures comes { (r : Region) → (lines : Lines) → (word : ℕ) → Comes result (with_region r (after_csr (core_of core.old regs.now) lines access.rd access.op access.operand access.writes (csr_reached (core_of core.old regs.now) word access.number access.writes))) r r (core_of core.old regs.now) (core_of core.new regs.now) }
     ensures pc { core.new.pc % 4 ≡ 0 }
     ensures free { core.new.reservation ≡ None }
@@ -116,7 +117,7 @@ pub(crate) fn csr(core: &mut Core, regs: &HRegs, access: CsrAccess) -> Tried
         return Tried::Stopped;
     };
     core.regs.set(access.rd, done.old);
-    core.pc = core.pc.wrapping_add(4);
+    core.pc = core.pc.wrapping_add(INSTRUCTION_BYTES);
     if done.steers {
         Tried::Steered
     } else {

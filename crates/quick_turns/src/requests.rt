@@ -6,6 +6,7 @@ ghost use Rattle.processor.specs.Requests.{loaded_value};
 ghost use Rattle.processor.specs.Hardware.{with_region};
 ghost use Rattle.processor.specs.HardwareAttempt.{after_word, after_supervisor_only};
 ghost use Rattle.processor.specs.HardwareMemory.{reached, after_amo, after_load, after_store};
+ghost use Rattle.processor.specs.IntegerRegisters.{register_count};
 ghost use Rattle.processor.specs.declared.access.Access.TheVariants as Access;
 ghost use Rattle.processor.specs.declared.lines.Lines.{Lines};
 ghost use Rattle.hart.specs.Cores.{core_of};
@@ -20,7 +21,7 @@ use crate::tried::Tried;
 use gstage_cache::Cache;
 use hart::Core;
 use host_mem::HostMem;
-use processor::{Access, AmoOp, Effect, HRegs, Mode};
+use processor::{Access, AmoOp, Effect, HRegs, INSTRUCTION_BYTES, Mode};
 use reach::Reach;
 use rv64_exec::{amo, effect, loaded_value};
 
@@ -46,7 +47,7 @@ fn load(
 ) -> Tried
     requires ready { MayAttempt mem.now core.old regs.now cache.old }
     requires free { core.old.reservation ≡ None }
-    requires register { load.rd < 32 }
+    requires register { load.rd < register_count }
     requires width { IsWidth load.width }
     requires reach { ReachAgrees mem.now.tables reach.old }
     ensures comes { (htinst : ℕ) → Comes result (with_region mem.now (after_load mem.now (core_of core.old regs.now) load.rd load.width load.signed (reached mem.now (core_of core.old regs.now) Access.Load load.address load.width htinst))) mem.now mem.now (core_of core.old regs.now) (core_of core.new regs.now) }
@@ -64,7 +65,7 @@ fn load(
             let word = mem.read(hpa as usize, load.width);
             core.regs
                 .set(load.rd, loaded_value(load.signed, load.width, word));
-            core.pc = core.pc.wrapping_add(4);
+            core.pc = core.pc.wrapping_add(INSTRUCTION_BYTES);
             Tried::Retired
         }
         None => Tried::Stopped,
@@ -107,7 +108,7 @@ fn store(
     match aligned_place(core, regs, cache, reach, mem, reference) {
         Some(hpa) => {
             mem.write(hpa as usize, store.width, store.value);
-            core.pc = core.pc.wrapping_add(4);
+            core.pc = core.pc.wrapping_add(INSTRUCTION_BYTES);
             Tried::Stored
         }
         None => Tried::Stopped,
@@ -138,7 +139,7 @@ fn atomic(
     requires ready { MayAttempt mem.old core.old regs.now cache.old }
     requires free { core.old.reservation ≡ None }
     requires reach { ReachAgrees mem.old.tables reach.old }
-    requires register { operation.rd < 32 }
+    requires register { operation.rd < register_count }
     requires width { IsWidth operation.width }
     requires word { (operation.width ≡ 4) ⊎ (operation.width ≡ 8) }
     ensures comes { (htinst : ℕ) → Comes result (after_amo mem.old (core_of core.old regs.now) operation.rd operation.width operation.op operation.value (reached mem.old (core_of core.old regs.now) Access.Store operation.address operation.width htinst)) mem.old mem.new (core_of core.old regs.now) (core_of core.new regs.now) }
@@ -160,7 +161,7 @@ fn atomic(
             mem.write(hpa as usize, operation.width, made);
             core.regs
                 .set(operation.rd, loaded_value(true, operation.width, word));
-            core.pc = core.pc.wrapping_add(4);
+            core.pc = core.pc.wrapping_add(INSTRUCTION_BYTES);
             Tried::Stored
         }
         None => Tried::Stopped,
@@ -181,7 +182,7 @@ fn supervisor_only(core: &mut Core, regs: &HRegs) -> Tried
 {
     match regs.mode {
         Mode::Kernel => {
-            core.pc = core.pc.wrapping_add(4);
+            core.pc = core.pc.wrapping_add(INSTRUCTION_BYTES);
             Tried::Retired
         }
         Mode::User => Tried::Stopped,
@@ -285,7 +286,7 @@ pub(crate) fn carry_out(
             },
         ),
         Effect::Fence => {
-            core.pc = core.pc.wrapping_add(4);
+            core.pc = core.pc.wrapping_add(INSTRUCTION_BYTES);
             Tried::Retired
         }
         Effect::Wfi | Effect::SfenceVma => supervisor_only(core, regs),

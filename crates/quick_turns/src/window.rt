@@ -3,6 +3,7 @@
 ghost use Rattle.std.specs.Prelude.{◌≡◌, ◌/◌, ◌%◌, ◌+◌, ◌^◌, IfSome};
 ghost use Rattle.processor.specs.Bytes.{page_size};
 ghost use Rattle.processor.specs.Regions.{host_word};
+ghost use Rattle.processor.specs.Roots.{IsBare};
 ghost use Rattle.hart.specs.Cores.{core_of};
 ghost use Rattle.hart.specs.Conditions.{MayWalk, Walked};
 ghost use Rattle.quick_turns.specs.Quick.{Leads};
@@ -37,8 +38,8 @@ impl Window {
     #[tactic(auto, using(crate::proofs::Windows::no_window, crate::proofs::Windows::leads_kept))]
     #[inline(always)]
     pub(crate) fn behind_store(self, core: &Core) -> Window
-        ensures bare { core.now.csrs.vsatp / 2 ^ 60 ≡ 0 → result ≡ self }
-        ensures paged { (core.now.csrs.vsatp / 2 ^ 60 ≡ 0 → ⊥) → result ≡ record { page = 18446744073709551615; host = 0 } }
+        ensures bare { IsBare core.now.csrs.vsatp → result ≡ self }
+        ensures paged { (IsBare core.now.csrs.vsatp → ⊥) → result ≡ record { page = 18446744073709551615; host = 0 } }
     {
         if core.csrs.vsatp >> 60 == 0 {
             self

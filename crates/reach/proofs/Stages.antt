@@ -5,6 +5,7 @@ use Rattle.std.proofs.lemmas.Bool.Decides.{nat_tests}
 use Rattle.processor.specs.Regions.{Region}
 use Rattle.processor.specs.Translation.{Destination, At, PageFault, Unreadable, Settings, walk, at_leaf, is_leaf, leaf_address, first_stage, permits_access, is_canonical, root_of}
 use Rattle.processor.specs.SecondStage.{walk_guest, address_at, entry_in_region, entry_in_tables, entry_through, guest_destination, after_first_stage, place_through, two_stages, WalksApart}
+use Rattle.processor.specs.Roots.{IsBare}
 use Rattle.processor.specs.declared.access.Access.{Access}
 use Rattle.processor.specs.declared.mode.Mode.{Mode}
 use Rattle.processor_laws.proofs.Walks.{walk_guest_fits}
@@ -52,7 +53,7 @@ mapped_test : (n : ℕ) → (n ≡ 0 → ⊥) → (n == 0) ≡ false
 mapped_test n h = grind (arith, nat_tests)
 
 -- where the walk ends at an entry
-first_ends : (read : ℕ → Option ℕ) (s : Settings) (mode : Mode) (va below entry : ℕ) (access : Access) → (s.satp / 2 ^ 60 ≡ 0 → ⊥)
+first_ends : (read : ℕ → Option ℕ) (s : Settings) (mode : Mode) (va below entry : ℕ) (access : Access) → (IsBare s.satp → ⊥)
     → walk read (permits_access s mode access) (indices_of 3 va) (root_of s.satp) va ≡ at_leaf (permits_access s mode access) below entry va
     → first_stage read s mode va access
     ≡ (if is_canonical va then (if is_leaf below entry && permits_access s mode access entry then At (leaf_address below entry va) else PageFault) else PageFault)
@@ -102,7 +103,7 @@ unfolding two_stages
 two_of r hgatp s mode va access d e = ap (λ (x : Destination). host_of (after_first_stage r hgatp access x)) e
 
 -- another address of the page, in another region of the same tables
-pub page_led : (r other : Region) (regime : Regime) (access : Access) (va b hpa : ℕ) (entries : Entries) → WalksApart r regime.hgatp → (regime.vsatp / 2 ^ 60 ≡ 0 → ⊥)
+pub page_led : (r other : Region) (regime : Regime) (access : Access) (va b hpa : ℕ) (entries : Entries) → WalksApart r regime.hgatp → (IsBare regime.vsatp → ⊥)
     → leads_under r regime access va ≡ Some hpa → EndsAt r.tables regime.hgatp (root_of regime.vsatp) va entries → AreThere r entries → other.tables ≡ r.tables
     → AreThere other entries → b / 4096 ≡ va / 4096 → leads_under other regime access b ≡ Some (hpa - hpa % 4096 + b % 4096)
 page_led r other regime access va b hpa entries apart paged leads ends there tables there_too page =
@@ -119,7 +120,7 @@ page_led r other regime access va b hpa entries apart paged leads ends there tab
     (leaf_page ends.below ends.entry b va ends.few page)
     ∙ ap (λ (n : ℕ). Some (hpa - hpa % 4096 + n)) (leaf_place ends.below ends.entry b ends.few))
 
-pub line_agrees : (r : Region) (regime : Regime) (access : Access) (va hpa : ℕ) (entries : Entries) → WalksApart r regime.hgatp → (regime.vsatp / 2 ^ 60 ≡ 0 → ⊥)
+pub line_agrees : (r : Region) (regime : Regime) (access : Access) (va hpa : ℕ) (entries : Entries) → WalksApart r regime.hgatp → (IsBare regime.vsatp → ⊥)
     → leads_under r regime access va ≡ Some hpa → EndsAt r.tables regime.hgatp (root_of regime.vsatp) va entries → AreThere r entries
     → ArePlaces r.tables regime.hgatp entries
     → LineAgrees r.tables (record { regime = regime; access = access; page = va / 4096; host = hpa - hpa % 4096; entries = entries })

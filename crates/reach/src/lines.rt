@@ -4,6 +4,7 @@ ghost use Rattle.std.specs.Prelude.{◌≡◌, ◌⊎◌, ◌+◌, ◌/◌, ◌%
 ghost use Rattle.processor.specs.Bytes.{page_size};
 ghost use Rattle.processor.specs.SecondStage.{WalksApart};
 ghost use Rattle.processor.specs.CachedWalks.{CacheAgrees, FilledUnder};
+ghost use Rattle.processor.specs.Roots.{IsFirstStageRoot, IsSv39x4};
 ghost use Rattle.reach.specs.declared.line.Line.{Line as Kept};
 ghost use Rattle.reach.specs.Kept.{no_lines, line_at, line_place, leads_under, IsFor, IsKept, AreThere, LineAgrees, ReachAgrees};
 
@@ -142,8 +143,8 @@ impl Reach {
         va: u64,
         access: Access,
     ) -> Option<u64>
-        requires second { regime.now.hgatp / 2 ^ 60 ≡ 8 }
-        requires first { (regime.now.vsatp / 2 ^ 60 ≡ 0) ⊎ (regime.now.vsatp / 2 ^ 60 ≡ 8) }
+        requires second { IsSv39x4 regime.now.hgatp }
+        requires first { IsFirstStageRoot regime.now.vsatp }
         requires apart { WalksApart mem.now regime.now.hgatp }
         requires cached { CacheAgrees mem.now.tables cache.old }
         requires agrees { ReachAgrees mem.now.tables self.old }
@@ -171,7 +172,7 @@ impl Reach {
         access: Access,
         hpa: u64,
     )
-        requires second { regime.now.hgatp / 2 ^ 60 ≡ 8 }
+        requires second { IsSv39x4 regime.now.hgatp }
         requires apart { WalksApart mem.now regime.now.hgatp }
         requires leads { leads_under mem.now regime.now access va ≡ Some hpa }
         requires cached { CacheAgrees mem.now.tables cache.old }

@@ -4,6 +4,7 @@ ghost use Rattle.std.specs.Prelude.{◌≡◌, ◌/◌, ◌%◌, ◌^◌, IfSome
 ghost use Rattle.processor.specs.Regions.{Region};
 ghost use Rattle.processor.specs.SecondStage.{walk_guest, WalksApart};
 ghost use Rattle.processor.specs.CachedWalks.{CacheAgrees, FilledUnder};
+ghost use Rattle.processor.specs.Roots.{IsSv39x4};
 ghost use Rattle.processor.specs.declared.access.Access.TheVariants as Access;
 ghost use Rattle.sv39_walk.specs.Levels.{IsTable};
 ghost use Rattle.reach.specs.Kept.{IsThere, AreThere, ArePlaces, EndsAt};
@@ -16,7 +17,7 @@ use sv39_walk::{SecondStage, entry_page, index, is_pointer};
 
 // The entry at a guest-physical address, read where the second stage leads as a load.
 fn read_entry(cache: &mut Cache, mem: &HostMem, hgatp: u64, gpa: u64) -> Option<Entry>
-    requires second { hgatp / 2 ^ 60 ≡ 8 }
+    requires second { IsSv39x4 hgatp }
     requires apart { WalksApart mem.now hgatp }
     requires agrees { CacheAgrees mem.now.tables cache.old }
     requires aligned { gpa % 8 ≡ 0 }
@@ -44,7 +45,7 @@ pub(crate) fn read_entries(
     root: u64,
     va: u64,
 ) -> Option<Entries>
-    requires second { hgatp / 2 ^ 60 ≡ 8 }
+    requires second { IsSv39x4 hgatp }
     requires table { IsTable root }
     requires apart { WalksApart mem.now hgatp }
     requires agrees { CacheAgrees mem.now.tables cache.old }

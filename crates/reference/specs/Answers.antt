@@ -9,7 +9,7 @@ use Rattle.sv_types.specs.declared.event.Counts.{Counts}
 use Rattle.sv_types.specs.declared.event.Note.TheVariants.{Load, Unload, Retire}
 use Rattle.sv_types.specs.declared.event.Verdict.TheVariants.{Shutdown}
 use Rattle.sv_types.specs.declared.module.Span.{Span}
-use Rattle.sv_types.specs.SbiRegisters as sbi
+use Rattle.processor.specs.IntegerRegisters as abi
 use Rattle.sv_types.specs.declared.sbi.SbiCode.{SbiCode}
 use Rattle.sv_types.specs.declared.sbi.SbiCode.TheVariants.{Success, RefusedByMeasure}
 use Rattle.reference.specs.States.{State, Hart, Devices, Journal, has_number, module_pages, with_module, without_module, without_pages, without_reservation}
@@ -25,11 +25,11 @@ use Rattle.reference.specs.declared.answers.Reply.TheVariants.{Gives, Replies, S
 -- ---- to the hart
 
 abbrev pub with_a0 : Hart → ℕ → Hart
-with_a0 hart a0 = record hart { registers = set_register hart.registers sbi.a0 a0; pc = next_pc hart.pc; reservation = None }
+with_a0 hart a0 = record hart { registers = set_register hart.registers abi.a0 a0; pc = next_pc hart.pc; reservation = None }
 
 abbrev pub with_answer : Hart → ℕ → ℕ → Hart
 with_answer hart a0 a1 = record hart {
-  registers = set_register (set_register hart.registers sbi.a0 a0) sbi.a1 a1;
+  registers = set_register (set_register hart.registers abi.a0 a0) abi.a1 a1;
   pc = next_pc hart.pc;
   reservation = None;
 }

@@ -10,7 +10,7 @@ use Rattle.sv_types.specs.ApprovedPages.{numbers_from}
 use Rattle.sv_types.specs.Policies.{Rules}
 use Rattle.processor.specs.Registers.{Supervisor}
 use Rattle.sv_types.specs.SbiCodes.{code_word}
-use Rattle.sv_types.specs.SbiRegisters as sbi
+use Rattle.processor.specs.IntegerRegisters as abi
 use Rattle.sv_types.specs.declared.saved.SavedModule.{SavedModule}
 use Rattle.sv_types.specs.declared.sbi.SbiCode.{SbiCode}
 use Rattle.sv_types.specs.declared.sbi.SbiCode.TheVariants.{Success, NoInput, NotSupported, InvalidParameter, InvalidAddress, Already}
@@ -34,12 +34,12 @@ pub record Asked : Type 0 where
 
 abbrev pub asked_by : List ℕ → Asked
 asked_by registers = record {
-  extension = register registers sbi.a7;
-  function = register registers sbi.a6;
-  a0 = register registers sbi.a0;
-  a1 = register registers sbi.a1;
-  a2 = register registers sbi.a2;
-  a3 = register registers sbi.a3;
+  extension = register registers abi.a7;
+  function = register registers abi.a6;
+  a0 = register registers abi.a0;
+  a1 = register registers abi.a1;
+  a2 = register registers abi.a2;
+  a3 = register registers abi.a3;
 }
 
 -- what an answer depends on beside
@@ -181,7 +181,7 @@ abbrev pub supervisor_at_boot : Supervisor
 supervisor_at_boot = record { sstatus = 0; sie = 0; stvec = 0; scounteren = 0; sscratch = 0; sepc = 0; scause = 0; stval = 0; software = false; satp = 0 }
 
 abbrev pub registers_at_boot : List ℕ
-registers_at_boot = replicate 32 0
+registers_at_boot = replicate abi.register_count 0
 
 -- a hart that begins at an address, in kernel mode
 unfoldable pub hart_at : ℕ → List ℕ → Hart
@@ -200,7 +200,7 @@ stopped_hart = record (hart_at 0 registers_at_boot) { started = false }
 
 -- a hart that is started with its number in a0 and an opaque value in a1
 abbrev pub started_hart : (h pc opaque : ℕ) → Hart
-started_hart h pc opaque = hart_at pc (set_register (set_register registers_at_boot sbi.a0 h) sbi.a1 opaque)
+started_hart h pc opaque = hart_at pc (set_register (set_register registers_at_boot abi.a0 h) abi.a1 opaque)
 
 -- ---- harts that are interrupted
 

@@ -2,7 +2,7 @@
 use Rattle.std.specs.Prelude.{◌≡◌, ℕ, List, [], ◌∷◌, ◌++◌, replicate, ◌-◌, ◌^◌, true, false}
 use Rattle.sv_types.specs.Clock.{timer_of, latest}
 use Rattle.sv_types.specs.declared.event.Verdict.TheVariants.{Shutdown}
-use Rattle.sv_types.specs.SbiRegisters as sbi
+use Rattle.processor.specs.IntegerRegisters as abi
 use Rattle.processor.specs.declared.mode.Mode.TheVariants.{Kernel}
 use Rattle.reference.specs.States.{State, Hart}
 use Rattle.reference.specs.Calls.{started_hart}
@@ -24,7 +24,7 @@ with_input r bytes = record r { devices = record r.devices { console = bytes } }
 
 -- a0, a1 and the pc
 abbrev pub answer : State → List ℕ
-answer r = register_of r sbi.a0 ∷ register_of r sbi.a1 ∷ (hart_of r 0).pc ∷ []
+answer r = register_of r abi.a0 ∷ register_of r abi.a1 ∷ (hart_of r 0).pc ∷ []
 
 -- an answer with a code of the error, from 1 on as -1, -2, ..; and one with a value
 abbrev pub refused : (code : ℕ) → List ℕ

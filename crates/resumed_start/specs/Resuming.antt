@@ -1,7 +1,7 @@
 -- The machine that goes on from a snapshot, and that it stands for the state that the snapshot says. This project's own.
-use Rattle.std.specs.Prelude.{◌≡◌, ℕ, ◌*◌, List, map, length, None, option_map, true, IsTrue}
+use Rattle.std.specs.Prelude.{◌≡◌, ℕ, List, map, length, None, option_map, true, IsTrue}
 use Rattle.processor.specs.Bytes.{ram_place}
-use Rattle.processor.specs.HypervisorRegisters.{HypervisorRegisters, registers_at_boot}
+use Rattle.processor.specs.HypervisorRegisters.{HypervisorRegisters, at_hypervisor_places, registers_at_boot}
 use Rattle.sv_types.specs.Policies.{Rules, rules_within}
 use Rattle.sv_types.specs.Views.{with_ram}
 use Rattle.reference.specs.Protections.{is_free}
@@ -29,8 +29,8 @@ csrs_resumed h = record registers_at_boot {
   vstval = h.stval;
   vsatp = h.satp;
   scounteren = h.scounteren;
-  hie = 2 * h.sie;
-  hvip = 2 * h.sip;
+  hie = at_hypervisor_places h.sie;
+  hvip = at_hypervisor_places h.sip;
 }
 
 -- RAM lies behind so many bytes of tables

@@ -7,7 +7,7 @@ ghost use Rattle.processor.specs.Encoding.{fits};
 use crate::compute::{branch_taken, op, op_imm};
 use crate::compute_word::{op_32, op_imm_32};
 use crate::registers::Regs;
-use processor::Effect;
+use processor::{Effect, INSTRUCTION_BYTES};
 use rv64_decode::{CsrOp, Instr, LoadOp, StoreOp};
 
 /// What an instruction whose fields are in range does on these registers at this pc, or asks of the rest of the machine.
@@ -17,7 +17,7 @@ pub fn effect(instr: &Instr, regs: &Regs, pc: u64) -> Effect
     requires { IsTrue (fits instr.now) }
     ensures { result ≡ table.effect_of instr.now regs.now pc }
 {
-    let next = pc.wrapping_add(4);
+    let next = pc.wrapping_add(INSTRUCTION_BYTES);
     match *instr {
         Instr::Lui { rd, imm } => set(rd, imm.cast_unsigned(), next),
         Instr::Auipc { rd, imm } => set(rd, offset(pc, imm), next),

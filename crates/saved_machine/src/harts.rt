@@ -1,6 +1,6 @@
 // One hart as plain data.
 
-use processor::Mode;
+use processor::{Mode, REGISTERS};
 
 /// A hart: its mode, its registers as the guest sees them, and what is kept beside them.
 #[derive(Clone, Copy, Debug, PartialEq, Eq, Drop)]
@@ -9,7 +9,7 @@ pub struct SavedHart {
     pub mode: Mode,
     pub pc: u64,
     /// The integer registers, of which register 0 is 0.
-    pub registers: [u64; 32],
+    pub registers: [u64; REGISTERS],
     /// Bits 33 and 32, which read as 2, are clear.
     pub sstatus: u64,
     pub sie: u64,

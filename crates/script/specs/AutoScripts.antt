@@ -4,7 +4,7 @@ use Rattle.std.specs.Prelude.{ℕ, Bool, false, not, List, [], ◌∷◌, replic
 use Rattle.std.specs.List.{list_all, position_from}
 use Rattle.std.specs.Str.{bytes_eq}
 use Rattle.sv_types.specs.declared.event.Event.{Event}
-use Rattle.sv_types.specs.Schedule.{Schedule, Auto, lines, fields, repeats, two_fields_events, fields_events, begun_with, next_event, after_event}
+use Rattle.sv_types.specs.Schedule.{Schedule, Auto, lines, fields, repeats, two_fields_events, fields_events, begun_with, next_event, after_event, number_sign}
 use Rattle.script.specs.declared.said.Said.{Said}
 use Rattle.script.specs.declared.said.Said.TheVariants.{This, Drawn}
 
@@ -31,7 +31,7 @@ fields_said fields = all_said (fields_events fields)
 -- empty lines and those that begin with a number sign are passed over
 unfoldable pub line_said : List ℕ → Option (List Said)
 line_said [] = Some []
-line_said (first ∷ rest) = if first == 35 then Some [] else fields_said (fields (first ∷ rest))
+line_said (first ∷ rest) = if first == number_sign then Some [] else fields_said (fields (first ∷ rest))
 
 -- ---- a text
 

@@ -12,7 +12,7 @@ use crate::values::{
     in_range, read_flag, read_number, read_pc, read_place, write_address, write_flag, write_number,
     write_place,
 };
-use processor::{Mode, PAGE_BYTES, RAM_BASE};
+use processor::{Mode, PAGE_BYTES, RAM_BASE, REGISTERS};
 use saved_machine::SavedHart;
 use snapshot_form::SnapRefusal;
 use std::alloc::{AllocError, Global};
@@ -53,7 +53,7 @@ fn write_side(out: &mut Vec<u8>, h: &SavedHart) -> Result<(), AllocError>
 }
 
 // Registers 1 to 31, behind register 0.
-fn write_registers(out: &mut Vec<u8>, register_file: &[u64; 32]) -> Result<(), AllocError>
+fn write_registers(out: &mut Vec<u8>, register_file: &[u64; REGISTERS]) -> Result<(), AllocError>
     ensures spelled { OnOk result (out.new.items ≡ out.old.items ++ registers.spell (drop 1 register_file.now)) }
     ensures typed { are_registers register_file.now ≡ true }
 {
@@ -150,11 +150,11 @@ fn read_mode(bytes: &[u8]) -> Result<(Mode, &[u8]), SnapRefusal>
 }
 
 // Registers 1 to 31, behind register 0.
-fn read_registers(bytes: &[u8]) -> Result<([u64; 32], &[u8]), SnapRefusal>
+fn read_registers(bytes: &[u8]) -> Result<([u64; REGISTERS], &[u8]), SnapRefusal>
     ensures values { Gives (λ x. (drop 1 x.0, x.1.now)) result (registers.taken bytes.now) }
     ensures zero { IfOk result (λ x. x.0 ≡ 0 ∷ drop 1 x.0) }
 {
-    let mut registers = [0; 32];
+    let mut registers = [0; REGISTERS];
     let mut rest = bytes;
     'registers: for i in 0..31 {
         let (value, after) = read_number(rest)?;

@@ -7,12 +7,10 @@ ghost use Rattle.snapshot_form.specs.JournalForms.{hart_number};
 ghost use Rattle.snapshot_form.specs.declared.refusal.SnapRefusal.TheVariants.{OutOfRange};
 ghost use Rattle.snapshot.specs.Reading.{Gives};
 
+use policy_limits::MOST_ENTRIES;
+use processor::INSTRUCTION_BYTES;
 use snapshot_form::SnapRefusal;
 use std::alloc::AllocError;
-
-const INSTRUCTION_BYTES: u64 = 4;
-// As many entries as a policy has.
-const MOST_PLACES: u64 = 64;
 
 #[tactic(auto, unfolding(snapshot_form::specs::Forms::spell_number))]
 pub(crate) fn write_number(out: &mut Vec<u8>, number: u64) -> Result<(), AllocError>
@@ -121,7 +119,7 @@ pub(crate) fn read_place(bytes: &[u8]) -> Result<(Option<u8>, &[u8]), SnapRefusa
     ensures { Gives (λ x. (x.0, x.1.now)) result (place.taken bytes.now) }
 {
     let (n, rest) = read_number(bytes)?;
-    in_range(n <= MOST_PLACES)?;
+    in_range(n <= MOST_ENTRIES)?;
     if n == 0 {
         return Ok((None, rest));
     }

@@ -13,6 +13,7 @@ use Rattle.snapshot_form.specs.declared.refusal.SnapRefusal.{SnapRefusal}
 use Rattle.snapshot_form.specs.declared.whole.Snapshot.{Snapshot}
 use Rattle.snapshot_form.specs.declared.whole.TextPage.{TextPage}
 use Rattle.processor.specs.Bytes.{page_size}
+use Rattle.sv_types.specs.Limits.{most_events}
 use Rattle.sv_types.specs.Policies.{harts_within, ram_pages_within}
 use Rattle.sv_types.specs.declared.event.Counts.{Counts}
 use Rattle.sv_types.specs.declared.event.Note.{Note}
@@ -55,7 +56,7 @@ header_parts h = (magic, (h.events, (h.harts, (h.ram_pages, h.time))))
 
 -- no more than 2^32 events
 abbrev pub events_made : Form ℕ
-events_made = within (λ n. nat_le n (2 ^ 32)) number
+events_made = within (λ n. nat_le n most_events) number
 
 abbrev pub hart_count : Form ℕ
 hart_count = within harts_within number

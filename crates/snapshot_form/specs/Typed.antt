@@ -2,6 +2,7 @@
 -- own.
 use Rattle.std.specs.Prelude.{◌≡◌, ℕ, Bool, true, ◌&&◌, List, [], ◌∷◌, length, Option, Some, None, ◌==◌}
 use Rattle.std.specs.List.{list_all}
+use Rattle.processor.specs.IntegerRegisters.{register_count}
 use Rattle.sv_types.specs.declared.event.Note.{Note}
 use Rattle.sv_types.specs.declared.event.Note.TheVariants.{Demote, Denied, Load, Unload, Retire}
 use Rattle.sv_types.specs.declared.event.Rule.TheVariants.{Entry, Write}
@@ -20,7 +21,7 @@ are_words numbers = list_all is_word numbers
 -- ---- harts
 
 abbrev pub are_registers : List ℕ → Bool
-are_registers registers = length registers == 32 && are_words registers
+are_registers registers = length registers == register_count && are_words registers
 
 -- the supervisor registers but for `sip`, which is one bit
 abbrev pub supervisor_numbers : SavedHart → List ℕ

@@ -8,6 +8,7 @@ use Rattle.processor.specs.Bytes.{page_of}
 use Rattle.processor.specs.HypervisorRegisters.{HypervisorRegisters}
 use Rattle.sv_types.specs.Policies.{Rules, rules_within, numbers_within, harts_within, format_within, ram_pages_within, lists_within, init_within, modules_count_within, modules_within, entries_count_within, entries_within, exports_count_within, exports_within, bound_within}
 use Rattle.processor.specs.SecondStage.{WalksApart}
+use Rattle.processor.specs.Roots.{IsSv39x4}
 use Rattle.sv_types.specs.Views.{OfKernel, OfUser, OfEntry, with_ram, view_hgatp}
 use Rattle.processor.specs.declared.mode.Mode.{Mode}
 use Rattle.processor.specs.declared.mode.Mode.TheVariants.{Kernel, User}
@@ -97,10 +98,10 @@ in_none rules User (Some i) known none = absurd known
 
 -- ---- walks
 
-entry_stage : (i : ℕ) → i < 64 → (0x8000300000000008 + 0x100000000004 * i) / 2 ^ 60 ≡ 8
+entry_stage : (i : ℕ) → i < 64 → IsSv39x4 (0x8000300000000008 + 0x100000000004 * i)
 entry_stage i below = omega arith
 
-in_stage : (rules : Rules) (mode : Mode) (entry : Option ℕ) → rules_within rules ≡ true → IsSoundEntry rules mode entry → (hregs_in mode entry).hgatp / 2 ^ 60 ≡ 8
+in_stage : (rules : Rules) (mode : Mode) (entry : Option ℕ) → rules_within rules ≡ true → IsSoundEntry rules mode entry → IsSv39x4 (hregs_in mode entry).hgatp
 in_stage rules Kernel None within known = refl
 in_stage rules Kernel (Some i) within known = entry_stage i (bound_place rules i known.0 within known.1)
 in_stage rules User entry within known = refl

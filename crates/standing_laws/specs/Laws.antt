@@ -6,6 +6,7 @@ use Rattle.sv_types.specs.Policies.{Rules, rules_within}
 use Rattle.processor.specs.Regions.{Region, IsRegion}
 use Rattle.sv_types.specs.Views.{AreViews}
 use Rattle.processor.specs.SecondStage.{WalksApart}
+use Rattle.processor.specs.Roots.{IsSv39x4}
 use Rattle.sv_types.specs.Limits.{most_harts}
 use Rattle.sv_types.specs.declared.saved.SavedModule.{SavedModule}
 use Rattle.sv_types.specs.declared.protection.Protection.{Protection}
@@ -27,7 +28,7 @@ pub record MayAttempt (region : Region) (host : HostHart) : Type 0 where
   pub aligned : host.core.pc % 4 ≡ 0
   pub registers : host.core.hregs ≡ hregs_in host.core.hregs.mode host.entry
   pub keeps : KeepsMode host.core.hregs
-  pub stage : host.core.hregs.hgatp / 2 ^ 60 ≡ 8
+  pub stage : IsSv39x4 host.core.hregs.hgatp
   pub apart : WalksApart region host.core.hregs.hgatp
 
 abbrev pub HartsLaw : Type 0

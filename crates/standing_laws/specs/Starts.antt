@@ -7,6 +7,7 @@ use Rattle.processor.specs.HypervisorRegisters.{registers_at_boot}
 use Rattle.sv_types.specs.Kernel.{LoadedSegment, header_entry, kernel_refusal, kernel_segments, segments_ram, text_pages}
 use Rattle.sv_types.specs.Policies.{Rules, rules_within}
 use Rattle.processor.specs.Regions.{Region, IsRegion}
+use Rattle.processor.specs.IntegerRegisters.{register_count}
 use Rattle.sv_types.specs.Views.{AreViews, with_ram}
 use Rattle.sv_types.specs.declared.event.Verdict.TheVariants.{Running}
 use Rattle.processor.specs.declared.mode.Mode.TheVariants.{Kernel}
@@ -25,7 +26,7 @@ use Rattle.machine_model.specs.StandsFor.{bound_pages, hregs_in}
 abbrev pub host_at_boot : ℕ → Bool → HostHart
 host_at_boot pc started = record {
   core = record {
-    registers = replicate 32 0;
+    registers = replicate register_count 0;
     pc = pc;
     csrs = registers_at_boot;
     hregs = hregs_in Kernel None;

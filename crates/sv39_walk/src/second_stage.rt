@@ -8,6 +8,7 @@ ghost use Rattle.processor.specs.declared.access.Access.{Access as Kind};
 ghost use Rattle.sv39_walk.specs.Levels.{indices_of, IsTable};
 ghost use Rattle.sv39_walk.specs.Mappings.{mapping_answer, found_mapping};
 ghost use Rattle.processor.specs.Bytes.{page_size};
+ghost use Rattle.processor.specs.Roots.{IsSv39x4};
 
 use crate::entry::{
     PAGE_NUMBER, entry_page, index, is_leaf, is_pointer, leaf_address, permits_guest,
@@ -38,7 +39,7 @@ impl Mapping {
 /// A `GuestFault` with the address comes exactly where the address has more than 41 bits, or an entry of the walk or the
 /// leaf refuses the access. `hgatp` has mode 8 (Sv39x4).
 pub fn walk_g(mem: &HostMem, hgatp: u64, gpa: u64, access: Access) -> Result<u64, GuestFault>
-    requires { hgatp / 2 ^ 60 ≡ 8 }
+    requires { IsSv39x4 hgatp }
     ensures { result ≡ ok_or (walk_guest mem.now hgatp gpa access) (record { gpa = gpa }) }
 {
     walk_from_root(mem, hgatp, gpa, access).ok_or(GuestFault { gpa })
@@ -52,7 +53,7 @@ pub fn walk_g_counted<L: Ledger>(
     access: Access,
     steps: &mut Steps<L>,
 ) -> Result<u64, GuestFault>
-    requires { hgatp / 2 ^ 60 ≡ 8 }
+    requires { IsSv39x4 hgatp }
     ensures value { result ≡ ok_or (walk_guest mem.now hgatp gpa access) (record { gpa = gpa }) }
     ensures steps { steps.new ≤ steps.old + 3 }
 {

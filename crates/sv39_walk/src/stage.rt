@@ -3,6 +3,7 @@
 ghost use Rattle.std.specs.Prelude.{◌≡◌, ℕ, ◌/◌, ◌^◌};
 ghost use Rattle.processor.specs.Regions.{Region};
 ghost use Rattle.processor.specs.SecondStage.{walk_guest};
+ghost use Rattle.processor.specs.Roots.{IsSv39x4};
 
 use crate::second_stage::walk_from_root;
 use host_mem::HostMem;
@@ -18,7 +19,7 @@ pub trait SecondStage {
 
     /// The host place of a guest-physical address, none exactly where the access faults. `hgatp` has mode 8 (Sv39x4).
     fn lead(&mut self, mem: &HostMem, hgatp: u64, gpa: u64, access: Access) -> Option<u64>
-        requires second { hgatp / 2 ^ 60 ≡ 8 }
+        requires second { IsSv39x4 hgatp }
         requires serves { serves self.old mem.now hgatp }
         ensures value { result ≡ walk_guest mem.now hgatp gpa access }
         ensures serves { serves self.new mem.now hgatp }

@@ -15,5 +15,4 @@ pub mod Limits
 pub mod Kernel
 pub mod Policies
 pub mod SbiCodes
-pub mod SbiRegisters
 pub mod Views

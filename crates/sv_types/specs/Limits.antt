@@ -1,6 +1,13 @@
 -- The limits of what a policy names, and the numbers of bases. This project's own.
 use Rattle.std.specs.Prelude.{ℕ, ◌*◌, ◌^◌}
 
+-- the formats of a policy: the plain one, and that in which each entry is bound to its place
+abbrev pub plain_format : ℕ
+plain_format = 1
+
+abbrev pub bound_format : ℕ
+bound_format = 2
+
 abbrev pub most_harts : ℕ
 most_harts = 4
 

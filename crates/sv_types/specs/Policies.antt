@@ -4,7 +4,7 @@ use Rattle.std.specs.List.{list_any}
 use Rattle.std.specs.Str.{bytes_eq}
 use Rattle.processor.specs.Bytes.{page_size, ram_base}
 use Rattle.processor.specs.Regions.{most_ram_pages}
-use Rattle.sv_types.specs.Limits.{most_harts, fewest_ram_pages, most_entries, most_exports, most_modules, most_module_pages, most_module_sites, most_sites, first_export_base}
+use Rattle.sv_types.specs.Limits.{plain_format, bound_format, most_harts, fewest_ram_pages, most_entries, most_exports, most_modules, most_module_pages, most_module_sites, most_sites, first_export_base}
 use Rattle.sv_types.specs.declared.module.Span.{Span}
 use Rattle.sv_types.specs.declared.module.Site.{Site}
 use Rattle.sv_types.specs.declared.policy.Export.{Export}
@@ -27,7 +27,7 @@ pub record Rules : Type 0 where
   pub ram_pages : ℕ
   -- the virtual addresses at which user mode may enter the kernel
   pub entries : List ℕ
-  -- in format 2 the guest-physical address that each of them is bound to
+  -- in the bound format the guest-physical address that each of them is bound to
   pub bound : List ℕ
   pub exports : List Export
   pub kernel : List ℕ
@@ -125,9 +125,9 @@ all_bound ram_pages before (entry ∷ entries) [] = false
 all_bound ram_pages before (entry ∷ entries) (gpa ∷ bound) =
     bound_fits ram_pages entry gpa && not (list_any (λ e. e == entry) before) && all_bound ram_pages (before ++ entry ∷ []) entries bound
 
--- format 1 binds no entry, and format 2 each
+-- the plain format binds no entry, and the bound one each
 abbrev pub bound_within : Rules → Bool
-bound_within r = if r.format == 1 then length r.bound == 0 else all_bound r.ram_pages [] r.entries r.bound
+bound_within r = if r.format == plain_format then length r.bound == 0 else all_bound r.ram_pages [] r.entries r.bound
 
 -- ---- sites
 
@@ -204,7 +204,7 @@ modules_within exports = each_within (module_within exports) []
 -- ---- the whole
 
 abbrev pub format_within : ℕ → Bool
-format_within = is_between 1 2
+format_within = is_between plain_format bound_format
 
 abbrev pub numbers_within : Rules → Bool
 numbers_within r = format_within r.format && harts_within r.harts && ram_pages_within r.ram_pages

@@ -1,4 +1,5 @@
 use Rattle.std.proofs.Common.{◌≡◌, ◌≢◌, ◌<◌, ◌≤◌, ◌-◌, ◌+◌, ◌^◌, ◌++◌, IsTrue, replicate, ap, subst, sym, ◌∙◌, length, arith}
+use Rattle.sv_types.specs.Limits.{most_events}
 use Rattle.sv_types.specs.declared.event.Verdict.TheVariants.{Running}
 use Rattle.outside.specs.Outside.{SinkState}
 use Rattle.outside.proofs.SinkLemmas.{on_err}
@@ -18,7 +19,7 @@ events-init g c =
       has = c.requires.state;
       taken = taken_none _;
       few = omega (arith, asked);
-      counts = counts_within (2 ^ 32) _ c.args.machine.now.journal.counts (omega arith) c.requires.counts;
+      counts = counts_within most_events _ c.args.machine.now.journal.counts (omega arith) c.requires.counts;
       room = omega (arith, ap length c.requires.console);
       rest = ap is_due c.requires.console;
     }
@@ -40,7 +41,7 @@ repeat-made-requires-clause-counts g c =
     let hand : IsAtHand c.events.drawing c.draw.new.self c.in-Some.row = c.in-Some.ensures.row in
     let all : c.in-Some.row.count + c.draw.new.self.undrawn ≡ c.events.drawing.row.count + c.events.drawing.undrawn =
     ap (λ (r : EventRun). r.count + c.draw.new.self.undrawn) hand.row_is ∙ hand.count in
-    counts_within (2 ^ 32 + (c.args.events - count_left c.events.drawing)) (9223372036854775807 - c.in-Some.row.count) c.events.machine.journal.counts
+    counts_within (most_events + (c.args.events - count_left c.events.drawing)) (9223372036854775807 - c.in-Some.row.count) c.events.machine.journal.counts
     (omega (arith, all, c.events.invariant.few, c.requires.events))
     c.events.invariant.counts
 
@@ -79,9 +80,9 @@ events-preserved g c =
       has = state_after c.repeat-made.result c.events.machine c.repeat-made.new.self c.flush_due.new.machine c.in-Some.row.event _ _ c.events.invariant.has c.repeat-made.ensures.chain flushed;
       taken = taken_more _ c.repeat-made.new.self c.flush_due.new.machine _ _ c.events.invariant.taken flushed;
       few = omega (arith, fewer, before);
-      counts = flushed_counts (2 ^ 32 + (c.args.events - count_left c.made.new.self)) c.repeat-made.new.self c.flush_due.new.machine _ _
-          (counts_within (2 ^ 32 + (c.args.events - count_left c.events.drawing) + c.repeat-made.result) (2 ^ 32 + (c.args.events - count_left c.made.new.self)) c.repeat-made.new.self.journal.counts
-          (omega (arith, fewer, before)) (c.repeat-made.ensures.counts (2 ^ 32 + (c.args.events - count_left c.events.drawing)) c.events.invariant.counts)) flushed;
+      counts = flushed_counts (most_events + (c.args.events - count_left c.made.new.self)) c.repeat-made.new.self c.flush_due.new.machine _ _
+          (counts_within (most_events + (c.args.events - count_left c.events.drawing) + c.repeat-made.result) (most_events + (c.args.events - count_left c.made.new.self)) c.repeat-made.new.self.journal.counts
+          (omega (arith, fewer, before)) (c.repeat-made.ensures.counts (most_events + (c.args.events - count_left c.events.drawing)) c.events.invariant.counts)) flushed;
       room = c.in_ok-flush_due.ensures.room;
       rest = c.in_ok-flush_due.ensures.rest;
     }

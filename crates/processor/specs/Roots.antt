@@ -1,0 +1,30 @@
+-- The modes of translation that a root chooses: satp and vsatp for the first stage, hgatp for the second one.
+-- RISC-V Privileged manual, "Supervisor Address Translation and Protection (satp) Register"; H extension, "Hypervisor Guest
+-- Address Translation and Protection (hgatp) Register".
+use Rattle.std.specs.Prelude.{◌≡◌, ◌⊎◌, ℕ, ◌/◌, ◌^◌}
+
+-- the mode stands in the highest four bits
+abbrev pub root_mode : ℕ → ℕ
+root_mode root = root / 2 ^ 60
+
+-- every address is left as it is
+abbrev pub bare_mode : ℕ
+bare_mode = 0
+
+-- three levels of tables lead a virtual address of 39 bits
+abbrev pub sv39_mode : ℕ
+sv39_mode = 8
+
+-- three levels, the first of which is four tables in one, lead a guest-physical address of 41 bits
+abbrev pub sv39x4_mode : ℕ
+sv39x4_mode = 8
+
+abbrev pub IsBare : ℕ → Type 0
+IsBare root = root_mode root ≡ bare_mode
+
+-- a mode that satp and vsatp may have
+abbrev pub IsFirstStageRoot : ℕ → Type 0
+IsFirstStageRoot root = (root_mode root ≡ bare_mode) ⊎ (root_mode root ≡ sv39_mode)
+
+abbrev pub IsSv39x4 : ℕ → Type 0
+IsSv39x4 root = root_mode root ≡ sv39x4_mode
