@@ -119,7 +119,7 @@ pub(crate) fn read_place(bytes: &[u8]) -> Result<(Option<u8>, &[u8]), SnapRefusa
     ensures { Gives (λ x. (x.0, x.1.now)) result (place.taken bytes.now) }
 {
     let (n, rest) = read_number(bytes)?;
-    in_range(n <= MOST_ENTRIES)?;
+    in_range(n <= MOST_ENTRIES as u64)?;
     if n == 0 {
         return Ok((None, rest));
     }
