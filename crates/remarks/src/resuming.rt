@@ -7,8 +7,8 @@ ghost use Rattle.snapshot_form.specs.Snapshots as form;
 use crate::files::{Again, Found, MostBytes, read_part, said};
 use crate::running::{policy_file, script_file};
 use resumption::resume_refusal;
-use snapshot::ReadError;
 use snapshot_form::Snapshot;
+use snapshot_reader::ReadError;
 use std::alloc::Global;
 use std::thread::Threads;
 use sv_types::Policy;
@@ -46,7 +46,7 @@ pub(crate) fn snapshot_file<A: Again>(
     ensures { IfOk result (λ s. form.snapshot.has (form.contents s) ≡ true) }
 {
     let bytes = read_part(alloc, files, name, most)?;
-    match snapshot::read(alloc, &bytes) {
+    match snapshot_reader::read(alloc, &bytes) {
         Ok(snapshot) => Ok(snapshot),
         Err(ReadError::Refused(refusal)) => {
             let what = format!(in alloc; "{refusal}")?;

@@ -7,8 +7,8 @@ ghost use Rattle.resume_cli.specs.ResumeReady.{IsSnapshot};
 
 use outside::Files;
 use secvisor_cli::{FileFault, Part, Refusal, Stop, read_part};
-use snapshot::{MOST_SNAPSHOT_BYTES, ReadError, read};
 use snapshot_form::Snapshot;
+use snapshot_reader::{MOST_SNAPSHOT_BYTES, ReadError, read};
 use std::alloc::Global;
 
 /// The snapshot of a name, which is judged. Its bytes don't stay.

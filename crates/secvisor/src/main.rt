@@ -17,7 +17,7 @@ use secvisor_cli::{
 };
 use show_cli::secvisor_show;
 use snap_cli::secvisor_snap;
-use snapshot::MOST_SNAPSHOT_BYTES;
+use snapshot_reader::MOST_SNAPSHOT_BYTES;
 use std::alloc::AllocError;
 use std::env;
 use std::io::{ErrorKind, IsTerminal};

@@ -10,8 +10,8 @@ ghost use Rattle.show_cli.specs.declared.answer.Trouble.TheVariants.{Write, Memo
 use crate::refusal::ShowRefusal;
 use crate::words::name_in;
 use outside::{Failed, FileRefusal, Files, Sink, write_all};
-use snapshot::{MOST_SNAPSHOT_BYTES, ReadError, read};
 use snapshot_form::{SnapRefusal, Snapshot};
+use snapshot_reader::{MOST_SNAPSHOT_BYTES, ReadError, read};
 use snapshot_text::snapshot_text;
 use std::alloc::{AllocError, Global};
 use sv_types::Status;

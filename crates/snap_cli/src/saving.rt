@@ -11,8 +11,8 @@ ghost use Rattle.snap_cli.specs.Spelling.{SpellsMachine, SavesMachine};
 use machine::Machine;
 use outside::Files;
 use secvisor_cli::Trouble;
-use snapshot::write;
 use snapshot_form::{Snapshot, TextPage};
+use snapshot_writer::write;
 use std::alloc::{AllocError, Global};
 use sv_types::Counts;
 

@@ -4,11 +4,13 @@
 
 ghost use Rattle.snapshot_form.specs.SnapshotLaw.{SnapshotLaw};
 
+pub mod note_kind;
 mod refusal;
+pub mod verdict_kind;
 mod whole;
 
 pub use refusal::SnapRefusal;
-pub use whole::{Snapshot, TextPage};
+pub use whole::{MAGIC, Snapshot, TextPage};
 
 /// A snapshot that has a spelling is read from its spelling, and what is read is spelled by exactly the bytes that were read.
 pub fn law_snapshot()

@@ -1,4 +1,0 @@
-pub mod WrittenLists
-pub mod ReadLists
-pub mod ReadRegisters
-pub mod WholeRead

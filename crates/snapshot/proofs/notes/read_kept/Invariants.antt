@@ -1,8 +1,0 @@
-use Rattle.std.proofs.Common.{◌≡◌, ◌-◌, []}
-use Rattle.snapshot_form.specs.Forms.{all_taken}
-use Rattle.snapshot_form.specs.JournalForms.{note}
-use Rattle.snapshot.proofs.ReadLists.{with_front}
-use Rattle.snapshot.proofs.notes.read_kept.Given as goal
-
-abbrev pub invariant-notes : goal.invariant-notes
-invariant-notes l = with_front l.read.items (all_taken (λ before. note l.harts) l.read.items (l.count - l.counter) l.rest) ≡ all_taken (λ before. note l.harts) [] l.count l.bytes

@@ -1,7 +1,0 @@
-use Rattle.std.proofs.Common.{◌≡◌, ◌++◌, [], take}
-use Rattle.snapshot_form.specs.Forms.{spell_all}
-use Rattle.snapshot_form.specs.PageForms.{protection}
-use Rattle.snapshot.proofs.pages.write_protections.Given as goal
-
-abbrev pub invariant-pages : goal.invariant-pages
-invariant-pages l = l.out.items ≡ l.fn.out.items ++ spell_all (λ before. protection) [] (take l.page-index l.protection)

@@ -1,0 +1,3 @@
+pub mod ReadLists
+pub mod ReadRegisters
+pub mod WholeRead

@@ -1,0 +1,133 @@
+// The bytes of the block device.
+
+ghost use Rattle.std.specs.Prelude.{◌≡◌, ◌<◌, ◌^◌};
+ghost use Rattle.snapshot_reader.specs.Reading.{Gives};
+ghost use Rattle.snapshot_form.specs.DeviceForms.{block, goes_with, has_beats, holds_transfer, standing, status_of, transfer};
+
+use crate::values::{in_range, read_number};
+use snapshot_form::SnapRefusal;
+use sv_types::{BEAT_BYTES, BlockCommand, BlockState, BlockStatus, MOST_DISK_BYTES, SECTOR_BYTES};
+
+const BUSY: u64 = 1;
+
+const LAST_STATUS: u64 = 4;
+
+const LAST_COMMAND: u64 = 2;
+
+#[tactic(auto, unfolding(snapshot_form::specs::DeviceForms::block))]
+pub(crate) fn read_block(bytes: &[u8]) -> Result<(BlockState, &[u8]), SnapRefusal>
+    ensures { Gives (λ x. (x.0, x.1.now)) result (block.taken bytes.now) }
+{
+    let (sector, rest) = read_number(bytes)?;
+    let (gpa, rest) = read_number(rest)?;
+    let (count, rest) = read_number(rest)?;
+    in_range(count < 1 << 32)?;
+    let (status, rest) = read_standing(rest, gpa, count)?;
+    Ok((
+        BlockState {
+            sector,
+            gpa,
+            count: count as u32,
+            status,
+        },
+        rest,
+    ))
+}
+
+// How the device stands, from its three numbers.
+#[tactic(auto, unfolding(snapshot_form::specs::DeviceForms::standing))]
+fn read_standing(bytes: &[u8], gpa: u64, count: u64) -> Result<(BlockStatus, &[u8]), SnapRefusal>
+    requires { count < 2 ^ 32 }
+    ensures { Gives (λ x. (x.0, x.1.now)) result ((standing gpa count).taken bytes.now) }
+{
+    let (transfer, rest) = read_transfer(bytes, gpa, count)?;
+    Ok((transfer.status(), rest))
+}
+
+/// Command, status, and the beats that are done.
+#[derive(Clone, Copy, Drop)]
+struct Transfer {
+    command: u64,
+    status: u64,
+    done: u64,
+}
+
+impl Transfer {
+    fn status(self) -> BlockStatus
+        ensures { result ≡ status_of (self.command, (self.status, self.done)) }
+    {
+        if let Some(command) = BlockCommand::of(self.command) {
+            BlockStatus::Busy {
+                command,
+                done: self.done,
+            }
+        } else if self.status == u64::from(BlockStatus::Done.number()) {
+            BlockStatus::Done
+        } else if self.status == u64::from(BlockStatus::Denied.number()) {
+            BlockStatus::Denied
+        } else if self.status == u64::from(BlockStatus::OutOfRange.number()) {
+            BlockStatus::OutOfRange
+        } else {
+            BlockStatus::Idle
+        }
+    }
+}
+
+#[tactic(auto, unfolding(snapshot_form::specs::DeviceForms::transfer))]
+fn read_transfer(bytes: &[u8], gpa: u64, count: u64) -> Result<(Transfer, &[u8]), SnapRefusal>
+    requires { count < 2 ^ 32 }
+    ensures { Gives (λ x. ((x.0.command, (x.0.status, x.0.done)), x.1.now)) result ((transfer gpa count).taken bytes.now) }
+{
+    let (command, rest) = read_number(bytes)?;
+    in_range(command <= LAST_COMMAND)?;
+    let (status, rest) = read_number(rest)?;
+    in_range(goes_with(gpa, count, command, status))?;
+    let (done, rest) = read_number(rest)?;
+    in_range(has_beats(count, status, done))?;
+    Ok((
+        Transfer {
+            command,
+            status,
+            done,
+        },
+        rest,
+    ))
+}
+
+// A transfer under way has a command that was taken, and beats left; else there is neither.
+fn goes_with(gpa: u64, count: u64, command: u64, status: u64) -> bool
+    ensures { result ≡ goes_with gpa count command status }
+{
+    if status == BUSY {
+        BlockCommand::of(command).is_some() && 0 < count && gpa % BEAT_BYTES == 0
+    } else {
+        status <= LAST_STATUS && command == 0
+    }
+}
+
+fn has_beats(count: u64, status: u64, done: u64) -> bool
+    requires { count < 2 ^ 32 }
+    ensures { result ≡ has_beats count status done }
+{
+    if status == BUSY {
+        done < SECTOR_BYTES / BEAT_BYTES * count
+    } else {
+        done == 0
+    }
+}
+
+/// Whether a disk of so many bytes is whole sectors, among them those of a transfer under way.
+pub(crate) fn holds_transfer(state: &BlockState, size: u64) -> bool
+    ensures { result ≡ holds_transfer state.now size }
+{
+    if size > MOST_DISK_BYTES || size % SECTOR_BYTES != 0 {
+        return false;
+    }
+    if !matches!(state.status, BlockStatus::Busy { .. }) {
+        return true;
+    }
+    match state.sector.checked_add(u64::from(state.count)) {
+        None => false,
+        Some(end) => end <= size / SECTOR_BYTES,
+    }
+}

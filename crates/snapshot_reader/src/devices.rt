@@ -1,0 +1,71 @@
+// The bytes of the devices: the console's input, the block device and its disk.
+
+ghost use Rattle.sv_types.specs.declared.port.PortState.{PortState};
+ghost use Rattle.snapshot_form.specs.DeviceForms.{console, devices, disk, port};
+ghost use Rattle.snapshot_reader.specs.Reading.{Gives, Reads};
+ghost use Rattle.snapshot_reader.specs.Views.{devices_parts};
+
+use crate::block::{holds_transfer, read_block};
+use crate::read_error::ReadError;
+use crate::values::{in_range, read_number, read_plain};
+use snapshot_form::SnapRefusal;
+use std::alloc::Global;
+use sv_types::{BlockState, MOST_QUEUED};
+
+/// The console's input, the block device and its disk.
+#[derive(Drop)]
+pub(crate) struct Devices {
+    pub(crate) console: Vec<u8>,
+    pub(crate) block: BlockState,
+    pub(crate) disk: Vec<u8>,
+}
+
+#[tactic(auto, unfolding(snapshot_form::specs::DeviceForms::devices))]
+pub(crate) fn read_devices(alloc: Global, bytes: &[u8]) -> Result<(Devices, &[u8]), ReadError>
+    ensures { Reads (λ x. (devices_parts x.0, x.1.now)) result (devices.taken bytes.now) }
+{
+    let (console, rest) = read_console(alloc, bytes)?;
+    let (block, rest) = read_port(rest)?;
+    let (disk, rest) = read_disk(alloc, rest, &block)?;
+    Ok((
+        Devices {
+            console,
+            block,
+            disk,
+        },
+        rest,
+    ))
+}
+
+// The block device.
+#[tactic(auto, unfolding(snapshot_form::specs::DeviceForms::port))]
+fn read_port(bytes: &[u8]) -> Result<(BlockState, &[u8]), SnapRefusal>
+    ensures { Gives (λ x. (PortState.Block x.0, x.1.now)) result (port.taken bytes.now) }
+{
+    let (block, rest) = read_block(bytes)?;
+    Ok((block, rest))
+}
+
+#[tactic(auto, unfolding(snapshot_form::specs::DeviceForms::console))]
+fn read_console(alloc: Global, bytes: &[u8]) -> Result<(Vec<u8>, &[u8]), ReadError>
+    ensures { Reads (λ x. (x.0.items, x.1.now)) result (console.taken bytes.now) }
+{
+    let (count, rest) = read_number(bytes)?;
+    in_range(count <= MOST_QUEUED as u64)?;
+    let (waiting, rest) = read_plain(rest, count)?;
+    Ok((waiting.to_vec(alloc)?, rest))
+}
+
+#[tactic(auto, unfolding(snapshot_form::specs::DeviceForms::disk))]
+fn read_disk<'a>(
+    alloc: Global,
+    bytes: &'a [u8],
+    block: &BlockState,
+) -> Result<(Vec<u8>, &'a [u8]), ReadError>
+    ensures { Reads (λ x. (x.0.items, x.1.now)) result ((disk block.now).taken bytes.now) }
+{
+    let (size, rest) = read_number(bytes)?;
+    in_range(holds_transfer(block, size))?;
+    let (content, rest) = read_plain(rest, size)?;
+    Ok((content.to_vec(alloc)?, rest))
+}

@@ -1,0 +1,121 @@
+// The bytes of harts.
+
+ghost use Rattle.std.specs.Prelude.{◌≡◌, ◌∷◌, drop, length, IfOk};
+ghost use Rattle.snapshot_form.specs.HartForms.{hart, harts, mode, registers, reservation, side};
+ghost use Rattle.snapshot_reader.specs.Reading.{Gives, Reads};
+
+use crate::read_error::ReadError;
+use crate::supervisor::read_status;
+use crate::values::{in_range, read_flag, read_number, read_pc, read_place};
+use processor::{Mode, PAGE_BYTES, RAM_BASE, REGISTERS};
+use saved_machine::SavedHart;
+use snapshot_form::SnapRefusal;
+use std::alloc::Global;
+
+const RESERVED_BYTES: u64 = 8;
+
+/// So many harts.
+pub(crate) fn read_harts(
+    alloc: Global,
+    bytes: &[u8],
+    ram_pages: u32,
+    count: u8,
+) -> Result<(Vec<SavedHart>, &[u8]), ReadError>
+    ensures harts { Reads (λ x. (x.0.items, x.1.now)) result ((harts ram_pages count).taken bytes.now) }
+    ensures number { IfOk result (λ x. length x.0.items ≡ count) }
+{
+    let mut read = Vec::new(alloc);
+    let mut rest = bytes;
+    'harts: for _ in 0..count {
+        let (hart, after) = read_hart(rest, ram_pages)?;
+        read.push(hart)?;
+        rest = after;
+    }
+    Ok((read, rest))
+}
+
+#[tactic(auto, unfolding(snapshot_form::specs::HartForms::hart))]
+fn read_hart(bytes: &[u8], ram_pages: u32) -> Result<(SavedHart, &[u8]), SnapRefusal>
+    ensures { Gives (λ x. (x.0, x.1.now)) result ((hart ram_pages).taken bytes.now) }
+{
+    let ((started, mode, entry), rest) = read_side(bytes)?;
+    let (pc, rest) = read_pc(rest)?;
+    let (registers, rest) = read_registers(rest)?;
+    let (status, rest) = read_status(rest)?;
+    let (reservation, rest) = read_reservation(rest, ram_pages)?;
+    let (timer, rest) = read_number(rest)?;
+    let hart = SavedHart {
+        started,
+        mode,
+        pc,
+        registers,
+        sstatus: status.sstatus,
+        sie: status.sie,
+        stvec: status.stvec,
+        scounteren: status.scounteren,
+        sscratch: status.sscratch,
+        sepc: status.trap.sepc,
+        scause: status.trap.scause,
+        stval: status.trap.stval,
+        sip: status.trap.sip,
+        satp: status.trap.satp,
+        reservation,
+        entry,
+        timer,
+    };
+    Ok((hart, rest))
+}
+
+// Started, mode and entry. A stopped hart is in kernel mode, and one that is stopped or in user mode is in no entry.
+#[tactic(auto, unfolding(snapshot_form::specs::HartForms::side))]
+fn read_side(bytes: &[u8]) -> Result<((bool, Mode, Option<u8>), &[u8]), SnapRefusal>
+    ensures { Gives (λ x. ((x.0.0, (x.0.1, x.0.2)), x.1.now)) result (side.taken bytes.now) }
+{
+    let (started, rest) = read_flag(bytes)?;
+    let (mode, rest) = read_mode(rest)?;
+    in_range(started || mode == Mode::Kernel)?;
+    let (entry, rest) = read_place(rest)?;
+    in_range((started && mode == Mode::Kernel) || entry.is_none())?;
+    Ok(((started, mode, entry), rest))
+}
+
+#[tactic(auto, unfolding(snapshot_form::specs::HartForms::mode))]
+fn read_mode(bytes: &[u8]) -> Result<(Mode, &[u8]), SnapRefusal>
+    ensures { Gives (λ x. (x.0, x.1.now)) result (mode.taken bytes.now) }
+{
+    let (is_user, rest) = read_flag(bytes)?;
+    if is_user {
+        Ok((Mode::User, rest))
+    } else {
+        Ok((Mode::Kernel, rest))
+    }
+}
+
+// Registers 1 to 31, behind register 0.
+fn read_registers(bytes: &[u8]) -> Result<([u64; REGISTERS], &[u8]), SnapRefusal>
+    ensures values { Gives (λ x. (drop 1 x.0, x.1.now)) result (registers.taken bytes.now) }
+    ensures zero { IfOk result (λ x. x.0 ≡ 0 ∷ drop 1 x.0) }
+{
+    let mut registers = [0; REGISTERS];
+    let mut rest = bytes;
+    'registers: for i in 0..31 {
+        let (value, after) = read_number(rest)?;
+        registers[i + 1] = value;
+        rest = after;
+    }
+    Ok((registers, rest))
+}
+
+// Address 0 stands for none.
+#[tactic(auto, unfolding(snapshot_form::specs::HartForms::reservation))]
+fn read_reservation(bytes: &[u8], ram_pages: u32) -> Result<(Option<u64>, &[u8]), SnapRefusal>
+    ensures { Gives (λ x. (x.0, x.1.now)) result ((reservation ram_pages).taken bytes.now) }
+{
+    let (n, rest) = read_number(bytes)?;
+    let end = RAM_BASE + PAGE_BYTES * u64::from(ram_pages);
+    in_range(n == 0 || (RAM_BASE <= n && n < end && n % RESERVED_BYTES == 0))?;
+    if n == 0 {
+        return Ok((None, rest));
+    }
+    Ok((Some(n), rest))
+}

@@ -1,0 +1,191 @@
+// The bytes of notes: a kind, and the fields of each.
+
+ghost use Rattle.std.specs.Prelude.{◌≡◌, [], Some, None, if◌then◌else◌};
+ghost use Rattle.snapshot_form.specs.Forms.{listed};
+ghost use Rattle.snapshot_form.specs.JournalForms.{answer, code, codes_known, demote, denied, found_among, is_among, load_note, note, note_behind, notes, retire, unload};
+ghost use Rattle.snapshot_reader.specs.Reading.{Gives, Reads};
+
+use crate::read_error::ReadError;
+use crate::values::{in_range, read_hart_number, read_number, read_pc};
+use snapshot_form::SnapRefusal;
+use snapshot_form::note_kind::{DEMOTE, DENIED, LOAD, RETIRE, UNLOAD};
+use std::alloc::Global;
+use sv_types::{MOST_NOTES, Note, SbiCode};
+
+// The first 4,096, or all of them.
+#[tactic(auto, unfolding(snapshot_form::specs::JournalForms::notes))]
+pub(crate) fn read_notes(
+    alloc: Global,
+    bytes: &[u8],
+    harts: u8,
+    all: u64,
+) -> Result<(Vec<Note>, &[u8]), ReadError>
+    ensures { Reads (λ x. (x.0.items, x.1.now)) result ((notes harts all).taken bytes.now) }
+{
+    let (count, rest) = read_number(bytes)?;
+    in_range(count == (MOST_NOTES as u64).min(all))?;
+    read_kept(alloc, rest, count, harts)
+}
+
+fn read_kept(
+    alloc: Global,
+    bytes: &[u8],
+    count: u64,
+    harts: u8,
+) -> Result<(Vec<Note>, &[u8]), ReadError>
+    ensures { Reads (λ x. (x.0.items, x.1.now)) result ((listed (λ before. note harts) [] count).taken bytes.now) }
+{
+    let mut read = Vec::new(alloc);
+    let mut rest = bytes;
+    'notes: for _ in 0..count {
+        let (kept, after) = read_note(rest, harts)?;
+        read.push(kept)?;
+        rest = after;
+    }
+    Ok((read, rest))
+}
+
+#[tactic(auto, unfolding(snapshot_form::specs::JournalForms::note))]
+fn read_note(bytes: &[u8], harts: u8) -> Result<(Note, &[u8]), SnapRefusal>
+    ensures { Gives (λ x. (x.0, x.1.now)) result ((note harts).taken bytes.now) }
+{
+    let (kind, rest) = read_number(bytes)?;
+    in_range(DEMOTE <= kind && kind <= RETIRE)?;
+    read_note_behind(rest, harts, kind)
+}
+
+// The fields behind a kind.
+#[tactic(auto, unfolding(snapshot_form::specs::JournalForms::note_behind, snapshot_form::specs::JournalForms::denied))]
+fn read_note_behind(bytes: &[u8], harts: u8, kind: u64) -> Result<(Note, &[u8]), SnapRefusal>
+    ensures { Gives (λ x. (x.0, x.1.now)) result ((note_behind harts kind).taken bytes.now) }
+{
+    if kind == DEMOTE {
+        read_demote(bytes, harts)
+    } else if kind == DENIED {
+        read_denied(bytes)
+    } else if kind == LOAD {
+        read_load_note(bytes, harts)
+    } else if kind == UNLOAD {
+        read_unload(bytes, harts)
+    } else {
+        read_retire(bytes, harts)
+    }
+}
+
+#[tactic(auto, unfolding(snapshot_form::specs::JournalForms::demote))]
+fn read_demote(bytes: &[u8], harts: u8) -> Result<(Note, &[u8]), SnapRefusal>
+    ensures { Gives (λ x. (x.0, x.1.now)) result ((demote harts).taken bytes.now) }
+{
+    let (hart, rest) = read_hart_number(bytes, harts)?;
+    let (turn, rest) = read_number(rest)?;
+    let (pc, rest) = read_pc(rest)?;
+    let (gpa, rest) = read_number(rest)?;
+    Ok((
+        Note::Demote {
+            hart,
+            turn,
+            pc,
+            gpa,
+        },
+        rest,
+    ))
+}
+
+#[tactic(auto, unfolding(snapshot_form::specs::JournalForms::denied))]
+fn read_denied(bytes: &[u8]) -> Result<(Note, &[u8]), SnapRefusal>
+    ensures { Gives (λ x. (x.0, x.1.now)) result (denied.taken bytes.now) }
+{
+    let (gpa, rest) = read_number(bytes)?;
+    Ok((Note::Denied { gpa }, rest))
+}
+
+#[tactic(auto, unfolding(snapshot_form::specs::JournalForms::load_note))]
+fn read_load_note(bytes: &[u8], harts: u8) -> Result<(Note, &[u8]), SnapRefusal>
+    ensures { Gives (λ x. (x.0, x.1.now)) result ((load_note harts).taken bytes.now) }
+{
+    let ((hart, turn, id, code), rest) = read_answer(bytes, harts)?;
+    Ok((
+        Note::Load {
+            hart,
+            turn,
+            id,
+            code,
+        },
+        rest,
+    ))
+}
+
+#[tactic(auto, unfolding(snapshot_form::specs::JournalForms::unload))]
+fn read_unload(bytes: &[u8], harts: u8) -> Result<(Note, &[u8]), SnapRefusal>
+    ensures { Gives (λ x. (x.0, x.1.now)) result ((unload harts).taken bytes.now) }
+{
+    let ((hart, turn, id, code), rest) = read_answer(bytes, harts)?;
+    Ok((
+        Note::Unload {
+            hart,
+            turn,
+            id,
+            code,
+        },
+        rest,
+    ))
+}
+
+#[tactic(auto, unfolding(snapshot_form::specs::JournalForms::retire))]
+fn read_retire(bytes: &[u8], harts: u8) -> Result<(Note, &[u8]), SnapRefusal>
+    ensures { Gives (λ x. (x.0, x.1.now)) result ((retire harts).taken bytes.now) }
+{
+    let (hart, rest) = read_hart_number(bytes, harts)?;
+    let (turn, rest) = read_number(rest)?;
+    let (code, rest) = read_code(rest)?;
+    Ok((Note::Retire { hart, turn, code }, rest))
+}
+
+// The answer to a load or an unload: hart, turn, module and code.
+#[tactic(auto, unfolding(snapshot_form::specs::JournalForms::answer))]
+fn read_answer(bytes: &[u8], harts: u8) -> Result<((u8, u64, u64, SbiCode), &[u8]), SnapRefusal>
+    ensures { Gives (λ x. ((x.0.0, (x.0.1, (x.0.2, x.0.3))), x.1.now)) result ((answer harts).taken bytes.now) }
+{
+    let (hart, rest) = read_hart_number(bytes, harts)?;
+    let (turn, rest) = read_number(rest)?;
+    let (id, rest) = read_number(rest)?;
+    let (code, rest) = read_code(rest)?;
+    Ok(((hart, turn, id, code), rest))
+}
+
+#[tactic(auto, unfolding(snapshot_form::specs::JournalForms::code))]
+fn read_code(bytes: &[u8]) -> Result<(SbiCode, &[u8]), SnapRefusal>
+    ensures { Gives (λ x. (x.0, x.1.now)) result (code.taken bytes.now) }
+{
+    let (word, rest) = read_number(bytes)?;
+    match code_of(word) {
+        Some(code) => Ok((code, rest)),
+        None => Err(SnapRefusal::OutOfRange),
+    }
+}
+
+// The code that a register holds so.
+#[tactic(auto, unfolding(snapshot_form::specs::JournalForms::is_among, snapshot_form::specs::JournalForms::found_among))]
+fn code_of(word: u64) -> Option<SbiCode>
+    ensures { result ≡ (if is_among codes_known word then Some (found_among codes_known word) else None) }
+{
+    if word == SbiCode::Success.word() {
+        Some(SbiCode::Success)
+    } else if word == SbiCode::NoInput.word() {
+        Some(SbiCode::NoInput)
+    } else if word == SbiCode::NotSupported.word() {
+        Some(SbiCode::NotSupported)
+    } else if word == SbiCode::InvalidParameter.word() {
+        Some(SbiCode::InvalidParameter)
+    } else if word == SbiCode::RefusedByMeasure.word() {
+        Some(SbiCode::RefusedByMeasure)
+    } else if word == SbiCode::InvalidAddress.word() {
+        Some(SbiCode::InvalidAddress)
+    } else if word == SbiCode::Already.word() {
+        Some(SbiCode::Already)
+    } else if word == SbiCode::UnderWay.word() {
+        Some(SbiCode::UnderWay)
+    } else {
+        None
+    }
+}

@@ -1,0 +1,102 @@
+// A value at the front of some bytes, and the bytes behind it.
+
+ghost use Rattle.std.specs.Prelude.{◌≡◌, ◌<◌, Ok, Err, if◌then◌else◌};
+ghost use Rattle.snapshot_form.specs.Forms.{byte, number, plain};
+ghost use Rattle.snapshot_form.specs.HartForms.{aligned, flag, place};
+ghost use Rattle.snapshot_form.specs.JournalForms.{hart_number};
+ghost use Rattle.snapshot_form.specs.declared.refusal.SnapRefusal.TheVariants.{OutOfRange};
+ghost use Rattle.snapshot_reader.specs.Reading.{Gives};
+
+use policy_limits::MOST_ENTRIES;
+use processor::INSTRUCTION_BYTES;
+use snapshot_form::SnapRefusal;
+
+#[tactic(auto, unfolding(snapshot_form::specs::Forms::number_at))]
+pub(crate) fn read_number(bytes: &[u8]) -> Result<(u64, &[u8]), SnapRefusal>
+    ensures { Gives (λ x. (x.0, x.1.now)) result (number.taken bytes.now) }
+{
+    let Some((front, rest)) = bytes.split_first_chunk::<8>() else {
+        return Err(SnapRefusal::OtherLength);
+    };
+    Ok((u64::from_le_bytes(*front), rest))
+}
+
+pub(crate) fn read_byte(bytes: &[u8]) -> Result<(u8, &[u8]), SnapRefusal>
+    ensures { Gives (λ x. (x.0, x.1.now)) result (byte.taken bytes.now) }
+{
+    let Some((front, rest)) = bytes.split_first() else {
+        return Err(SnapRefusal::OtherLength);
+    };
+    Ok((*front, rest))
+}
+
+// So many bytes as they are.
+#[tactic(auto, unfolding(snapshot_form::specs::Forms::bytes_at))]
+pub(crate) fn read_plain(bytes: &[u8], count: u64) -> Result<(&[u8], &[u8]), SnapRefusal>
+    ensures { Gives (λ x. (x.0.now, x.1.now)) result ((plain count).taken bytes.now) }
+{
+    if (bytes.len() as u64) < count {
+        return Err(SnapRefusal::OtherLength);
+    }
+    Ok(bytes.split_at(count as usize))
+}
+
+// A value is refused that isn't in its range.
+pub(crate) fn in_range(is: bool) -> Result<(), SnapRefusal>
+    ensures { result ≡ (if is then Ok tt else Err OutOfRange) }
+{
+    if is {
+        Ok(())
+    } else {
+        Err(SnapRefusal::OutOfRange)
+    }
+}
+
+#[tactic(auto, unfolding(snapshot_form::specs::HartForms::flag))]
+pub(crate) fn read_flag(bytes: &[u8]) -> Result<(bool, &[u8]), SnapRefusal>
+    ensures { Gives (λ x. (x.0, x.1.now)) result (flag.taken bytes.now) }
+{
+    let (n, rest) = read_number(bytes)?;
+    in_range(n <= 1)?;
+    Ok((n == 1, rest))
+}
+
+// A multiple of a size.
+#[tactic(auto, unfolding(snapshot_form::specs::HartForms::aligned))]
+pub(crate) fn read_aligned(bytes: &[u8], size: u64) -> Result<(u64, &[u8]), SnapRefusal>
+    requires { 0 < size }
+    ensures { Gives (λ x. (x.0, x.1.now)) result ((aligned size).taken bytes.now) }
+{
+    let (n, rest) = read_number(bytes)?;
+    in_range(n % size == 0)?;
+    Ok((n, rest))
+}
+
+#[tactic(auto, unfolding(snapshot_form::specs::HartForms::place))]
+pub(crate) fn read_place(bytes: &[u8]) -> Result<(Option<u8>, &[u8]), SnapRefusal>
+    ensures { Gives (λ x. (x.0, x.1.now)) result (place.taken bytes.now) }
+{
+    let (n, rest) = read_number(bytes)?;
+    in_range(n <= MOST_ENTRIES as u64)?;
+    if n == 0 {
+        return Ok((None, rest));
+    }
+    Ok((Some((n - 1) as u8), rest))
+}
+
+// An instruction's address.
+pub(crate) fn read_pc(bytes: &[u8]) -> Result<(u64, &[u8]), SnapRefusal>
+    ensures { Gives (λ x. (x.0, x.1.now)) result ((aligned 4).taken bytes.now) }
+{
+    read_aligned(bytes, INSTRUCTION_BYTES)
+}
+
+// A hart that is there.
+#[tactic(auto, unfolding(snapshot_form::specs::JournalForms::hart_number))]
+pub(crate) fn read_hart_number(bytes: &[u8], harts: u8) -> Result<(u8, &[u8]), SnapRefusal>
+    ensures { Gives (λ x. (x.0, x.1.now)) result ((hart_number harts).taken bytes.now) }
+{
+    let (n, rest) = read_number(bytes)?;
+    in_range(n < u64::from(harts))?;
+    Ok((n as u8, rest))
+}

@@ -1,0 +1,57 @@
+// The bytes of the verdict: a kind, and the fields of each.
+
+ghost use Rattle.snapshot_form.specs.JournalForms.{stopped_entry, stopped_write, verdict, verdict_behind};
+ghost use Rattle.snapshot_reader.specs.Reading.{Gives};
+
+use crate::values::{in_range, read_hart_number, read_number, read_pc};
+use snapshot_form::SnapRefusal;
+use snapshot_form::verdict_kind::{RUNNING, SHUTDOWN, STOPPED_ENTRY, STOPPED_WRITE};
+use sv_types::{Rule, Verdict};
+
+#[tactic(auto, unfolding(snapshot_form::specs::JournalForms::verdict))]
+pub(crate) fn read_verdict(bytes: &[u8], harts: u8) -> Result<(Verdict, &[u8]), SnapRefusal>
+    ensures { Gives (λ x. (x.0, x.1.now)) result ((verdict harts).taken bytes.now) }
+{
+    let (kind, rest) = read_number(bytes)?;
+    in_range(kind <= STOPPED_WRITE)?;
+    read_verdict_behind(rest, harts, kind)
+}
+
+// The fields behind a kind.
+#[tactic(auto, unfolding(snapshot_form::specs::JournalForms::verdict_behind))]
+fn read_verdict_behind(bytes: &[u8], harts: u8, kind: u64) -> Result<(Verdict, &[u8]), SnapRefusal>
+    ensures { Gives (λ x. (x.0, x.1.now)) result ((verdict_behind harts kind).taken bytes.now) }
+{
+    if kind == RUNNING {
+        Ok((Verdict::Running, bytes))
+    } else if kind == SHUTDOWN {
+        Ok((Verdict::Shutdown, bytes))
+    } else if kind == STOPPED_ENTRY {
+        read_stopped_entry(bytes, harts)
+    } else {
+        read_stopped_write(bytes, harts)
+    }
+}
+
+#[tactic(auto, unfolding(snapshot_form::specs::JournalForms::stopped_entry))]
+fn read_stopped_entry(bytes: &[u8], harts: u8) -> Result<(Verdict, &[u8]), SnapRefusal>
+    ensures { Gives (λ x. (x.0, x.1.now)) result ((stopped_entry harts).taken bytes.now) }
+{
+    let (target, rest) = read_number(bytes)?;
+    let (hart, rest) = read_hart_number(rest, harts)?;
+    let (turn, rest) = read_number(rest)?;
+    let rule = Rule::Entry { target };
+    Ok((Verdict::Stopped { rule, hart, turn }, rest))
+}
+
+#[tactic(auto, unfolding(snapshot_form::specs::JournalForms::stopped_write))]
+fn read_stopped_write(bytes: &[u8], harts: u8) -> Result<(Verdict, &[u8]), SnapRefusal>
+    ensures { Gives (λ x. (x.0, x.1.now)) result ((stopped_write harts).taken bytes.now) }
+{
+    let (pc, rest) = read_pc(bytes)?;
+    let (gpa, rest) = read_number(rest)?;
+    let (hart, rest) = read_hart_number(rest, harts)?;
+    let (turn, rest) = read_number(rest)?;
+    let rule = Rule::Write { pc, gpa };
+    Ok((Verdict::Stopped { rule, hart, turn }, rest))
+}

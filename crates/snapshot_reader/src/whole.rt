@@ -1,0 +1,209 @@
+// The bytes of a whole snapshot.
+
+ghost use Rattle.std.specs.Prelude.{◌≡◌, ◌≤◌, ◌*◌, true, Ok, IfOk};
+ghost use Rattle.processor.specs.Bytes.{page_size};
+ghost use Rattle.sv_types.specs.Limits.{most_harts};
+ghost use Rattle.snapshot_form.specs.Forms.{plain};
+ghost use Rattle.snapshot_form.specs.Snapshots.{Contents, beginning, body, contents, hart_count, header, magic, page_count, snapshot, snapshot_read, whole_of};
+ghost use Rattle.snapshot_reader.specs.Reading.{Gives, Reads};
+ghost use Rattle.snapshot_reader.specs.Views.{body_parts, header_view};
+
+use crate::devices::{Devices, read_devices};
+use crate::harts::read_harts;
+use crate::journal::{Recorded, read_journal};
+use crate::modules::{Gate, read_gate};
+use crate::pages::{Pages, read_pages};
+use crate::read_error::ReadError;
+use crate::values::{in_range, read_number, read_plain};
+use policy_limits::{FEWEST_RAM_PAGES, MOST_RAM_PAGES};
+use processor::PAGE_BYTES;
+use saved_machine::{Saved, SavedHart};
+use snapshot_form::{MAGIC, SnapRefusal, Snapshot, law_snapshot};
+use std::alloc::Global;
+use sv_types::{MOST_EVENTS, MOST_HARTS, PortState};
+
+/// The most bytes that a snapshot has.
+pub const MOST_SNAPSHOT_BYTES: usize = 1300 << 20;
+
+/// The snapshot that some bytes are. What is read is spelled so, and each snapshot is read from its spelling; else the first
+/// refusal from left to right is answered, or want of memory.
+pub fn read(alloc: Global, bytes: &[u8]) -> Result<Snapshot, ReadError>
+    ensures read { Reads contents result (snapshot_read bytes.now) }
+    ensures spelled { IfOk result (λ s. bytes.now ≡ snapshot.spell (contents s)) }
+    ensures has { IfOk result (λ s. snapshot.has (contents s) ≡ true) }
+    ensures every { (s : Contents) → snapshot.has s ≡ true → bytes.now ≡ snapshot.spell s → Reads contents result (Ok s) }
+{
+    law_snapshot();
+    read_all(alloc, bytes)
+}
+
+#[tactic(auto, unfolding(snapshot_form::specs::Snapshots::snapshot_read))]
+fn read_all(alloc: Global, bytes: &[u8]) -> Result<Snapshot, ReadError>
+    ensures { Reads contents result (snapshot_read bytes.now) }
+{
+    if bytes.len() > MOST_SNAPSHOT_BYTES {
+        return Err(ReadError::Refused(SnapRefusal::TooLong));
+    }
+    let (snapshot, rest) = read_snapshot(alloc, bytes)?;
+    if !rest.is_empty() {
+        return Err(ReadError::Refused(SnapRefusal::OtherLength));
+    }
+    Ok(snapshot)
+}
+
+#[tactic(auto, unfolding(snapshot_form::specs::Snapshots::snapshot))]
+fn read_snapshot(alloc: Global, bytes: &[u8]) -> Result<(Snapshot, &[u8]), ReadError>
+    ensures { Reads (λ x. (contents x.0, x.1.now)) result (snapshot.taken bytes.now) }
+{
+    let (header, rest) = read_header(bytes)?;
+    let (body, rest) = read_body(alloc, rest, header)?;
+    Ok((put_together(header, body), rest))
+}
+
+fn put_together(header: Header, body: Body) -> Snapshot
+    ensures { contents result ≡ whole_of (header_view header, body_parts body) }
+{
+    let Body {
+        harts,
+        pages: Pages { protection, text },
+        gate: Gate {
+            modules,
+            retired,
+            loading,
+        },
+        devices: Devices {
+            console,
+            block,
+            disk,
+        },
+        recorded: Recorded {
+            counts,
+            notes,
+            verdict,
+        },
+        ram,
+    } = body;
+    let machine = Saved {
+        harts,
+        ram,
+        protection,
+        modules,
+        retired,
+        loading,
+        console,
+        port: PortState::Block(block),
+        disk,
+        time: header.time,
+        counts,
+        notes,
+        verdict,
+    };
+    Snapshot {
+        events: header.events,
+        machine,
+        text,
+    }
+}
+
+/// Events, harts, pages of RAM and time.
+#[derive(Clone, Copy, Drop)]
+struct Header {
+    events: u64,
+    harts: u8,
+    ram_pages: u32,
+    time: u64,
+}
+
+#[tactic(auto, unfolding(snapshot_form::specs::Snapshots::header))]
+fn read_header(bytes: &[u8]) -> Result<(Header, &[u8]), SnapRefusal>
+    ensures range { IfOk result (λ x. x.0.harts ≤ most_harts) }
+    ensures header { Gives (λ x. (header_view x.0, x.1.now)) result (header.taken bytes.now) }
+{
+    let rest = read_magic(bytes)?;
+    let (events, rest) = read_number(rest)?;
+    in_range(events <= MOST_EVENTS)?;
+    let (harts, rest) = read_hart_count(rest)?;
+    let (ram_pages, rest) = read_page_count(rest)?;
+    let (time, rest) = read_number(rest)?;
+    Ok((
+        Header {
+            events,
+            harts,
+            ram_pages,
+            time,
+        },
+        rest,
+    ))
+}
+
+#[tactic(auto, unfolding(snapshot_form::specs::Snapshots::magic_at))]
+fn read_magic(bytes: &[u8]) -> Result<&[u8], SnapRefusal>
+    ensures { Gives (λ rest. (magic, rest.now)) result (beginning.taken bytes.now) }
+{
+    let Some((front, rest)) = bytes.split_first_chunk::<8>() else {
+        return Err(SnapRefusal::OtherLength);
+    };
+    if front != MAGIC {
+        return Err(SnapRefusal::OtherBeginning);
+    }
+    Ok(rest)
+}
+
+fn read_hart_count(bytes: &[u8]) -> Result<(u8, &[u8]), SnapRefusal>
+    ensures range { IfOk result (λ x. x.0 ≤ most_harts) }
+    ensures count { Gives (λ x. (x.0, x.1.now)) result (hart_count.taken bytes.now) }
+{
+    let (n, rest) = read_number(bytes)?;
+    in_range(1 <= n && n <= u64::from(MOST_HARTS))?;
+    Ok((n as u8, rest))
+}
+
+fn read_page_count(bytes: &[u8]) -> Result<(u32, &[u8]), SnapRefusal>
+    ensures { Gives (λ x. (x.0, x.1.now)) result (page_count.taken bytes.now) }
+{
+    let (n, rest) = read_number(bytes)?;
+    in_range(u64::from(FEWEST_RAM_PAGES) <= n && n <= u64::from(MOST_RAM_PAGES))?;
+    Ok((n as u32, rest))
+}
+
+/// What stands behind the header.
+#[derive(Drop)]
+struct Body {
+    harts: Vec<SavedHart>,
+    pages: Pages,
+    gate: Gate,
+    devices: Devices,
+    recorded: Recorded,
+    ram: Vec<u8>,
+}
+
+#[tactic(auto, unfolding(snapshot_form::specs::Snapshots::body))]
+fn read_body(alloc: Global, bytes: &[u8], header: Header) -> Result<(Body, &[u8]), ReadError>
+    requires { header.harts ≤ most_harts }
+    ensures { Reads (λ x. (body_parts x.0, x.1.now)) result ((body (header_view header)).taken bytes.now) }
+{
+    let (harts, rest) = read_harts(alloc, bytes, header.ram_pages, header.harts)?;
+    let (pages, rest) = read_pages(alloc, rest, header.ram_pages)?;
+    let (gate, rest) = read_gate(alloc, rest, &harts)?;
+    let (devices, rest) = read_devices(alloc, rest)?;
+    let (recorded, rest) = read_journal(alloc, rest, header.events, header.harts)?;
+    let (ram, rest) = read_ram(alloc, rest, header.ram_pages)?;
+    Ok((
+        Body {
+            harts,
+            pages,
+            gate,
+            devices,
+            recorded,
+            ram,
+        },
+        rest,
+    ))
+}
+
+fn read_ram(alloc: Global, bytes: &[u8], ram_pages: u32) -> Result<(Vec<u8>, &[u8]), ReadError>
+    ensures { Reads (λ x. (x.0.items, x.1.now)) result ((plain (page_size * ram_pages)).taken bytes.now) }
+{
+    let (ram, rest) = read_plain(bytes, PAGE_BYTES * u64::from(ram_pages))?;
+    Ok((ram.to_vec(alloc)?, rest))
+}

@@ -1,0 +1,17 @@
+//! The bytes of a snapshot: what is written is its spelling, as `snapshot_form` defines it.
+#![tactic(auto)]
+
+mod block;
+mod counts;
+mod devices;
+mod harts;
+mod journal;
+mod modules;
+mod notes;
+mod pages;
+mod supervisor;
+mod values;
+mod verdict;
+mod whole;
+
+pub use whole::write;

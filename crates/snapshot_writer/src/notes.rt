@@ -1,0 +1,97 @@
+// The bytes of notes: a kind, and the fields of each.
+
+ghost use Rattle.std.specs.Prelude.{◌≡◌, ℕ, ◌++◌, true, OnOk};
+ghost use Rattle.std.specs.List.{list_all};
+ghost use Rattle.sv_types.specs.SbiCodes.{code_word};
+ghost use Rattle.snapshot_form.specs.Forms.{spell_number};
+ghost use Rattle.snapshot_form.specs.JournalForms.{note, notes};
+ghost use Rattle.snapshot_form.specs.Typed.{is_typed_note};
+
+use crate::values::write_number;
+use snapshot_form::note_kind::{DEMOTE, DENIED, LOAD, RETIRE, UNLOAD};
+use std::alloc::AllocError;
+use sv_types::{Note, SbiCode};
+
+pub(crate) fn write_notes(out: &mut Vec<u8>, kept: &[Note]) -> Result<(), AllocError>
+    ensures spelled { (harts all : ℕ) → OnOk result (out.new.items ≡ out.old.items ++ (notes harts all).spell kept.now) }
+    ensures typed { OnOk result (list_all is_typed_note kept.now ≡ true) }
+{
+    write_number(out, kept.len() as u64)?;
+    'notes: for n in kept {
+        write_note(out, *n)?;
+    }
+    Ok(())
+}
+
+#[tactic(auto, unfolding(snapshot_form::specs::JournalForms::note, snapshot_form::specs::JournalForms::note_behind, snapshot_form::specs::JournalForms::demote, snapshot_form::specs::JournalForms::denied, snapshot_form::specs::JournalForms::load_note, snapshot_form::specs::JournalForms::unload, snapshot_form::specs::JournalForms::retire, snapshot_form::specs::JournalForms::answer, snapshot_form::specs::JournalForms::code, snapshot_form::specs::JournalForms::hart_number, snapshot_form::specs::HartForms::aligned))]
+fn write_note(out: &mut Vec<u8>, n: Note) -> Result<(), AllocError>
+    ensures spelled { (harts : ℕ) → OnOk result (out.new.items ≡ out.old.items ++ (note harts).spell n) }
+    ensures typed { OnOk result (is_typed_note n ≡ true) }
+{
+    match n {
+        Note::Demote {
+            hart,
+            turn,
+            pc,
+            gpa,
+        } => write_demote(out, hart, turn, pc, gpa),
+        Note::Denied { gpa } => write_denied(out, gpa),
+        Note::Load {
+            hart,
+            turn,
+            id,
+            code,
+        } => write_answer(out, LOAD, hart, turn, id, code),
+        Note::Unload {
+            hart,
+            turn,
+            id,
+            code,
+        } => write_answer(out, UNLOAD, hart, turn, id, code),
+        Note::Retire { hart, turn, code } => write_retire(out, hart, turn, code),
+    }
+}
+
+fn write_demote(out: &mut Vec<u8>, hart: u8, turn: u64, pc: u64, gpa: u64) -> Result<(), AllocError>
+    ensures { OnOk result (out.new.items ≡ out.old.items ++ (spell_number 1 ++ (spell_number hart ++ (spell_number turn ++ (spell_number pc ++ spell_number gpa))))) }
+{
+    write_number(out, DEMOTE)?;
+    write_number(out, u64::from(hart))?;
+    write_number(out, turn)?;
+    write_number(out, pc)?;
+    write_number(out, gpa)
+}
+
+fn write_denied(out: &mut Vec<u8>, gpa: u64) -> Result<(), AllocError>
+    ensures { OnOk result (out.new.items ≡ out.old.items ++ (spell_number 2 ++ spell_number gpa)) }
+{
+    write_number(out, DENIED)?;
+    write_number(out, gpa)
+}
+
+// The answer to a load or an unload, by its kind.
+fn write_answer(
+    out: &mut Vec<u8>,
+    kind: u64,
+    hart: u8,
+    turn: u64,
+    id: u64,
+    code: SbiCode,
+) -> Result<(), AllocError>
+    ensures { OnOk result (out.new.items ≡ out.old.items ++ (spell_number kind ++ (spell_number hart ++ (spell_number turn ++ (spell_number id ++ spell_number (code_word code)))))) }
+{
+    write_number(out, kind)?;
+    write_number(out, u64::from(hart))?;
+    write_number(out, turn)?;
+    write_number(out, id)?;
+    write_number(out, code.word())
+}
+
+fn write_retire(out: &mut Vec<u8>, hart: u8, turn: u64, code: SbiCode) -> Result<(), AllocError>
+    ensures { OnOk result (out.new.items ≡ out.old.items ++ (spell_number 5 ++ (spell_number hart ++ (spell_number turn ++ spell_number (code_word code))))) }
+{
+    write_number(out, RETIRE)?;
+    write_number(out, u64::from(hart))?;
+    write_number(out, turn)?;
+    write_number(out, code.word())
+}

@@ -1,0 +1,35 @@
+// The bytes of a hart's supervisor registers.
+
+ghost use Rattle.std.specs.Prelude.{◌≡◌, ◌++◌, [], ◌∷◌, true, OnOk};
+ghost use Rattle.snapshot_form.specs.HartForms.{hart_parts, status, trap_status};
+ghost use Rattle.snapshot_form.specs.Typed.{are_words, supervisor_numbers};
+
+use crate::values::write_number;
+use saved_machine::SavedHart;
+use std::alloc::AllocError;
+
+#[tactic(auto, unfolding(snapshot_form::specs::HartForms::status, snapshot_form::specs::HartForms::legal))]
+pub(crate) fn write_status(out: &mut Vec<u8>, h: &SavedHart) -> Result<(), AllocError>
+    ensures spelled { OnOk result (out.new.items ≡ out.old.items ++ status.spell (hart_parts h.now).1.1.1.0) }
+    ensures typed { OnOk result (are_words (supervisor_numbers h.now) ≡ true) }
+{
+    write_number(out, h.sstatus)?;
+    write_number(out, h.sie)?;
+    write_number(out, h.stvec)?;
+    write_number(out, h.scounteren)?;
+    write_number(out, h.sscratch)?;
+    write_trap_status(out, h)
+}
+
+// What a trap writes, the software interrupt and the root of translation.
+#[tactic(auto, unfolding(snapshot_form::specs::HartForms::trap_status, snapshot_form::specs::HartForms::legal))]
+fn write_trap_status(out: &mut Vec<u8>, h: &SavedHart) -> Result<(), AllocError>
+    ensures spelled { OnOk result (out.new.items ≡ out.old.items ++ trap_status.spell (hart_parts h.now).1.1.1.0.1.1.1.1.1) }
+    ensures typed { OnOk result (are_words (h.now.sepc ∷ h.now.scause ∷ h.now.stval ∷ h.now.satp ∷ []) ≡ true) }
+{
+    write_number(out, h.sepc)?;
+    write_number(out, h.scause)?;
+    write_number(out, h.stval)?;
+    write_number(out, h.sip)?;
+    write_number(out, h.satp)
+}

@@ -1,0 +1,62 @@
+// The bytes of the verdict: a kind, and the fields of each.
+
+ghost use Rattle.std.specs.Prelude.{◌≡◌, ℕ, ◌++◌, true, OnOk};
+ghost use Rattle.snapshot_form.specs.Forms.{spell_number};
+ghost use Rattle.snapshot_form.specs.JournalForms.{verdict};
+ghost use Rattle.snapshot_form.specs.Typed.{are_words, verdict_numbers};
+
+use crate::values::write_number;
+use snapshot_form::verdict_kind::{RUNNING, SHUTDOWN, STOPPED_ENTRY, STOPPED_WRITE};
+use std::alloc::AllocError;
+use sv_types::{Rule, Verdict};
+
+#[tactic(auto, unfolding(snapshot_form::specs::JournalForms::verdict, snapshot_form::specs::JournalForms::verdict_behind, snapshot_form::specs::JournalForms::stopped_entry, snapshot_form::specs::JournalForms::stopped_write, snapshot_form::specs::JournalForms::hart_number, snapshot_form::specs::HartForms::aligned))]
+pub(crate) fn write_verdict(out: &mut Vec<u8>, v: Verdict) -> Result<(), AllocError>
+    ensures spelled { (harts : ℕ) → OnOk result (out.new.items ≡ out.old.items ++ (verdict harts).spell v) }
+    ensures typed { OnOk result (are_words (verdict_numbers v) ≡ true) }
+{
+    match v {
+        Verdict::Running => write_number(out, RUNNING),
+        Verdict::Shutdown => write_number(out, SHUTDOWN),
+        Verdict::Stopped {
+            rule: Rule::Entry { target },
+            hart,
+            turn,
+        } => write_stopped_entry(out, target, hart, turn),
+        Verdict::Stopped {
+            rule: Rule::Write { pc, gpa },
+            hart,
+            turn,
+        } => write_stopped_write(out, pc, gpa, hart, turn),
+    }
+}
+
+fn write_stopped_entry(
+    out: &mut Vec<u8>,
+    target: u64,
+    hart: u8,
+    turn: u64,
+) -> Result<(), AllocError>
+    ensures { OnOk result (out.new.items ≡ out.old.items ++ (spell_number 2 ++ (spell_number target ++ (spell_number hart ++ spell_number turn)))) }
+{
+    write_number(out, STOPPED_ENTRY)?;
+    write_number(out, target)?;
+    write_number(out, u64::from(hart))?;
+    write_number(out, turn)
+}
+
+fn write_stopped_write(
+    out: &mut Vec<u8>,
+    pc: u64,
+    gpa: u64,
+    hart: u8,
+    turn: u64,
+) -> Result<(), AllocError>
+    ensures { OnOk result (out.new.items ≡ out.old.items ++ (spell_number 3 ++ (spell_number pc ++ (spell_number gpa ++ (spell_number hart ++ spell_number turn))))) }
+{
+    write_number(out, STOPPED_WRITE)?;
+    write_number(out, pc)?;
+    write_number(out, gpa)?;
+    write_number(out, u64::from(hart))?;
+    write_number(out, turn)
+}
