@@ -87,7 +87,7 @@ pub(crate) fn files(alloc: Global) -> Result<Handed, AllocError> {
     let (image, policy) = generate(alloc, 10)?;
     Ok(Handed {
         image,
-        policy: policy::write(alloc, &policy)?,
+        policy: policy_printing::write(alloc, &policy)?,
         disk: disk(alloc)?,
         script: script(alloc)?,
     })
@@ -119,7 +119,7 @@ fn runs_the_generated_guest_from_files(rt: HostRuntime) -> Result<(), Fail> {
 #[test]
 fn runs_in_the_most_ram(rt: HostRuntime) -> Result<(), Fail> {
     let (image, policy) = generate(rt.alloc(), 1)?;
-    let written = policy::write(rt.alloc(), &policy)?;
+    let written = policy_printing::write(rt.alloc(), &policy)?;
     let text = str::from_utf8(&written).unwrap_or("");
     let ran = text_of(rt.alloc(), &ROWS[0].printed)?;
     for (ram_pages, want) in [

@@ -88,7 +88,7 @@ fn guest(alloc: Global, calls: u64, script: &[u8]) -> Result<Handed, AllocError>
     let (image, policy) = generate(alloc, calls)?;
     Ok(Handed {
         image,
-        policy: policy::write(alloc, &policy)?,
+        policy: policy_printing::write(alloc, &policy)?,
         disk: Vec::new(alloc),
         script: script.to_vec(alloc)?,
     })

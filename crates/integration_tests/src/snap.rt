@@ -143,7 +143,7 @@ fn guest(alloc: Global) -> Result<Handed, AllocError> {
     let (image, policy) = generate(alloc, 3)?;
     Ok(Handed {
         image,
-        policy: policy::write(alloc, &policy)?,
+        policy: policy_printing::write(alloc, &policy)?,
         disk: Vec::new(alloc),
         script: Vec::new(alloc),
     })

@@ -2,15 +2,8 @@ pub mod Tables
 pub mod Lists
 pub mod Lengths
 pub mod Texts
-pub mod Puts
-pub mod Depths
-pub mod Prints
 pub mod Judging
-pub mod WrittenValues
-pub mod WrittenLists
-pub mod WrittenRules
 pub mod ReadLists
 pub mod BindingsRead
-pub mod BindingsBack
 pub mod ReadWithin
 pub mod ExportsRead

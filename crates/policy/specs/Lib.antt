@@ -2,6 +2,4 @@ pub mod Refusals
 pub mod Values
 pub mod Bindings
 pub mod Text
-pub mod Printed
-pub mod Ranges
 pub mod ExportNames

@@ -1,4 +1,4 @@
-//! The policy: its limits, and its text.
+//! The policy's text: what is read of it, and where it is refused.
 #![tactic(auto)]
 
 mod binding;
@@ -8,7 +8,6 @@ mod kernel;
 mod module_place;
 mod modules;
 mod place;
-mod printing;
 mod refusal;
 mod sites;
 mod text;
@@ -17,6 +16,5 @@ mod values;
 pub use first::first_refused;
 pub use place::refused_place;
 pub use policy_limits::within;
-pub use printing::write;
 pub use refusal::PolicyRefusal;
 pub use text::read;

@@ -4,7 +4,8 @@ ghost use Rattle.sv_types.specs.Policies.{rules_of, rules_within};
 ghost use Rattle.policy.specs.declared.refusal.PolicyRefusal.TheVariants.{Memory};
 
 use crate::texts::{GOOD, number_of};
-use policy::{PolicyRefusal, read, within, write};
+use policy::{PolicyRefusal, read, within};
+use policy_printing::write;
 use std::alloc::{AllocError, Global};
 use std::test::Fail;
 use sv_types::{ModulePolicy, Name, Policy, RelocationKind, Site};

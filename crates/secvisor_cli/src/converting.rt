@@ -55,7 +55,7 @@ fn converted<'a>(alloc: Global, name: &'a str, policy: &Policy) -> Result<Made<'
     requires within { rules_within (rules_of policy.now) ≡ true }
     ensures { IfOk result (IsMade name.now (rules_of policy.now) (converted_line (length policy.now.entries.items))) }
 {
-    let text = policy::write(alloc, policy)?;
+    let text = policy_printing::write(alloc, policy)?;
     let line = converted_line(alloc, policy.entries.len())?;
     Ok(Made { name, text, line })
 }

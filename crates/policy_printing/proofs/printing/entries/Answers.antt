@@ -1,7 +1,7 @@
 use Rattle.std.proofs.Common.{◌≡◌, ℕ, List, length, ap, sym, ◌∙◌, arith}
 use Rattle.sv_types.specs.Policies.{rules_of}
-use Rattle.policy.proofs.BindingsBack.{bound_beside}
-use Rattle.policy.proofs.printing.entries.Goals as goal
+use Rattle.policy_printing.proofs.BindingsBack.{bound_beside}
+use Rattle.policy_printing.proofs.printing.entries.Goals as goal
 
 pub bound_entries-requires : goal.bound_entries-requires
 bound_entries-requires c =

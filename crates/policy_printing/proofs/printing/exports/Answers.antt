@@ -1,9 +1,9 @@
 use Rattle.std.proofs.Common.{subst}
 use Rattle.std.proofs.lemmas.List.Elements.{All-more}
-use Rattle.policy.specs.Printed.{export_data}
-use Rattle.policy.specs.Ranges.{IsExport}
-use Rattle.policy.proofs.Prints.{printed_more, printed_all}
-use Rattle.policy.proofs.printing.exports.Goals as goal
+use Rattle.policy_printing.specs.Printed.{export_data}
+use Rattle.policy_printing.specs.Ranges.{IsExport}
+use Rattle.policy_printing.proofs.Prints.{printed_more, printed_all}
+use Rattle.policy_printing.proofs.printing.exports.Goals as goal
 
 pub loop-item-preserved : goal.loop-item-preserved
 loop-item-preserved c =

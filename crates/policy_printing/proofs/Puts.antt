@@ -9,7 +9,7 @@ use Rattle.toml.specs.View.{view, members_view}
 use Rattle.toml.specs.declared.value.Value.{Value}
 use Rattle.sv_types.specs.Policies.{ModuleRule}
 use Rattle.sv_types.specs.declared.policy.Export.{Export}
-use Rattle.policy.specs.Printed.{with_member, with_exports, exports_data, with_modules, modules_data}
+use Rattle.policy_printing.specs.Printed.{with_member, with_exports, exports_data, with_modules, modules_data}
 
 members_of_either : (o : Ordering) (a b c : List Entry) → members_view (match_ordering o a b c) ≡ match_ordering o (members_view a) (members_view b) (members_view c)
 members_of_either Less a b c = refl

@@ -1,8 +1,8 @@
 use Rattle.std.proofs.Common.{◌≤◌, subst, sym, ◌∙◌, ap, Some}
 use Rattle.toml.specs.Data.{Members, members_depth}
 use Rattle.sv_types.specs.Policies.{rules_of}
-use Rattle.policy.proofs.Depths.{depth_of_rules}
-use Rattle.policy.proofs.printing.text.Goals as goal
+use Rattle.policy_printing.proofs.Depths.{depth_of_rules}
+use Rattle.policy_printing.proofs.printing.text.Goals as goal
 
 pub returns-in-Ok-clause-printed : goal.returns-in-Ok-clause-printed
 returns-in-Ok-clause-printed c =

@@ -18,12 +18,12 @@ use Rattle.sv_types.specs.declared.relocation_kind.RelocationKind.TheVariants.{W
 use Rattle.policy.specs.Values.{limited, entry_of, items_length}
 use Rattle.policy.specs.Bindings.{bindings_of, entries_in, bound_in}
 use Rattle.policy.specs.Text.{format_number, plain_entries, bound_entries, entries_of, export_of_two, export_of, some_exports_of, span_at, init_of_two, init_of, kernel_rule, site_of_five, site_of, sites_in, module_of_members, module_of, some_modules_of, rules_of_members, rules_of_text, table_of_text}
-use Rattle.policy.specs.Printed.{address_data, binding_data, entries_data, export_data, exports_data, span_data, site_data, sites_data, module_data, modules_data, kernel_data, rules_members}
-use Rattle.policy.specs.Ranges.{IsAddress, IsDigest, IsExport, IsModule, IsPolicy}
+use Rattle.policy_printing.specs.Printed.{address_data, binding_data, entries_data, export_data, exports_data, span_data, site_data, sites_data, module_data, modules_data, kernel_data, rules_members}
+use Rattle.policy_printing.specs.Ranges.{IsAddress, IsDigest, IsExport, IsModule, IsPolicy}
 use Rattle.policy.proofs.Judging.{then_ok, limited_true}
-use Rattle.policy.proofs.WrittenValues.{address_back, measure_back}
-use Rattle.policy.proofs.WrittenLists.{each_item_back, items_length-map}
-use Rattle.policy.proofs.BindingsBack.{bindings_back, bound_length, entries_of_pairs, bound_of_pairs, pairs_length}
+use Rattle.policy_printing.proofs.WrittenValues.{address_back, measure_back}
+use Rattle.policy_printing.proofs.WrittenLists.{each_item_back, items_length-map}
+use Rattle.policy_printing.proofs.BindingsBack.{bindings_back, bound_length, entries_of_pairs, bound_of_pairs, pairs_length}
 
 -- ---- entries and exports
 

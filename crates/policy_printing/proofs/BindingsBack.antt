@@ -10,10 +10,10 @@ use Rattle.processor.specs.Regions.{most_ram_pages}
 use Rattle.sv_types.specs.Policies.{Rules, each_within, entry_within, bound_fits, all_bound, bound_within, numbers_within, lists_within, init_within, modules_count_within, modules_within, rules_within}
 use Rattle.policy.specs.Bindings.{binding, bindings_of, entries_in, bound_in, is_bound, binding_of_two, binding_of, each_binding}
 use Rattle.policy.specs.declared.binding.Binding.{Binding}
-use Rattle.policy.specs.Printed.{binding_data}
-use Rattle.policy.specs.Ranges.{IsAddress}
+use Rattle.policy_printing.specs.Printed.{binding_data}
+use Rattle.policy_printing.specs.Ranges.{IsAddress}
 use Rattle.policy.proofs.Judging.{then_ok}
-use Rattle.policy.proofs.WrittenValues.{address_back}
+use Rattle.policy_printing.proofs.WrittenValues.{address_back}
 use Rattle.policy.proofs.BindingsRead.{bound_among}
 
 fits_address : (ram_pages va gpa : ℕ) → bound_fits ram_pages va gpa ≡ true → ram_pages ≤ most_ram_pages → gpa < 2 ^ 64

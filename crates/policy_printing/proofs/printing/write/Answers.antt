@@ -2,8 +2,8 @@ use Rattle.std.proofs.Common.{string_bytes}
 use Rattle.std.proofs.lemmas.Str.{IsUtf8-string_bytes}
 use Rattle.sv_types.specs.Policies.{rules_of}
 use Rattle.policy.proofs.Texts.{table_of_text_valid}
-use Rattle.policy.proofs.WrittenRules.{text_back}
-use Rattle.policy.proofs.printing.write.Goals as goal
+use Rattle.policy_printing.proofs.WrittenRules.{text_back}
+use Rattle.policy_printing.proofs.printing.write.Goals as goal
 
 pub returns-clause-table : goal.returns-clause-table
 returns-clause-table c = rw c.into_bytes.ensures.value (table_of_text_valid (string_bytes c.in_ok-text.text) _ (IsUtf8-string_bytes c.in_ok-text.text) c.in_ok-text.ensures.printed)

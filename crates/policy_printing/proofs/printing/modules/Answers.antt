@@ -7,10 +7,10 @@ use Rattle.toml.specs.Data.{Data, array}
 use Rattle.toml.specs.View.{items_of}
 use Rattle.sv_types.specs.Policies.{module_rule}
 use Rattle.sv_types.specs.declared.policy.ModulePolicy.{ModulePolicy}
-use Rattle.policy.specs.Printed.{module_data}
-use Rattle.policy.specs.Ranges.{IsModule}
-use Rattle.policy.proofs.Prints.{printed_more, printed_all}
-use Rattle.policy.proofs.printing.modules.Goals as goal
+use Rattle.policy_printing.specs.Printed.{module_data}
+use Rattle.policy_printing.specs.Ranges.{IsModule}
+use Rattle.policy_printing.proofs.Prints.{printed_more, printed_all}
+use Rattle.policy_printing.proofs.printing.modules.Goals as goal
 
 abbrev print : ModulePolicy → Data
 print m = module_data (module_rule m)

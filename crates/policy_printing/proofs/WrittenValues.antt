@@ -4,8 +4,8 @@ use Rattle.hex.proofs.HexLemmas.{decode_sized-encode_lower}
 use Rattle.sv_types.specs.Numbers.{digest_of}
 use Rattle.text_numbers.proofs.AddressesBack.{printed_is_read}
 use Rattle.policy.specs.Values.{address_of, measure_of}
-use Rattle.policy.specs.Printed.{address_data, measure_data}
-use Rattle.policy.specs.Ranges.{IsDigest}
+use Rattle.policy_printing.specs.Printed.{address_data, measure_data}
+use Rattle.policy_printing.specs.Ranges.{IsDigest}
 
 pub address_back : (a : ℕ) → a < 2 ^ 64 → address_of (address_data a) ≡ Ok a
 unfolding address_data

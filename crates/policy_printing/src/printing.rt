@@ -6,10 +6,10 @@ ghost use Rattle.toml.specs.Parse.{parse_document};
 ghost use Rattle.toml.specs.View.{view, items_of, table_view};
 ghost use Rattle.sv_types.specs.Policies as limits;
 ghost use Rattle.std.specs.List.{All};
-ghost use Rattle.policy.specs.Ranges.{IsAddress, IsDigest, IsExport, IsModule, IsPolicy};
+ghost use Rattle.policy_printing.specs.Ranges.{IsAddress, IsDigest, IsExport, IsModule, IsPolicy};
 ghost use Rattle.policy.specs.Bindings.{binding, bindings_of};
 ghost use Rattle.policy.specs.Text.{table_of_text, rules_of_text};
-ghost use Rattle.policy.specs.Printed as spec;
+ghost use Rattle.policy_printing.specs.Printed as spec;
 
 use policy_limits::PLAIN_FORMAT;
 use processor::{PAGE_BYTES, RAM_BASE};

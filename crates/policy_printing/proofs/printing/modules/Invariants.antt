@@ -2,9 +2,9 @@ use Rattle.std.proofs.Common.{◌≡◌, map, take}
 use Rattle.std.specs.List.{All}
 use Rattle.toml.specs.View.{view}
 use Rattle.sv_types.specs.Policies.{module_rule}
-use Rattle.policy.specs.Printed.{module_data}
-use Rattle.policy.specs.Ranges.{IsModule}
-use Rattle.policy.proofs.printing.modules.Given as goal
+use Rattle.policy_printing.specs.Printed.{module_data}
+use Rattle.policy_printing.specs.Ranges.{IsModule}
+use Rattle.policy_printing.proofs.printing.modules.Given as goal
 
 abbrev pub invariant-loop-item : goal.invariant-loop-item
 invariant-loop-item l = record {

@@ -1,9 +1,9 @@
 use Rattle.std.proofs.Common.{◌≡◌, map, take}
 use Rattle.std.specs.List.{All}
 use Rattle.toml.specs.View.{view}
-use Rattle.policy.specs.Printed.{export_data}
-use Rattle.policy.specs.Ranges.{IsExport}
-use Rattle.policy.proofs.printing.exports.Given as goal
+use Rattle.policy_printing.specs.Printed.{export_data}
+use Rattle.policy_printing.specs.Ranges.{IsExport}
+use Rattle.policy_printing.proofs.printing.exports.Given as goal
 
 abbrev pub invariant-loop-item : goal.invariant-loop-item
 invariant-loop-item l = record {

@@ -1,9 +1,9 @@
 use Rattle.std.proofs.Common.{◌≡◌, map, take}
 use Rattle.std.specs.List.{All}
 use Rattle.toml.specs.View.{view}
-use Rattle.policy.specs.Printed.{address_data}
-use Rattle.policy.specs.Ranges.{IsAddress}
-use Rattle.policy.proofs.printing.plain_entries.Given as goal
+use Rattle.policy_printing.specs.Printed.{address_data}
+use Rattle.policy_printing.specs.Ranges.{IsAddress}
+use Rattle.policy_printing.proofs.printing.plain_entries.Given as goal
 
 abbrev pub invariant-loop-entry : goal.invariant-loop-entry
 invariant-loop-entry l = record {

@@ -2,11 +2,11 @@ use Rattle.std.proofs.Common.{ℕ, ◌<◌, ◌≤◌, length, get_or, sym, subs
 use Rattle.std.proofs.lemmas.List.Elements.{All-from_get_or}
 use Rattle.policy.specs.Bindings.{binding, bindings_of}
 use Rattle.policy.specs.declared.binding.Binding.{Binding}
-use Rattle.policy.specs.Printed.{binding_data}
-use Rattle.policy.specs.Ranges.{IsAddress}
-use Rattle.policy.proofs.Prints.{printed_more, printed_all}
-use Rattle.policy.proofs.BindingsBack.{pair_at, pairs_length}
-use Rattle.policy.proofs.printing.bound_entries.Goals as goal
+use Rattle.policy_printing.specs.Printed.{binding_data}
+use Rattle.policy_printing.specs.Ranges.{IsAddress}
+use Rattle.policy_printing.proofs.Prints.{printed_more, printed_all}
+use Rattle.policy_printing.proofs.BindingsBack.{pair_at, pairs_length}
+use Rattle.policy_printing.proofs.printing.bound_entries.Goals as goal
 
 pub loop-i-preserved : goal.loop-i-preserved
 loop-i-preserved c =
