@@ -1,12 +1,11 @@
 -- The turns of a load under way: the next page is counted, or the decision is made, as the reference machine's text says.
 use Rattle.std.proofs.Common.{◌≡◌, ℕ, zero, suc, ◌+◌, ◌-◌, ◌*◌, ◌/◌, ◌%◌, ◌<◌, ◌≤◌, List, [], ◌∷◌, ◌++◌, length, drop, refl, sym, ◌∙◌, ap, subst, Bool, true, ◌&&◌, arith, slice_get, length-drop}
-use Rattle.std.proofs.lemmas.List.{drop-take, take-take, drop-drop}
-use Rattle.std.specs.Prelude.{Option, Some, None, option_map, if◌then◌else◌, ◌==◌, filter, take}
+use Rattle.std.specs.Prelude.{Option, Some, None, option_map, if◌then◌else◌, ◌==◌, filter}
 use Rattle.processor.specs.Bytes.{page_size, page_of, page_bytes, part, ram_place}
 use Rattle.processor.specs.HypervisorRegisters.{HypervisorRegisters}
 use Rattle.sv_types.specs.Measure.{measure, page_digest, page_digests, joined_digests}
 use Rattle.sv_types.specs.Policies.{Rules, ModuleRule}
-use Rattle.processor_laws.proofs.ByteLemmas.{length_before}
+use Rattle.processor_laws.proofs.ByteLemmas.{length_before, part_of_part}
 use Rattle.sv_types.specs.declared.saved.SavedModule.{SavedModule}
 use Rattle.attempt_laws.specs.Agree.{IsAt}
 use Rattle.machine_model.specs.Steps.{AreTables}
@@ -32,7 +31,7 @@ use Rattle.run_laws.proofs.StepsSound.{turn_goes}
 
 -- ---- the text of a load
 
-length_part : (list : List ℕ) (at n : ℕ) → at + n ≤ length list → length (part list at n) ≡ n
+pub length_part : (list : List ℕ) (at n : ℕ) → at + n ≤ length list → length (part list at n) ≡ n
 length_part list at n room = let left = length-drop at list in length_before (drop at list) n (omega arith)
 
 text_size : (r : State) (load : Loading) (rule : ModuleRule) → IsSound r → HoldsModule r.rules r.approved r.loaded r.held load → slice_get r.rules.modules load.about.id ≡ Some rule
@@ -68,12 +67,12 @@ good_is r load (Some rule) s k none known =
     let size = length_masked text rule.sites all ∙ text_size r load rule s k known in
     rw (all_counted rule.pages load none, measured_same text rule.pages rule size, all_below rule.pages rule.sites (rule_lies r.rules load.about.id rule s.within known)) refl
 
-about_is : (rules : Rules) (ram : List ℕ) (load : Loading) (x : Option ModuleRule) → (load_kept_by rules ram load x).about ≡ load.about
+pub about_is : (rules : Rules) (ram : List ℕ) (load : Loading) (x : Option ModuleRule) → (load_kept_by rules ram load x).about ≡ load.about
 unfolding load_kept_by
 about_is rules ram load None = refl
 about_is rules ram load (Some rule) = refl
 
-left_is : (rules : Rules) (ram : List ℕ) (load : Loading) (x : Option ModuleRule) → (load_kept_by rules ram load x).left ≡ load.left
+pub left_is : (rules : Rules) (ram : List ℕ) (load : Loading) (x : Option ModuleRule) → (load_kept_by rules ram load x).left ≡ load.left
 unfolding load_kept_by
 left_is rules ram load None = refl
 left_is rules ram load (Some rule) = refl
@@ -95,25 +94,19 @@ decision_mirrors o r h hart c load at k none =
 
 -- ---- a page turn
 
-part_of : (list : List ℕ) (at n i m : ℕ) → i + m ≤ n → part (part list at n) i m ≡ part list (at + i) m
-part_of list at n i m fits =
-    let split : n ≡ i + (n - i) = omega arith in
-    let e = subst (λ (k : ℕ). drop i (take k (drop at list)) ≡ take (n - i) (drop i (drop at list))) (sym split) (drop-take i (n - i) (drop at list)) in
-    rw (e, drop-drop) (take-take m (n - i) (drop (at + i) list) (omega arith))
-
 -- a page of the text is the page of RAM
-page_there : (ram : List ℕ) (from n pages : ℕ) → from % 4096 ≡ 0 → n < pages → page_bytes (part ram from (page_size * pages)) n ≡ page_bytes ram (from / 4096 + n)
+pub page_there : (ram : List ℕ) (from n pages : ℕ) → from % 4096 ≡ 0 → n < pages → page_bytes (part ram from (page_size * pages)) n ≡ page_bytes ram (from / 4096 + n)
 page_there ram from n pages aligned less =
     let place : from + page_size * n ≡ page_size * (from / 4096 + n) = omega arith in
-    part_of ram from (page_size * pages) (page_size * n) page_size (omega arith) ∙ ap (λ (at : ℕ). part ram at page_size) place
+    part_of_part ram from (page_size * pages) (page_size * n) page_size (omega arith) ∙ ap (λ (at : ℕ). part ram at page_size) place
 
-counted_left : (pages left : ℕ) → suc left ≤ pages → pages - left ≡ suc (pages - suc left)
+pub counted_left : (pages left : ℕ) → suc left ≤ pages → pages - left ≡ suc (pages - suc left)
 counted_left pages left least = omega arith
 
-page_room : (pages left : ℕ) → suc left ≤ pages → 4096 * (pages - suc left) + 4096 ≤ 4096 * pages
+pub page_room : (pages left : ℕ) → suc left ≤ pages → 4096 * (pages - suc left) + 4096 ≤ 4096 * pages
 page_room pages left least = omega arith
 
-page_less : (pages left : ℕ) → suc left ≤ pages → pages - suc left < pages
+pub page_less : (pages left : ℕ) → suc left ≤ pages → pages - suc left < pages
 page_less pages left least = omega arith
 
 counted_is : (r : State) (load : Loading) (left : ℕ) (rule : ModuleRule) → IsSound r → HoldsModule r.rules r.approved r.loaded r.held load → load.left ≡ suc left → slice_get r.rules.modules load.about.id ≡ Some rule

@@ -3,7 +3,7 @@ use Rattle.sv_types.specs.Policies.{Rules}
 use Rattle.processor.specs.declared.cause.Cause.{Cause}
 use Rattle.processor.specs.declared.exit.Exit.{Exit}
 use Rattle.processor.specs.declared.exit.ExitCause.{ExitCause}
-use Rattle.std.proofs.Common.{◌≡◌, ℕ, zero, suc, List, [], ◌∷◌, slice_set, length, refl, sym, ◌∙◌, ap, subst, Bool, true, false, slice_get}
+use Rattle.std.proofs.Common.{◌≡◌, ℕ, zero, suc, List, [], ◌∷◌, length, refl, sym, ◌∙◌, ap, subst, Bool, true, false, slice_get}
 use Rattle.std.specs.Prelude.{Option, Some, None, option_map, if◌then◌else◌, ◌==◌}
 use Rattle.sv_types.specs.declared.event.Event.{Event}
 use Rattle.sv_types.specs.declared.event.Event.TheVariants.{Turn, Beat, Key, Tick}
@@ -34,6 +34,7 @@ use Rattle.answer_laws.proofs.CallsMirrored.{none_host}
 use Rattle.answer_laws.proofs.EventsAgree.{IsNoTurn, event_law, verdict_of}
 use Rattle.answer_laws.proofs.ExitsMirrored.{served_turn}
 use Rattle.attempt_laws.proofs.Hosts.{hosts_get}
+use Rattle.attempt_laws.proofs.AttemptsAgree.{get_back}
 use Rattle.answer_laws.proofs.LawsHold.{asked, quiet_turn, running, raised_at, makes_raised, exit_turn, outside_stands, again_turn}
 use Rattle.answer_laws.proofs.LoadsMirrored.{load_turn}
 
@@ -114,17 +115,12 @@ again_there m h host exit there left =
     (ap (λ (l : List HostHart). slice_get l h) (forgets_none (attempted m h host).outcome exit (update m.harts h (with_core (attempted m h host).core)) left)
     ∙ get_update m.harts h host (with_core (attempted m h host).core) there)
 
-get_set_same : (harts : List Hart) (h : ℕ) (hart next : Hart) → slice_get harts h ≡ Some hart → slice_get (slice_set harts h next) h ≡ Some next
-get_set_same [] h hart next e = cc
-get_set_same (x ∷ harts) zero hart next e = refl
-get_set_same (x ∷ harts) (suc h) hart next e = get_set_same harts h hart next e
-
 makes_again : (m : Machine) (r : State) (h : ℕ) (host : HostHart) (hart : Hart) (exit : Exit) → MakesAttempt m r h host hart
     → (attempted m h host).outcome ≡ Outcome.Exit exit → MakesAttempt (sent_again m h host) (leave_entry r h hart) h (hart_again m h host) (outside hart)
 makes_again m r h host hart exit makes left = record {
   stands = outside_stands (left_by m h host) r h hart (exit_turn m r h host hart exit makes left).0 makes.hart_is;
   host_is = again_there m h host exit makes.host_is left;
-  hart_is = get_set_same r.harts h hart (outside hart) makes.hart_is;
+  hart_is = get_back r.harts h hart (outside hart) makes.hart_is;
   started = makes.started;
   loads = makes.loads;
 }

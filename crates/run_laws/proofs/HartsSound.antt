@@ -14,15 +14,13 @@ use Rattle.processor.specs.declared.mode.Mode.{Mode}
 use Rattle.processor.specs.declared.mode.Mode.TheVariants.{Kernel, User}
 use Rattle.processor_laws.proofs.GuestViews.{guest_write_is_legal, guest_trap_is_legal, guest_return_is_legal}
 use Rattle.processor_laws.proofs.RegisterBits.{target_aligned, target_small, epc_aligned}
+use Rattle.processor_laws.proofs.EffectRequests.{next_aligned}
 use Rattle.reference.specs.States.{Hart, Binding, binding_of, binding_at, place_of_entry, has_number}
 use Rattle.reference.specs.Trapping.{hart_at_trap, hart_at_return, entry_at_trap, entry_in}
 use Rattle.reference.specs.Calls.{hart_at, stopped_hart, interrupted, with_software, supervisor_at_boot}
 use Rattle.reference.specs.Soundness.{IsSoundHart, IsSoundEntry}
 use Rattle.run_laws.proofs.Lookups.{and_first, and_second, both}
 use Rattle.run_laws.proofs.Sounds.{AreSound}
-
-next_aligned : (pc : ℕ) → pc % 4 ≡ 0 → next_pc pc % 4 ≡ 0
-next_aligned pc e = omega arith
 
 word_below : (n : ℕ) → n % 2 ^ 64 < 2 ^ 64
 word_below n = omega arith

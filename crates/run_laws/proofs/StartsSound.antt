@@ -46,17 +46,17 @@ boot_harts harts entry aligned small zero hart e =
     let same : hart_at entry registers_at_boot ≡ hart = cc in subst (IsSoundHart _) same (begin_sound entry registers_at_boot aligned small)
 boot_harts harts entry aligned small (suc k) hart e = subst (IsSoundHart _) (get_same stopped_hart hart (harts - 1) k e) stopped_sound
 
-one_hart : (a b c d e f g : Bool) → ((a && b && c) && d && e && f && g) ≡ true → b ≡ true
-one_hart true true c d e f g k = refl
-one_hart true false c d e f g k = cc
-one_hart false b c d e f g k = cc
+pub harts_of_seven : (a b c d e f g : Bool) → ((a && b && c) && d && e && f && g) ≡ true → b ≡ true
+harts_of_seven true true c d e f g k = refl
+harts_of_seven true false c d e f g k = cc
+harts_of_seven false b c d e f g k = cc
 
 at_least : (n : ℕ) → harts_within n ≡ true → 1 ≤ n
 at_least n e = grind (arith, nat_tests)
 
 some_hart : (rules : Rules) → IsTrue (rules_within rules) → 1 ≤ rules.harts
 some_hart rules within =
-    at_least rules.harts (one_hart (format_within rules.format) (harts_within rules.harts) (ram_pages_within rules.ram_pages) (lists_within rules)
+    at_least rules.harts (harts_of_seven (format_within rules.format) (harts_within rules.harts) (ram_pages_within rules.ram_pages) (lists_within rules)
     (init_within rules.ram_pages rules.init) (modules_count_within (length rules.modules)) (modules_within (length rules.exports) rules.modules) within)
 
 count_harts : (harts entry : ℕ) → 1 ≤ harts → length (harts_at_boot harts entry) ≡ harts

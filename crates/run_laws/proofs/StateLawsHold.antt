@@ -1,6 +1,5 @@
 -- The laws of bytes and of modules.
-use Rattle.std.proofs.Common.{◌≡◌, ℕ, ◌+◌, ◌-◌, ◌*◌, ◌/◌, ◌%◌, ◌<◌, ◌≤◌, inl, inr, List, [], length, take, drop, refl, sym, ◌∙◌, ap, subst, arith, true, false, slice_get}
-use Rattle.std.proofs.lemmas.List.{drop-take, take-take, drop-drop}
+use Rattle.std.proofs.Common.{◌≡◌, ℕ, ◌+◌, ◌-◌, ◌*◌, ◌/◌, ◌%◌, ◌<◌, ◌≤◌, inl, inr, List, [], length, refl, sym, ◌∙◌, ap, subst, arith, true, false, slice_get}
 use Rattle.std.specs.Prelude.{Option, Some, None}
 use Rattle.sv_types.specs.Boot.{flat_ram_pages}
 use Rattle.processor.specs.Bytes.{padded, part, page_bytes, page_size, ram_base, ram_place}
@@ -20,6 +19,7 @@ use Rattle.run_laws.proofs.ModulesSound.{same_module}
 use Rattle.run_laws.proofs.Sounds.{Goes}
 use Rattle.run_laws.proofs.StartsSound.{CanStart, start_sound, start_text, block_quiet, virtio_quiet, flat_can, image_can}
 use Rattle.run_laws.proofs.StepsSound.{run_goes}
+use Rattle.processor_laws.proofs.ByteLemmas.{part_of_part}
 
 -- ---- starts
 
@@ -66,13 +66,6 @@ sound_law s events is_start = reached_sound s events is_start
 text_of_start : (s r : State) (page : ℕ) → Begins s → TextStays (ownership s) (ownership r) → is_kernel_text (ownership r) page ≡ true → IsText s r page
 text_of_start s r page b stays e = record { unretired = e; bytes = stays.bytes page e ∙ b.text page (stays.was page e) }
 
--- a part of a part of a list
-part_in : (list : List ℕ) (at n i m : ℕ) → i + m ≤ n → part (part list at n) i m ≡ part list (at + i) m
-part_in list at n i m fits =
-    let split : n ≡ i + (n - i) = omega arith in
-    let e = subst (λ (k : ℕ). drop i (take k (drop at list)) ≡ take (n - i) (drop i (drop at list))) (sym split) (drop-take i (n - i) (drop at list)) in
-    rw (e, drop-drop) (take-take m (n - i) (drop (at + i) list) (omega arith))
-
 page_place : (at page : ℕ) → at % 4096 ≡ 0 → at / 4096 ≤ page → at + 4096 * (page - at / 4096) ≡ 4096 * page
 page_place at page aligned behind = omega arith
 
@@ -84,10 +77,10 @@ pub page_in_text : (ram : List ℕ) (place n page : ℕ) → place % 4096 ≡ 0 
     → page_bytes ram page ≡ part (part ram place (page_size * n)) (page_size * (page - place / 4096)) page_size
 page_in_text ram place n page aligned inside =
     let bounds = numbers_bounds (place / 4096) n page inside in
-    sym (part_in ram place (page_size * n) (page_size * (page - place / 4096)) page_size (page_fits (place / 4096) n page bounds.0 bounds.1)
+    sym (part_of_part ram place (page_size * n) (page_size * (page - place / 4096)) page_size (page_fits (place / 4096) n page bounds.0 bounds.1)
     ∙ ap (λ (at : ℕ). part ram at page_size) (page_place place page aligned bounds.0))
 
-module_page : (r : State) (m : SavedModule) (page : ℕ) → IsSound r → IsPageOf r.rules r.loaded m page → IsModulePage r m page
+pub module_page : (r : State) (m : SavedModule) (page : ℕ) → IsSound r → IsPageOf r.rules r.loaded m page → IsModulePage r m page
 module_page r m page sound p = record {
   its_page = p;
   approved = λ q there. sound.pages.modules m q (record { loaded_is = p.loaded_is; inside = there });
@@ -99,14 +92,14 @@ origin_of : (s r : State) (page : ℕ) → Begins s → Goes s r → IsOwned (ow
 origin_of s r page b goes (inl text) = inl (text_of_start s r page b goes.text text)
 origin_of s r page b goes (inr of) = inr (of.0, module_page r of.0 page goes.sound of.1)
 
-held_by : (r : State) (x : Option Loading) → IsSoundLoad r.rules r.approved r.loaded r.held x → HoldsLoad r x
+pub held_by : (r : State) (x : Option Loading) → IsSoundLoad r.rules r.approved r.loaded r.held x → HoldsLoad r x
 held_by r None load = load
 held_by r (Some load) k = k.pages
 
 no_held : (held : List ℕ) (page : ℕ) → held ≡ [] → has_number held page ≡ true → ⊥
 no_held held page none e = let k : has_number [] page ≡ true = subst (λ (list : List ℕ). has_number list page ≡ true) none e in cc
 
-held_free : (r : State) (x : Option Loading) (page : ℕ) → IsSoundLoad r.rules r.approved r.loaded r.held x → has_number r.held page ≡ true → is_approved_in r.approved page ≡ false
+pub held_free : (r : State) (x : Option Loading) (page : ℕ) → IsSoundLoad r.rules r.approved r.loaded r.held x → has_number r.held page ≡ true → is_approved_in r.approved page ≡ false
 held_free r None page load e = absurd (no_held r.held page load e)
 held_free r (Some load) page k e = k.free page e
 
