@@ -1,16 +1,16 @@
 -- What a run keeps from a sound state on.
-use Rattle.std.proofs.Common.{◌≡◌, ℕ, ◌⊎◌, inl, inr, List, [], refl, sym, ap, subst, ◌∙◌, true, false}
-use Rattle.std.specs.Prelude.{Option, Some, None, is_some, slice_get}
-use Rattle.processor.specs.Bytes.{page_bytes, ram_place}
-use Rattle.run_laws.proofs.StateLawsHold.{page_in_text}
+use Rattle.std.proofs.Common.{◌≡◌, ℕ, ◌⊎◌, inl, inr, List, refl, sym, ap, subst, ◌∙◌, true}
+use Rattle.std.specs.Prelude.{Option, Some, None, is_some}
+use Rattle.processor.specs.Bytes.{page_bytes}
+use Rattle.run_laws.proofs.StateLawsHold.{module_page, held_by, held_free}
 use Rattle.sv_types.specs.Measure.{page_digest}
 use Rattle.sv_types.specs.ApprovedPages.{approved_bytes}
 use Rattle.sv_types.specs.declared.saved.SavedModule.{SavedModule}
-use Rattle.reference.specs.Origins.{IsPageOf, IsOwned, TextStays, is_kernel_text, ownership}
-use Rattle.reference.specs.States.{State, Loading, has_number, is_approved_in, pages_in_rule}
+use Rattle.reference.specs.Origins.{IsOwned, TextStays, is_kernel_text, ownership}
+use Rattle.reference.specs.States.{State, Loading, has_number, is_approved_in}
 use Rattle.reference.specs.Run.{run}
 use Rattle.reference.specs.Soundness.{IsSound, IsSoundLoad, HoldsModule}
-use Rattle.run_laws.specs.StateLaws.{IsText, IsModulePage, HoldsLoad, HasOrigins}
+use Rattle.run_laws.specs.StateLaws.{IsText, IsModulePage, HasOrigins}
 use Rattle.run_laws.proofs.Lookups.{not_true, both, all_found}
 use Rattle.run_laws.proofs.ModulesSound.{same_module}
 use Rattle.run_laws.proofs.Sounds.{Goes}
@@ -38,28 +38,9 @@ some_is x y e = cc
 text_of : (s r : State) (page : ℕ) → IsSound s → TextStays (ownership s) (ownership r) → is_kernel_text (ownership r) page ≡ true → IsText s r page
 text_of s r page sound stays e = record { unretired = e; bytes = stays.bytes page e ∙ text_bytes s page sound (stays.was page e) }
 
-module_page : (r : State) (m : SavedModule) (page : ℕ) → IsSound r → IsPageOf r.rules r.loaded m page → IsModulePage r m page
-module_page r m page sound p = record {
-  its_page = p;
-  approved = λ q there. sound.pages.modules m q (record { loaded_is = p.loaded_is; inside = there });
-  measured = sound.modules m p.loaded_is;
-  text = page_in_text r.ram (ram_place m.gpa) (pages_in_rule (slice_get r.rules.modules m.id)) page (sound.modules m p.loaded_is).aligned p.inside;
-}
-
 origin_of : (s r : State) (page : ℕ) → IsSound s → Goes s r → IsOwned (ownership r) page → IsText s r page ⊎ ((m : SavedModule) × IsModulePage r m page)
 origin_of s r page sound goes (inl text) = inl (text_of s r page sound goes.text text)
 origin_of s r page sound goes (inr of) = inr (of.0, module_page r of.0 page goes.sound of.1)
-
-held_by : (r : State) (x : Option Loading) → IsSoundLoad r.rules r.approved r.loaded r.held x → HoldsLoad r x
-held_by r None load = load
-held_by r (Some load) k = k.pages
-
-no_held : (held : List ℕ) (page : ℕ) → held ≡ [] → has_number held page ≡ true → ⊥
-no_held held page none e = let k : has_number [] page ≡ true = subst (λ (list : List ℕ). has_number list page ≡ true) none e in cc
-
-pub held_free : (r : State) (x : Option Loading) (page : ℕ) → IsSoundLoad r.rules r.approved r.loaded r.held x → has_number r.held page ≡ true → is_approved_in r.approved page ≡ false
-held_free r None page load e = absurd (no_held r.held page load e)
-held_free r (Some load) page k e = k.free page e
 
 of_load : (r : State) (load : Loading) → IsSound r → r.loading ≡ Some load → HoldsModule r.rules r.approved r.loaded r.held load
 of_load r load sound under = subst (IsSoundLoad r.rules r.approved r.loaded r.held) under sound.load
