@@ -1,11 +1,11 @@
 -- The turns of a load under way: the next page is counted, or the decision is made, as the reference machine's text says.
-use Rattle.std.proofs.Common.{◌≡◌, ℕ, zero, suc, ◌+◌, ◌-◌, ◌*◌, ◌/◌, ◌%◌, ◌<◌, ◌≤◌, List, [], ◌∷◌, ◌++◌, length, drop, refl, sym, ◌∙◌, ap, subst, Bool, true, ◌&&◌, arith, slice_get, length-drop}
+use Rattle.std.proofs.Common.{◌≡◌, ℕ, zero, suc, ◌+◌, ◌-◌, ◌*◌, ◌/◌, ◌%◌, ◌<◌, ◌≤◌, List, [], ◌∷◌, ◌++◌, length, refl, sym, ◌∙◌, ap, subst, Bool, true, ◌&&◌, arith, slice_get}
 use Rattle.std.specs.Prelude.{Option, Some, None, option_map, if◌then◌else◌, ◌==◌, filter}
 use Rattle.processor.specs.Bytes.{page_size, page_of, page_bytes, part, ram_place}
 use Rattle.processor.specs.HypervisorRegisters.{HypervisorRegisters}
 use Rattle.sv_types.specs.Measure.{measure, page_digest, page_digests, joined_digests}
 use Rattle.sv_types.specs.Policies.{Rules, ModuleRule}
-use Rattle.processor_laws.proofs.ByteLemmas.{length_before, part_of_part}
+use Rattle.processor_laws.proofs.ByteLemmas.{part_of_part, length_part}
 use Rattle.sv_types.specs.declared.saved.SavedModule.{SavedModule}
 use Rattle.attempt_laws.specs.Agree.{IsAt}
 use Rattle.machine_model.specs.Steps.{AreTables}
@@ -30,9 +30,6 @@ use Rattle.answer_laws.proofs.SitesInPages.{AllLieIn, rule_lies, digest_more, le
 use Rattle.run_laws.proofs.StepsSound.{turn_goes}
 
 -- ---- the text of a load
-
-pub length_part : (list : List ℕ) (at n : ℕ) → at + n ≤ length list → length (part list at n) ≡ n
-length_part list at n room = let left = length-drop at list in length_before (drop at list) n (omega arith)
 
 text_size : (r : State) (load : Loading) (rule : ModuleRule) → IsSound r → HoldsModule r.rules r.approved r.loaded r.held load → slice_get r.rules.modules load.about.id ≡ Some rule
     → length (module_text r.ram load.about rule.pages) ≡ 4096 * rule.pages

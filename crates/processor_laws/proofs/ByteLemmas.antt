@@ -3,9 +3,9 @@ use Rattle.std.proofs.Common.{◌≡◌, ℕ, zero, suc, ◌+◌, ◌-◌, ◌*�
 use Rattle.std.proofs.Math.Nat.{pow-suc, mod-one}
 use Rattle.std.proofs.Math.Arith.{mod-mul}
 use Rattle.std.proofs.Math.Seq.{drop-append_seam, take-append_seam, drop-append-add, take-append-add}
-use Rattle.std.proofs.lemmas.List.{take-append-le, drop-append-le, drop-take, take-take, drop-drop}
+use Rattle.std.proofs.lemmas.List.{take-append-le, drop-append-le, drop-take, take-take, drop-drop, length-replicate}
 use borrow.Author.Tests.{ltb-true, ltb-false}
-use Rattle.processor.specs.Bytes.{word, overwrite, write_word, low_bytes, little_endian, part, page_bytes, page_size}
+use Rattle.processor.specs.Bytes.{word, overwrite, write_word, low_bytes, little_endian, padded, part, page_bytes, page_size}
 
 pub lt_or_le : (a b : ℕ) → (a < b) ⊎ (b ≤ a)
 lt_or_le a b = elim (ltb a b) as (λ t. ltb a b ≡ t → (a < b) ⊎ (b ≤ a)) [ true ↦ λ e. inl (ltb-true a b e) | false ↦ λ e. inr (ltb-false a b e) ] refl
@@ -23,6 +23,12 @@ length_overwrite list bytes at fits = simp (length-append, length-take, length-d
 pub length_write_word : (list : List ℕ) (at n value : ℕ) → at + n ≤ length list → length (write_word list at n value) ≡ length list
 length_write_word list at n value fits =
     let len = length_low_bytes n value in length_overwrite list (low_bytes n value) at (omega arith)
+
+pub length_padded : (bytes : List ℕ) (n : ℕ) → length bytes ≤ n → length (padded bytes n) ≡ n
+length_padded bytes n short = simp (length-append, length-replicate) (omega arith)
+
+pub length_part : (list : List ℕ) (at n : ℕ) → at + n ≤ length list → length (part list at n) ≡ n
+length_part list at n fits = let a = length-take n (drop at list) in let b = length-drop at list in omega arith
 
 -- ---- words and their bytes
 

@@ -1,5 +1,5 @@
 -- A start is sound.
-use Rattle.std.proofs.Common.{◌≡◌, ℕ, zero, suc, ◌+◌, ◌-◌, ◌*◌, ◌/◌, ◌%◌, ◌^◌, ◌<◌, ◌≤◌, inl, inr, List, [], ◌∷◌, ◌++◌, length, replicate, map, flat_map, fold, refl, sym, ◌∙◌, ap, subst, Bool, true, false, not, ◌&&◌, ◌||◌, arith, lit<, slice_get, length-append}
+use Rattle.std.proofs.Common.{◌≡◌, ℕ, zero, suc, ◌+◌, ◌-◌, ◌*◌, ◌/◌, ◌%◌, ◌^◌, ◌<◌, ◌≤◌, inl, inr, List, [], ◌∷◌, ◌++◌, length, replicate, map, flat_map, fold, refl, sym, ◌∙◌, ap, subst, Bool, true, false, not, ◌&&◌, ◌||◌, arith, lit<, slice_get}
 use Rattle.std.specs.Prelude.{Some, None, if◌then◌else◌, is_some, ◌==◌, nat_le, nat_lt, IsTrue}
 use Rattle.std.specs.List.{list_any}
 use Rattle.std.proofs.lemmas.Bool.{eqb-true}
@@ -13,7 +13,7 @@ use Rattle.sv_types.specs.ApprovedPages.{approved_bytes, approved_pages, numbers
 use Rattle.processor.specs.Regions.{most_ram_pages}
 use Rattle.sv_types.specs.declared.image_fault.ImageFault.{ImageFault}
 use Rattle.sv_types.specs.declared.kernel.ProgramHeader.{ProgramHeader}
-use Rattle.processor_laws.proofs.ByteLemmas.{length_overwrite}
+use Rattle.processor_laws.proofs.ByteLemmas.{length_overwrite, length_padded}
 use Rattle.sv_types.specs.declared.saved.SavedModule.{SavedModule}
 use Rattle.reference.specs.States.{Disk, has_number, is_approved_in, find_module}
 use Rattle.reference.specs.Calls.{hart_at, stopped_hart, registers_at_boot}
@@ -124,12 +124,6 @@ virtio_quiet bytes = record { aligned = λ ready. cc; moves = tt }
 
 -- ---- plain pages
 
-padded_size : (bytes : List ℕ) (size : ℕ) → length bytes ≤ size → length (padded bytes size) ≡ size
-padded_size bytes size fits =
-    let zeros : List ℕ = replicate (size - length bytes) 0 in
-    let k : length zeros ≡ size - length bytes = length-replicate (size - length bytes) 0 in
-    length-append bytes zeros ∙ ap (λ (n : ℕ). length bytes + n) k ∙ omega arith
-
 flat_words : (digest : List ℕ) → AreWords (flat_rules digest).entries
 flat_words digest entry e = words_by entry (0x80000000 == entry) (0x80000100 == entry) refl refl e
   where
@@ -143,7 +137,7 @@ pub flat_can : (pages digest : List ℕ) → length pages ≤ page_size * flat_r
 flat_can pages digest fits = record {
   within = refl;
   words = flat_words digest;
-  size = padded_size pages (page_size * flat_ram_pages) fits;
+  size = length_padded pages (page_size * flat_ram_pages) fits;
   below = λ page e. page_below (length pages) page fits (numbers_bounds 0 (length pages / page_size) page e).1;
   aligned = refl;
   small = lit< tt;
@@ -192,7 +186,7 @@ segment_fits : (file ram : List ℕ) (ram_pages : ℕ) (h : ProgramHeader) → I
     → length (with_segment ram (loaded_segment file h)) ≡ page_size * ram_pages
 segment_fits file ram ram_pages h good size =
     let small : length (part file h.offset h.file_size) ≤ h.memory_size = grind (arith, nat_tests, part_short file h.offset h.file_size, good.short) in
-    let whole : length (padded (part file h.offset h.file_size) h.memory_size) ≡ h.memory_size = padded_size (part file h.offset h.file_size) h.memory_size small in
+    let whole : length (padded (part file h.offset h.file_size) h.memory_size) ≡ h.memory_size = length_padded (part file h.offset h.file_size) h.memory_size small in
     let inside : ram_place h.gpa + h.memory_size ≤ length ram = grind (arith, nat_tests, good.in_ram) in
     length_overwrite ram (padded (part file h.offset h.file_size) h.memory_size) (ram_place h.gpa) (rw whole inside) ∙ size
 
