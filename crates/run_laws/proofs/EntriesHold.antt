@@ -36,6 +36,7 @@ use Rattle.attempt_laws.proofs.Everywhere.{Keeps, first_stage_keeps}
 use Rattle.run_laws.specs.EntryLaws.{IsAtEntry, Demotes, ReadsBound, DemotesOrReads, AtEntryLaw, IsNoTurnOf, AreNoTurnsOf, StandsAtEntry, EntryLaw}
 use Rattle.run_laws.proofs.OthersRest.{IsWaiting, get_behind, turn_rests}
 use Rattle.run_laws.proofs.StateLawsHold.{reached_sound, modules_law}
+use Rattle.run_laws.proofs.Lookups.{second_of}
 
 -- ---- what a policy says of a bound entry
 
@@ -79,11 +80,6 @@ placed n before (first ∷ entries) (gpa ∷ bound) va within there =
     placed_by first gpa entries bound va (first == va) refl there
     (placed n (before ++ first ∷ []) entries bound va
     (three (bound_fits n first gpa) (not (list_any (λ x. x == first) before)) (all_bound n (before ++ first ∷ []) entries bound) within).1)
-
-second_of : (a b c d e : Bool) → (a && b && c && d && e) ≡ true → b ≡ true
-second_of true true c d e k = refl
-second_of true false c d e k = cc
-second_of false b c d e k = cc
 
 fifth_of : (a b c d e : Bool) → (a && b && c && d && e) ≡ true → e ≡ true
 fifth_of true true true true e k = k

@@ -34,6 +34,11 @@ pub and_second : (a b : Bool) → (a && b) ≡ true → b ≡ true
 and_second true b e = e
 and_second false b e = cc
 
+pub second_of : (a b c d e : Bool) → (a && b && c && d && e) ≡ true → b ≡ true
+second_of true true c d e k = refl
+second_of true false c d e k = cc
+second_of false b c d e k = cc
+
 pub not_false : (b : Bool) → not b ≡ true → b ≡ false
 not_false true e = cc
 not_false false e = refl
