@@ -43,9 +43,11 @@ use Rattle.run_laws.proofs.Lookups.{both, is_there}
 use Rattle.run_laws.proofs.StateLawsHold.{reached_sound, bytes_law, modules_law}
 use Rattle.run_laws.proofs.BeatsSound.{FreeMove, beat_page, beat_sound}
 use Rattle.run_laws.proofs.StepsSound.{counted_sound}
+use Rattle.run_laws.proofs.EntriesHold.{runs_on}
 use Rattle.guarantee.specs.Guarantee.{move_gpa, first_gpa, request_gpa, disk_gpa, IsMeasuredWord, KernelTurn, Loads, Traps, Demotes, Executes, KernelWordsLaw, Enters, ByTrap, ByStart, EntriesLaw, Leaves, ByReturn, ByDemotion, ByStop, ExitsLaw, ProtectedBytesLaw, WritesGuarded, Stops, AtEntry, AtWrite, StopsRight, StopsLaw}
 use Rattle.guarantee.proofs.Does.{IsMoving, Own, Same, Entered, Returned, Demoted, Halted, Other, Rests, Begins, IsNoStop, Ends, GoesOn, StopsAtEntry, StopsAtWrite, get_mapped, same_one, page_kept, demote_left}
 use Rattle.guarantee.proofs.Turns.{FetchedWrites, FetchedReturns, turn_does}
+use Rattle.processor_laws.proofs.GuestViews.{and_false}
 
 -- ---- a turn, while the machine runs
 
@@ -302,10 +304,6 @@ kernel_by : (x y : Hart) (b : Bool) → x.mode ≡ y.mode → x.started ≡ y.st
 kernel_by x y b mode started e =
     ap (λ (m : Mode). x.started && is_kernel m) mode ∙ ap (λ (on : Bool). on && is_kernel y.mode) started ∙ e
 
-and_false : (b : Bool) → (b && false) ≡ false
-and_false true = refl
-and_false false = refl
-
 user_no_kernel : (x : Hart) → x.mode ≡ User → in_kernel x ≡ false
 user_no_kernel x user = ap (λ (m : Mode). x.started && is_kernel m) user ∙ and_false x.started
 
@@ -389,10 +387,6 @@ stops_by r k hart next rule h at same found verdict (StopsAtEntry interrupt caus
 stops_by r k hart next rule h at same found verdict (StopsAtWrite left gpa w all) =
     subst (StopsRight r (Turn k)) (named next (after_going left (count r count_turn) k hart) _ rule k h at all verdict)
     (stops_here r k hart next left same found (AtWrite left w.0 gpa w.1.0 w.1.1 all))
-
-runs_on : (r : State) (e : Event) → r.journal.verdict ≡ Running → step r e ≡ happen r e
-unfolding step happen_under
-runs_on r e on = ap (λ (v : Verdict). happen_under v r e) on
 
 turn_stops : (r : State) (k : ℕ) (rule : Rule) (h at : ℕ) → IsSound r → r.journal.verdict ≡ Running → step r (Turn k) ≡ turn (count r count_turn) k
     → (turn (count r count_turn) k).journal.verdict ≡ Stopped rule h at → StopsRight r (Turn k) h
