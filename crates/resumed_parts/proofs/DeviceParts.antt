@@ -3,7 +3,7 @@ use Rattle.std.proofs.Common.{◌≡◌, ℕ, suc, ◌+◌, ◌-◌, ◌*◌, �
 use Rattle.std.specs.Prelude.{◌==◌, nat_lt, nat_le, if◌then◌else◌}
 use Rattle.std.proofs.lemmas.Bool.{eqb-true}
 use Rattle.std.proofs.lemmas.Bool.Decides.{nat_tests}
-use Rattle.std.proofs.lemmas.List.{drop_more, drop_all}
+use Rattle.std.proofs.lemmas.List.{append-nil, drop_more, drop_all}
 use Rattle.sv_types.specs.Console.{after_key, has_room, most_queued}
 use Rattle.sv_types.specs.declared.block.BlockCommand.{BlockCommand}
 use Rattle.sv_types.specs.declared.block.BlockState.{BlockState}
@@ -59,12 +59,8 @@ input_alone start before after queue was is =
     let console : after.console ≡ queue = ap (λ (d : Devices). d.console) is in
     is ∙ ap (λ (d : Devices). record d { console = queue }) was ∙ ap (λ (q : List ℕ). record start { console = q }) (sym console)
 
-no_more : (queue : List ℕ) → queue ++ [] ≡ queue
-no_more [] = refl
-no_more (x ∷ queue) = ap (◌∷◌ x) (no_more queue)
-
 pub keys_end : (queue bytes all : List ℕ) (i : ℕ) → length bytes ≤ i → queue ++ drop i bytes ≡ all → queue ≡ all
-keys_end queue bytes all i past before = sym (no_more queue) ∙ ap (λ (rest : List ℕ). queue ++ rest) (sym (drop_all i bytes past)) ∙ before
+keys_end queue bytes all i past before = sym (append-nil queue) ∙ ap (λ (rest : List ℕ). queue ++ rest) (sym (drop_all i bytes past)) ∙ before
 
 -- ---- the parts of the form
 
