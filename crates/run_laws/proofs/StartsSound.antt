@@ -17,7 +17,6 @@ use Rattle.processor_laws.proofs.ByteLemmas.{length_overwrite, length_padded}
 use Rattle.sv_types.specs.declared.saved.SavedModule.{SavedModule}
 use Rattle.reference.specs.States.{Disk, has_number, is_approved_in, find_module}
 use Rattle.reference.specs.Calls.{hart_at, stopped_hart, registers_at_boot}
-use Rattle.reference.specs.Origins.{ownership, is_kernel_text}
 use Rattle.reference.specs.Start.{start, harts_at_boot, flat_rules, block_disk, virtio_disk, AreWords}
 use Rattle.reference.specs.VirtioStores.{reset}
 use Rattle.reference.specs.Soundness.{IsSound, IsSoundHart, IsSoundDisk}
@@ -83,12 +82,6 @@ text_kept ram text page bytes e = elim (is_there (has_number text page)) [
 none_found : (id : ℕ) (m : SavedModule) → find_module [] id ≡ Some m → ⊥
 unfolding find_module
 none_found id m e = cc
-
--- the kernel's text has the bytes that RAM has
-pub start_text : (rules : Rules) (ram text : List ℕ) (entry : ℕ) (disk : Disk) (page : ℕ) → is_kernel_text (ownership (start rules ram text entry disk)) page ≡ true
-    → approved_bytes (start rules ram text entry disk).approved page ≡ Some (page_bytes ram page)
-unfolding start
-start_text rules ram text entry disk page e = text_case ram text page true (and_first (has_number text page) true e)
 
 pub start_sound : (rules : Rules) (ram text : List ℕ) (entry : ℕ) (disk : Disk) → CanStart rules ram text entry → IsSoundDisk disk → IsSound (start rules ram text entry disk)
 unfolding start
