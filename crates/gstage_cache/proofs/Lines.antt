@@ -82,7 +82,7 @@ fill_agrees r hgatp gpa access mapping apart answers permitted =
     }
 
 -- line j behind a change of line i
-set_at : (lines : List (Option CacheLine)) (i j : ℕ) (o : Option CacheLine) → i < length lines
+pub set_at : {A : Type 0} (lines : List (Option A)) (i j : ℕ) (o : Option A) → i < length lines
     → ((j ≡ i) × (get_or (set lines i o) j None ≡ o)) ⊎ ((j ≡ i → ⊥) × (get_or (set lines i o) j None ≡ get_or lines j None))
 set_at lines i j o fits = elim (eqb_tells j i) [
   | inl same ↦ inl (same.1, ap (λ (k : ℕ). get_or (set lines i o) k None) same.1 ∙ get_or-set_same lines i o None fits)

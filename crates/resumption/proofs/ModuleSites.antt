@@ -15,6 +15,7 @@ use Rattle.snapshot_form.specs.Snapshots.{Contents}
 use Rattle.resumption.specs.Judgements.{fits, is_bound, is_of_policy, load_fits}
 use Rattle.resumption.specs.ModuleSites.{LieIn}
 use Rattle.relocated_fields.proofs.RulesWithin.{rule_within, sites_aligned, site_parts}
+use Rattle.snapshot_form.proofs.FormLaws.{first_true, second_true}
 
 abbrev IsInside : ℕ → Site → Type 0
 IsInside bytes site = site.offset < bytes
@@ -61,24 +62,30 @@ whole_piece size (site ∷ sites) all =
     ∙ ap (λ (n : ℕ). record site { offset = n } ∷ piece_sites 0 size sites) start
     ∙ ap (λ (rest : List Site). site ∷ rest) (whole_piece size sites (All-tail (IsInside size) site sites all))
 
--- ---- what the first judgement says of pages and modules
+-- ---- what the first judgement says
 
-pub pages_are : (rules : Rules) (s : Contents) → is_of_policy rules s ≡ true → length s.protection ≡ rules.ram_pages
-unfolding is_of_policy
-pages_are rules s is =
-    let harts = length s.harts == rules.harts in
-    let pages = length s.protection == rules.ram_pages in
-    let bound = list_all (λ (h : SavedHart). is_bound rules h.entry) s.harts in
-    let fit = list_all (fits rules) s.modules in
-    let a = and_parts (harts && pages && bound && fit) (load_fits rules s.modules s.loading) is in
-    let b = and_parts (harts && pages && bound) fit a.0 in
-    let c = and_parts (harts && pages) bound b.0 in eqb-true (length s.protection) rules.ram_pages (and_parts harts pages c.0).1
+-- the snapshot is of the policy's machine
+pub record OfPolicy (rules : Rules) (s : Contents) : Type 0 where
+  pub harts : length s.harts ≡ rules.harts
+  pub pages : length s.protection ≡ rules.ram_pages
+  pub bound : list_all (λ (h : SavedHart). is_bound rules h.entry) s.harts ≡ true
+  pub modules : list_all (fits rules) s.modules ≡ true
+  pub load : load_fits rules s.modules s.loading ≡ true
 
-pub modules_fit : (rules : Rules) (s : Contents) → is_of_policy rules s ≡ true → list_all (fits rules) s.modules ≡ true
+pub of_policy : (rules : Rules) (s : Contents) → is_of_policy rules s ≡ true → OfPolicy rules s
 unfolding is_of_policy
-modules_fit rules s is =
-    let harts = length s.harts == rules.harts in
-    let pages = length s.protection == rules.ram_pages in
-    let bound = list_all (λ (h : SavedHart). is_bound rules h.entry) s.harts in
-    let fit = list_all (fits rules) s.modules in
-    let a = and_parts (harts && pages && bound && fit) (load_fits rules s.modules s.loading) is in (and_parts (harts && pages && bound) fit a.0).1
+of_policy rules s e =
+    let a : Bool = length s.harts == rules.harts in
+    let b : Bool = length s.protection == rules.ram_pages in
+    let c : Bool = list_all (λ (h : SavedHart). is_bound rules h.entry) s.harts in
+    let d : Bool = list_all (fits rules) s.modules in
+    let four = first_true (a && b && c && d) _ e in
+    let three = first_true (a && b && c) d four in
+    let two = first_true (a && b) c three in
+    record {
+      harts = eqb-true (length s.harts) rules.harts (first_true a b two);
+      pages = eqb-true (length s.protection) rules.ram_pages (second_true a b two);
+      bound = second_true (a && b) c three;
+      modules = second_true (a && b && c) d four;
+      load = second_true (a && b && c && d) _ e;
+    }
