@@ -118,7 +118,7 @@ record IsResumedHart (rules : Rules) (size : ℕ) (hart : Hart) : Type 0 where
   sound : IsSoundHart rules hart
   kept : IsKeepableHart size hart
 
-pub supervisor_legal : (h : SavedHart) → status.has (h.sstatus, (h.sie, (h.stvec, (h.scounteren, (h.sscratch, (h.sepc, (h.scause, (h.stval, (h.sip, h.satp))))))))) ≡ true
+supervisor_legal : (h : SavedHart) → status.has (h.sstatus, (h.sie, (h.stvec, (h.scounteren, (h.sscratch, (h.sepc, (h.scause, (h.stval, (h.sip, h.satp))))))))) ≡ true
     → IsLegalSupervisor (resumed_hart h).supervisor × ((h.sip == 0 || h.sip == 2) ≡ true)
 unfolding status trap_status
 supervisor_legal h on =
@@ -142,6 +142,16 @@ supervisor_legal h on =
       second_true (is_word h.sip) _ sip_part,
     )
 
+-- the supervisor's registers of a hart are legal, and of its pending interrupts the software interrupt alone is stored
+pub supervisor_of : (pages : ℕ) (h : SavedHart) → (hart pages).has h ≡ true → IsLegalSupervisor (resumed_hart h).supervisor × ((h.sip == 0 || h.sip == 2) ≡ true)
+unfolding hart
+supervisor_of pages h has =
+    let parts = second_true (begins_with_0 h.registers) _ has in
+    let pc_on = second_true (side.has (h.started, (h.mode, h.entry))) _ parts in
+    let registers_on = second_true ((aligned 4).has h.pc) _ pc_on in
+    let status_on = second_true (registers.has (drop 1 h.registers)) _ registers_on in
+    supervisor_legal h (first_true (status.has _) ((reservation pages).has h.reservation && is_word h.timer) status_on)
+
 hart_resumes : (rules : Rules) (pages : ℕ) (h : SavedHart) → (hart pages).has h ≡ true → is_bound rules h.entry ≡ true → IsResumedHart rules (page_size * pages) (resumed_hart h)
 unfolding hart
 hart_resumes rules pages h has bound =
@@ -151,13 +161,12 @@ hart_resumes rules pages h has bound =
     let pc = number_aligned 4 h.pc (first_true ((aligned 4).has h.pc) _ pc_on) in
     let registers_on = second_true ((aligned 4).has h.pc) _ pc_on in
     let status_on = second_true (registers.has (drop 1 h.registers)) _ registers_on in
-    let known = supervisor_legal h (first_true (status.has _) ((reservation pages).has h.reservation && is_word h.timer) status_on) in
     let reserved_on = second_true (status.has _) ((reservation pages).has h.reservation && is_word h.timer) status_on in
     record {
       sound = record {
         aligned = pc.0;
         small = pc.1;
-        legal = known.0;
+        legal = (supervisor_of pages h has).0;
         entry = entry_sound rules h.started h.mode h.entry sides bound;
         stopped = λ off. record { mode = kernel_of h.started h.mode sides.mode off; entry = stopped_place h.started h.mode h.entry sides off };
       };
