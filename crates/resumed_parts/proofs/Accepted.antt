@@ -15,9 +15,8 @@ use Rattle.reference.specs.States.{pages_in_rule}
 use Rattle.saved_machine.specs.declared.harts.SavedHart.{SavedHart}
 use Rattle.saved_machine.specs.declared.whole.SavedLoad.{SavedLoad}
 use Rattle.snapshot_form.specs.DeviceForms.{devices}
-use Rattle.snapshot_form.specs.HartForms.{harts}
-use Rattle.snapshot_form.specs.PageForms.{gate, loading, pages}
-use Rattle.snapshot_form.specs.Snapshots.{Contents, body, header, snapshot, whole_body, whole_header}
+use Rattle.snapshot_form.specs.PageForms.{loading}
+use Rattle.snapshot_form.specs.Snapshots.{Contents, snapshot}
 use Rattle.snapshot_form.proofs.FormLaws.{first_true, second_true}
 use Rattle.machine_model.specs.StandsFor.{bound_pages}
 use Rattle.module_gate.specs.Ascending.{AscendsFrom}
@@ -25,11 +24,12 @@ use Rattle.resumption.specs.Judgements.{fits, is_guarded_right, is_loaded, load_
 use Rattle.resume_laws.proofs.FormParts.{most_is, parts_of}
 use Rattle.resume_laws.proofs.ResumedHarts.{journal_kept, load_parts_of}
 use Rattle.resume_laws.proofs.ResumedPages.{fits_is, modules_parts}
-use Rattle.resume_laws.proofs.ResumedSoundHolds.{accepted, of_policy}
+use Rattle.resume_laws.proofs.ResumedSoundHolds.{accepted}
 use Rattle.gstage_tables.specs.Layout.{most_bound}
 use Rattle.resumed_parts.specs.Counting.{IsWithin}
 use Rattle.resumed_parts.specs.Seating.{CanAllSit}
 use Rattle.resumed_parts.proofs.Seated.{all_sit, bound_rules}
+use Rattle.resumption.proofs.ModuleSites.{of_policy}
 
 -- ---- loaded modules
 
@@ -72,19 +72,6 @@ load_within rules hs ms (Some l) fit has =
       left = most_is l.left (pages_in_rule (slice_get rules.modules l.«module».id)) (second_true (fits rules l.«module» && not (is_loaded ms l.«module».id)) _ fit);
     }
 
--- ---- the form
-
-devices_have : (s : Contents) → snapshot.has s ≡ true → devices.has (s.console, (s.port, s.disk)) ≡ true
-unfolding snapshot header body gate
-devices_have s h =
-    let h0 = whole_header s in
-    let b = whole_body s in
-    let whole = second_true (header.has h0) ((body h0).has b) h in
-    let behind = second_true ((harts h0.ram_pages h0.harts).has b.0) _ whole in
-    let after_pages = second_true ((pages h0.ram_pages).has b.1.0) _ behind in
-    let after_gate = second_true ((gate b.0).has b.1.1.0) _ after_pages in
-    first_true (devices.has b.1.1.1.0) _ after_gate
-
 -- ---- the whole
 
 pub record Known (rules : Rules) (s : Contents) : Type 0 where
@@ -119,7 +106,7 @@ known rules s within has none =
           (all_sit rules (length s.protection) s.harts within parts.harts policy.bound);
       ascends = ascends_by rules 0 s.modules (few_modules rules within) policy.modules (modules_parts s.modules parts.modules).ascends (from_none s.modules) (omega arith);
       load = load_within rules s.harts s.modules s.loading policy.load parts.loading;
-      devices = devices_have s has;
+      devices = parts.devices;
       notes = min_most most_notes s.counts.notes (length s.notes) noted.number;
       harts = most_is (length s.harts) 4 (second_true (nat_le 1 (length s.harts)) _ parts.few);
     }

@@ -25,13 +25,13 @@ use Rattle.processor_laws.proofs.GuestViews.{shown_is_legal}
 use Rattle.processor_laws.proofs.RegisterBits.{boot_is_legal}
 use Rattle.saved_machine.specs.declared.harts.SavedHart.{SavedHart}
 use Rattle.snapshot_form.specs.Forms.{is_word, has_all}
-use Rattle.snapshot_form.specs.HartForms.{is_user, flag as flag_form, mode, place, is_ram_address, is_reservable, reservation, aligned, legal, side, status, registers, begins_with_0, hart, harts}
+use Rattle.snapshot_form.specs.HartForms.{is_user, flag as flag_form, mode, place, is_ram_address, is_reservable, reservation, aligned, side, status, registers, begins_with_0, hart, harts}
 use Rattle.snapshot_form.proofs.FormLaws.{first_true, second_true}
 use Rattle.resumption.specs.Judgements.{is_bound}
 use Rattle.resumption.specs.ResumedStates.{resumed_hart}
 use Rattle.resume_laws.proofs.FormParts.{below_is, most_is}
 use Rattle.resume_laws.proofs.TakenPages.{found_later}
-use Rattle.resume_laws.proofs.ResumedHarts.{user_place, some_binding, supervisor_legal}
+use Rattle.resume_laws.proofs.ResumedHarts.{user_place, some_binding, supervisor_of}
 use Rattle.run_laws.proofs.Lookups.{not_false}
 use Rattle.resumed_start.specs.Resuming.{csrs_resumed, host_resumed}
 use Rattle.resumed_parts.specs.Seating.{CanAllSit, CanSit, IsEntered, IsReservable, MayBeIn, view_in}
@@ -91,9 +91,8 @@ hart_ranges pages h has =
     let pc_on = second_true (side.has (h.started, (h.mode, h.entry))) _ parts in
     let registers_on = second_true ((aligned 4).has h.pc) _ pc_on in
     let status_on = second_true (registers.has (drop 1 h.registers)) _ registers_on in
-    let status_part = first_true (status.has _) ((reservation pages).has h.reservation && is_word h.timer) status_on in
     let reserved_on = second_true (status.has _) ((reservation pages).has h.reservation && is_word h.timer) status_on in
-    let known = supervisor_legal h status_part in
+    let known = supervisor_of pages h has in
     record {
       zero = first_zero h.registers (first_true (begins_with_0 h.registers) _ has);
       legal = csrs_legal h known.0 known.1;
