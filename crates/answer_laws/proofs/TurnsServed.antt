@@ -29,12 +29,12 @@ use Rattle.reference.specs.States.{State, Hart, Binding, Loading}
 use Rattle.reference.specs.Run.{step, happen_under}
 use Rattle.machine_model.specs.StandsFor.{StandsFor, Unseen, IsRightFor, machine_of, host_hart, host_harts, load_kept, load_kept_by}
 use Rattle.reference.specs.Soundness.{IsSound}
-use Rattle.reference.specs.Turn.{turn, turn_of, turn_of_started, outside, leave_entry, bound_entry}
+use Rattle.reference.specs.Turn.{turn, outside, leave_entry, bound_entry}
 use Rattle.answer_laws.proofs.CallsMirrored.{none_host}
 use Rattle.answer_laws.proofs.EventsAgree.{IsNoTurn, event_law, verdict_of}
 use Rattle.answer_laws.proofs.ExitsMirrored.{served_turn}
 use Rattle.attempt_laws.proofs.Hosts.{hosts_get}
-use Rattle.attempt_laws.proofs.AttemptsAgree.{get_back}
+use Rattle.attempt_laws.proofs.AttemptsAgree.{get_back, turn_none, turn_stopped}
 use Rattle.answer_laws.proofs.LawsHold.{asked, quiet_turn, running, raised_at, makes_raised, exit_turn, outside_stands, again_turn}
 use Rattle.answer_laws.proofs.LoadsMirrored.{load_turn}
 
@@ -258,14 +258,6 @@ started_served m after r h host hart false stands host_is hart_is on loading e s
     }) refl served
 
 -- ---- harts
-
-turn_none : (r : State) (h : ℕ) → slice_get r.harts h ≡ None → turn r h ≡ r
-unfolding turn turn_of
-turn_none r h e = ap (turn_of r h) e
-
-turn_stopped : (r : State) (h : ℕ) (hart : Hart) → slice_get r.harts h ≡ Some hart → hart.started ≡ false → turn r h ≡ r
-unfolding turn turn_of
-turn_stopped r h hart e off = ap (turn_of r h) e ∙ ap (λ (b : Bool). if b then turn_of_started r h hart r.loading else r) off
 
 hart_served : (m after : Machine) (r : State) (h : ℕ) (host : HostHart) (hart : Hart) (b : Bool) → StandsFor (raised m count_turn) (count r count_turn)
     → slice_get m.harts h ≡ Some host → slice_get r.harts h ≡ Some hart → hart.started ≡ b

@@ -48,26 +48,19 @@ use Rattle.guarantee.specs.Guarantee.{move_gpa, first_gpa, request_gpa, disk_gpa
 use Rattle.guarantee.proofs.Does.{IsMoving, Own, Same, Entered, Returned, Demoted, Halted, Other, Rests, Begins, IsNoStop, Ends, GoesOn, StopsAtEntry, StopsAtWrite, get_mapped, same_one, page_kept, demote_left}
 use Rattle.guarantee.proofs.Turns.{FetchedWrites, FetchedReturns, turn_does}
 use Rattle.processor_laws.proofs.GuestViews.{and_false}
+use Rattle.attempt_laws.proofs.AttemptsAgree.{turn_none, turn_stopped}
 
 -- ---- a turn, while the machine runs
-
-no_turn : (q : State) (h : ℕ) → slice_get q.harts h ≡ None → turn q h ≡ q
-unfolding turn turn_of
-no_turn q h none = ap (turn_of q h) none
-
-stopped_turn : (q : State) (h : ℕ) (hart : Hart) → slice_get q.harts h ≡ Some hart → hart.started ≡ false → turn q h ≡ q
-unfolding turn turn_of
-stopped_turn q h hart found off = ap (turn_of q h) found ∙ ap (λ (b : Bool). if b then turn_of_started q h hart q.loading else q) off
 
 -- nothing is done, or a started hart moves
 abbrev Moves : State → ℕ → Type 0
 Moves q h = (turn q h ≡ q) ⊎ ((hart : Hart) × IsMoving q h hart)
 
 moves_by : (q : State) (h : ℕ) (x : Option Hart) → IsSound q → q.journal.verdict ≡ Running → slice_get q.harts h ≡ x → Moves q h
-moves_by q h None s on found = inl (no_turn q h found)
+moves_by q h None s on found = inl (turn_none q h found)
 moves_by q h (Some hart) s on found = elim (is_there hart.started) [
   | inl started ↦ inr (hart, record { sound = s; found = found; started = started; running = on })
-  | inr off ↦ inl (stopped_turn q h hart found off)
+  | inr off ↦ inl (turn_stopped q h hart found off)
 ]
 
 moves : (q : State) (h : ℕ) → IsSound q → q.journal.verdict ≡ Running → Moves q h
