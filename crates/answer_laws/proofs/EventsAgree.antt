@@ -24,7 +24,7 @@ use Rattle.reference.specs.Protections.{is_free}
 use Rattle.machine_model.specs.Machine.{Machine, raised}
 use Rattle.machine_model.specs.HardwareEvent.{recorded, IsPermitted, OnlyDisk, IsEvent, Happens, HappensUnder}
 use Rattle.machine_model.specs.HostEvents.{beat_served, key_served, tick_served, event_served}
-use Rattle.reference.specs.Run.{happen_under, step, happen}
+use Rattle.reference.specs.Run.{step, happen}
 use Rattle.machine_model.specs.StandsFor.{Unseen, IsRightFor, StandsFor, machine_of, protections_of, without_printed}
 use Rattle.reference.specs.Soundness.{IsSound}
 use Rattle.answer_laws.proofs.BeatsAgree.{beat_agrees, free_by, map_get, page_of_beat}
@@ -32,6 +32,7 @@ use Rattle.attempt_laws.proofs.Hosts.{hosts_forget}
 use Rattle.run_laws.proofs.Sounds.{bytes_keep_load}
 use Rattle.run_laws.proofs.BeatsSound.{IsFreeBeat, FreeMove, beat_page, beat_sound}
 use Rattle.run_laws.proofs.StepsSound.{counted_sound, step_goes}
+use Rattle.run_laws.proofs.EntriesHold.{runs_on}
 use Rattle.answer_laws.proofs.ViewsMeet.{get_numbers}
 
 -- ---- what is open stays so
@@ -222,10 +223,6 @@ follows o r (Key byte) p s no_turn = record {
 }
 follows o r (Tick n) p s no_turn = record { same = tick_same o r n; right = open_tick_event o r n p; frame = tick_event o r n }
 
-running : (r : State) (e : Event) → r.journal.verdict ≡ Running → step r e ≡ happen r e
-unfolding step happen_under
-running r e on = ap (λ (v : Verdict). happen_under v r e) on
-
 event_under : (m after : Machine) (e : Event) → m.journal.verdict ≡ Running → Happens m e after → IsEvent m e after
 unfolding IsEvent
 event_under m after e on happens = subst (λ (v : Verdict). HappensUnder v m e after) (sym on) happens
@@ -241,11 +238,11 @@ event_law m r e stands on no_turn =
     let o : Unseen = stands.unseen in
     let k : Follows o r e (happen r e) = follows o r e stands.unseen_is_right stands.sound no_turn in
     let same : event_served m e ≡ machine_of o (happen r e) = ap (λ (x : Machine). event_served x e) stands.same ∙ k.same in (
-      subst (StandsFor (event_served m e)) (sym (running r e on)) (record {
+      subst (StandsFor (event_served m e)) (sym (runs_on r e on)) (record {
         unseen = o;
         same = same;
         unseen_is_right = k.right;
-        sound = subst IsSound (running r e on) (step_goes r e stands.sound).sound;
+        sound = subst IsSound (runs_on r e on) (step_goes r e stands.sound).sound;
       }),
       event_under m (event_served m e) e (ap (λ (x : Machine). x.journal.verdict) stands.same ∙ verdict_of o r ∙ on)
           (subst (λ (x : Machine). Happens x e (event_served m e)) (sym stands.same) (subst (Happens (machine_of o r) e) (sym same) k.frame)),

@@ -1,12 +1,11 @@
 -- The turns of a load under way: the next page is counted, or the decision is made, as the reference machine's text says.
-use Rattle.std.proofs.Common.{◌≡◌, ℕ, zero, suc, ◌+◌, ◌-◌, ◌*◌, ◌/◌, ◌%◌, ◌<◌, ◌≤◌, List, [], ◌∷◌, ◌++◌, length, drop, refl, sym, ◌∙◌, ap, subst, Bool, true, ◌&&◌, arith, slice_get, length-drop}
-use Rattle.std.proofs.lemmas.List.{drop-take, take-take, drop-drop}
-use Rattle.std.specs.Prelude.{Option, Some, None, option_map, if◌then◌else◌, ◌==◌, filter, take}
+use Rattle.std.proofs.Common.{◌≡◌, ℕ, zero, suc, ◌+◌, ◌-◌, ◌*◌, ◌/◌, ◌%◌, ◌<◌, ◌≤◌, List, [], ◌∷◌, ◌++◌, length, refl, sym, ◌∙◌, ap, subst, Bool, true, ◌&&◌, arith, slice_get}
+use Rattle.std.specs.Prelude.{Option, Some, None, IsTrue, option_map, if◌then◌else◌, ◌==◌, filter}
 use Rattle.processor.specs.Bytes.{page_size, page_of, page_bytes, part, ram_place}
 use Rattle.processor.specs.HypervisorRegisters.{HypervisorRegisters}
 use Rattle.sv_types.specs.Measure.{measure, page_digest, page_digests, joined_digests}
-use Rattle.sv_types.specs.Policies.{Rules, ModuleRule}
-use Rattle.processor_laws.proofs.ByteLemmas.{length_before}
+use Rattle.sv_types.specs.Policies.{Rules, ModuleRule, rules_within}
+use Rattle.processor_laws.proofs.ByteLemmas.{part_of_part, length_part}
 use Rattle.sv_types.specs.declared.saved.SavedModule.{SavedModule}
 use Rattle.attempt_laws.specs.Agree.{IsAt}
 use Rattle.machine_model.specs.Steps.{AreTables}
@@ -32,15 +31,16 @@ use Rattle.run_laws.proofs.StepsSound.{turn_goes}
 
 -- ---- the text of a load
 
-length_part : (list : List ℕ) (at n : ℕ) → at + n ≤ length list → length (part list at n) ≡ n
-length_part list at n room = let left = length-drop at list in length_before (drop at list) n (omega arith)
+text_inside : (r : State) (load : Loading) (rule : ModuleRule) → IsSound r → HoldsModule r.rules r.approved r.loaded r.held load → slice_get r.rules.modules load.about.id ≡ Some rule
+    → ram_place load.about.gpa + page_size * rule.pages ≤ length r.ram
+text_inside r load rule s k known =
+    let inside : ram_place load.about.gpa + page_size * rule.pages ≤ page_size * r.rules.ram_pages =
+    subst (λ (n : ℕ). ram_place load.about.gpa + page_size * n ≤ page_size * r.rules.ram_pages) (ap pages_in_rule known) k.inside in
+    rw s.size inside
 
 text_size : (r : State) (load : Loading) (rule : ModuleRule) → IsSound r → HoldsModule r.rules r.approved r.loaded r.held load → slice_get r.rules.modules load.about.id ≡ Some rule
     → length (module_text r.ram load.about rule.pages) ≡ 4096 * rule.pages
-text_size r load rule s k known =
-    let inside : ram_place load.about.gpa + page_size * rule.pages ≤ page_size * r.rules.ram_pages =
-    subst (λ (n : ℕ). ram_place load.about.gpa + page_size * n ≤ page_size * r.rules.ram_pages) (ap pages_in_rule known) k.inside in
-    length_part r.ram (ram_place load.about.gpa) (page_size * rule.pages) (rw s.size inside)
+text_size r load rule s k known = length_part r.ram (ram_place load.about.gpa) (page_size * rule.pages) (text_inside r load rule s k known)
 
 text_lies : (r : State) (load : Loading) (rule : ModuleRule) → IsSound r → HoldsModule r.rules r.approved r.loaded r.held load → slice_get r.rules.modules load.about.id ≡ Some rule
     → AllLieIn (length (module_text r.ram load.about rule.pages)) rule.sites
@@ -68,12 +68,12 @@ good_is r load (Some rule) s k none known =
     let size = length_masked text rule.sites all ∙ text_size r load rule s k known in
     rw (all_counted rule.pages load none, measured_same text rule.pages rule size, all_below rule.pages rule.sites (rule_lies r.rules load.about.id rule s.within known)) refl
 
-about_is : (rules : Rules) (ram : List ℕ) (load : Loading) (x : Option ModuleRule) → (load_kept_by rules ram load x).about ≡ load.about
+pub about_is : (rules : Rules) (ram : List ℕ) (load : Loading) (x : Option ModuleRule) → (load_kept_by rules ram load x).about ≡ load.about
 unfolding load_kept_by
 about_is rules ram load None = refl
 about_is rules ram load (Some rule) = refl
 
-left_is : (rules : Rules) (ram : List ℕ) (load : Loading) (x : Option ModuleRule) → (load_kept_by rules ram load x).left ≡ load.left
+pub left_is : (rules : Rules) (ram : List ℕ) (load : Loading) (x : Option ModuleRule) → (load_kept_by rules ram load x).left ≡ load.left
 unfolding load_kept_by
 left_is rules ram load None = refl
 left_is rules ram load (Some rule) = refl
@@ -95,17 +95,11 @@ decision_mirrors o r h hart c load at k none =
 
 -- ---- a page turn
 
-part_of : (list : List ℕ) (at n i m : ℕ) → i + m ≤ n → part (part list at n) i m ≡ part list (at + i) m
-part_of list at n i m fits =
-    let split : n ≡ i + (n - i) = omega arith in
-    let e = subst (λ (k : ℕ). drop i (take k (drop at list)) ≡ take (n - i) (drop i (drop at list))) (sym split) (drop-take i (n - i) (drop at list)) in
-    rw (e, drop-drop) (take-take m (n - i) (drop (at + i) list) (omega arith))
-
 -- a page of the text is the page of RAM
 page_there : (ram : List ℕ) (from n pages : ℕ) → from % 4096 ≡ 0 → n < pages → page_bytes (part ram from (page_size * pages)) n ≡ page_bytes ram (from / 4096 + n)
 page_there ram from n pages aligned less =
     let place : from + page_size * n ≡ page_size * (from / 4096 + n) = omega arith in
-    part_of ram from (page_size * pages) (page_size * n) page_size (omega arith) ∙ ap (λ (at : ℕ). part ram at page_size) place
+    part_of_part ram from (page_size * pages) (page_size * n) page_size (omega arith) ∙ ap (λ (at : ℕ). part ram at page_size) place
 
 counted_left : (pages left : ℕ) → suc left ≤ pages → pages - left ≡ suc (pages - suc left)
 counted_left pages left least = omega arith
@@ -116,29 +110,37 @@ page_room pages left least = omega arith
 page_less : (pages left : ℕ) → suc left ≤ pages → pages - suc left < pages
 page_less pages left least = omega arith
 
-counted_is : (r : State) (load : Loading) (left : ℕ) (rule : ModuleRule) → IsSound r → HoldsModule r.rules r.approved r.loaded r.held load → load.left ≡ suc left → slice_get r.rules.modules load.about.id ≡ Some rule
-    → load_kept_by r.rules r.ram (record load { left = left }) (Some rule) ≡ load_counted r.rules r.ram (load_kept_by r.rules r.ram load (Some rule)) left (Some rule)
+-- what is kept of a load, with one page more
+pub kept_next : (rules : Rules) (ram : List ℕ) (load : Loading) (left : ℕ) (rule : ModuleRule) → IsTrue (rules_within rules) → slice_get rules.modules load.about.id ≡ Some rule
+    → ram_place load.about.gpa % 4096 ≡ 0 → ram_place load.about.gpa + page_size * rule.pages ≤ length ram → load.left ≡ suc left → load.left ≤ rule.pages
+    → load_kept_by rules ram (record load { left = left }) (Some rule) ≡ load_counted rules ram (load_kept_by rules ram load (Some rule)) left (Some rule)
 unfolding load_kept_by load_counted page_counted kept_digests kept_answer
-counted_is r load left rule s k more known =
-    let text : List ℕ = module_text r.ram load.about rule.pages in
+kept_next rules ram load left rule within known aligned inside more few =
+    let text : List ℕ = module_text ram load.about rule.pages in
     let n : ℕ = rule.pages - suc left in
-    let least : suc left ≤ rule.pages = subst (λ (m : ℕ). m ≤ rule.pages) more (subst (λ (m : ℕ). load.left ≤ m) (ap pages_in_rule known) k.left) in
-    let all = text_lies r load rule s k known in
-    let room : 4096 * n + 4096 ≤ length text = rw (text_size r load rule s k known) (page_room rule.pages left least) in
-    let page : page_bytes text n ≡ page_bytes r.ram (page_of load.about.gpa + n) = page_there r.ram (ram_place load.about.gpa) n rule.pages k.aligned (page_less rule.pages left least) in
+    let least : suc left ≤ rule.pages = subst (λ (m : ℕ). m ≤ rule.pages) more few in
+    let size : length text ≡ 4096 * rule.pages = length_part ram (ram_place load.about.gpa) (page_size * rule.pages) inside in
+    let all : AllLieIn (length text) rule.sites = subst (λ (m : ℕ). AllLieIn m rule.sites) (sym size) (rule_lies rules load.about.id rule within known) in
+    let room : 4096 * n + 4096 ≤ length text = rw size (page_room rule.pages left least) in
+    let page : page_bytes text n ≡ page_bytes ram (page_of load.about.gpa + n) = page_there ram (ram_place load.about.gpa) n rule.pages aligned (page_less rule.pages left least) in
     let old : rule.pages - load.left ≡ n = ap (λ (m : ℕ). rule.pages - m) more in
-    let digests : page_digests (rule.pages - left) (masked text rule.sites) ≡ page_digests (rule.pages - load.left) (masked text rule.sites) ++ page_digest (masked (page_bytes r.ram (page_of load.about.gpa + n)) (page_sites n rule.sites)) ∷ [] =
+    let digests : page_digests (rule.pages - left) (masked text rule.sites) ≡ page_digests (rule.pages - load.left) (masked text rule.sites) ++ page_digest (masked (page_bytes ram (page_of load.about.gpa + n)) (page_sites n rule.sites)) ∷ [] =
     ap (λ (m : ℕ). page_digests m (masked text rule.sites)) (counted_left rule.pages left least) ∙ digest_more n (masked text rule.sites)
     ∙ ap (λ (bytes : List ℕ). page_digests n (masked text rule.sites) ++ page_digest bytes ∷ []) (page_masked text n rule.sites room all ∙ ap (λ (bytes : List ℕ). masked bytes (page_sites n rule.sites)) page)
-    ∙ ap (λ (m : ℕ). page_digests m (masked text rule.sites) ++ page_digest (masked (page_bytes r.ram (page_of load.about.gpa + n)) (page_sites n rule.sites)) ∷ []) (sym old) in
-    let right : fields_right r.rules.exports (module_bases load.about) (filter (below (rule.pages - left)) rule.sites) text
-    ≡ (fields_right r.rules.exports (module_bases load.about) (filter (below (rule.pages - load.left)) rule.sites) text
-    && fields_right r.rules.exports (module_bases load.about) (page_sites n rule.sites) (page_bytes r.ram (page_of load.about.gpa + n))) =
-    ap (λ (m : ℕ). fields_right r.rules.exports (module_bases load.about) (filter (below m) rule.sites) text) (counted_left rule.pages left least)
-    ∙ right_more r.rules.exports (module_bases load.about) text n rule.sites all
-    ∙ ap (λ (bytes : List ℕ). fields_right r.rules.exports (module_bases load.about) (filter (below n) rule.sites) text && fields_right r.rules.exports (module_bases load.about) (page_sites n rule.sites) bytes) page
-    ∙ ap (λ (m : ℕ). fields_right r.rules.exports (module_bases load.about) (filter (below m) rule.sites) text && fields_right r.rules.exports (module_bases load.about) (page_sites n rule.sites) (page_bytes r.ram (page_of load.about.gpa + n))) (sym old) in
+    ∙ ap (λ (m : ℕ). page_digests m (masked text rule.sites) ++ page_digest (masked (page_bytes ram (page_of load.about.gpa + n)) (page_sites n rule.sites)) ∷ []) (sym old) in
+    let right : fields_right rules.exports (module_bases load.about) (filter (below (rule.pages - left)) rule.sites) text
+    ≡ (fields_right rules.exports (module_bases load.about) (filter (below (rule.pages - load.left)) rule.sites) text
+    && fields_right rules.exports (module_bases load.about) (page_sites n rule.sites) (page_bytes ram (page_of load.about.gpa + n))) =
+    ap (λ (m : ℕ). fields_right rules.exports (module_bases load.about) (filter (below m) rule.sites) text) (counted_left rule.pages left least)
+    ∙ right_more rules.exports (module_bases load.about) text n rule.sites all
+    ∙ ap (λ (bytes : List ℕ). fields_right rules.exports (module_bases load.about) (filter (below n) rule.sites) text && fields_right rules.exports (module_bases load.about) (page_sites n rule.sites) bytes) page
+    ∙ ap (λ (m : ℕ). fields_right rules.exports (module_bases load.about) (filter (below m) rule.sites) text && fields_right rules.exports (module_bases load.about) (page_sites n rule.sites) (page_bytes ram (page_of load.about.gpa + n))) (sym old) in
     rw (digests, right) refl
+
+counted_is : (r : State) (load : Loading) (left : ℕ) (rule : ModuleRule) → IsSound r → HoldsModule r.rules r.approved r.loaded r.held load → load.left ≡ suc left → slice_get r.rules.modules load.about.id ≡ Some rule
+    → load_kept_by r.rules r.ram (record load { left = left }) (Some rule) ≡ load_counted r.rules r.ram (load_kept_by r.rules r.ram load (Some rule)) left (Some rule)
+counted_is r load left rule s k more known =
+    kept_next r.rules r.ram load left rule s.within known k.aligned (text_inside r load rule s k known) more (subst (λ (m : ℕ). load.left ≤ m) (ap pages_in_rule known) k.left)
 
 no_rule : (r : State) (load : Loading) (left : ℕ) → load_kept_by r.rules r.ram (record load { left = left }) None ≡ load_counted r.rules r.ram (load_kept_by r.rules r.ram load None) left None
 unfolding load_kept_by load_counted

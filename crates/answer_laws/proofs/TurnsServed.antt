@@ -3,7 +3,7 @@ use Rattle.sv_types.specs.Policies.{Rules}
 use Rattle.processor.specs.declared.cause.Cause.{Cause}
 use Rattle.processor.specs.declared.exit.Exit.{Exit}
 use Rattle.processor.specs.declared.exit.ExitCause.{ExitCause}
-use Rattle.std.proofs.Common.{◌≡◌, ℕ, zero, suc, List, [], ◌∷◌, slice_set, length, refl, sym, ◌∙◌, ap, subst, Bool, true, false, slice_get}
+use Rattle.std.proofs.Common.{◌≡◌, ℕ, zero, suc, List, [], ◌∷◌, length, refl, sym, ◌∙◌, ap, subst, Bool, true, false, slice_get}
 use Rattle.std.specs.Prelude.{Option, Some, None, option_map, if◌then◌else◌, ◌==◌}
 use Rattle.sv_types.specs.declared.event.Event.{Event}
 use Rattle.sv_types.specs.declared.event.Event.TheVariants.{Turn, Beat, Key, Tick}
@@ -29,11 +29,12 @@ use Rattle.reference.specs.States.{State, Hart, Binding, Loading}
 use Rattle.reference.specs.Run.{step, happen_under}
 use Rattle.machine_model.specs.StandsFor.{StandsFor, Unseen, IsRightFor, machine_of, host_hart, host_harts, load_kept, load_kept_by}
 use Rattle.reference.specs.Soundness.{IsSound}
-use Rattle.reference.specs.Turn.{turn, turn_of, turn_of_started, outside, leave_entry, bound_entry}
+use Rattle.reference.specs.Turn.{turn, outside, leave_entry, bound_entry}
 use Rattle.answer_laws.proofs.CallsMirrored.{none_host}
 use Rattle.answer_laws.proofs.EventsAgree.{IsNoTurn, event_law, verdict_of}
 use Rattle.answer_laws.proofs.ExitsMirrored.{served_turn}
 use Rattle.attempt_laws.proofs.Hosts.{hosts_get}
+use Rattle.attempt_laws.proofs.AttemptsAgree.{get_back, turn_none, turn_stopped}
 use Rattle.answer_laws.proofs.LawsHold.{asked, quiet_turn, running, raised_at, makes_raised, exit_turn, outside_stands, again_turn}
 use Rattle.answer_laws.proofs.LoadsMirrored.{load_turn}
 
@@ -114,17 +115,12 @@ again_there m h host exit there left =
     (ap (λ (l : List HostHart). slice_get l h) (forgets_none (attempted m h host).outcome exit (update m.harts h (with_core (attempted m h host).core)) left)
     ∙ get_update m.harts h host (with_core (attempted m h host).core) there)
 
-get_set_same : (harts : List Hart) (h : ℕ) (hart next : Hart) → slice_get harts h ≡ Some hart → slice_get (slice_set harts h next) h ≡ Some next
-get_set_same [] h hart next e = cc
-get_set_same (x ∷ harts) zero hart next e = refl
-get_set_same (x ∷ harts) (suc h) hart next e = get_set_same harts h hart next e
-
 makes_again : (m : Machine) (r : State) (h : ℕ) (host : HostHart) (hart : Hart) (exit : Exit) → MakesAttempt m r h host hart
     → (attempted m h host).outcome ≡ Outcome.Exit exit → MakesAttempt (sent_again m h host) (leave_entry r h hart) h (hart_again m h host) (outside hart)
 makes_again m r h host hart exit makes left = record {
   stands = outside_stands (left_by m h host) r h hart (exit_turn m r h host hart exit makes left).0 makes.hart_is;
   host_is = again_there m h host exit makes.host_is left;
-  hart_is = get_set_same r.harts h hart (outside hart) makes.hart_is;
+  hart_is = get_back r.harts h hart (outside hart) makes.hart_is;
   started = makes.started;
   loads = makes.loads;
 }
@@ -262,14 +258,6 @@ started_served m after r h host hart false stands host_is hart_is on loading e s
     }) refl served
 
 -- ---- harts
-
-turn_none : (r : State) (h : ℕ) → slice_get r.harts h ≡ None → turn r h ≡ r
-unfolding turn turn_of
-turn_none r h e = ap (turn_of r h) e
-
-turn_stopped : (r : State) (h : ℕ) (hart : Hart) → slice_get r.harts h ≡ Some hart → hart.started ≡ false → turn r h ≡ r
-unfolding turn turn_of
-turn_stopped r h hart e off = ap (turn_of r h) e ∙ ap (λ (b : Bool). if b then turn_of_started r h hart r.loading else r) off
 
 hart_served : (m after : Machine) (r : State) (h : ℕ) (host : HostHart) (hart : Hart) (b : Bool) → StandsFor (raised m count_turn) (count r count_turn)
     → slice_get m.harts h ≡ Some host → slice_get r.harts h ≡ Some hart → hart.started ≡ b

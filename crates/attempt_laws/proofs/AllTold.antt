@@ -1,5 +1,5 @@
 -- What is known of each word: the transformed instruction is the same access, and SRET is SRET.
-use Rattle.std.proofs.Common.{◌≡◌, ℕ, ◌/◌, ◌%◌, ◌^◌, inl, inr, refl, sym, ◌∙◌, ap, subst, Bool, true, false, arith}
+use Rattle.std.proofs.Common.{◌≡◌, ℕ, ◌/◌, ◌%◌, ◌^◌, refl, sym, ◌∙◌, ap, subst, Bool, true, false, arith}
 use Rattle.std.specs.Prelude.{Some, ◌==◌, bit_and, if◌then◌else◌}
 use Rattle.std.specs.Option.{option_map}
 use Rattle.std.proofs.lemmas.Bool.{eqb-true}
@@ -7,14 +7,12 @@ use Rattle.std.proofs.lemmas.Nat.{and_assoc, and_mask, and_shr}
 use Rattle.processor.specs.Effects.{effect_of, register, load_width, load_signed, store_width, plus, immediate, branch_taken, branch as branch_effect}
 use Rattle.processor.specs.HardwareMemory.{load_htinst, store_htinst, atomic_htinst, implicit_read}
 use Rattle.processor.specs.Instructions.{bits, rs1, imm_i, imm_s, instruction_of, load, store}
-use Rattle.processor.specs.Regions.{IsWidth}
 use Rattle.processor.specs.declared.effect.Effect.{Effect}
 use Rattle.processor.specs.declared.instruction.Instr.{Instr}
 use Rattle.processor.specs.declared.instruction.LoadOp.{LoadOp}
-use Rattle.processor.specs.declared.instruction.LoadOp.TheVariants.{Lb, Lh, Lw, Ld, Lbu, Lhu, Lwu}
 use Rattle.processor.specs.declared.instruction.StoreOp.{StoreOp}
-use Rattle.processor.specs.declared.instruction.StoreOp.TheVariants.{Sb, Sh, Sw, Sd}
 use Rattle.processor_laws.proofs.Decoding.{found}
+use Rattle.processor_laws.proofs.EffectRequests.{load_asks, store_asks}
 use Rattle.reference.specs.States.{Hart}
 use Rattle.machine_model.specs.Served.{transformed, is_sret}
 use Rattle.attempt_laws.proofs.LoadsAgree.{IsLoad}
@@ -23,25 +21,6 @@ use Rattle.attempt_laws.proofs.AtomicsAgree.{IsAtomicWord}
 use Rattle.attempt_laws.proofs.EffectsAgree.{IsTold}
 use Rattle.attempt_laws.proofs.AttemptsAgree.{AllTold}
 use Rattle.attempt_laws.proofs.WordsTell.{LoadTells, StoreTells, AtomicTells, Tells, instruction_tells}
-
--- ---- widths and addresses
-
-load_whole : (op : LoadOp) → IsWidth (load_width op)
-unfolding load_width
-load_whole Lb = inl refl
-load_whole Lh = inr (inl refl)
-load_whole Lw = inr (inr (inl refl))
-load_whole Ld = inr (inr (inr refl))
-load_whole Lbu = inl refl
-load_whole Lhu = inr (inl refl)
-load_whole Lwu = inr (inr (inl refl))
-
-store_whole : (op : StoreOp) → IsWidth (store_width op)
-unfolding store_width
-store_whole Sb = inl refl
-store_whole Sh = inr (inl refl)
-store_whole Sw = inr (inr (inl refl))
-store_whole Sd = inr (inr (inr refl))
 
 -- ---- no implicit read
 
@@ -129,8 +108,8 @@ told_by hart w (Instr.Auipc rd imm) e tells = tt
 told_by hart w (Instr.Jal rd imm) e tells = jump_told hart w rd _ (plus hart.pc (immediate imm)) (plus hart.pc (immediate imm) % 4 == 0)
 told_by hart w (Instr.Jalr rd rs1 imm) e tells = jump_told hart w rd _ _ _
 told_by hart w (Instr.Branch op rs1 rs2 imm) e tells = branch_told hart w _ _ (branch_taken op (register hart.registers rs1) (register hart.registers rs2))
-told_by hart w (Instr.Load op rd rs1 imm) e tells = (told_load hart w op rd tells.0 tells.1, load_whole op)
-told_by hart w (Instr.Store op rs1 rs2 imm) e tells = (told_store hart w op rs2 tells.0 tells.1, store_whole op)
+told_by hart w (Instr.Load op rd rs1 imm) e tells = (told_load hart w op rd tells.0 tells.1, load_asks op)
+told_by hart w (Instr.Store op rs1 rs2 imm) e tells = (told_store hart w op rs2 tells.0 tells.1, store_asks op)
 told_by hart w (Instr.OpImm op rd rs1 imm shamt) e tells = tt
 told_by hart w (Instr.OpImm32 op rd rs1 imm shamt) e tells = tt
 told_by hart w (Instr.Op op rd rs1 rs2) e tells = tt

@@ -126,7 +126,16 @@ unfolding turn turn_of
 turn_is r h hart found started other =
     ap (turn_of r h) found ∙ ap (λ (b : Bool). if b then turn_of_started r h hart r.loading else r) started ∙ started_turn r h hart r.loading other
 
-get_back : (harts : List Hart) (h : ℕ) (hart next : Hart) → slice_get harts h ≡ Some hart → slice_get (slice_set harts h next) h ≡ Some next
+-- nothing happens where there is no hart, or it is stopped
+pub turn_none : (r : State) (h : ℕ) → slice_get r.harts h ≡ None → turn r h ≡ r
+unfolding turn turn_of
+turn_none r h found = ap (turn_of r h) found
+
+pub turn_stopped : (r : State) (h : ℕ) (hart : Hart) → slice_get r.harts h ≡ Some hart → hart.started ≡ false → turn r h ≡ r
+unfolding turn turn_of
+turn_stopped r h hart found off = ap (turn_of r h) found ∙ ap (λ (b : Bool). if b then turn_of_started r h hart r.loading else r) off
+
+pub get_back : (harts : List Hart) (h : ℕ) (hart next : Hart) → slice_get harts h ≡ Some hart → slice_get (slice_set harts h next) h ≡ Some next
 get_back [] h hart next e = cc
 get_back (x ∷ harts) zero hart next e = refl
 get_back (x ∷ harts) (suc h) hart next e = get_back harts h hart next e

@@ -33,7 +33,7 @@ elsewhere first (suc n) q e =
       | inr behind ↦ inr (omega arith)
     ]
 
-in_page : (width p : ℕ) → IsWidth width → p % width ≡ 0 → p % 4096 + width ≤ 4096
+pub in_page : (width p : ℕ) → IsWidth width → p % width ≡ 0 → p % 4096 + width ≤ 4096
 in_page width p (inl one) aligned = rw one (grind arith)
 in_page width p (inr (inl two)) aligned = let e : p % 2 ≡ 0 = rw two at aligned in rw two (grind arith)
 in_page width p (inr (inr (inl four))) aligned = let e : p % 4 ≡ 0 = rw four at aligned in rw four (grind arith)

@@ -1,16 +1,13 @@
 -- The bytes of RAM in which segments lie, page by page.
-use Rattle.std.proofs.Common.{◌≡◌, ℕ, zero, suc, ◌+◌, ◌-◌, ◌*◌, ◌<◌, ◌≤◌, inl, inr, false, List, length, drop, get_or, refl, sym, ◌∙◌, arith, rules, replicate, length-append, length-take, length-drop}
+use Rattle.std.proofs.Common.{◌≡◌, ℕ, zero, suc, ◌+◌, ◌-◌, ◌*◌, ◌<◌, ◌≤◌, inl, inr, false, List, length, drop, get_or, refl, sym, ◌∙◌, arith, rules, replicate, length-take}
 use Rattle.std.specs.Prelude.{nat_le, nat_lt, ◌&&◌}
 use Rattle.std.proofs.lemmas.Bool.Decides.{nat_tests}
-use Rattle.std.proofs.lemmas.List.{places, length-replicate, get_or-append_right, ext_get_or, get_or_past}
+use Rattle.std.proofs.lemmas.List.{places, get_or-append_right, ext_get_or, get_or_past}
 use Rattle.processor.specs.Bytes.{overwrite, padded, part, page_bytes, page_size, ram_place}
 use Rattle.sv_types.specs.Kernel.{LoadedSegment, with_segment}
-use Rattle.processor_laws.proofs.ByteLemmas.{lt_or_le, length_overwrite}
+use Rattle.processor_laws.proofs.ByteLemmas.{lt_or_le, length_overwrite, length_padded, length_part}
 
 -- ---- bytes, and zeros behind them
-
-pub length_padded : (bytes : List ℕ) (n : ℕ) → length bytes ≤ n → length (padded bytes n) ≡ n
-length_padded bytes n short = simp (length-append, length-replicate) (omega arith)
 
 pub zero_at : (n i : ℕ) → get_or {A = ℕ} (replicate n 0) i 0 ≡ 0
 zero_at zero i = refl
@@ -89,9 +86,6 @@ byte_there ram s i lies from zero_before =
 
 pub at_part : (list : List ℕ) (at n j : ℕ) → j < n → get_or (part list at n) j 0 ≡ get_or list (at + j) 0
 at_part list at n j h = search (rules, places)
-
-pub length_part : (list : List ℕ) (at n : ℕ) → at + n ≤ length list → length (part list at n) ≡ n
-length_part list at n h = let a = length-take n (drop at list) in let b = length-drop at list in omega arith
 
 -- a page of RAM is a page of a list, with zeros behind it, where its bytes are
 pub same_page : (ram bytes : List ℕ) (page at : ℕ) → page_size * page + page_size ≤ length ram

@@ -158,7 +158,7 @@ record IsSound (total exports : ℕ) (j : Judging) : Type 0 where
   bases : (symbol : ℕ) → IfThere (HasBase exports) (symbol_target j.names symbol)
   highs : (place : ℕ) → IfThere (IsPlaced total) (j.high_at place)
 
-ok_same : {A : Type 0} (a b : A) → ◌≡◌ {A = Judged A} (Ok a) (Ok b) → a ≡ b
+pub ok_same : {A : Type 0} (a b : A) → ◌≡◌ {A = Judged A} (Ok a) (Ok b) → a ≡ b
 ok_same a b e = cc e
 
 next_place : (total place : ℕ) → place + 8 ≤ total → total ≤ 4096 * 1024 → (place + 4) % 2 ^ 64 ≡ place + 4

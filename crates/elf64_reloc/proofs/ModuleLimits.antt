@@ -25,7 +25,7 @@ use Rattle.elf64_reloc.specs.declared.fault.ObjectFault.{ObjectFault}
 use Rattle.elf64_reloc.specs.declared.read.ModuleImage.{ModuleImage}
 use Rattle.elf64_reloc.specs.declared.refusal.RelocRefusal.{RelocRefusal}
 use Rattle.elf64_reloc.proofs.TextPlaces.{Each, all_good, text_length, all_inside, all_of_text}
-use Rattle.elf64_reloc.proofs.FieldPlaces.{IsPlace, IsSiteOf, object_sites}
+use Rattle.elf64_reloc.proofs.FieldPlaces.{IsPlace, IsSiteOf, object_sites, ok_same}
 
 -- ---- in the order of their places
 
@@ -182,9 +182,6 @@ fits_by : (text : List ℕ) (total exports : ℕ) (sites : List Site) → length
 fits_by text total exports sites same some most fields =
     subst (λ (n : ℕ). (module_pages_within n && sites_count_within 0 (length sites) && sites_within n exports sites) ≡ true) (sym (pages_are text total same))
     (fits_in total ((total + (4096 - total % 4096) % 4096) / 4096) exports sites (enough total some most) fields)
-
-ok_same : {A : Type 0} (a b : A) → ◌≡◌ {A = Judged A} (Ok a) (Ok b) → a ≡ b
-ok_same a b e = cc e
 
 -- an object of a short file, whose sections are good
 record IsShort (o : Object) : Type 0 where

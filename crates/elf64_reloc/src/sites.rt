@@ -14,9 +14,9 @@ use crate::refusal::RelocRefusal;
 use crate::relocations::Relocation;
 use crate::symbols::{Names, Target, symbol_target};
 use policy_limits::is_low_part;
+use processor::INSTRUCTION_BYTES;
 use std::alloc::{AllocError, Global};
 use std::collections::BTreeMap;
-use processor::INSTRUCTION_BYTES;
 use sv_types::{NO_BASE, RelocationKind, Site, TEXT_BASE};
 
 /// What relocations are judged by: the symbols, and the first high part of an address at each place.

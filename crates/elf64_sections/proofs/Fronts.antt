@@ -16,14 +16,6 @@ front_of_part zero xs = omega arith
 front_of_part (suc k) [] = omega arith
 front_of_part (suc k) (x ∷ xs) = counted (not (x == 0)) (front_length (take k xs)) (front_length xs) k (front_of_part k xs)
 
-bounded : (b : Bool) (m n : ℕ) → m ≤ n → cond b (1 + m) 0 ≤ suc n
-bounded true m n h = omega arith
-bounded false m n h = omega arith
-
-front_bound : (xs : List ℕ) → front_length xs ≤ length xs
-front_bound [] = omega arith
-front_bound (x ∷ xs) = bounded (not (x == 0)) (front_length xs) (length xs) (front_bound xs)
-
 found : (a b n : ℕ) → cond (nat_lt a b) (Some a) None ≡ Some n → (a ≡ n) × (a < b)
 found a b n h = grind (arith, nat_tests)
 

@@ -10,7 +10,7 @@ use Rattle.processor.specs.CachedWalks.{line_permits, line_leads, line_at, LineA
 use Rattle.processor.specs.declared.cached.CacheLine.{CacheLine}
 use Rattle.processor.specs.declared.access.Access.{Access}
 use Rattle.processor.specs.declared.access.Access.TheVariants.{Fetch, Load, Store}
-use Rattle.processor_laws.proofs.Walks.{walk_guest_fits}
+use Rattle.processor_laws.proofs.Walks.{walk_guest_fits, address_chosen}
 use Rattle.sv39_walk.specs.Mappings.{mapping_answer}
 use Rattle.sv39_walk.specs.declared.second_stage.Mapping.{Mapping}
 use Rattle.gstage_cache.specs.Lookup.{tagged, line_for, is_held, IsPlaced, line_of_mapping, IsKept}
@@ -22,10 +22,6 @@ use Rattle.processor_laws.proofs.EmptyLines.{none_at}
 line_readable : (b : Bool) (x : ℕ) → IsReadable (if b then At x else PageFault)
 line_readable true x = tt
 line_readable false x = tt
-
-line_address : (b : Bool) (x : ℕ) → address_at (if b then At x else PageFault) ≡ (if b then Some x else None)
-line_address true x = refl
-line_address false x = refl
 
 -- as the walk of the tables, for each address of its page
 pub line_answers : (r : Region) (line : CacheLine) (gpa : ℕ) (access : Access) → LineAgrees r.tables line → line.page ≡ gpa / 4096
@@ -40,7 +36,7 @@ line_answers r line gpa access agrees same =
     subst (λ (d : Destination). IsReadable d) (sym leads) (line_readable (line_permits line access) (line.host + gpa % 4096)) in
     answer_is r line.hgatp gpa access near
     ∙ ap address_at (leads_in_region r line.hgatp gpa access readable ∙ leads)
-    ∙ line_address (line_permits line access) (line.host + gpa % 4096)
+    ∙ address_chosen (line_permits line access) (line.host + gpa % 4096)
 
 pub line_fits : (r : Region) (line : CacheLine) (gpa : ℕ) (access : Access) → LineAgrees r.tables line → line.page ≡ gpa / 4096
     → line_permits line access ≡ true → line.host + gpa % 4096 < 2 ^ 64
@@ -86,7 +82,7 @@ fill_agrees r hgatp gpa access mapping apart answers permitted =
     }
 
 -- line j behind a change of line i
-set_at : (lines : List (Option CacheLine)) (i j : ℕ) (o : Option CacheLine) → i < length lines
+pub set_at : {A : Type 0} (lines : List (Option A)) (i j : ℕ) (o : Option A) → i < length lines
     → ((j ≡ i) × (get_or (set lines i o) j None ≡ o)) ⊎ ((j ≡ i → ⊥) × (get_or (set lines i o) j None ≡ get_or lines j None))
 set_at lines i j o fits = elim (eqb_tells j i) [
   | inl same ↦ inl (same.1, ap (λ (k : ℕ). get_or (set lines i o) k None) same.1 ∙ get_or-set_same lines i o None fits)

@@ -1,6 +1,6 @@
 -- Where walks of the trees lead: each root is a view.
 use Rattle.std.proofs.Common.{◌≡◌, ◌≢◌, ℕ, zero, suc, ◌+◌, ◌-◌, ◌*◌, ◌/◌, ◌%◌, ◌^◌, ◌<◌, ◌≤◌, inl, inr, Bool, true, false, List, [], ◌∷◌, length, refl, sym, ap, subst, ◌∙◌, arith, mul-le-mul_right}
-use Rattle.std.specs.Prelude.{Option, Some, None, ◌==◌, ◌&&◌, nat_lt, nat_le, if◌then◌else◌, slice_get, slice_index_or, option_map}
+use Rattle.std.specs.Prelude.{Option, Some, ◌==◌, ◌&&◌, nat_lt, nat_le, if◌then◌else◌, slice_get, slice_index_or, option_map}
 use borrow.Author.Tests.{le-leb, lt-ltb, le-ltb, ne_eqb}
 use Rattle.std.proofs.lemmas.Bool.{lt-leb, leb-true, eqb-true, and_parts}
 use Rattle.std.proofs.lemmas.Bool.Decides.{nat_tests}
@@ -16,6 +16,7 @@ use Rattle.sv_types.specs.declared.protection.Protection.{Protection}
 use Rattle.sv_types.specs.declared.protection.Protection.TheVariants.{Free}
 use Rattle.sv_types.specs.declared.view.View.{View}
 use Rattle.processor_laws.proofs.ByteLemmas.{lt_or_le}
+use Rattle.processor_laws.proofs.Walks.{address_chosen}
 use Rattle.gstage_tables.specs.Blocks.{is_whole, taken_pages}
 use Rattle.gstage_tables.specs.Layout.{leaf_tables, table_pages, table_size, tree_count, sight_in, pointer, leaf, root_word, middle_word, leaf_word, HoldsTrees}
 use Rattle.gstage_tables.proofs.Bits.{pointer_gives, zero_gives, leaf_gives}
@@ -300,10 +301,6 @@ reads_region tables ram at fits =
 
 -- ---- the views
 
-place_chosen : (b : Bool) (x : ℕ) → address_at (if b then At x else PageFault) ≡ (if b then Some x else None)
-place_chosen true x = refl
-place_chosen false x = refl
-
 module _ (tables : List ℕ) (pages : ℕ) (bound : List ℕ) (ps : ℕ → Protection) (h : HoldsTrees tables pages bound ps)
     (tree hgatp : ℕ) (there : tree < tree_count (length bound)) (rooted : root_of hgatp ≡ 16384 * tree) where
   abbrev sight : Sight
@@ -324,7 +321,7 @@ module _ (tables : List ℕ) (pages : ℕ) (bound : List ℕ) (ps : ℕ → Prot
   near ram gpa access l =
       let test : gpa / 2 ^ 41 ≡ 0 = omega arith in
       rw (test, h.size) (ap address_at (by_region ram gpa access l)
-      ∙ place_chosen (page_in_ram pages gpa && view_permits sight (page_of gpa) (ps (page_of gpa)) access) (table_size pages (length bound) + ram_place gpa))
+      ∙ address_chosen (page_in_ram pages gpa && view_permits sight (page_of gpa) (ps (page_of gpa)) access) (table_size pages (length bound) + ram_place gpa))
 
   far : (ram : List ℕ) (gpa : ℕ) (access : Access) → 2 ^ 41 ≤ gpa → walk_guest (with_ram tables ram) hgatp gpa access ≡ view_answer (length tables) pages sight ps gpa access
   unfolding walk_guest view_answer

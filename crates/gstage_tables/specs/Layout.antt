@@ -12,8 +12,6 @@ use Rattle.processor.specs.declared.access.Access.TheVariants.{Fetch, Store}
 use Rattle.sv_types.specs.Limits.{most_entries}
 use Rattle.sv_types.specs.declared.protection.Protection.{Protection}
 use Rattle.sv_types.specs.declared.protection.Protection.TheVariants.{Free}
-use Rattle.sv_types.specs.declared.view.View.{View}
-use Rattle.sv_types.specs.declared.view.View.TheVariants.{Kernel, User, Entry}
 use Rattle.gstage_tables.specs.Blocks.{is_whole, taken_pages, CountsTaken, table_words, block_pages}
 
 -- ---- the trees
@@ -36,11 +34,6 @@ most_trees = 2 + most_bound
 -- the trees for so many entries
 abbrev pub tree_count : ℕ → ℕ
 tree_count bound = 2 + bound
-
-abbrev pub tree_of : View → ℕ
-tree_of Kernel = 0
-tree_of User = 1
-tree_of (Entry i) = 2 + i
 
 abbrev pub sight_in : (bound : List ℕ) → (tree : ℕ) → Sight
 sight_in bound tree =

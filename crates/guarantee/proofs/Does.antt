@@ -1,5 +1,5 @@
 -- What a turn of a hart does: to protected bytes, to the hart, to other harts, and to the verdict.
-use Rattle.std.proofs.Common.{◌≡◌, ℕ, zero, suc, ◌<◌, ◌⊎◌, inl, inr, List, [], ◌∷◌, map, length, refl, sym, ◌∙◌, ap, subst, Bool, true, false, ◌||◌, arith, slice_get, slice_set}
+use Rattle.std.proofs.Common.{◌≡◌, ℕ, zero, suc, List, [], ◌∷◌, map, length, refl, sym, ◌∙◌, ap, subst, Bool, true, false, ◌||◌, slice_get, slice_set}
 use Rattle.std.specs.Prelude.{Option, Some, None, option_map, if◌then◌else◌}
 use Rattle.processor.specs.Bytes.{overwrite, page_bytes}
 use Rattle.sv_types.specs.Policies.{Rules}
@@ -9,7 +9,7 @@ use Rattle.sv_types.specs.declared.event.Verdict.{Verdict}
 use Rattle.sv_types.specs.declared.event.Verdict.TheVariants.{Running, Shutdown, Stopped}
 use Rattle.processor.specs.declared.mode.Mode.{Mode}
 use Rattle.processor.specs.declared.mode.Mode.TheVariants.{Kernel, User}
-use Rattle.processor_laws.proofs.ByteLemmas.{page_elsewhere, lt_or_le}
+use Rattle.processor_laws.proofs.ByteLemmas.{page_elsewhere}
 use Rattle.reference.specs.Calls.{started_hart}
 use Rattle.reference.specs.Counting.{stopped_by}
 use Rattle.reference.specs.Devices.{hart_after_write}
@@ -18,7 +18,8 @@ use Rattle.reference.specs.States.{State, Hart, has_number, is_approved_in, is_p
 use Rattle.reference.specs.Trapping.{hart_at_trap, hart_at_return, entry_in}
 use Rattle.reference.specs.Turn.{after_going, demote, demoted, leave_entry, outside}
 use Rattle.run_laws.proofs.Lookups.{both}
-use Rattle.run_laws.proofs.Sounds.{InFreePage}
+use Rattle.run_laws.proofs.Sounds.{InFreePage, apart}
+use Rattle.attempt_laws.proofs.AttemptsAgree.{get_back}
 
 -- ---- the four things
 
@@ -65,11 +66,6 @@ pub record Does (writes : ℕ → Type 0) (returns : Type 0) (q : State) (h : �
   pub ends : Ends writes q h hart next
 
 -- ---- lists of harts
-
-pub set_own : (harts : List Hart) (h : ℕ) (hart x : Hart) → slice_get harts h ≡ Some hart → slice_get (slice_set harts h x) h ≡ Some x
-set_own [] h hart x found = absurd (cc)
-set_own (a ∷ harts) zero hart x found = refl
-set_own (a ∷ harts) (suc h) hart x found = set_own harts h hart x found
 
 pub set_other : (harts : List Hart) (h k : ℕ) (x : Hart) → (k ≡ h → ⊥) → slice_get (slice_set harts h x) k ≡ slice_get harts k
 set_other [] h k x other = refl
@@ -118,7 +114,7 @@ pub does_set : (writes : ℕ → Type 0) (returns : Type 0) (q : State) (h : ℕ
 does_set writes returns q h hart next x at ram harts own running = record {
   bytes = λ page e. ap (λ (l : List ℕ). page_bytes l page) ram;
   own = λ after e. let same : x ≡ after = same_one (slice_get next.harts h) x after
-      (ap (λ (l : List Hart). slice_get l h) harts ∙ set_own q.harts h hart x at.found) e in
+      (ap (λ (l : List Hart). slice_get l h) harts ∙ get_back q.harts h hart x at.found) e in
       subst (Own returns q h hart next) same own;
   others = λ k before after other was e. rests_other q k before after
       (same_one (slice_get next.harts k) before after (ap (λ (l : List Hart). slice_get l k) harts ∙ set_other q.harts h k x other ∙ was) e);
@@ -137,17 +133,11 @@ other_page q page free guarded s t same =
     or_false (is_approved_in q.approved free) (has_number q.held free) s t
     (subst (λ (p : ℕ). (is_approved_in q.approved p || has_number q.held p) ≡ true) same guarded)
 
-sides : (p q : ℕ) → (p ≡ q → ⊥) → (p < q) ⊎ (q < p)
-sides p q other = elim (lt_or_le p q) [
-  | inl less ↦ inl less
-  | inr least ↦ elim (lt_or_le q p) [ inl more ↦ inr more | inr most ↦ absurd (other (omega arith)) ]
-]
-
 -- what is written in a free page leaves the protected ones
 pub page_kept : (q : State) (place : ℕ) (bytes : List ℕ) (page : ℕ) → InFreePage q place bytes → is_protected q page ≡ true
     → page_bytes (overwrite q.ram place bytes) page ≡ page_bytes q.ram page
 page_kept q place bytes page free e =
-    page_elsewhere q.ram bytes place page free.page free.inside free.first free.last (sides page free.page (other_page q page free.page e free.free free.unheld))
+    page_elsewhere q.ram bytes place page free.page free.inside free.first free.last (apart page free.page (other_page q page free.page e free.free free.unheld))
 
 pub does_write : (writes : ℕ → Type 0) (returns : Type 0) (q : State) (h : ℕ) (hart : Hart) (next : State) (x : Hart) (place : ℕ) (bytes : List ℕ) → IsMoving q h hart → InFreePage q place bytes
     → next.ram ≡ overwrite q.ram place bytes → next.harts ≡ map (hart_after_write place (length bytes)) (slice_set q.harts h x)
@@ -157,7 +147,7 @@ does_write writes returns q h hart next x place bytes at free ram harts mode sta
       ∙ page_kept q place bytes page free e;
   own = λ after e. let same : hart_after_write place (length bytes) x ≡ after = same_one (slice_get next.harts h) _ after
       (ap (λ (l : List Hart). slice_get l h) harts ∙ get_mapped (hart_after_write place (length bytes)) (slice_set q.harts h x) h
-      ∙ ap (option_map (hart_after_write place (length bytes))) (set_own q.harts h hart x at.found)) e in
+      ∙ ap (option_map (hart_after_write place (length bytes))) (get_back q.harts h hart x at.found)) e in
       subst (Own returns q h hart next) same (Same mode started);
   others = λ k before after other was e.
       let same : hart_after_write place (length bytes) before ≡ after = same_one (slice_get next.harts k) _ after

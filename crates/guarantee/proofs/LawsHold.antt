@@ -43,29 +43,24 @@ use Rattle.run_laws.proofs.Lookups.{both, is_there}
 use Rattle.run_laws.proofs.StateLawsHold.{reached_sound, bytes_law, modules_law}
 use Rattle.run_laws.proofs.BeatsSound.{FreeMove, beat_page, beat_sound}
 use Rattle.run_laws.proofs.StepsSound.{counted_sound}
+use Rattle.run_laws.proofs.EntriesHold.{runs_on}
 use Rattle.guarantee.specs.Guarantee.{move_gpa, first_gpa, request_gpa, disk_gpa, IsMeasuredWord, KernelTurn, Loads, Traps, Demotes, Executes, KernelWordsLaw, Enters, ByTrap, ByStart, EntriesLaw, Leaves, ByReturn, ByDemotion, ByStop, ExitsLaw, ProtectedBytesLaw, WritesGuarded, Stops, AtEntry, AtWrite, StopsRight, StopsLaw}
 use Rattle.guarantee.proofs.Does.{IsMoving, Own, Same, Entered, Returned, Demoted, Halted, Other, Rests, Begins, IsNoStop, Ends, GoesOn, StopsAtEntry, StopsAtWrite, get_mapped, same_one, page_kept, demote_left}
 use Rattle.guarantee.proofs.Turns.{FetchedWrites, FetchedReturns, turn_does}
+use Rattle.processor_laws.proofs.GuestViews.{and_false}
+use Rattle.attempt_laws.proofs.AttemptsAgree.{turn_none, turn_stopped}
 
 -- ---- a turn, while the machine runs
-
-no_turn : (q : State) (h : ℕ) → slice_get q.harts h ≡ None → turn q h ≡ q
-unfolding turn turn_of
-no_turn q h none = ap (turn_of q h) none
-
-stopped_turn : (q : State) (h : ℕ) (hart : Hart) → slice_get q.harts h ≡ Some hart → hart.started ≡ false → turn q h ≡ q
-unfolding turn turn_of
-stopped_turn q h hart found off = ap (turn_of q h) found ∙ ap (λ (b : Bool). if b then turn_of_started q h hart q.loading else q) off
 
 -- nothing is done, or a started hart moves
 abbrev Moves : State → ℕ → Type 0
 Moves q h = (turn q h ≡ q) ⊎ ((hart : Hart) × IsMoving q h hart)
 
 moves_by : (q : State) (h : ℕ) (x : Option Hart) → IsSound q → q.journal.verdict ≡ Running → slice_get q.harts h ≡ x → Moves q h
-moves_by q h None s on found = inl (no_turn q h found)
+moves_by q h None s on found = inl (turn_none q h found)
 moves_by q h (Some hart) s on found = elim (is_there hart.started) [
   | inl started ↦ inr (hart, record { sound = s; found = found; started = started; running = on })
-  | inr off ↦ inl (stopped_turn q h hart found off)
+  | inr off ↦ inl (turn_stopped q h hart found off)
 ]
 
 moves : (q : State) (h : ℕ) → IsSound q → q.journal.verdict ≡ Running → Moves q h
@@ -302,10 +297,6 @@ kernel_by : (x y : Hart) (b : Bool) → x.mode ≡ y.mode → x.started ≡ y.st
 kernel_by x y b mode started e =
     ap (λ (m : Mode). x.started && is_kernel m) mode ∙ ap (λ (on : Bool). on && is_kernel y.mode) started ∙ e
 
-and_false : (b : Bool) → (b && false) ≡ false
-and_false true = refl
-and_false false = refl
-
 user_no_kernel : (x : Hart) → x.mode ≡ User → in_kernel x ≡ false
 user_no_kernel x user = ap (λ (m : Mode). x.started && is_kernel m) user ∙ and_false x.started
 
@@ -389,10 +380,6 @@ stops_by r k hart next rule h at same found verdict (StopsAtEntry interrupt caus
 stops_by r k hart next rule h at same found verdict (StopsAtWrite left gpa w all) =
     subst (StopsRight r (Turn k)) (named next (after_going left (count r count_turn) k hart) _ rule k h at all verdict)
     (stops_here r k hart next left same found (AtWrite left w.0 gpa w.1.0 w.1.1 all))
-
-runs_on : (r : State) (e : Event) → r.journal.verdict ≡ Running → step r e ≡ happen r e
-unfolding step happen_under
-runs_on r e on = ap (λ (v : Verdict). happen_under v r e) on
 
 turn_stops : (r : State) (k : ℕ) (rule : Rule) (h at : ℕ) → IsSound r → r.journal.verdict ≡ Running → step r (Turn k) ≡ turn (count r count_turn) k
     → (turn (count r count_turn) k).journal.verdict ≡ Stopped rule h at → StopsRight r (Turn k) h

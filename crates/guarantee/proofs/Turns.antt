@@ -39,6 +39,7 @@ use Rattle.reference.specs.declared.answers.Reply.{Reply}
 use Rattle.reference.specs.declared.answers.Reply.TheVariants.{Gives, Replies, Stays, Stops}
 use Rattle.attempt_laws.proofs.AllTold.{all_told}
 use Rattle.attempt_laws.proofs.EffectsAgree.{IsTold}
+use Rattle.attempt_laws.proofs.AttemptsAgree.{get_back}
 use Rattle.run_laws.proofs.AnswersMay.{MayBeside, decision_may, answer_may}
 use Rattle.run_laws.proofs.Lookups.{both}
 use Rattle.run_laws.proofs.OthersRest.{sent, get_sent, was_stopped}
@@ -46,7 +47,7 @@ use Rattle.run_laws.proofs.RequestsSound.{FreeTarget, IsFreePlace, target_free, 
 use Rattle.run_laws.proofs.Sounds.{InFreePage}
 use Rattle.run_laws.proofs.StepsSound.{leave_goes}
 use Rattle.guarantee.specs.Guarantee.{WritesGuarded}
-use Rattle.guarantee.proofs.Does.{IsMoving, Own, Same, Entered, Returned, Demoted, Halted, Other, Rests, Begins, IsNoStop, GoesOn, StopsAtEntry, StopsAtWrite, Does, set_own, set_other, same_one, rests_other, does_nothing, does_set, does_write, choose_does, decide_does, does_for, does_left}
+use Rattle.guarantee.proofs.Does.{IsMoving, Own, Same, Entered, Returned, Demoted, Halted, Other, Rests, Begins, IsNoStop, GoesOn, StopsAtEntry, StopsAtWrite, Does, set_other, same_one, rests_other, does_nothing, does_set, does_write, choose_does, decide_does, does_for, does_left}
 
 -- ---- traps
 
@@ -213,16 +214,16 @@ beside_own : (returns : Type 0) (q : State) (h : ℕ) (hart : Hart) (next : Stat
     → slice_get (harts_beside b (slice_set q.harts h x)) h ≡ Some after → Own returns q h hart next after
 unfolding harts_beside
 beside_own returns q h hart next x after (SendsInterrupts mask base) at may reply e =
-    let s = get_sent (mask_names mask base) 0 (slice_set q.harts h x) h x (set_own q.harts h hart x at.found) in
+    let s = get_sent (mask_names mask base) 0 (slice_set q.harts h x) h x (get_back q.harts h hart x at.found) in
     let same : sent s.0 x ≡ after = same_one (slice_get (interrupted (mask_names mask base) 0 (slice_set q.harts h x)) h) _ after s.1 e in
     subst (Own returns q h hart next) same (own_reply returns q h hart next (sent s.0 x) (reply_sent s.0 hart x reply))
 beside_own returns q h hart next x after (StartsHart other pc opaque) at may reply e =
     let same : x ≡ after = same_one (slice_get (slice_set (slice_set q.harts h x) other (started_hart other pc opaque)) h) x after
     (set_other (slice_set q.harts h x) other h (started_hart other pc opaque) (off_there q.harts h other hart at.found at.started may.0)
-    ∙ set_own q.harts h hart x at.found) e in
+    ∙ get_back q.harts h hart x at.found) e in
     subst (Own returns q h hart next) same (own_reply returns q h hart next x reply)
 beside_own returns q h hart next x after _ at may reply e =
-    subst (Own returns q h hart next) (same_one (slice_get (slice_set q.harts h x) h) x after (set_own q.harts h hart x at.found) e) (own_reply returns q h hart next x reply)
+    subst (Own returns q h hart next) (same_one (slice_get (slice_set q.harts h x) h) x after (get_back q.harts h hart x at.found) e) (own_reply returns q h hart next x reply)
 
 started_by : (q : State) (h : ℕ) (x : Hart) (k : ℕ) (before after : Hart) (other pc opaque : ℕ) (is : Bool) → (k == other) ≡ is → (k ≡ h → ⊥) → slice_get q.harts k ≡ Some before
     → slice_get (map (λ (hart : Hart). hart.started) q.harts) other ≡ Some false → has_number q.rules.entries pc ≡ true
@@ -233,7 +234,7 @@ started_by q h x k before after other pc opaque true at apart was off permitted 
     let here : slice_get (slice_set q.harts h x) k ≡ Some before = set_other q.harts h k x apart ∙ was in
     let its : before ≡ o.0 = same_one (slice_get q.harts other) before o.0 (subst (λ (n : ℕ). slice_get q.harts n ≡ Some before) same was) o.1.0 in
     let begun : started_hart other pc opaque ≡ after = same_one (slice_get (slice_set (slice_set q.harts h x) other (started_hart other pc opaque)) other) _ after
-    (set_own (slice_set q.harts h x) other before (started_hart other pc opaque) (subst (λ (n : ℕ). slice_get (slice_set q.harts h x) n ≡ Some before) same here))
+    (get_back (slice_set q.harts h x) other before (started_hart other pc opaque) (subst (λ (n : ℕ). slice_get (slice_set q.harts h x) n ≡ Some before) same here))
     (subst (λ (n : ℕ). slice_get (slice_set (slice_set q.harts h x) other (started_hart other pc opaque)) n ≡ Some after) same e) in
     Begins pc opaque (subst (λ (y : Hart). y.started ≡ false) (sym its) o.1.1) permitted
     (sym begun ∙ ap (λ (n : ℕ). started_hart n pc opaque) (sym same))
@@ -382,7 +383,7 @@ fetch_does q h hart (Word w) at e =
 moving_left : (q : State) (h : ℕ) (hart : Hart) → IsMoving q h hart → IsMoving (leave_entry q h hart) h (outside hart)
 moving_left q h hart at = record {
   sound = (leave_goes q h hart at.sound (at.sound.harts h hart at.found)).sound;
-  found = set_own q.harts h hart (outside hart) at.found;
+  found = get_back q.harts h hart (outside hart) at.found;
   started = at.started;
   running = at.running;
 }

@@ -11,15 +11,9 @@ use Rattle.hart.specs.Cores.{core_of}
 use Rattle.hart.specs.declared.hart.Hart.{Hart}
 use Rattle.machine_model.specs.HostHarts.{host_at_trap, host_at_return, host_stopped, host_outside}
 use Rattle.machine_model.specs.StandsFor.{hregs_in, kernel_view}
-use Rattle.page_guard.specs.Sides.{mode_of, entry_of, registers_of, view_at_trap, view_at_return, view_outside}
+use Rattle.page_guard.specs.Sides.{mode_of, entry_of, view_at_trap, view_at_return, view_outside}
 use Rattle.hart_answers.specs.Hosts.{host_of}
 use Rattle.hart_answers.specs.Trapped.{in_handler, back_from_handler}
-
--- the registers of a side have its mode
-pub mode_same : (view : View) → (registers_of view).mode ≡ mode_of view
-mode_same View.Kernel = refl
-mode_same View.User = refl
-mode_same (View.Entry i) = refl
 
 -- a hart in kernel mode, by its entry
 in_kernel : (hart : Hart) (entry : Option ℕ)

@@ -1,11 +1,12 @@
 -- Words as the library's integers read and write their bytes.
-use Rattle.std.proofs.Common.{◌≡◌, ℕ, zero, suc, ◌+◌, ◌*◌, ◌/◌, ◌%◌, ◌^◌, ◌<◌, ◌≤◌, ◌-◌, List, [], ◌∷◌, length, get_or, set, add-one, refl, sym, ◌∙◌, ap, arith, pow-suc}
-use Rattle.std.proofs.Math.Nat.{div-div-eq-div-mul, div-one}
-use Rattle.std.proofs.lemmas.List.{drop_more, drop-drop, set_split}
-use Rattle.std.specs.Int.{from_le_bytes, to_le_bytes, byte_at, bytes_low_first, w16, w32, w64}
+use Rattle.std.proofs.Common.{◌≡◌, ℕ, suc, ◌+◌, ◌*◌, ◌%◌, ◌<◌, ◌≤◌, ◌-◌, List, [], ◌∷◌, ◌++◌, length, take, drop, get_or, set, add-one, refl, ◌∙◌, ap, arith}
+use Rattle.std.proofs.Math.Nat.{div-one}
+use Rattle.std.proofs.lemmas.List.{append-nil, drop_more, drop_all, drop-drop, set_split, take_all}
+use Rattle.std.specs.Int.{from_le_bytes, to_le_bytes, w16, w32, w64}
 use borrow.Rule.Slice.PartMut.{put_mid}
 use Rattle.processor.specs.Bytes.{word, write_word, overwrite, low_bytes}
 use Rattle.processor_laws.proofs.ByteLemmas.{length_low_bytes}
+use Rattle.processor_laws.proofs.LibraryBytes.{bytes_from}
 
 -- ---- reading
 
@@ -57,20 +58,15 @@ word_8 list at n e fits =
 
 -- ---- writing
 
-byte_is : (i value : ℕ) → byte_at i value ≡ value / 256 ^ i % 256
-byte_is zero value = ap (λ (x : ℕ). x % 256) (sym (div-one value))
-byte_is (suc i) value = refl
-
-bytes_from : (i n value : ℕ) → bytes_low_first i n value ≡ low_bytes n (value / 256 ^ i)
-bytes_from i zero value = refl
-bytes_from i (suc n) value =
-    let next : value / 256 ^ i / 256 ≡ value / 256 ^ suc i =
-    div-div-eq-div-mul value (256 ^ i) 256 ∙ ap (λ (k : ℕ). value / k) (sym (pow-suc 256 i)) in
-    rw (byte_is i value, next, bytes_from (suc i) n value) refl
-
 -- the bytes of a value of 64 bits are its eight lowest
 pub eight_bytes : (value : ℕ) → to_le_bytes w64 value ≡ low_bytes 8 value
 eight_bytes value = bytes_from 0 8 value ∙ ap (low_bytes 8) (div-one value)
+
+-- a list written over all of another of its length
+pub written_over : (len : ℕ) (new old : List ℕ) → length new ≡ len → length old ≡ len → take len (new ++ drop (length new) old) ≡ new
+written_over len new old same full =
+    let none : drop (length new) old ≡ [] = drop_all (length new) old (omega (arith, same, full)) in
+    ap (λ (rest : List ℕ). take len (new ++ rest)) none ∙ ap (take len) (append-nil new) ∙ take_all len new (omega (arith, same))
 
 -- what stands after a write to a part of a slice
 pub part_put : (list bytes : List ℕ) (at stop : ℕ) → stop ≡ at + length bytes → put_mid at (stop - at) list bytes ≡ overwrite list at bytes

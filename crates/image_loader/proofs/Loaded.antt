@@ -9,8 +9,8 @@ use Rattle.std.proofs.lemmas.List.Elements.{All-head, All-tail, All-take, All-ge
 use Rattle.std.proofs.lemmas.List.Sums.{fold-append}
 use Rattle.processor.specs.Bytes.{padded, page_size, ram_place}
 use Rattle.sv_types.specs.Kernel.{LoadedSegment, with_segment}
-use Rattle.processor_laws.proofs.ByteLemmas.{lt_or_le}
-use Rattle.elf64_load.proofs.LoadedBytes.{length_padded, at_before, at_written, at_behind, at_padded, zero_at}
+use Rattle.processor_laws.proofs.ByteLemmas.{lt_or_le, length_padded}
+use Rattle.elf64_load.proofs.LoadedBytes.{at_before, at_written, at_behind, at_padded, zero_at}
 use Rattle.image_loader.specs.Placed.{IsPlaced}
 use Rattle.image_loader.specs.Whole.{byte_of, covers, has_byte, loaded_byte, nothing, segment_at, IsLastWhole}
 use Rattle.image_loader.proofs.Written.{segment_fits}

@@ -7,8 +7,8 @@ use Rattle.std.proofs.lemmas.Bool.Decides.{nat_tests}
 use Rattle.processor.specs.Bytes.{overwrite, padded, part}
 use Rattle.sv_types.specs.Kernel.{LoadedSegment, with_segment}
 use Rattle.processor.specs.Regions.{Region}
-use Rattle.processor_laws.proofs.ByteLemmas.{lt_or_le, take_front, length_before, length_overwrite}
-use Rattle.elf64_load.proofs.LoadedBytes.{length_with_segment, length_padded, at_before, at_written, at_behind, at_padded, at_part}
+use Rattle.processor_laws.proofs.ByteLemmas.{lt_or_le, take_front, length_before, length_overwrite, length_padded}
+use Rattle.elf64_load.proofs.LoadedBytes.{length_with_segment, at_before, at_written, at_behind, at_padded, at_part}
 use Rattle.image_loader.specs.Placed.{IsPlaced}
 
 -- what is written behind bytes that were written is written with them

@@ -1,14 +1,11 @@
 -- The sites of a page are those of the piece at its place.
-use Rattle.std.proofs.Common.{◌≡◌, ℕ, ◌-◌, ◌*◌, ◌/◌, ◌%◌, ◌<◌, ◌≤◌, List, [], ◌∷◌, ◌++◌, refl, sym, ◌∙◌, ap, subst, Bool, true, false, ◌&&◌, arith}
-use Rattle.std.specs.Prelude.{All, nat_le, nat_lt, ◌==◌, if◌then◌else◌}
-use Rattle.std.proofs.lemmas.Bool.{and_parts, eqb-true, eq-eqb}
+use Rattle.std.proofs.Common.{◌≡◌, ℕ, ◌-◌, ◌*◌, ◌/◌, ◌<◌, ◌≤◌, List, [], ◌∷◌, refl, sym, ◌∙◌, ap, Bool, true, false, ◌&&◌, arith}
+use Rattle.std.specs.Prelude.{nat_le, nat_lt, ◌==◌, if◌then◌else◌}
+use Rattle.std.proofs.lemmas.Bool.{eqb-true, eq-eqb}
 use Rattle.std.proofs.lemmas.Bool.Decides.{nat_tests}
-use Rattle.std.proofs.lemmas.List.Elements.{All-nil, All-cons}
-use Rattle.sv_types.specs.Policies.{each_within, next_site_within, site_within, is_behind, place_within, is_aligned, base_within, anchor_within, site_size}
 use Rattle.sv_types.specs.declared.module.Site.{Site}
-use Rattle.reference.proofs.FieldWidths.{width_by}
 use Rattle.machine_model.specs.HostExits.{page_sites, moved_site, is_site_in}
-use Rattle.relocated_fields.specs.Pieces.{piece_sites, lies_in, IsAligned}
+use Rattle.relocated_fields.specs.Pieces.{piece_sites, lies_in}
 
 same_place : (n k : ℕ) (low high here : Bool) → nat_le (4096 * n) k ≡ low → nat_lt (k - 4096 * n) 4096 ≡ high → (k / 4096 == n) ≡ here → (low && high) ≡ here
 same_place n k true true true a b c = refl
@@ -32,20 +29,3 @@ piece_is_page n (site ∷ sites) =
     let same : lies_in (4096 * n) 4096 site ≡ is_site_in n site = same_place n site.offset (nat_le (4096 * n) site.offset) (nat_lt (site.offset - 4096 * n) 4096) (is_site_in n site) refl refl refl in
     ap (λ (b : Bool). if b then moved_site n site ∷ piece_sites (4096 * n) 4096 sites else piece_sites (4096 * n) 4096 sites) same
     ∙ ap (λ (rest : List Site). if is_site_in n site then moved_site n site ∷ rest else rest) (piece_is_page n sites)
-
--- ---- each site's place is a multiple of its field's bytes
-
-site_aligned : (pages exports : ℕ) (site : Site) → site_within pages exports site ≡ true → IsAligned site
-site_aligned pages exports site within =
-    let a = and_parts (place_within pages site.offset && is_aligned site.kind site.offset && base_within exports site.base) (anchor_within pages site.kind site.offset site.anchor) within in
-    let b = and_parts (place_within pages site.offset && is_aligned site.kind site.offset) (base_within exports site.base) a.0 in
-    let c = and_parts (place_within pages site.offset) (is_aligned site.kind site.offset) b.0 in
-    subst (λ (w : ℕ). site.offset % w ≡ 0) (sym (width_by site.kind)) (eqb-true (site.offset % site_size site.kind) 0 c.1)
-
-pub sites_aligned : (pages exports : ℕ) (before sites : List Site) → each_within (next_site_within pages exports) before sites ≡ true → All IsAligned sites
-sites_aligned pages exports before [] within = All-nil IsAligned
-sites_aligned pages exports before (site ∷ sites) within =
-    let parts = and_parts (next_site_within pages exports before site) (each_within (next_site_within pages exports) (before ++ site ∷ []) sites) within in
-    All-cons IsAligned site sites
-    (site_aligned pages exports site (and_parts (site_within pages exports site) (is_behind before site) parts.0).0)
-    (sites_aligned pages exports (before ++ site ∷ []) sites parts.1)

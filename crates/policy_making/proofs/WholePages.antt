@@ -16,6 +16,7 @@ use Rattle.elf64_reloc.specs.Objects.{Object, object_judged}
 use Rattle.elf64_reloc.specs.Modules.{Module, text_of, text_from, whole_pages, zeros, is_too_large, fields_overlap, ordered_sites, module_with, module_of, sites_of, module_judged}
 use Rattle.elf64_reloc.specs.Refusals.{Judged}
 use Rattle.elf64_reloc.specs.declared.fault.ObjectFault.{ObjectFault}
+use Rattle.elf64_reloc.proofs.FieldPlaces.{ok_same}
 
 abbrev IsWhole : List ℕ → Type 0
 IsWhole bytes = length bytes % 4096 ≡ 0
@@ -58,9 +59,6 @@ filled text =
 object_is_whole : (o : Object) → IsWhole (text_of o)
 unfolding text_of
 object_is_whole o = filled (text_from o.file [] o.sections)
-
-ok_same : (m n : Module) → ◌≡◌ {A = Judged Module} (Ok m) (Ok n) → m ≡ n
-ok_same m n e = cc e
 
 by_tests : (o : Object) (a b c : Bool) (sites : List Site) (m : Module)
     → (if a then Err ObjectFault.TooLarge else if b then Err ObjectFault.Overlap else if c then Err ObjectFault.NoText else Ok (record { text = text_of o; sites = sites })) ≡ Ok m

@@ -1,12 +1,11 @@
 -- Reads and writes of byte lists.
-use Rattle.std.proofs.Common.{◌≡◌, ℕ, zero, suc, ◌+◌, ◌-◌, ◌*◌, ◌/◌, ◌%◌, ◌^◌, ◌<◌, ◌≤◌, List, [], ◌∷◌, ◌++◌, length, take, drop, true, false, ltb, refl, sym, ◌∙◌, ap, subst, arith, length-append, length-take, length-drop, All, append_assoc, lit<, ◌⊎◌, inl, inr}
-use Rattle.std.proofs.Math.Nat.{pow-suc, mod-one, mod-lt}
+use Rattle.std.proofs.Common.{◌≡◌, ℕ, zero, suc, ◌+◌, ◌-◌, ◌*◌, ◌/◌, ◌%◌, ◌^◌, ◌<◌, ◌≤◌, List, ◌++◌, length, take, drop, true, false, ltb, refl, sym, ◌∙◌, ap, subst, arith, length-append, length-take, length-drop, append_assoc, lit<, ◌⊎◌, inl, inr}
+use Rattle.std.proofs.Math.Nat.{pow-suc, mod-one}
 use Rattle.std.proofs.Math.Arith.{mod-mul}
 use Rattle.std.proofs.Math.Seq.{drop-append_seam, take-append_seam, drop-append-add, take-append-add}
-use Rattle.std.proofs.lemmas.List.{take-append-le, drop-append-le, drop-take, take-take, drop-drop}
-use Rattle.std.proofs.lemmas.List.Elements.{All-nil, All-cons, All-head, All-tail}
+use Rattle.std.proofs.lemmas.List.{take-append-le, drop-append-le, drop-take, take-take, drop-drop, length-replicate}
 use borrow.Author.Tests.{ltb-true, ltb-false}
-use Rattle.processor.specs.Bytes.{word, overwrite, write_word, low_bytes, little_endian, part, page_bytes, page_size}
+use Rattle.processor.specs.Bytes.{word, overwrite, write_word, low_bytes, little_endian, padded, part, page_bytes, page_size}
 
 pub lt_or_le : (a b : ℕ) → (a < b) ⊎ (b ≤ a)
 lt_or_le a b = elim (ltb a b) as (λ t. ltb a b ≡ t → (a < b) ⊎ (b ≤ a)) [ true ↦ λ e. inl (ltb-true a b e) | false ↦ λ e. inr (ltb-false a b e) ] refl
@@ -24,6 +23,12 @@ length_overwrite list bytes at fits = simp (length-append, length-take, length-d
 pub length_write_word : (list : List ℕ) (at n value : ℕ) → at + n ≤ length list → length (write_word list at n value) ≡ length list
 length_write_word list at n value fits =
     let len = length_low_bytes n value in length_overwrite list (low_bytes n value) at (omega arith)
+
+pub length_padded : (bytes : List ℕ) (n : ℕ) → length bytes ≤ n → length (padded bytes n) ≡ n
+length_padded bytes n short = simp (length-append, length-replicate) (omega arith)
+
+pub length_part : (list : List ℕ) (at n : ℕ) → at + n ≤ length list → length (part list at n) ≡ n
+length_part list at n fits = let a = length-take n (drop at list) in let b = length-drop at list in omega arith
 
 -- ---- words and their bytes
 
@@ -145,7 +150,7 @@ page_elsewhere ram bytes at p q fits low high apart =
       | inr above ↦ part_after ram bytes at (page_size * p) page_size fits (omega arith)
     ]
 
-part_of_part : (list : List ℕ) (at n i m : ℕ) → i + m ≤ n → part (part list at n) i m ≡ part list (at + i) m
+pub part_of_part : (list : List ℕ) (at n i m : ℕ) → i + m ≤ n → part (part list at n) i m ≡ part list (at + i) m
 part_of_part list at n i m fits =
     let split : n ≡ i + (n - i) = omega arith in
     let e = subst (λ (k : ℕ). drop i (take k (drop at list)) ≡ take (n - i) (drop i (drop at list))) (sym split) (drop-take i (n - i) (drop at list)) in
@@ -155,19 +160,3 @@ part_of_part list at n i m fits =
 pub word_in_page_bytes : (ram : List ℕ) (page at n : ℕ) → at + n ≤ page_size → word (page_bytes ram page) at n ≡ word ram (page_size * page + at) n
 unfolding word
 word_in_page_bytes ram page at n fits = ap little_endian (part_of_part ram (page_size * page) page_size at n fits)
-
--- ---- bytes stay bytes
-
-abbrev pub IsBytes : List ℕ → Type 0
-IsBytes bytes = All (λ b. b < 256) bytes
-
-pub low_bytes_bytes : (n value : ℕ) → IsBytes (low_bytes n value)
-low_bytes_bytes zero value = All-nil (λ b. b < 256)
-low_bytes_bytes (suc n) value = All-cons (λ b. b < 256) (value % 256) (low_bytes n (value / 256)) (mod-lt value (lit< tt)) (low_bytes_bytes n (value / 256))
-
-pub little_endian_below : (bytes : List ℕ) → IsBytes bytes → little_endian bytes < 256 ^ length bytes
-little_endian_below [] h = lit< tt
-little_endian_below (b ∷ bs) h =
-    let head = All-head (λ b. b < 256) b bs h in
-    let rest = little_endian_below bs (All-tail (λ b. b < 256) b bs h) in
-    rw pow-suc (omega arith)

@@ -12,7 +12,7 @@ use Rattle.processor.specs.Encoding.{fits, is_width}
 use Rattle.processor.specs.Effects.{effect_of, register, plus, even, next_pc, immediate, jump, branch, branch_taken, load_width, store_width}
 use Rattle.processor.specs.Requests.{IsRequest}
 
-next_aligned : (pc : ℕ) → pc % 4 ≡ 0 → next_pc pc % 4 ≡ 0
+pub next_aligned : (pc : ℕ) → pc % 4 ≡ 0 → next_pc pc % 4 ≡ 0
 next_aligned pc aligned = omega arith
 
 jump_at : (rd link target : ℕ) → rd < 32 → (b : Bool) → (target % 4 == 0) ≡ b → IsRequest (if b then Effect.Set rd link target else Effect.MisalignedJump target)
@@ -26,7 +26,7 @@ branch_asks : (taken : Bool) (target next : ℕ) → next % 4 ≡ 0 → IsReques
 branch_asks true target next aligned = jump_asks 0 0 target (omega arith)
 branch_asks false target next aligned = (omega arith, aligned)
 
-load_asks : (op : LoadOp) → IsWidth (load_width op)
+pub load_asks : (op : LoadOp) → IsWidth (load_width op)
 unfolding load_width
 load_asks Lb = inl refl
 load_asks Lh = inr (inl refl)
@@ -36,7 +36,7 @@ load_asks Lbu = inl refl
 load_asks Lhu = inr (inl refl)
 load_asks Lwu = inr (inr (inl refl))
 
-store_asks : (op : StoreOp) → IsWidth (store_width op)
+pub store_asks : (op : StoreOp) → IsWidth (store_width op)
 unfolding store_width
 store_asks Sb = inl refl
 store_asks Sh = inr (inl refl)

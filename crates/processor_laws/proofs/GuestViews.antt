@@ -276,7 +276,7 @@ guest_returns c s = refl
 same_first : (p q : Interrupt → Bool) → ((i : Interrupt) → p i ≡ q i) → first_interrupt p ≡ first_interrupt q
 same_first p q e = rw (e External, e Software, e Timer) refl
 
-and_false : (b : Bool) → (b && false) ≡ false
+pub and_false : (b : Bool) → (b && false) ≡ false
 and_false true = refl
 and_false false = refl
 

@@ -1,6 +1,7 @@
 pub mod RegisterBits
 pub mod GuestViews
 pub mod ByteLemmas
+pub mod LibraryBytes
 pub mod RegionLemmas
 pub mod Decoding
 pub mod Fitting

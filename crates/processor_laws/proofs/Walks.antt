@@ -120,3 +120,9 @@ unfolding walk_guest
 walk_guest_fits r hgatp gpa at access e =
     guest_fits_by (gpa / 2 ^ 41 == 0) gpa at (walk (entry_in_region r) (permits_guest access) (sv39x4_indices gpa) (root_of hgatp) gpa)
     (walk_fits (entry_in_region r) (permits_guest access) (sv39x4_indices gpa) (root_of hgatp) gpa (lit≤ tt)) e
+
+-- ---- an address, or none
+
+pub address_chosen : (b : Bool) (x : ℕ) → address_at (if b then At x else PageFault) ≡ (if b then Some x else None)
+address_chosen true x = refl
+address_chosen false x = refl

@@ -1,13 +1,12 @@
 -- Lines that are held, and one more.
-use Rattle.std.proofs.Common.{◌≡◌, ℕ, zero, suc, ◌+◌, ◌*◌, ◌/◌, ◌%◌, ◌<◌, ◌⊎◌, inl, inr, List, length, get_or, set, replicate, refl, sym, ◌∙◌, ap, subst, arith}
+use Rattle.std.proofs.Common.{◌≡◌, ℕ, zero, suc, ◌+◌, ◌*◌, ◌/◌, ◌%◌, ◌<◌, inl, inr, List, length, get_or, set, replicate, refl, sym, ◌∙◌, ap, subst, arith}
 use Rattle.std.specs.Prelude.{Option, Some, None}
-use Rattle.std.proofs.lemmas.Bool.Decides.{eqb_tells}
-use Rattle.std.proofs.lemmas.List.{get_or-set_same, get_or-set_other}
 use Rattle.processor.specs.Regions.{Region}
 use Rattle.processor.specs.declared.access.Access.{Access}
 use Rattle.processor.specs.declared.access.Access.TheVariants.{Fetch, Load, Store}
 use Rattle.reach.specs.declared.line.Line.{Line}
 use Rattle.reach.specs.Kept.{no_lines, line_place, AreThere, LineAgrees, ReachAgrees, IsKept, leads_under}
+use Rattle.gstage_cache.proofs.Lines.{set_at}
 
 -- ---- what a line answers
 
@@ -24,14 +23,6 @@ place_inside : (access : Access) (page : ℕ) → line_place access page < 384
 place_inside Fetch page = omega arith
 place_inside Load page = omega arith
 place_inside Store page = omega arith
-
--- line j behind a change of line i
-set_at : (lines : List (Option Line)) (i j : ℕ) (o : Option Line) → i < length lines
-    → ((j ≡ i) × (get_or (set lines i o) j None ≡ o)) ⊎ ((j ≡ i → ⊥) × (get_or (set lines i o) j None ≡ get_or lines j None))
-set_at lines i j o fits = elim (eqb_tells j i) [
-  | inl same ↦ inl (same.1, ap (λ (k : ℕ). get_or (set lines i o) k None) same.1 ∙ get_or-set_same lines i o None fits)
-  | inr other ↦ inr (other.1, get_or-set_other lines i j o None other.1)
-]
 
 some_same : (line found : Line) → Some line ≡ Some found → line ≡ found
 some_same line found e = cc

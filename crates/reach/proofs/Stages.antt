@@ -1,7 +1,6 @@
 -- Both stages of the addresses of a page.
 use Rattle.std.proofs.Common.{◌≡◌, ℕ, zero, suc, ◌+◌, ◌-◌, ◌*◌, ◌/◌, ◌%◌, ◌^◌, ◌<◌, List, refl, ◌∙◌, sym, ap, subst, arith, Bool, true, false, ◌&&◌, ◌||◌}
 use Rattle.std.specs.Prelude.{Option, Some, None, ◌==◌, if◌then◌else◌}
-use Rattle.std.proofs.lemmas.Bool.Decides.{nat_tests}
 use Rattle.processor.specs.Regions.{Region}
 use Rattle.processor.specs.Translation.{Destination, At, PageFault, Unreadable, Settings, walk, at_leaf, is_leaf, leaf_address, first_stage, permits_access, is_canonical, root_of}
 use Rattle.processor.specs.SecondStage.{walk_guest, address_at, entry_in_region, entry_in_tables, entry_through, guest_destination, after_first_stage, place_through, two_stages, WalksApart}
@@ -15,6 +14,7 @@ use Rattle.sv39_walk.specs.declared.first_stage.Regime.{Regime}
 use Rattle.gstage_cache.proofs.Walks.{IsReadable, moved, leads_in_region, region_readable, page_moves, answer_near, answer_is}
 use Rattle.reach.specs.declared.line.Entries.{Entries}
 use Rattle.reach.specs.Kept.{AreThere, ArePlaces, EndsAt, LineAgrees, host_of, leads_under}
+use Rattle.sv39_walk.proofs.Steps.{mapped_test}
 
 -- ---- the second stage
 
@@ -48,9 +48,6 @@ second_same r other hgatp gpa x access tables apart walked =
     ∙ ap Some (back_together x gpa (walk_guest_fits r hgatp gpa x access walked).0)
 
 -- ---- the first stage
-
-mapped_test : (n : ℕ) → (n ≡ 0 → ⊥) → (n == 0) ≡ false
-mapped_test n h = grind (arith, nat_tests)
 
 -- where the walk ends at an entry
 first_ends : (read : ℕ → Option ℕ) (s : Settings) (mode : Mode) (va below entry : ℕ) (access : Access) → (IsBare s.satp → ⊥)

@@ -1,2 +1,3 @@
+pub mod RulesWithin
 pub mod Sites
 pub mod FieldsInPieces

@@ -1,11 +1,15 @@
 -- What a snapshot's form gives: the ranges of its parts.
-use Rattle.std.proofs.Common.{◌≡◌, ℕ, ◌+◌, ◌-◌, ◌*◌, ◌^◌, ◌<◌, ◌≤◌, List, [], ◌∷◌, ◌++◌, length, refl, sym, subst, true, arith, slice_get, length-append}
-use Rattle.std.specs.Prelude.{Some, nat_lt, nat_le}
+use Rattle.std.proofs.Common.{◌≡◌, ℕ, ◌+◌, ◌-◌, ◌*◌, ◌%◌, ◌^◌, ◌<◌, ◌≤◌, List, [], ◌∷◌, ◌++◌, length, refl, sym, subst, true, ◌&&◌, arith, slice_get, length-append}
+use Rattle.std.specs.Prelude.{Some, nat_lt, nat_le, ◌==◌}
 use Rattle.std.proofs.lemmas.Bool.{eqb-true}
 use Rattle.std.proofs.lemmas.Bool.Decides.{nat_tests}
 use Rattle.processor.specs.Bytes.{page_size}
 use Rattle.sv_types.specs.Policies.{harts_within}
-use Rattle.snapshot_form.specs.DeviceForms.{console, port, block_in, disk, devices}
+use Rattle.sv_types.specs.declared.block.BlockCommand.{BlockCommand}
+use Rattle.sv_types.specs.declared.block.BlockState.{BlockState}
+use Rattle.sv_types.specs.declared.block.BlockStatus.{BlockStatus}
+use Rattle.reference.specs.BlockDisk.{beat_size, beats_done, is_busy, is_under_way, sector_size}
+use Rattle.snapshot_form.specs.DeviceForms.{block, block_in, console, devices, disk, port, sectors, standing, transfer}
 use Rattle.snapshot_form.specs.Forms.{is_word}
 use Rattle.snapshot_form.specs.HartForms.{flag, harts}
 use Rattle.snapshot_form.specs.JournalForms.{counts, notes, verdict, journal}
@@ -20,6 +24,7 @@ pub record HasParts (s : Contents) : Type 0 where
   pub text : (text (length s.protection)).has s.text ≡ true
   pub modules : modules.has s.modules ≡ true
   pub loading : (loading s.harts).has s.loading ≡ true
+  pub devices : devices.has (s.console, (s.port, s.disk)) ≡ true
   pub console : console.has s.console ≡ true
   pub port : port.has s.port ≡ true
   pub notes : (notes (length s.harts) s.counts.notes).has s.notes ≡ true
@@ -53,6 +58,7 @@ parts_of s h =
       text = second_true ((protections h0.ram_pages).has s.protection) _ page_parts;
       modules = first_true (modules.has s.modules) _ gate_parts;
       loading = second_true (flag.has s.retired) _ (second_true (modules.has s.modules) _ gate_parts);
+      devices = device_parts;
       console = first_true (console.has s.console) _ device_parts;
       port = first_true (port.has s.port) ((disk (block_in s.port)).has s.disk) blocks;
       notes = first_true ((notes h0.harts s.counts.notes).has s.notes) _ notes_on;
@@ -94,3 +100,34 @@ less_is a b e = grind (arith, nat_tests)
 
 pub least_is : (a b : ℕ) → a ≤ b → nat_le a b ≡ true
 least_is a b e = grind (arith, nat_tests)
+
+-- ---- a transfer
+
+-- a transfer under way has an address of a beat's bytes, and beats left
+pub record UnderWay (gpa count : ℕ) (status : BlockStatus) : Type 0 where
+  pub aligned : gpa % beat_size ≡ 0
+  pub left : beat_size * beats_done status < sector_size * count
+
+standing_goes : (gpa count : ℕ) (status : BlockStatus) → (standing gpa count).has status ≡ true → is_under_way status ≡ true → UnderWay gpa count status
+unfolding standing transfer
+standing_goes gpa count BlockStatus.Idle h busy = absurd cc
+standing_goes gpa count (BlockStatus.Busy BlockCommand.DiskToMemory done) h busy =
+    let begun = second_true (nat_lt 0 count) _ (first_true (nat_lt 0 count && gpa % beat_size == 0) _ h) in
+    let beats = second_true (is_word done) _ (second_true (nat_lt 0 count && gpa % beat_size == 0) _ h) in
+    let less = below_is done (8 * count) beats in
+    record { aligned = eqb-true (gpa % beat_size) 0 begun; left = omega (arith, less) }
+standing_goes gpa count (BlockStatus.Busy BlockCommand.MemoryToDisk done) h busy =
+    let begun = second_true (nat_lt 0 count) _ (first_true (nat_lt 0 count && gpa % beat_size == 0) _ h) in
+    let beats = second_true (is_word done) _ (second_true (nat_lt 0 count && gpa % beat_size == 0) _ h) in
+    let less = below_is done (8 * count) beats in
+    record { aligned = eqb-true (gpa % beat_size) 0 begun; left = omega (arith, less) }
+standing_goes gpa count BlockStatus.Done h busy = absurd cc
+standing_goes gpa count BlockStatus.Denied h busy = absurd cc
+standing_goes gpa count BlockStatus.OutOfRange h busy = absurd cc
+
+pub block_goes : (b : BlockState) → block.has b ≡ true → is_busy b ≡ true → UnderWay b.gpa b.count b.status
+unfolding block
+block_goes b h busy =
+    let gpa_on = second_true (is_word b.sector) _ h in
+    let count_on = second_true (is_word b.gpa) _ gpa_on in
+    standing_goes b.gpa b.count b.status (second_true (sectors.has b.count) _ count_on) busy

@@ -33,8 +33,9 @@ use Rattle.reference.specs.declared.answers.Reply.TheVariants.{Gives, Replies, S
 use Rattle.run_laws.proofs.AnswersMay.{MayBeside, answer_may}
 use Rattle.run_laws.proofs.Lookups.{and_first, and_second}
 use Rattle.resume_laws.specs.Keepable.{ram_size, IsKeepableHart, AreKeepable, IsKeepableNote, IsKeepableJournal, IsKeepableClock, AreAligned, MayGoOn, IsKeepableLoad, IsKeepableText, IsKeepable}
-use Rattle.resume_laws.proofs.KeepableParts.{zero_stays, are_set, are_interrupted, below, get_here, load_beside, load_interrupted, load_begun, journal_noted, journal_ended, clock_set, aligned_with, aligned_without}
+use Rattle.resume_laws.proofs.KeepableParts.{zero_stays, are_set, are_interrupted, below, load_beside, load_interrupted, load_begun, journal_noted, journal_ended, clock_set, aligned_with, aligned_without}
 use Rattle.resume_laws.proofs.KeepableRequests.{Moving, hart_kept, there, shorter}
+use Rattle.attempt_laws.proofs.AttemptsAgree.{get_back}
 
 -- ---- what a call may begin
 
@@ -201,7 +202,7 @@ load_begins_at : (r : State) (h : ℕ) (hart : Hart) (reply : Reply) (m : SavedM
 unfolding replied
 load_begins_at r h hart reply m pages moving on kernel aligned stays =
     subst (λ (how : Reply). MayGoOn (slice_set r.harts h (replied how hart)) (record { hart = h; about = m; left = pages })) (sym stays)
-    (record { hart = replied Stays hart; found = get_here r.harts h hart (replied Stays hart) moving.found; started = on; mode = kernel; aligned = aligned })
+    (record { hart = replied Stays hart; found = get_back r.harts h hart (replied Stays hart) moving.found; started = on; mode = kernel; aligned = aligned })
 
 load_kept : (r : State) (h : ℕ) (hart : Hart) (reply : Reply) (b : Beside) → Moving r h hart → hart.started ≡ true → hart.mode ≡ Kernel → MayBeside r b → Begins reply b
     → IsKeepableLoad (harts_beside b (slice_set r.harts h (replied reply hart))) (pages_beside b h r).loading

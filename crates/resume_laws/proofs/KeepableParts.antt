@@ -16,7 +16,7 @@ use Rattle.reference.specs.Devices.{hart_after_write}
 use Rattle.reference.specs.States.{Hart, Loading, with_module, without_module}
 use Rattle.attempt_laws.specs.Agree.{IsNotLoading}
 use Rattle.run_laws.proofs.Lookups.{both}
-use Rattle.run_laws.proofs.OthersRest.{get_behind, get_sent, sent}
+use Rattle.run_laws.proofs.OthersRest.{get_behind, get_sent, sent, get_beside}
 use Rattle.resume_laws.specs.Keepable.{IsReservable, IsKeepableHart, AreKeepable, IsKeepableNote, AreKeepableNotes, IsKeepableVerdict, IsKeepableJournal, IsKeepableClock, AreAligned, IsKeepableLoad}
 
 -- ---- registers and reservations
@@ -77,18 +77,6 @@ pub below : {A : Type 0} (xs : List A) (i : ℕ) (x : A) → slice_get xs i ≡ 
 below [] i x e = cc
 below (y ∷ xs) zero x e = omega arith
 below (y ∷ xs) (suc i) x e = let k = below xs i x e in omega arith
-
-pub get_here : (harts : List Hart) (h : ℕ) (x y : Hart) → slice_get harts h ≡ Some x → slice_get (slice_set harts h y) h ≡ Some y
-get_here [] h x y e = cc
-get_here (a ∷ harts) zero x y e = refl
-get_here (a ∷ harts) (suc h) x y e = get_here harts h x y e
-
-pub get_beside : (harts : List Hart) (h k : ℕ) (x y : Hart) → (h ≡ k → ⊥) → slice_get harts k ≡ Some y → slice_get (slice_set harts h x) k ≡ Some y
-get_beside [] h k x y other e = absurd (cc)
-get_beside (a ∷ harts) zero zero x y other e = absurd (other refl)
-get_beside (a ∷ harts) zero (suc k) x y other e = e
-get_beside (a ∷ harts) (suc h) zero x y other e = e
-get_beside (a ∷ harts) (suc h) (suc k) x y other e = get_beside harts h k x y (λ s. other (ap suc s)) e
 
 -- ---- the load under way
 

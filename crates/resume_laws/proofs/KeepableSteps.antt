@@ -31,10 +31,11 @@ use Rattle.reference.specs.Turn.{place_of_pc, leads_into, noted_gpa, outside, le
 use Rattle.attempt_laws.specs.Agree.{IsNotLoading}
 use Rattle.attempt_laws.proofs.AllTold.{all_told}
 use Rattle.attempt_laws.proofs.EffectsAgree.{IsTold}
+use Rattle.attempt_laws.proofs.AttemptsAgree.{get_back}
 use Rattle.run_laws.proofs.AnswersMay.{decision_may}
 use Rattle.run_laws.proofs.StepsSound.{leave_goes, counted_sound, step_goes}
 use Rattle.resume_laws.specs.Keepable.{ram_size, IsKeepable, KeepsLaw}
-use Rattle.resume_laws.proofs.KeepableParts.{zero_stays, keepable_at, below, get_here, journal_noted}
+use Rattle.resume_laws.proofs.KeepableParts.{zero_stays, keepable_at, below, journal_noted}
 use Rattle.resume_laws.proofs.KeepableRequests.{Moving, hart_kept, there, aligned_pc, set_alone, retired, choose_keeps, trap_keeps, exception_keeps, return_keeps, load_keeps, source_inside, load_reserved_keeps, bytes_keep, store_keeps, store_conditional_keeps, amo_keeps, csr_keeps}
 use Rattle.resume_laws.proofs.KeepableCalls.{call_keeps, Loads, decision_keeps, page_turn_keeps}
 
@@ -100,7 +101,7 @@ left_moving : (r : State) (h : ℕ) (hart : Hart) → Moving r h hart → Moving
 left_moving r h hart m = record {
   keepable = set_alone r h hart (outside hart) r.journal m (record { zero = (hart_kept m).zero; reservation = (hart_kept m).reservation }) m.keepable.journal;
   sound = (leave_goes r h hart m.sound (m.sound.harts h hart m.found)).sound;
-  found = get_here r.harts h hart (outside hart) m.found;
+  found = get_back r.harts h hart (outside hart) m.found;
   free = m.free;
 }
 

@@ -5,7 +5,7 @@ use Rattle.std.specs.List.{list_all}
 use Rattle.std.proofs.lemmas.Bool.{eqb-true}
 use Rattle.std.proofs.lemmas.List.{length-map, length-replicate}
 use Rattle.processor.specs.Bytes.{page_size, ram_base, ram_place}
-use Rattle.processor.specs.Registers.{legal_status, legal_interrupts, legal_tvec, legal_counteren, legal_epc, legal_satp}
+use Rattle.processor.specs.Registers.{IsLegalSupervisor, legal_status, legal_interrupts, legal_tvec, legal_counteren, legal_epc, legal_satp}
 use Rattle.processor.specs.declared.mode.Mode.{Mode}
 use Rattle.processor.specs.declared.mode.Mode.TheVariants.{Kernel, User}
 use Rattle.sv_types.specs.Clock.{latest}
@@ -118,18 +118,11 @@ record IsResumedHart (rules : Rules) (size : ℕ) (hart : Hart) : Type 0 where
   sound : IsSoundHart rules hart
   kept : IsKeepableHart size hart
 
-hart_resumes : (rules : Rules) (pages : ℕ) (h : SavedHart) → (hart pages).has h ≡ true → is_bound rules h.entry ≡ true → IsResumedHart rules (page_size * pages) (resumed_hart h)
-unfolding hart status trap_status
-hart_resumes rules pages h has bound =
-    let parts = second_true (begins_with_0 h.registers) _ has in
-    let sides = sided h.started h.mode h.entry (first_true (side.has (h.started, (h.mode, h.entry))) _ parts) in
-    let pc_on = second_true (side.has (h.started, (h.mode, h.entry))) _ parts in
-    let pc = number_aligned 4 h.pc (first_true ((aligned 4).has h.pc) _ pc_on) in
-    let registers_on = second_true ((aligned 4).has h.pc) _ pc_on in
-    let status_on = second_true (registers.has (drop 1 h.registers)) _ registers_on in
-    let sstatus_on = first_true _ ((reservation pages).has h.reservation && is_word h.timer) status_on in
-    let reserved_on = second_true _ ((reservation pages).has h.reservation && is_word h.timer) status_on in
-    let sie_on = second_true ((legal legal_status).has h.sstatus) _ sstatus_on in
+supervisor_legal : (h : SavedHart) → status.has (h.sstatus, (h.sie, (h.stvec, (h.scounteren, (h.sscratch, (h.sepc, (h.scause, (h.stval, (h.sip, h.satp))))))))) ≡ true
+    → IsLegalSupervisor (resumed_hart h).supervisor × ((h.sip == 0 || h.sip == 2) ≡ true)
+unfolding status trap_status
+supervisor_legal h on =
+    let sie_on = second_true ((legal legal_status).has h.sstatus) _ on in
     let stvec_on = second_true ((legal legal_interrupts).has h.sie) _ sie_on in
     let scounteren_on = second_true ((legal legal_tvec).has h.stvec) _ stvec_on in
     let sscratch_on = second_true ((legal legal_counteren).has h.scounteren) _ scounteren_on in
@@ -137,18 +130,43 @@ hart_resumes rules pages h has bound =
     let scause_on = second_true ((legal legal_epc).has h.sepc) _ trap in
     let stval_on = second_true (is_word h.scause) _ scause_on in
     let sip_on = second_true (is_word h.stval) _ stval_on in
+    let sip_part = first_true _ ((legal (legal_satp 0)).has h.satp) sip_on in (
+      record {
+        sstatus = number_legal legal_status h.sstatus (first_true ((legal legal_status).has h.sstatus) _ on);
+        sie = number_legal legal_interrupts h.sie (first_true ((legal legal_interrupts).has h.sie) _ sie_on);
+        stvec = number_legal legal_tvec h.stvec (first_true ((legal legal_tvec).has h.stvec) _ stvec_on);
+        scounteren = number_legal legal_counteren h.scounteren (first_true ((legal legal_counteren).has h.scounteren) _ scounteren_on);
+        sepc = number_legal legal_epc h.sepc (first_true ((legal legal_epc).has h.sepc) _ trap);
+        satp = number_legal (legal_satp 0) h.satp (second_true _ ((legal (legal_satp 0)).has h.satp) sip_on);
+      },
+      second_true (is_word h.sip) _ sip_part,
+    )
+
+-- the supervisor's registers of a hart are legal, and of its pending interrupts the software interrupt alone is stored
+pub supervisor_of : (pages : ℕ) (h : SavedHart) → (hart pages).has h ≡ true → IsLegalSupervisor (resumed_hart h).supervisor × ((h.sip == 0 || h.sip == 2) ≡ true)
+unfolding hart
+supervisor_of pages h has =
+    let parts = second_true (begins_with_0 h.registers) _ has in
+    let pc_on = second_true (side.has (h.started, (h.mode, h.entry))) _ parts in
+    let registers_on = second_true ((aligned 4).has h.pc) _ pc_on in
+    let status_on = second_true (registers.has (drop 1 h.registers)) _ registers_on in
+    supervisor_legal h (first_true (status.has _) ((reservation pages).has h.reservation && is_word h.timer) status_on)
+
+hart_resumes : (rules : Rules) (pages : ℕ) (h : SavedHart) → (hart pages).has h ≡ true → is_bound rules h.entry ≡ true → IsResumedHart rules (page_size * pages) (resumed_hart h)
+unfolding hart
+hart_resumes rules pages h has bound =
+    let parts = second_true (begins_with_0 h.registers) _ has in
+    let sides = sided h.started h.mode h.entry (first_true (side.has (h.started, (h.mode, h.entry))) _ parts) in
+    let pc_on = second_true (side.has (h.started, (h.mode, h.entry))) _ parts in
+    let pc = number_aligned 4 h.pc (first_true ((aligned 4).has h.pc) _ pc_on) in
+    let registers_on = second_true ((aligned 4).has h.pc) _ pc_on in
+    let status_on = second_true (registers.has (drop 1 h.registers)) _ registers_on in
+    let reserved_on = second_true (status.has _) ((reservation pages).has h.reservation && is_word h.timer) status_on in
     record {
       sound = record {
         aligned = pc.0;
         small = pc.1;
-        legal = record {
-          sstatus = number_legal legal_status h.sstatus (first_true ((legal legal_status).has h.sstatus) _ sstatus_on);
-          sie = number_legal legal_interrupts h.sie (first_true ((legal legal_interrupts).has h.sie) _ sie_on);
-          stvec = number_legal legal_tvec h.stvec (first_true ((legal legal_tvec).has h.stvec) _ stvec_on);
-          scounteren = number_legal legal_counteren h.scounteren (first_true ((legal legal_counteren).has h.scounteren) _ scounteren_on);
-          sepc = number_legal legal_epc h.sepc (first_true ((legal legal_epc).has h.sepc) _ trap);
-          satp = number_legal (legal_satp 0) h.satp (second_true _ ((legal (legal_satp 0)).has h.satp) sip_on);
-        };
+        legal = (supervisor_of pages h has).0;
         entry = entry_sound rules h.started h.mode h.entry sides bound;
         stopped = λ off. record { mode = kernel_of h.started h.mode sides.mode off; entry = stopped_place h.started h.mode h.entry sides off };
       };

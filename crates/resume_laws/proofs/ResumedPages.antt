@@ -22,7 +22,7 @@ use Rattle.resume_laws.specs.Keepable.{AreAligned, AscendFrom}
 use Rattle.resume_laws.proofs.FormParts.{below_is, most_is, last_of}
 use Rattle.resume_laws.proofs.KeepableParts.{some_is}
 use Rattle.resume_laws.proofs.TakenPages.{Taking, AllBelow, taken_in_two, length_taken, apart, or_true}
-use Rattle.run_laws.proofs.Lookups.{approved_alone, numbers_bounds}
+use Rattle.run_laws.proofs.Lookups.{approved_alone, numbers_bounds, above_less}
 
 -- ---- text
 
@@ -95,10 +95,6 @@ pub record ModuleParts (modules : List SavedModule) : Type 0 where
 record ModulesFrom (last : Option ℕ) (modules : List SavedModule) : Type 0 where
   above : AreAbove last modules
   parts : ModuleParts modules
-
-above_less : (low high : ℕ) (modules : List SavedModule) → low < high → AllAbove high modules → AllAbove low modules
-above_less low high [] less all = tt
-above_less low high (m ∷ modules) less all = let first : high < m.id = all.0 in (omega (arith, less, first), above_less low high modules less all.1)
 
 above_one : (last : Option ℕ) (m : SavedModule) (modules : List SavedModule) → is_above last m.id ≡ true → AllAbove m.id modules → AreAbove last (m ∷ modules)
 above_one None m ms e all = tt

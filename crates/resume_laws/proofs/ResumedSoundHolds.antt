@@ -1,8 +1,7 @@
 -- The state in which a machine goes on from a snapshot that isn't refused is sound.
-use Rattle.std.proofs.Common.{◌≡◌, ℕ, zero, suc, ◌+◌, ◌*◌, ◌%◌, ◌<◌, ◌≤◌, inl, inr, List, [], ◌∷◌, length, map, replicate, refl, sym, ◌∙◌, ap, subst, Bool, true, false, not, ◌&&◌, ◌||◌, slice_get, arith}
-use Rattle.std.specs.Prelude.{Option, Some, None, option_map, if◌then◌else◌, ◌==◌, nat_lt, nat_le, IsTrue}
+use Rattle.std.proofs.Common.{◌≡◌, ℕ, zero, suc, ◌+◌, ◌*◌, ◌<◌, ◌≤◌, inl, inr, List, [], ◌∷◌, length, map, replicate, refl, sym, ◌∙◌, ap, subst, Bool, true, false, not, ◌&&◌, ◌||◌, slice_get, arith}
+use Rattle.std.specs.Prelude.{Option, Some, None, option_map, if◌then◌else◌, ◌==◌, nat_le, IsTrue}
 use Rattle.std.specs.List.{list_all}
-use Rattle.std.proofs.lemmas.Bool.{eqb-true}
 use Rattle.std.proofs.lemmas.Slice.Eq.{bytes_eq-Decides}
 use Rattle.std.proofs.lemmas.List.{length-map, length-replicate}
 use Rattle.processor.specs.Bytes.{page_size, page_bytes}
@@ -10,14 +9,10 @@ use Rattle.sv_types.specs.ApprovedPages.{approved_pages, numbers_from}
 use Rattle.sv_types.specs.Console.{most_queued}
 use Rattle.sv_types.specs.Measure.{page_digest, joined_digests}
 use Rattle.sv_types.specs.Policies.{Rules, rules_within, harts_within}
-use Rattle.sv_types.specs.declared.block.BlockState.{BlockState}
-use Rattle.sv_types.specs.declared.block.BlockStatus.{BlockStatus}
-use Rattle.sv_types.specs.declared.block.BlockCommand.{BlockCommand}
 use Rattle.sv_types.specs.declared.port.PortState.{PortState}
 use Rattle.sv_types.specs.declared.protection.Protection.{Protection}
 use Rattle.sv_types.specs.declared.protection.Protection.TheVariants.{Free, Held, Approved}
 use Rattle.sv_types.specs.declared.saved.SavedModule.{SavedModule}
-use Rattle.reference.specs.BlockDisk.{beat_size, is_busy, is_under_way}
 use Rattle.reference.specs.Loads.{is_good}
 use Rattle.reference.specs.Origins.{IsOwned, IsMeasured, OwnsPages, is_kernel_text, ownership}
 use Rattle.reference.specs.Soundness.{IsSound, IsSoundDisk, IsSoundLoad}
@@ -25,15 +20,14 @@ use Rattle.reference.specs.Start.{AreWords}
 use Rattle.reference.specs.Protections.{protection_at}
 use Rattle.reference.specs.States.{has_number, is_approved_in, protection_in, find_module, pages_in_rule}
 use Rattle.saved_machine.specs.SavedStates.{disk_of, saved_protections}
-use Rattle.saved_machine.specs.declared.harts.SavedHart.{SavedHart}
 use Rattle.saved_machine.specs.declared.whole.SavedLoad.{SavedLoad}
-use Rattle.snapshot_form.specs.DeviceForms.{console, sectors, transfer, standing, block, port}
+use Rattle.snapshot_form.specs.DeviceForms.{console, port}
 use Rattle.snapshot_form.specs.Forms.{is_word}
 use Rattle.snapshot_form.specs.PageForms.{loading}
 use Rattle.snapshot_form.specs.Snapshots.{Contents, snapshot}
 use Rattle.snapshot_form.specs.declared.whole.TextPage.{TextPage}
 use Rattle.snapshot_form.proofs.FormLaws.{first_true, second_true}
-use Rattle.resumption.specs.Judgements.{page_numbers, is_retired, text_left, loaded_pages, load_pages, approved_of, is_bound, fits, is_loaded, load_fits, is_of_policy, taken, then_held, guard_due, is_guarded_right, joins, is_there, has_text, has_modules, resume_refusal}
+use Rattle.resumption.specs.Judgements.{page_numbers, is_retired, text_left, loaded_pages, load_pages, approved_of, fits, is_loaded, load_fits, is_of_policy, taken, then_held, guard_due, is_guarded_right, joins, is_there, has_text, has_modules, resume_refusal}
 use Rattle.resumption.specs.ResumedStates.{resumed_hart, resumed_load, resumed_state, timers_of}
 use Rattle.resumption.specs.declared.refusal.ResumeRefusal.{ResumeRefusal}
 use Rattle.resumption.specs.declared.refusal.ResumeRefusal.TheVariants.{OtherPolicy, OtherPages, OtherKernel, OtherText, OtherModule}
@@ -41,13 +35,14 @@ use Rattle.resume_laws.specs.Keepable.{AreKeepable, IsKeepableJournal, IsKeepabl
 use Rattle.resume_laws.specs.Resumed.{KeepsDigests}
 use Rattle.resume_laws.specs.ResumedSound.{ResumedGoesOnLaw, ResumedSoundLaw}
 use Rattle.resume_laws.proofs.DueProtections.{due_is, all_free, by_marks, listed}
-use Rattle.resume_laws.proofs.FormParts.{HasParts, parts_of, most_is}
+use Rattle.resume_laws.proofs.FormParts.{HasParts, parts_of, most_is, block_goes}
 use Rattle.resume_laws.proofs.ResumedHarts.{harts_sound, harts_kept, LoadParts, load_parts_of, load_kept, journal_kept, clock_kept}
 use Rattle.resume_laws.proofs.KeepableSteps.{keeps_law}
 use Rattle.resume_laws.proofs.ResumedHolds.{resumed_law}
 use Rattle.resume_laws.proofs.ResumedPages.{text_ascends, text_inside, ModuleParts, modules_parts, found_all, found_begins, Fits, fits_is, place_aligned, module_inside, in_first, in_second, in_one, both_below, loaded_inside, among_loaded, of_module, one_module, approved_is, keeps_text}
 use Rattle.resume_laws.proofs.TakenPages.{Taking, AllBelow, either_one, taken_in_two, length_taken, taken_at, were_free, apart, found_later}
 use Rattle.run_laws.proofs.Lookups.{not_true, not_false, all_found, number_filtered}
+use Rattle.resumption.proofs.ModuleSites.{OfPolicy, of_policy}
 
 -- ---- the judgements, one by one
 
@@ -76,32 +71,6 @@ unfolding resume_refusal
 accepted rules s h =
     let all = none_first (is_of_policy rules s) (is_guarded_right rules s) (joins rules s) (has_text rules s) (has_modules rules s) h in
     record { policy = all.0; guarded = all.1.0; joined = all.1.1.0; text = all.1.1.1.0; modules = all.1.1.1.1 }
-
--- the snapshot is of the policy's machine
-pub record OfPolicy (rules : Rules) (s : Contents) : Type 0 where
-  pub harts : length s.harts ≡ rules.harts
-  pub pages : length s.protection ≡ rules.ram_pages
-  pub bound : list_all (λ (h : SavedHart). is_bound rules h.entry) s.harts ≡ true
-  pub modules : list_all (fits rules) s.modules ≡ true
-  pub load : load_fits rules s.modules s.loading ≡ true
-
-pub of_policy : (rules : Rules) (s : Contents) → is_of_policy rules s ≡ true → OfPolicy rules s
-unfolding is_of_policy
-of_policy rules s e =
-    let a : Bool = length s.harts == rules.harts in
-    let b : Bool = length s.protection == rules.ram_pages in
-    let c : Bool = list_all (λ (h : SavedHart). is_bound rules h.entry) s.harts in
-    let d : Bool = list_all (fits rules) s.modules in
-    let four = first_true (a && b && c && d) _ e in
-    let three = first_true (a && b && c) d four in
-    let two = first_true (a && b) c three in
-    record {
-      harts = eqb-true (length s.harts) rules.harts (first_true a b two);
-      pages = eqb-true (length s.protection) rules.ram_pages (second_true a b two);
-      bound = second_true (a && b) c three;
-      modules = second_true (a && b && c) d four;
-      load = second_true (a && b && c && d) _ e;
-    }
 
 -- ---- pages that were taken
 
@@ -315,27 +284,9 @@ protections_are rules s k =
 
 -- ---- the disk
 
-standing_aligned : (gpa count : ℕ) (status : BlockStatus) → (standing gpa count).has status ≡ true → is_under_way status ≡ true → gpa % beat_size ≡ 0
-unfolding standing transfer
-standing_aligned gpa count BlockStatus.Idle h busy = cc
-standing_aligned gpa count (BlockStatus.Busy BlockCommand.DiskToMemory done) h busy =
-    eqb-true (gpa % beat_size) 0 (second_true (nat_lt 0 count) _ (first_true (nat_lt 0 count && gpa % beat_size == 0) _ h))
-standing_aligned gpa count (BlockStatus.Busy BlockCommand.MemoryToDisk done) h busy =
-    eqb-true (gpa % beat_size) 0 (second_true (nat_lt 0 count) _ (first_true (nat_lt 0 count && gpa % beat_size == 0) _ h))
-standing_aligned gpa count BlockStatus.Done h busy = cc
-standing_aligned gpa count BlockStatus.Denied h busy = cc
-standing_aligned gpa count BlockStatus.OutOfRange h busy = cc
-
-block_sound : (b : BlockState) → block.has b ≡ true → is_busy b ≡ true → b.gpa % beat_size ≡ 0
-unfolding block
-block_sound b h busy =
-    let gpa_on = second_true (is_word b.sector) _ h in
-    let count_on = second_true (is_word b.gpa) _ gpa_on in
-    standing_aligned b.gpa b.count b.status (second_true (sectors.has b.count) _ count_on) busy
-
 port_sound : (p : PortState) (bytes : List ℕ) → port.has p ≡ true → IsSoundDisk (disk_of p bytes)
 unfolding port
-port_sound (PortState.Block b) bytes h = block_sound b h
+port_sound (PortState.Block b) bytes h = λ busy. (block_goes b h busy).aligned
 port_sound (PortState.Virtio v) bytes h = cc
 
 -- ---- the whole

@@ -34,12 +34,12 @@ use Rattle.resume_laws.specs.SavedAccepted.{SavedAcceptedLaw}
 use Rattle.resume_laws.proofs.DueProtections.{all_free, by_marks, listed}
 use Rattle.resume_laws.proofs.FormParts.{least_is, less_is}
 use Rattle.resume_laws.proofs.KeepableStarts.{filter_ascends, numbers_ascend}
-use Rattle.resume_laws.proofs.ResumedHolds.{held_free}
 use Rattle.resume_laws.proofs.ResumedPages.{of_module, page_inside}
 use Rattle.resume_laws.proofs.SavedResumes.{SameText, contents_are, contents_of, from_owned, held_back, left_is, length_saved, same_truth, to_approved}
 use Rattle.resume_laws.proofs.TakenAgain.{AreOnce, ShareNone, once_both, once_loaded, once_up, takes}
 use Rattle.resume_laws.proofs.TakenPages.{AllBelow, Taking, either_one, length_taken, or_true, taken_at}
-use Rattle.run_laws.proofs.Lookups.{all_found, and_both, both, numbers_bounds, same_number}
+use Rattle.run_laws.proofs.Lookups.{all_found, and_both, both, numbers_bounds, same_number, length_pages}
+use Rattle.run_laws.proofs.StateLawsHold.{held_free}
 
 -- ---- lists
 
@@ -112,10 +112,6 @@ load_fits_by r (Some load) k =
     and_both (fits r.rules load.about && not (is_loaded r.loaded load.about.id)) _
     (and_both (fits r.rules load.about) (not (is_loaded r.loaded load.about.id)) (fit_by r.rules load.about k.known k.base k.inside) (ap not (none_loaded r.loaded load.about.id k.other)))
     (least_is load.left (pages_in_rule (slice_get r.rules.modules load.about.id)) k.left)
-
-pub length_pages : (f : ℕ → Protection) (first n : ℕ) → length (map f (numbers_from first n)) ≡ n
-length_pages f first zero = refl
-length_pages f first (suc n) = ap suc (length_pages f (first + 1) n)
 
 abbrev pub snapped : State → ℕ → List TextPage → PortState → List ℕ → Contents
 snapped r events text port disk = contents_of r events text (saved_protections r) port disk

@@ -23,12 +23,13 @@ use Rattle.resume_laws.specs.Keepable.{AscendFrom, IsKeepable, IsKeepableJournal
 use Rattle.resume_laws.specs.Resumed.{KeepsDigests}
 use Rattle.resume_laws.specs.SavedForm.{HasBlock, IsCounted, SavedFormLaw}
 use Rattle.resume_laws.proofs.FormParts.{least_is, most_is, small_word}
-use Rattle.resume_laws.proofs.SavedAccepted.{length_pages, snapped}
+use Rattle.resume_laws.proofs.SavedAccepted.{snapped}
 use Rattle.resume_laws.proofs.SavedHarts.{flag_has, harts_have}
 use Rattle.resume_laws.proofs.SavedJournals.{counts_have, notes_have, verdict_has}
 use Rattle.resume_laws.proofs.SavedPages.{loading_has, modules_have, protections_have, text_has}
 use Rattle.resume_laws.proofs.SavedResumes.{contents_are, contents_of, length_saved}
 use Rattle.resume_laws.proofs.TakenPages.{AllBelow}
+use Rattle.run_laws.proofs.Lookups.{length_pages}
 
 -- ---- harts and pages are as many as the policy says
 

@@ -26,6 +26,7 @@ use Rattle.resume_laws.specs.SavedResumes.{SavedResumesLaw}
 use Rattle.resume_laws.proofs.FormParts.{most_is}
 use Rattle.resume_laws.proofs.ResumedPages.{in_first, in_second, in_one, among_loaded, of_module}
 use Rattle.run_laws.proofs.Lookups.{all_found, approved_alone, number_filtered}
+use Rattle.run_laws.proofs.StartsSound.{harts_of_seven}
 
 -- ---- harts
 
@@ -209,11 +210,6 @@ pub contents_are : (r : State) (s : Snapshot) → IsSaved r s.«machine»
     → contents s ≡ contents_of r s.events s.text.items s.«machine».protection.items s.«machine».port s.«machine».disk.items
 contents_are r s k =
     rw (k.harts, k.ram, k.modules, k.retired, k.loading, k.console, k.time, k.counts, k.notes, k.verdict) refl
-
-harts_of_seven : (a b c d e f g : Bool) → ((a && b && c) && d && e && f && g) ≡ true → b ≡ true
-harts_of_seven true true c d e f g k = refl
-harts_of_seven true false c d e f g k = cc
-harts_of_seven false b c d e f g k = cc
 
 few_within : (rules : Rules) → IsTrue (rules_within rules) → rules.harts ≤ 4
 few_within rules within =

@@ -1,5 +1,5 @@
 -- What a snapshot that isn't refused gives its parts.
-use Rattle.std.proofs.Common.{◌≡◌, ℕ, ◌+◌, ◌*◌, ◌<◌, ◌≤◌, List, [], ◌∷◌, ◌++◌, length, min, refl, ◌∙◌, ap, subst, Bool, true, false, not, ◌&&◌, arith, slice_get}
+use Rattle.std.proofs.Common.{◌≡◌, ℕ, ◌+◌, ◌*◌, ◌<◌, ◌≤◌, List, [], ◌∷◌, ◌++◌, length, min, ◌∙◌, ap, subst, Bool, true, false, not, ◌&&◌, arith, slice_get}
 use Rattle.std.specs.Prelude.{Option, Some, None, IfSome, IsTrue, nat_le, ◌==◌, if◌then◌else◌}
 use Rattle.std.specs.List.{list_all, list_any}
 use Rattle.std.proofs.lemmas.Bool.{eqb-true}
@@ -8,51 +8,28 @@ use Rattle.std.proofs.lemmas.List.{length-map}
 use Rattle.processor.specs.Bytes.{page_of, page_size}
 use Rattle.processor.specs.Regions.{most_ram_pages}
 use Rattle.sv_types.specs.Limits.{most_harts, most_modules, most_notes}
-use Rattle.sv_types.specs.Policies.{Rules, rules_within, bound_within, all_bound, bound_fits}
+use Rattle.sv_types.specs.Policies.{Rules, rules_within, all_bound, bound_fits}
 use Rattle.sv_types.specs.declared.saved.SavedModule.{SavedModule}
 use Rattle.reference.specs.Origins.{AllAbove, Ascends}
 use Rattle.reference.specs.States.{pages_in_rule}
 use Rattle.saved_machine.specs.declared.harts.SavedHart.{SavedHart}
 use Rattle.saved_machine.specs.declared.whole.SavedLoad.{SavedLoad}
 use Rattle.snapshot_form.specs.DeviceForms.{devices}
-use Rattle.snapshot_form.specs.HartForms.{harts}
-use Rattle.snapshot_form.specs.PageForms.{gate, loading, pages}
-use Rattle.snapshot_form.specs.Snapshots.{Contents, body, header, snapshot, whole_body, whole_header}
+use Rattle.snapshot_form.specs.PageForms.{loading}
+use Rattle.snapshot_form.specs.Snapshots.{Contents, snapshot}
 use Rattle.snapshot_form.proofs.FormLaws.{first_true, second_true}
 use Rattle.machine_model.specs.StandsFor.{bound_pages}
 use Rattle.module_gate.specs.Ascending.{AscendsFrom}
-use Rattle.resumption.specs.Judgements.{fits, has_modules, has_text, is_bound, is_guarded_right, is_loaded, is_of_policy, joins, load_fits, resume_refusal}
-use Rattle.resumption.specs.declared.refusal.ResumeRefusal.{ResumeRefusal}
-use Rattle.resumption.specs.declared.refusal.ResumeRefusal.TheVariants.{OtherPolicy, OtherPages, OtherKernel, OtherText, OtherModule}
+use Rattle.resumption.specs.Judgements.{fits, is_guarded_right, is_loaded, load_fits, resume_refusal}
 use Rattle.resume_laws.proofs.FormParts.{most_is, parts_of}
 use Rattle.resume_laws.proofs.ResumedHarts.{journal_kept, load_parts_of}
 use Rattle.resume_laws.proofs.ResumedPages.{fits_is, modules_parts}
+use Rattle.resume_laws.proofs.ResumedSoundHolds.{accepted}
 use Rattle.gstage_tables.specs.Layout.{most_bound}
 use Rattle.resumed_parts.specs.Counting.{IsWithin}
 use Rattle.resumed_parts.specs.Seating.{CanAllSit}
-use Rattle.resumed_parts.proofs.Seated.{all_sit}
-
--- ---- the judgements
-
-record IsAccepted (rules : Rules) (s : Contents) : Type 0 where
-  policy : is_of_policy rules s ≡ true
-  guarded : is_guarded_right rules s ≡ true
-
-abbrev first_of : (a b c d e : Bool) → Option ResumeRefusal
-first_of a b c d e =
-    if not a then Some OtherPolicy else if not b then Some OtherPages else if not c then Some OtherKernel
-    else if not d then Some OtherText else if not e then Some OtherModule else None
-
-none_first : (a b c d e : Bool) → first_of a b c d e ≡ None → (a ≡ true) × (b ≡ true)
-none_first true true c d e h = (refl, refl)
-none_first false b c d e h = absurd cc
-none_first true false c d e h = absurd cc
-
-accepted : (rules : Rules) (s : Contents) → resume_refusal rules s ≡ None → IsAccepted rules s
-unfolding resume_refusal
-accepted rules s h =
-    let both = none_first (is_of_policy rules s) (is_guarded_right rules s) (joins rules s) (has_text rules s) (has_modules rules s) h in
-    record { policy = both.0; guarded = both.1 }
+use Rattle.resumed_parts.proofs.Seated.{all_sit, bound_rules}
+use Rattle.resumption.proofs.ModuleSites.{of_policy}
 
 -- ---- loaded modules
 
@@ -95,19 +72,6 @@ load_within rules hs ms (Some l) fit has =
       left = most_is l.left (pages_in_rule (slice_get rules.modules l.«module».id)) (second_true (fits rules l.«module» && not (is_loaded ms l.«module».id)) _ fit);
     }
 
--- ---- the form
-
-devices_have : (s : Contents) → snapshot.has s ≡ true → devices.has (s.console, (s.port, s.disk)) ≡ true
-unfolding snapshot header body gate
-devices_have s h =
-    let h0 = whole_header s in
-    let b = whole_body s in
-    let whole = second_true (header.has h0) ((body h0).has b) h in
-    let behind = second_true ((harts h0.ram_pages h0.harts).has b.0) _ whole in
-    let after_pages = second_true ((pages h0.ram_pages).has b.1.0) _ behind in
-    let after_gate = second_true ((gate b.0).has b.1.1.0) _ after_pages in
-    first_true (devices.has b.1.1.1.0) _ after_gate
-
 -- ---- the whole
 
 pub record Known (rules : Rules) (s : Contents) : Type 0 where
@@ -122,32 +86,6 @@ pub record Known (rules : Rules) (s : Contents) : Type 0 where
   pub devices : devices.has (s.console, (s.port, s.disk)) ≡ true
   pub notes : length s.notes ≤ most_notes
   pub harts : length s.harts ≤ most_harts
-
--- the snapshot is of the policy's machine
-record OfPolicy (rules : Rules) (s : Contents) : Type 0 where
-  harts : length s.harts ≡ rules.harts
-  pages : length s.protection ≡ rules.ram_pages
-  bound : list_all (λ (h : SavedHart). is_bound rules h.entry) s.harts ≡ true
-  modules : list_all (fits rules) s.modules ≡ true
-  load : load_fits rules s.modules s.loading ≡ true
-
-of_policy : (rules : Rules) (s : Contents) → is_of_policy rules s ≡ true → OfPolicy rules s
-unfolding is_of_policy
-of_policy rules s e =
-    let a : Bool = length s.harts == rules.harts in
-    let b : Bool = length s.protection == rules.ram_pages in
-    let c : Bool = list_all (λ (h : SavedHart). is_bound rules h.entry) s.harts in
-    let d : Bool = list_all (fits rules) s.modules in
-    let four = first_true (a && b && c && d) _ e in
-    let three = first_true (a && b && c) d four in
-    let two = first_true (a && b) c three in
-    record {
-      harts = eqb-true (length s.harts) rules.harts (first_true a b two);
-      pages = eqb-true (length s.protection) rules.ram_pages (second_true a b two);
-      bound = second_true (a && b) c three;
-      modules = second_true (a && b && c) d four;
-      load = second_true (a && b && c && d) _ e;
-    }
 
 min_most : (a b n : ℕ) → n ≡ min a b → n ≤ a
 min_most a b n e = grind (arith, nat_tests, e)
@@ -168,7 +106,7 @@ known rules s within has none =
           (all_sit rules (length s.protection) s.harts within parts.harts policy.bound);
       ascends = ascends_by rules 0 s.modules (few_modules rules within) policy.modules (modules_parts s.modules parts.modules).ascends (from_none s.modules) (omega arith);
       load = load_within rules s.harts s.modules s.loading policy.load parts.loading;
-      devices = devices_have s has;
+      devices = parts.devices;
       notes = min_most most_notes s.counts.notes (length s.notes) noted.number;
       harts = most_is (length s.harts) 4 (second_true (nat_le 1 (length s.harts)) _ parts.few);
     }
@@ -195,9 +133,6 @@ along_by : (rules : Rules) (b : Bool) → IsTrue (if b then length rules.bound =
     → length rules.bound ≤ length rules.entries
 along_by rules true none = let empty : length rules.bound ≡ 0 = eqb-true (length rules.bound) 0 none in omega (arith, empty)
 along_by rules false each = each_bound rules.ram_pages [] rules.entries rules.bound each
-
-bound_rules : (rules : Rules) → IsTrue (rules_within rules) → IsTrue (bound_within rules)
-bound_rules rules within = grind (arith, nat_tests)
 
 -- no more are bound than there are
 pub bound_along : (rules : Rules) → IsTrue (rules_within rules) → length rules.bound ≤ length rules.entries

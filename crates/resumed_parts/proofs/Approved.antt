@@ -15,11 +15,12 @@ use Rattle.page_guard.specs.Guarded.{first_taken, with_span}
 use Rattle.snapshot_form.specs.Snapshots.{Contents}
 use Rattle.snapshot_form.specs.declared.whole.TextPage.{TextPage}
 use Rattle.snapshot_form.proofs.FormLaws.{first_true, second_true}
-use Rattle.resumption.specs.Judgements.{approved_of, are_same, fits, guard_due, is_due, is_guarded_right, is_same, load_pages, loaded_pages, taken, text_left, then_held}
+use Rattle.resumption.specs.Judgements.{approved_of, fits, guard_due, is_due, is_guarded_right, load_pages, loaded_pages, taken, text_left, then_held}
 use Rattle.resumption.specs.Taking.{left_of}
 use Rattle.resumption.proofs.TakenSpans.{set_past, span_twice, taken_none, taken_span}
 use Rattle.resumption.proofs.TakenLoops.{modules_break, none_behind, some_behind, text_breaks}
 use Rattle.resume_laws.proofs.ResumedPages.{fits_is}
+use Rattle.resume_laws.proofs.DueProtections.{all_same}
 use Rattle.resumed_parts.specs.Approving.{Approves, CanApprove, CanTake}
 
 -- ---- where all can be taken, the first of them can
@@ -112,30 +113,12 @@ load_free rules s mid right is =
     some_due (taken Held mid (load_pages rules s.loading)) s.protection
     (subst (λ (x : Option (List Protection)). is_due (then_held x (load_pages rules s.loading)) s.protection ≡ true) is right)
 
-same_one : (p q : Protection) → is_same p q ≡ true → p ≡ q
-same_one Free Free e = refl
-same_one Free Held e = absurd cc
-same_one Free Approved e = absurd cc
-same_one Held Free e = absurd cc
-same_one Held Held e = refl
-same_one Held Approved e = absurd cc
-same_one Approved Free e = absurd cc
-same_one Approved Held e = absurd cc
-same_one Approved Approved e = refl
-
-same_all : (ps qs : List Protection) → are_same ps qs ≡ true → ps ≡ qs
-same_all [] [] e = refl
-same_all [] (q ∷ qs) e = absurd cc
-same_all (p ∷ ps) [] e = absurd cc
-same_all (p ∷ ps) (q ∷ qs) e =
-    ap (λ (x : Protection). x ∷ ps) (same_one p q (first_true (is_same p q) _ e)) ∙ ap (λ (xs : List Protection). q ∷ xs) (same_all ps qs (second_true (is_same p q) _ e))
-
 -- and the protections behind it are the snapshot's
 pub guard_is : (rules : Rules) (s : Contents) (mid after : List Protection) → is_guarded_right rules s ≡ true → Approves (replicate rules.ram_pages Free) mid (approved_of rules s)
     → taken Held mid (load_pages rules s.loading) ≡ Some after → after ≡ s.protection
 unfolding is_guarded_right guard_due
 guard_is rules s mid after right is held =
-    same_all after s.protection
+    all_same after s.protection
     (subst (λ (x : Option (List Protection)). is_due x s.protection ≡ true) held
     (subst (λ (x : Option (List Protection)). is_due (then_held x (load_pages rules s.loading)) s.protection ≡ true) is right))
 

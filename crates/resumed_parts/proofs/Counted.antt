@@ -1,26 +1,23 @@
 -- The pages of a load that are counted again, from the first to those that were counted before.
-use Rattle.std.proofs.Common.{◌≡◌, ℕ, zero, suc, ◌+◌, ◌-◌, ◌*◌, ◌/◌, ◌%◌, ◌<◌, ◌≤◌, List, [], ◌∷◌, ◌++◌, length, drop, refl, sym, ◌∙◌, ap, subst, Bool, true, false, ◌&&◌, ◌||◌, not, arith, slice_get, length-drop}
+use Rattle.std.proofs.Common.{◌≡◌, ℕ, suc, ◌+◌, ◌-◌, ◌*◌, ◌/◌, ◌%◌, ◌<◌, ◌≤◌, List, [], ◌∷◌, length, refl, sym, ◌∙◌, ap, subst, Bool, true, false, ◌||◌, not, arith, slice_get}
 use Rattle.std.proofs.lemmas.Bool.Decides.{nat_tests}
-use Rattle.std.proofs.lemmas.List.{drop-take, take-take, drop-drop}
-use Rattle.std.specs.Prelude.{Option, Some, None, IsTrue, IsSome, is_some, filter, find, take, nat_le, ◌==◌, if◌then◌else◌}
+use Rattle.std.specs.Prelude.{Option, Some, None, IsTrue, IsSome, is_some, filter, find, nat_le, ◌==◌, if◌then◌else◌}
 use Rattle.std.specs.List.{list_any}
 use Rattle.std.proofs.lemmas.Bool.{eq-eqb}
-use Rattle.processor.specs.Bytes.{page_size, page_of, page_bytes, part, ram_base, ram_place}
-use Rattle.processor_laws.proofs.ByteLemmas.{length_before}
-use Rattle.sv_types.specs.Measure.{page_digest, page_digests}
+use Rattle.processor.specs.Bytes.{page_size, page_of, page_bytes, ram_base, ram_place}
 use Rattle.sv_types.specs.Policies.{Rules, ModuleRule, rules_within}
 use Rattle.sv_types.specs.declared.module.Site.{Site}
 use Rattle.sv_types.specs.declared.protection.Protection.{Protection}
 use Rattle.sv_types.specs.declared.protection.Protection.TheVariants.{Held}
 use Rattle.sv_types.specs.declared.saved.SavedModule.{SavedModule}
-use Rattle.reference.specs.Loads.{module_text, module_bases}
 use Rattle.reference.specs.Protections.{with_pages}
-use Rattle.reference.specs.Relocations.{masked, fields_right}
+use Rattle.reference.specs.Relocations.{fields_right}
 use Rattle.reference.specs.States.{Loading, module_pages, pages_in_rule}
-use Rattle.machine_model.specs.HostExits.{load_counted, page_counted, page_sites}
+use Rattle.machine_model.specs.HostExits.{load_counted}
 use Rattle.machine_model.specs.Machine.{HostLoad}
 use Rattle.machine_model.specs.StandsFor.{kept_answer, kept_digests, load_kept, load_kept_by}
-use Rattle.answer_laws.proofs.SitesInPages.{AllLieIn, below, digest_more, page_masked, right_more, rule_lies}
+use Rattle.answer_laws.proofs.SitesInPages.{below}
+use Rattle.answer_laws.proofs.LoadsMirrored.{about_is, left_is, kept_next}
 use Rattle.saved_machine.specs.declared.whole.SavedLoad.{SavedLoad}
 use Rattle.page_guard.specs.Guarded.{with_span}
 use Rattle.module_gate.specs.Gates.{PageTurns, begun, host_load, is_good_place, is_taken, load_span, next_counted}
@@ -31,74 +28,13 @@ use Rattle.resume_laws.proofs.ResumedPages.{fits_is, place_aligned}
 use Rattle.resumed_start.specs.Resuming.{load_resumed}
 use Rattle.resumed_parts.specs.Approving.{CanTake}
 use Rattle.resumed_parts.specs.Counting.{IsCounted, IsWithin}
+use Rattle.standing_laws.proofs.Loads.{there_is}
 
 -- ---- the text
-
-length_part : (list : List ℕ) (at n : ℕ) → at + n ≤ length list → length (part list at n) ≡ n
-length_part list at n room = let left = length-drop at list in length_before (drop at list) n (omega arith)
-
-part_of : (list : List ℕ) (at n i m : ℕ) → i + m ≤ n → part (part list at n) i m ≡ part list (at + i) m
-part_of list at n i m fits =
-    let split : n ≡ i + (n - i) = omega arith in
-    let e = subst (λ (k : ℕ). drop i (take k (drop at list)) ≡ take (n - i) (drop i (drop at list))) (sym split) (drop-take i (n - i) (drop at list)) in
-    rw (e, drop-drop) (take-take m (n - i) (drop (at + i) list) (omega arith))
-
--- a page of the text is the page of RAM
-page_there : (ram : List ℕ) (from n pages : ℕ) → from % 4096 ≡ 0 → n < pages → page_bytes (part ram from (page_size * pages)) n ≡ page_bytes ram (from / 4096 + n)
-page_there ram from n pages aligned less =
-    let place : from + page_size * n ≡ page_size * (from / 4096 + n) = omega arith in
-    part_of ram from (page_size * pages) (page_size * n) page_size (omega arith) ∙ ap (λ (at : ℕ). part ram at page_size) place
 
 -- whole pages that begin with a page end where their bytes end
 pub pages_inside : (place pages size : ℕ) → place % 4096 ≡ 0 → place + 4096 * pages ≤ size → 4096 * (place / 4096 + pages) ≤ size
 pages_inside place pages size aligned inside = omega (arith, aligned, inside)
-
--- ---- one page more
-
-counted_left : (pages left : ℕ) → suc left ≤ pages → pages - left ≡ suc (pages - suc left)
-counted_left pages left least = omega arith
-
-page_room : (pages left : ℕ) → suc left ≤ pages → 4096 * (pages - suc left) + 4096 ≤ 4096 * pages
-page_room pages left least = omega arith
-
-page_less : (pages left : ℕ) → suc left ≤ pages → pages - suc left < pages
-page_less pages left least = omega arith
-
-kept_next : (rules : Rules) (ram : List ℕ) (load : Loading) (left : ℕ) (rule : ModuleRule) → IsTrue (rules_within rules) → slice_get rules.modules load.about.id ≡ Some rule
-    → ram_place load.about.gpa % 4096 ≡ 0 → ram_place load.about.gpa + page_size * rule.pages ≤ length ram → load.left ≡ suc left → load.left ≤ rule.pages
-    → load_kept_by rules ram (record load { left = left }) (Some rule) ≡ load_counted rules ram (load_kept_by rules ram load (Some rule)) left (Some rule)
-unfolding load_kept_by load_counted page_counted kept_digests kept_answer
-kept_next rules ram load left rule within known aligned inside more few =
-    let text : List ℕ = module_text ram load.about rule.pages in
-    let n : ℕ = rule.pages - suc left in
-    let least : suc left ≤ rule.pages = subst (λ (m : ℕ). m ≤ rule.pages) more few in
-    let size : length text ≡ 4096 * rule.pages = length_part ram (ram_place load.about.gpa) (page_size * rule.pages) inside in
-    let all : AllLieIn (length text) rule.sites = subst (λ (m : ℕ). AllLieIn m rule.sites) (sym size) (rule_lies rules load.about.id rule within known) in
-    let room : 4096 * n + 4096 ≤ length text = rw size (page_room rule.pages left least) in
-    let page : page_bytes text n ≡ page_bytes ram (page_of load.about.gpa + n) = page_there ram (ram_place load.about.gpa) n rule.pages aligned (page_less rule.pages left least) in
-    let old : rule.pages - load.left ≡ n = ap (λ (m : ℕ). rule.pages - m) more in
-    let digests : page_digests (rule.pages - left) (masked text rule.sites) ≡ page_digests (rule.pages - load.left) (masked text rule.sites) ++ page_digest (masked (page_bytes ram (page_of load.about.gpa + n)) (page_sites n rule.sites)) ∷ [] =
-    ap (λ (m : ℕ). page_digests m (masked text rule.sites)) (counted_left rule.pages left least) ∙ digest_more n (masked text rule.sites)
-    ∙ ap (λ (bytes : List ℕ). page_digests n (masked text rule.sites) ++ page_digest bytes ∷ []) (page_masked text n rule.sites room all ∙ ap (λ (bytes : List ℕ). masked bytes (page_sites n rule.sites)) page)
-    ∙ ap (λ (m : ℕ). page_digests m (masked text rule.sites) ++ page_digest (masked (page_bytes ram (page_of load.about.gpa + n)) (page_sites n rule.sites)) ∷ []) (sym old) in
-    let right : fields_right rules.exports (module_bases load.about) (filter (below (rule.pages - left)) rule.sites) text
-    ≡ (fields_right rules.exports (module_bases load.about) (filter (below (rule.pages - load.left)) rule.sites) text
-    && fields_right rules.exports (module_bases load.about) (page_sites n rule.sites) (page_bytes ram (page_of load.about.gpa + n))) =
-    ap (λ (m : ℕ). fields_right rules.exports (module_bases load.about) (filter (below m) rule.sites) text) (counted_left rule.pages left least)
-    ∙ right_more rules.exports (module_bases load.about) text n rule.sites all
-    ∙ ap (λ (bytes : List ℕ). fields_right rules.exports (module_bases load.about) (filter (below n) rule.sites) text && fields_right rules.exports (module_bases load.about) (page_sites n rule.sites) bytes) page
-    ∙ ap (λ (m : ℕ). fields_right rules.exports (module_bases load.about) (filter (below m) rule.sites) text && fields_right rules.exports (module_bases load.about) (page_sites n rule.sites) (page_bytes ram (page_of load.about.gpa + n))) (sym old) in
-    rw (digests, right) refl
-
-about_is : (rules : Rules) (ram : List ℕ) (load : Loading) (x : Option ModuleRule) → (load_kept_by rules ram load x).about ≡ load.about
-unfolding load_kept_by
-about_is rules ram load None = refl
-about_is rules ram load (Some rule) = refl
-
-left_is : (rules : Rules) (ram : List ℕ) (load : Loading) (x : Option ModuleRule) → (load_kept_by rules ram load x).left ≡ load.left
-unfolding load_kept_by
-left_is rules ram load None = refl
-left_is rules ram load (Some rule) = refl
 
 -- ---- a load with one page more
 
@@ -185,14 +121,8 @@ begun_counted rules ram about load rule known is begins inside =
 
 -- ---- where it may begin
 
--- the policy has the module
-rule_there : (modules : List ModuleRule) (id : ℕ) → id < length modules → (rule : ModuleRule) × (slice_get modules id ≡ Some rule)
-rule_there [] id less = absurd (omega (arith, less))
-rule_there (x ∷ modules) zero less = (x, refl)
-rule_there (x ∷ modules) (suc id) less = rule_there modules id (omega (arith, less))
-
 pub rule_of : (rules : Rules) (m : SavedModule) → fits rules m ≡ true → (rule : ModuleRule) × (slice_get rules.modules m.id ≡ Some rule)
-rule_of rules m fit = rule_there rules.modules m.id (fits_is rules m fit).known
+rule_of rules m fit = there_is rules.modules m.id (fits_is rules m fit).known
 
 any_by : (b any : Bool) (x : ℕ) (rest : Option ℕ) → (rest ≡ None → any ≡ false) → (if b then Some x else rest) ≡ None → (b || any) ≡ false
 any_by true any x rest later e = absurd cc

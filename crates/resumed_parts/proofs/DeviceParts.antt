@@ -1,24 +1,21 @@
 -- The devices that a snapshot says.
-use Rattle.std.proofs.Common.{◌≡◌, ℕ, suc, ◌+◌, ◌-◌, ◌*◌, ◌/◌, ◌%◌, ◌<◌, ◌≤◌, List, [], ◌∷◌, ◌++◌, length, drop, get_or, refl, sym, ◌∙◌, ap, Bool, true, false, not, ◌&&◌, ◌||◌, arith, slice_get, length-append}
-use Rattle.std.specs.Prelude.{◌==◌, nat_lt, nat_le, if◌then◌else◌}
-use Rattle.std.proofs.lemmas.Bool.{eqb-true}
+use Rattle.std.proofs.Common.{◌≡◌, ℕ, suc, ◌+◌, ◌-◌, ◌*◌, ◌/◌, ◌<◌, ◌≤◌, List, [], ◌∷◌, ◌++◌, length, drop, get_or, refl, sym, ◌∙◌, ap, Bool, true, false, not, ◌&&◌, ◌||◌, arith, slice_get, length-append}
+use Rattle.std.specs.Prelude.{nat_le, if◌then◌else◌}
 use Rattle.std.proofs.lemmas.Bool.Decides.{nat_tests}
-use Rattle.std.proofs.lemmas.List.{drop_more, drop_all}
+use Rattle.std.proofs.lemmas.List.{append-nil, drop_more, drop_all}
 use Rattle.sv_types.specs.Console.{after_key, has_room, most_queued}
-use Rattle.sv_types.specs.declared.block.BlockCommand.{BlockCommand}
 use Rattle.sv_types.specs.declared.block.BlockState.{BlockState}
-use Rattle.sv_types.specs.declared.block.BlockStatus.{BlockStatus}
 use Rattle.sv_types.specs.declared.port.PortState.{PortState}
 use Rattle.sv_types.specs.declared.virtio.VirtioState.{VirtioState}
-use Rattle.reference.specs.BlockDisk.{beat_size, beats_done, is_busy, is_under_way, sector_size}
+use Rattle.reference.specs.BlockDisk.{is_busy, sector_size}
 use Rattle.reference.specs.States.{Devices}
 use Rattle.saved_machine.specs.declared.harts.SavedHart.{SavedHart}
-use Rattle.snapshot_form.specs.DeviceForms.{block, block_in, console, devices, disk, holds_transfer, port, sectors, standing, transfer}
+use Rattle.snapshot_form.specs.DeviceForms.{block, block_in, console, devices, disk, holds_transfer, port}
 use Rattle.snapshot_form.specs.Forms.{is_word}
 use Rattle.snapshot_form.proofs.FormLaws.{first_true, second_true}
 use Rattle.devices.specs.BlockRegisters.{IsSound}
 use Rattle.resumption.specs.ResumedStates.{timers_of}
-use Rattle.resume_laws.proofs.FormParts.{below_is, most_is}
+use Rattle.resume_laws.proofs.FormParts.{most_is, block_goes}
 use Rattle.resumed_parts.specs.Timing.{timer_in}
 
 -- ---- timers
@@ -59,12 +56,8 @@ input_alone start before after queue was is =
     let console : after.console ≡ queue = ap (λ (d : Devices). d.console) is in
     is ∙ ap (λ (d : Devices). record d { console = queue }) was ∙ ap (λ (q : List ℕ). record start { console = q }) (sym console)
 
-no_more : (queue : List ℕ) → queue ++ [] ≡ queue
-no_more [] = refl
-no_more (x ∷ queue) = ap (◌∷◌ x) (no_more queue)
-
 pub keys_end : (queue bytes all : List ℕ) (i : ℕ) → length bytes ≤ i → queue ++ drop i bytes ≡ all → queue ≡ all
-keys_end queue bytes all i past before = sym (no_more queue) ∙ ap (λ (rest : List ℕ). queue ++ rest) (sym (drop_all i bytes past)) ∙ before
+keys_end queue bytes all i past before = sym (append-nil queue) ∙ ap (λ (rest : List ℕ). queue ++ rest) (sym (drop_all i bytes past)) ∙ before
 
 -- ---- the parts of the form
 
@@ -85,35 +78,6 @@ have_forms input p bytes h =
     }
 
 -- ---- the block device
-
--- a transfer under way has an address of a beat's bytes, and beats left
-record GoesOn (gpa count : ℕ) (status : BlockStatus) : Type 0 where
-  aligned : gpa % beat_size ≡ 0
-  left : beat_size * beats_done status < sector_size * count
-
-standing_goes : (gpa count : ℕ) (status : BlockStatus) → (standing gpa count).has status ≡ true → is_under_way status ≡ true → GoesOn gpa count status
-unfolding standing transfer
-standing_goes gpa count BlockStatus.Idle h busy = absurd cc
-standing_goes gpa count (BlockStatus.Busy BlockCommand.DiskToMemory done) h busy =
-    let begun = second_true (nat_lt 0 count) _ (first_true (nat_lt 0 count && gpa % beat_size == 0) _ h) in
-    let beats = second_true (is_word done) _ (second_true (nat_lt 0 count && gpa % beat_size == 0) _ h) in
-    let less = below_is done (8 * count) beats in
-    record { aligned = eqb-true (gpa % beat_size) 0 begun; left = omega (arith, less) }
-standing_goes gpa count (BlockStatus.Busy BlockCommand.MemoryToDisk done) h busy =
-    let begun = second_true (nat_lt 0 count) _ (first_true (nat_lt 0 count && gpa % beat_size == 0) _ h) in
-    let beats = second_true (is_word done) _ (second_true (nat_lt 0 count && gpa % beat_size == 0) _ h) in
-    let less = below_is done (8 * count) beats in
-    record { aligned = eqb-true (gpa % beat_size) 0 begun; left = omega (arith, less) }
-standing_goes gpa count BlockStatus.Done h busy = absurd cc
-standing_goes gpa count BlockStatus.Denied h busy = absurd cc
-standing_goes gpa count BlockStatus.OutOfRange h busy = absurd cc
-
-block_goes : (b : BlockState) → block.has b ≡ true → is_busy b ≡ true → GoesOn b.gpa b.count b.status
-unfolding block
-block_goes b h busy =
-    let gpa_on = second_true (is_word b.sector) _ h in
-    let count_on = second_true (is_word b.gpa) _ gpa_on in
-    standing_goes b.gpa b.count b.status (second_true (sectors.has b.count) _ count_on) busy
 
 not_idle : (busy fits : Bool) → (not busy || fits) ≡ true → busy ≡ true → fits ≡ true
 not_idle true fits e busy = e

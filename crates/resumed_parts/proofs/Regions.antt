@@ -1,6 +1,6 @@
 -- A region whose RAM is copied in.
-use Rattle.std.proofs.Common.{◌≡◌, ℕ, zero, suc, ◌+◌, ◌-◌, ◌≤◌, List, [], ◌∷◌, ◌++◌, length, replicate, refl, ◌∙◌, ap, arith}
-use Rattle.std.proofs.lemmas.List.{drop_all}
+use Rattle.std.proofs.Common.{◌≡◌, ℕ, zero, suc, ◌+◌, ◌-◌, ◌≤◌, List, ◌++◌, length, replicate, refl, ◌∙◌, ap, arith}
+use Rattle.std.proofs.lemmas.List.{append-nil, drop_all}
 use Rattle.processor.specs.Bytes.{overwrite}
 use Rattle.processor.specs.Regions.{Region, host_bytes}
 
@@ -22,15 +22,11 @@ bytes_fit r tables n bytes fresh same =
 pub tables_sized : (r : Region) (tables n : ℕ) → r ≡ record { tables = replicate tables 0; ram = replicate n 0 } → length r.tables ≡ tables
 tables_sized r tables n fresh = ap (λ (r : Region). length r.tables) fresh ∙ length_zeros tables
 
-nothing_behind : (bytes : List ℕ) → bytes ++ [] ≡ bytes
-nothing_behind [] = refl
-nothing_behind (x ∷ bytes) = ap (◌∷◌ x) (nothing_behind bytes)
-
 over_all : (n : ℕ) (bytes : List ℕ) → length bytes ≡ n → overwrite (replicate n 0) 0 bytes ≡ bytes
 unfolding overwrite
 over_all n bytes same =
     let size = length_zeros n in
-    ap (λ (rest : List ℕ). bytes ++ rest) (drop_all (0 + length bytes) (replicate n 0) (omega (arith, size, same))) ∙ nothing_behind bytes
+    ap (λ (rest : List ℕ). bytes ++ rest) (drop_all (0 + length bytes) (replicate n 0) (omega (arith, size, same))) ∙ append-nil bytes
 
 -- the bytes are RAM's
 pub bytes_copied : (before after : Region) (tables n : ℕ) (bytes : List ℕ) → before ≡ record { tables = replicate tables 0; ram = replicate n 0 } → length bytes ≡ n

@@ -1,15 +1,14 @@
 -- The values of a hart in a snapshot, and its side.
-use Rattle.std.proofs.Common.{◌≡◌, ℕ, zero, suc, ◌+◌, ◌-◌, ◌*◌, ◌%◌, ◌^◌, ◌<◌, ◌≤◌, List, [], ◌∷◌, ◌++◌, length, map, drop, get_or, refl, sym, ◌∙◌, ap, subst, Bool, true, false, not, ◌&&◌, ◌||◌, arith, slice_get}
-use Rattle.std.specs.Prelude.{Option, Some, None, option_map, is_some, ◌==◌, nat_le, slice_index, IfSome, IsTrue, if◌then◌else◌}
+use Rattle.std.proofs.Common.{◌≡◌, ℕ, zero, suc, ◌+◌, ◌-◌, ◌*◌, ◌%◌, ◌^◌, ◌<◌, ◌≤◌, List, [], ◌∷◌, ◌++◌, length, drop, get_or, refl, sym, ◌∙◌, ap, subst, Bool, true, false, not, ◌&&◌, ◌||◌, arith, slice_get}
+use Rattle.std.specs.Prelude.{Option, Some, None, option_map, ◌==◌, nat_le, slice_index, IfSome, IsTrue, if◌then◌else◌}
 use Rattle.std.specs.List.{list_any, list_all}
 use Rattle.std.proofs.lemmas.Bool.{eqb-true, eq-eqb}
 use Rattle.std.proofs.lemmas.Bool.Decides.{nat_tests}
-use Rattle.std.proofs.lemmas.List.{drop_all, drop_more}
 use Rattle.processor.specs.Bits.{flag}
 use Rattle.processor.specs.Bytes.{page_size, ram_base, ram_place}
 use Rattle.processor.specs.GuestView.{with_guest}
 use Rattle.processor.specs.HypervisorRegisters.{HypervisorRegisters, IsLegal, registers_at_boot, virtual_software_bit}
-use Rattle.processor.specs.Registers.{IsLegalSupervisor, legal_status, legal_interrupts, legal_tvec, legal_counteren, legal_epc, legal_satp}
+use Rattle.processor.specs.Registers.{IsLegalSupervisor}
 use Rattle.processor.specs.declared.mode.Mode.{Mode}
 use Rattle.processor.specs.declared.mode.Mode.TheVariants.{Kernel, User}
 use Rattle.sv_types.specs.Policies.{Rules, rules_within, bound_within, bound_fits, all_bound}
@@ -17,7 +16,6 @@ use Rattle.reference.specs.States.{Binding, binding_at, binding_of, has_number, 
 use Rattle.reference.specs.Trapping.{may_enter}
 use Rattle.machine_model.specs.StandsFor.{host_reservation, hregs_in, kernel_view}
 use Rattle.machine_model.specs.Machine.{HostHart}
-use Rattle.hart_answers.specs.Hosts.{host_at, hosts_of}
 use Rattle.hart_answers.specs.declared.seats.Seat.{Seat}
 use Rattle.processor.specs.declared.hregs.HRegs.{HRegs}
 use Rattle.sv_types.specs.declared.view.View.{View}
@@ -27,21 +25,18 @@ use Rattle.processor_laws.proofs.GuestViews.{shown_is_legal}
 use Rattle.processor_laws.proofs.RegisterBits.{boot_is_legal}
 use Rattle.saved_machine.specs.declared.harts.SavedHart.{SavedHart}
 use Rattle.snapshot_form.specs.Forms.{is_word, has_all}
-use Rattle.snapshot_form.specs.HartForms.{is_user, flag as flag_form, mode, place, place_number, is_ram_address, is_reservable, reservation, aligned, legal, side, trap_status, status, registers, begins_with_0, hart, harts}
+use Rattle.snapshot_form.specs.HartForms.{is_user, flag as flag_form, mode, place, is_ram_address, is_reservable, reservation, aligned, side, status, registers, begins_with_0, hart, harts}
 use Rattle.snapshot_form.proofs.FormLaws.{first_true, second_true}
 use Rattle.resumption.specs.Judgements.{is_bound}
 use Rattle.resumption.specs.ResumedStates.{resumed_hart}
 use Rattle.resume_laws.proofs.FormParts.{below_is, most_is}
 use Rattle.resume_laws.proofs.TakenPages.{found_later}
+use Rattle.resume_laws.proofs.ResumedHarts.{user_place, some_binding, supervisor_of}
 use Rattle.run_laws.proofs.Lookups.{not_false}
 use Rattle.resumed_start.specs.Resuming.{csrs_resumed, host_resumed}
 use Rattle.resumed_parts.specs.Seating.{CanAllSit, CanSit, IsEntered, IsReservable, MayBeIn, view_in}
 
 -- ---- values of a hart
-
-number_legal : (bits : ℕ → ℕ) (n : ℕ) → (legal bits).has n ≡ true → bits n ≡ n
-unfolding legal
-number_legal bits n h = eqb-true (bits n) n (second_true (is_word n) (bits n == n) h)
 
 -- the software interrupt stands two places above the flag
 software_by : (sip : ℕ) (b : Bool) → (sip == 0) ≡ b → (sip == 0 || sip == 2) ≡ true → 2 * sip ≡ virtual_software_bit * flag (sip == 2)
@@ -64,17 +59,6 @@ reserved_by pages (Some address) h =
     let high : address < ram_base + page_size * pages = below_is address (ram_base + page_size * pages) (second_true (nat_le ram_base address) _ inside) in
     (low, omega (arith, low, high))
 
-never_one : (n : ℕ) → (n + 1 == 0) ≡ true → ⊥
-never_one n e = let same : n + 1 ≡ 0 = eqb-true (n + 1) 0 e in omega (arith, same)
-
-no_place : (entry : Option ℕ) → (place_number entry == 0) ≡ true → entry ≡ None
-no_place None e = refl
-no_place (Some i) e = absurd (never_one i e)
-
-user_place : (started : Bool) (entry : Option ℕ) → ((started && false) || place_number entry == 0) ≡ true → entry ≡ None
-user_place true entry e = no_place entry e
-user_place false entry e = no_place entry e
-
 user_by : (started : Bool) (m : Mode) (entry : Option ℕ) → side.has (started, (m, entry)) ≡ true → m ≡ User → entry ≡ None
 unfolding side
 user_by started Kernel entry h user = absurd cc
@@ -94,30 +78,6 @@ pub record HartRanges (pages : ℕ) (h : SavedHart) : Type 0 where
   pub reservation : IfSome h.reservation (InRam (page_size * pages))
   pub user : h.mode ≡ User → h.entry ≡ None
 
-supervisor_legal : (h : SavedHart) → status.has (h.sstatus, (h.sie, (h.stvec, (h.scounteren, (h.sscratch, (h.sepc, (h.scause, (h.stval, (h.sip, h.satp))))))))) ≡ true
-    → IsLegalSupervisor (resumed_hart h).supervisor × ((h.sip == 0 || h.sip == 2) ≡ true)
-unfolding status trap_status
-supervisor_legal h on =
-    let sie_on = second_true ((legal legal_status).has h.sstatus) _ on in
-    let stvec_on = second_true ((legal legal_interrupts).has h.sie) _ sie_on in
-    let scounteren_on = second_true ((legal legal_tvec).has h.stvec) _ stvec_on in
-    let sscratch_on = second_true ((legal legal_counteren).has h.scounteren) _ scounteren_on in
-    let trap = second_true (is_word h.sscratch) _ sscratch_on in
-    let scause_on = second_true ((legal legal_epc).has h.sepc) _ trap in
-    let stval_on = second_true (is_word h.scause) _ scause_on in
-    let sip_on = second_true (is_word h.stval) _ stval_on in
-    let sip_part = first_true _ ((legal (legal_satp 0)).has h.satp) sip_on in (
-      record {
-        sstatus = number_legal legal_status h.sstatus (first_true ((legal legal_status).has h.sstatus) _ on);
-        sie = number_legal legal_interrupts h.sie (first_true ((legal legal_interrupts).has h.sie) _ sie_on);
-        stvec = number_legal legal_tvec h.stvec (first_true ((legal legal_tvec).has h.stvec) _ stvec_on);
-        scounteren = number_legal legal_counteren h.scounteren (first_true ((legal legal_counteren).has h.scounteren) _ scounteren_on);
-        sepc = number_legal legal_epc h.sepc (first_true ((legal legal_epc).has h.sepc) _ trap);
-        satp = number_legal (legal_satp 0) h.satp (second_true _ ((legal (legal_satp 0)).has h.satp) sip_on);
-      },
-      second_true (is_word h.sip) _ sip_part,
-    )
-
 csrs_legal : (h : SavedHart) → IsLegalSupervisor (resumed_hart h).supervisor → (h.sip == 0 || h.sip == 2) ≡ true → IsLegal (csrs_resumed h)
 csrs_legal h supervisor sip =
     let shown : IsLegal (with_guest registers_at_boot (resumed_hart h).supervisor) = shown_is_legal registers_at_boot (resumed_hart h).supervisor boot_is_legal supervisor in
@@ -131,9 +91,8 @@ hart_ranges pages h has =
     let pc_on = second_true (side.has (h.started, (h.mode, h.entry))) _ parts in
     let registers_on = second_true ((aligned 4).has h.pc) _ pc_on in
     let status_on = second_true (registers.has (drop 1 h.registers)) _ registers_on in
-    let status_part = first_true (status.has _) ((reservation pages).has h.reservation && is_word h.timer) status_on in
     let reserved_on = second_true (status.has _) ((reservation pages).has h.reservation && is_word h.timer) status_on in
-    let known = supervisor_legal h status_part in
+    let known = supervisor_of pages h has in
     record {
       zero = first_zero h.registers (first_true (begins_with_0 h.registers) _ has);
       legal = csrs_legal h known.0 known.1;
@@ -241,12 +200,8 @@ place_by : (rules : Rules) (i : ℕ) (entry : Binding) (b : Bool) → IsTrue (if
 place_by rules i entry true none at = absurd (no_binding rules.entries rules.bound i entry (eqb-true (length rules.bound) 0 none) at)
 place_by rules i entry false each at = (first_place rules.ram_pages [] rules.entries rules.bound i entry each at).0
 
-bound_rules : (rules : Rules) → IsTrue (rules_within rules) → IsTrue (bound_within rules)
+pub bound_rules : (rules : Rules) → IsTrue (rules_within rules) → IsTrue (bound_within rules)
 bound_rules rules within = grind (arith, nat_tests)
-
-some_binding : (x : Option Binding) → is_some x ≡ true → (entry : Binding) × (x ≡ Some entry)
-some_binding None e = absurd cc
-some_binding (Some entry) e = (entry, refl)
 
 abbrev entries_of : Rules → Permitted
 entries_of rules = record { entries = rules.entries; bound = rules.bound }
@@ -333,33 +288,6 @@ pub reservable : (tables pages : ℕ) (h : SavedHart) → HartRanges pages h →
 reservable tables pages h k room = room_of tables pages h.reservation k.reservation room
 
 -- ---- one hart more
-
-append_one : (xs ys : List HostHart) (x : HostHart) → (xs ++ x ∷ []) ++ ys ≡ xs ++ (x ∷ ys)
-append_one [] ys x = refl
-append_one (y ∷ xs) ys x = ap (◌∷◌ y) (append_one xs ys x)
-
-hosts_more : (seats : List Seat) (next : Seat) → hosts_of (seats ++ next ∷ []) ≡ hosts_of seats ++ host_at next ∷ []
-hosts_more [] next = refl
-hosts_more (x ∷ seats) next = ap (λ (hosts : List HostHart). host_at x ∷ hosts) (hosts_more seats next)
-
-pub seat_next : (tables : ℕ) (hs : List SavedHart) (i : ℕ) (d : SavedHart) (seats : List Seat) (next : Seat) → i < length hs → host_at next ≡ host_resumed tables (get_or hs i d)
-    → hosts_of seats ++ map (host_resumed tables) (drop i hs) ≡ map (host_resumed tables) hs
-    → hosts_of (seats ++ next ∷ []) ++ map (host_resumed tables) (drop (i + 1) hs) ≡ map (host_resumed tables) hs
-seat_next tables hs i d seats next within is before =
-    ap (λ (hosts : List HostHart). hosts ++ map (host_resumed tables) (drop (i + 1) hs)) (hosts_more seats next)
-    ∙ append_one (hosts_of seats) (map (host_resumed tables) (drop (i + 1) hs)) (host_at next)
-    ∙ ap (λ (host : HostHart). hosts_of seats ++ (host ∷ map (host_resumed tables) (drop (i + 1) hs))) is
-    ∙ ap (λ (rest : List SavedHart). hosts_of seats ++ map (host_resumed tables) rest) (sym (drop_more hs i d within))
-    ∙ before
-
-no_more : (hosts : List HostHart) → hosts ++ [] ≡ hosts
-no_more [] = refl
-no_more (x ∷ hosts) = ap (◌∷◌ x) (no_more hosts)
-
-pub seats_end : (tables : ℕ) (hs : List SavedHart) (i : ℕ) (seats : List Seat) → length hs ≤ i → hosts_of seats ++ map (host_resumed tables) (drop i hs) ≡ map (host_resumed tables) hs
-    → hosts_of seats ≡ map (host_resumed tables) hs
-seats_end tables hs i seats past before =
-    sym (no_more (hosts_of seats)) ∙ ap (λ (rest : List SavedHart). hosts_of seats ++ map (host_resumed tables) rest) (sym (drop_all i hs past)) ∙ before
 
 pub length_next : (seats : List Seat) (next : Seat) → length (seats ++ next ∷ []) ≡ length seats + 1
 length_next [] next = refl

@@ -12,8 +12,7 @@ use Rattle.reference.specs.Start.{IsStart, block_disk, boot_start, start}
 use Rattle.reference.specs.States.{State, Disk, has_number, is_approved_in, protection_in, protection_by}
 use Rattle.machine_model.specs.StandsFor.{protections_of}
 use Rattle.snapshot_form.specs.declared.whole.TextPage.{TextPage}
-use Rattle.processor_laws.proofs.ByteLemmas.{drop_front, take_front}
-use Rattle.elf64_load.proofs.LoadedBytes.{length_part}
+use Rattle.processor_laws.proofs.ByteLemmas.{drop_front, take_front, length_part}
 use Rattle.elf64_load.proofs.LoadedText.{text_in_ram}
 use Rattle.answer_laws.proofs.ProtectionsChange.{at_page}
 use Rattle.resume_laws.specs.Keepable.{AscendFrom}
@@ -22,8 +21,7 @@ use Rattle.resume_laws.proofs.KeepableStarts.{text_pages_ascend}
 use Rattle.resume_laws.proofs.ResumedPages.{approved_is}
 use Rattle.resume_laws.proofs.TakenPages.{or_true}
 use Rattle.run_laws.proofs.StateLawsHold.{reached_sound}
-use Rattle.run_laws.proofs.Lookups.{same_number}
-use Rattle.standing_laws.proofs.Standings.{length_pages}
+use Rattle.run_laws.proofs.Lookups.{same_number, length_pages}
 use Rattle.resumed_start.specs.SnapLaws.{BootDigestsLaw, IsMeasuredBoot}
 use Rattle.resumed_start.specs.TextPages.{approved_among, digest_in, digested_text, is_approved, text_in}
 use Rattle.resumed_start.proofs.Ascending.{picked, picked_same}

@@ -1,39 +1,20 @@
 -- The harts that go on from a snapshot are the hardware's of the harts that it says.
-use Rattle.std.proofs.Common.{◌≡◌, ℕ, zero, suc, ◌*◌, List, [], ◌∷◌, ◌++◌, length, map, drop, replicate, refl, sym, ◌∙◌, ap, subst, Bool, true, false, ◌&&◌, ◌||◌}
+use Rattle.std.proofs.Common.{◌≡◌, ℕ, zero, suc, ◌*◌, List, [], ◌∷◌, ◌++◌, length, map, replicate, refl, sym, ◌∙◌, ap, subst, Bool, true, false, ◌||◌}
 use Rattle.std.specs.Prelude.{◌==◌}
 use Rattle.std.proofs.lemmas.Bool.{eqb-true}
 use Rattle.processor.specs.Bits.{flag as bit_of}
 use Rattle.processor.specs.HypervisorRegisters.{registers_at_boot, virtual_software_bit}
-use Rattle.processor.specs.Registers.{legal_status, legal_interrupts, legal_tvec, legal_counteren, legal_epc, legal_satp}
 use Rattle.machine_model.specs.Machine.{HostHart}
 use Rattle.machine_model.specs.StandsFor.{host_hart, host_harts}
 use Rattle.saved_machine.specs.declared.harts.SavedHart.{SavedHart}
-use Rattle.snapshot_form.specs.Forms.{is_word, has_all}
-use Rattle.snapshot_form.specs.HartForms.{aligned, begins_with_0, hart, harts, legal, registers, reservation, side, status, trap_status}
+use Rattle.snapshot_form.specs.Forms.{has_all}
+use Rattle.snapshot_form.specs.HartForms.{hart, harts}
 use Rattle.snapshot_form.proofs.FormLaws.{first_true, second_true}
 use Rattle.resumption.specs.ResumedStates.{resumed_hart}
 use Rattle.resumed_start.specs.Resuming.{host_resumed}
+use Rattle.resume_laws.proofs.ResumedHarts.{supervisor_of}
 
 -- ---- the software interrupt
-
--- of the pending interrupts this one alone is stored
-sip_known : (pages : ℕ) (h : SavedHart) → (hart pages).has h ≡ true → (h.sip == 0 || h.sip == 2) ≡ true
-unfolding hart status trap_status
-sip_known pages h has =
-    let parts = second_true (begins_with_0 h.registers) _ has in
-    let pc_on = second_true (side.has (h.started, (h.mode, h.entry))) _ parts in
-    let registers_on = second_true ((aligned 4).has h.pc) _ pc_on in
-    let status_on = second_true (registers.has (drop 1 h.registers)) _ registers_on in
-    let sstatus_on = first_true _ ((reservation pages).has h.reservation && is_word h.timer) status_on in
-    let sie_on = second_true ((legal legal_status).has h.sstatus) _ sstatus_on in
-    let stvec_on = second_true ((legal legal_interrupts).has h.sie) _ sie_on in
-    let scounteren_on = second_true ((legal legal_tvec).has h.stvec) _ stvec_on in
-    let sscratch_on = second_true ((legal legal_counteren).has h.scounteren) _ scounteren_on in
-    let trap = second_true (is_word h.sscratch) _ sscratch_on in
-    let scause_on = second_true ((legal legal_epc).has h.sepc) _ trap in
-    let stval_on = second_true (is_word h.scause) _ scause_on in
-    let sip_on = second_true (is_word h.stval) _ stval_on in
-    second_true (is_word h.sip) _ (first_true _ ((legal (legal_satp 0)).has h.satp) sip_on)
 
 hvip_by : (n : ℕ) (none some : Bool) → (n == 0) ≡ none → (n == 2) ≡ some → (none || some) ≡ true → 2 * n ≡ virtual_software_bit * bit_of (n == 2)
 hvip_by n true some z t e = subst (λ (k : ℕ). 2 * k ≡ virtual_software_bit * bit_of (k == 2)) (sym (eqb-true n 0 z)) refl
@@ -52,7 +33,7 @@ host_with tables h hvip =
     record host { core = record host.core { csrs = record host.core.csrs { hvip = hvip } } }
 
 host_is : (tables pages : ℕ) (h : SavedHart) → (hart pages).has h ≡ true → host_resumed tables h ≡ host_hart tables registers_at_boot (resumed_hart h)
-host_is tables pages h has = ap (host_with tables h) (hvip_is h.sip (sip_known pages h has))
+host_is tables pages h has = ap (host_with tables h) (hvip_is h.sip (supervisor_of pages h has).1)
 
 -- ---- all of them
 

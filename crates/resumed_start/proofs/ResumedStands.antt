@@ -19,9 +19,9 @@ use Rattle.resume_laws.proofs.FormParts.{HasParts, parts_of}
 use Rattle.resume_laws.proofs.ResumedSoundHolds.{resumed_sound_law}
 use Rattle.answer_laws.proofs.ProtectionsChange.{views_from}
 use Rattle.standing_laws.specs.Starts.{IsGuarded}
-use Rattle.standing_laws.proofs.Standings.{length_pages}
 use Rattle.resumed_start.specs.Resuming.{ResumedStartLaw, load_resumed, resumed_machine}
 use Rattle.resumed_start.proofs.ResumedHosts.{hosts_are}
+use Rattle.run_laws.proofs.Lookups.{length_pages}
 
 abbrev unseen_resumed : List ℕ → Contents → Unseen
 unseen_resumed tables s = record { tables = tables; exits = replicate (length s.harts) registers_at_boot; cleared = 0; attempts = 0 }

@@ -1,5 +1,5 @@
 -- After an entry from user mode: the hart's next turn demotes it, or reads the word that the entry is bound to.
-use Rattle.std.proofs.Common.{◌≡◌, ℕ, zero, suc, ◌-◌, ◌/◌, ◌%◌, ◌^◌, ◌≤◌, ◌⊎◌, inl, inr, List, [], ◌∷◌, ◌++◌, length, refl, sym, ◌∙◌, ap, subst, Bool, true, false, ◌&&◌, ◌||◌, arith, bit_and, slice_get, slice_set}
+use Rattle.std.proofs.Common.{◌≡◌, ℕ, zero, suc, ◌-◌, ◌/◌, ◌%◌, ◌^◌, ◌≤◌, ◌⊎◌, inl, inr, List, [], ◌∷◌, ◌++◌, length, refl, sym, ◌∙◌, ap, subst, Bool, true, false, ◌&&◌, ◌||◌, arith, bit_and, slice_get}
 use Rattle.std.specs.Prelude.{Option, Some, None, if◌then◌else◌, is_some, not, ◌==◌, IsTrue}
 use Rattle.std.specs.List.{list_any}
 use Rattle.std.proofs.lemmas.Bool.{eqb-true, eq-eqb}
@@ -31,11 +31,12 @@ use Rattle.reference.specs.States.{State, Hart, Binding, binding_of, binding_at,
 use Rattle.reference.specs.Trapping.{trap_from, hart_at_trap}
 use Rattle.reference.specs.Turn.{NoWord, demote, carry_out_word, place_of_pc, leads_into, noted_gpa, fetched_in, fetched_at, fetch, act_on_fetch, fetch_and_act, leave_entry, outside, fetch_in_entry, bound_entry, act_on_pending, act, turn}
 use Rattle.attempt_laws.specs.Agree.{IsNotLoading}
-use Rattle.attempt_laws.proofs.AttemptsAgree.{turn_is}
+use Rattle.attempt_laws.proofs.AttemptsAgree.{turn_is, get_back}
 use Rattle.attempt_laws.proofs.Everywhere.{Keeps, first_stage_keeps}
 use Rattle.run_laws.specs.EntryLaws.{IsAtEntry, Demotes, ReadsBound, DemotesOrReads, AtEntryLaw, IsNoTurnOf, AreNoTurnsOf, StandsAtEntry, EntryLaw}
 use Rattle.run_laws.proofs.OthersRest.{IsWaiting, get_behind, turn_rests}
 use Rattle.run_laws.proofs.StateLawsHold.{reached_sound, modules_law}
+use Rattle.run_laws.proofs.Lookups.{second_of}
 
 -- ---- what a policy says of a bound entry
 
@@ -79,11 +80,6 @@ placed n before (first ∷ entries) (gpa ∷ bound) va within there =
     placed_by first gpa entries bound va (first == va) refl there
     (placed n (before ++ first ∷ []) entries bound va
     (three (bound_fits n first gpa) (not (list_any (λ x. x == first) before)) (all_bound n (before ++ first ∷ []) entries bound) within).1)
-
-second_of : (a b c d e : Bool) → (a && b && c && d && e) ≡ true → b ≡ true
-second_of true true c d e k = refl
-second_of true false c d e k = cc
-second_of false b c d e k = cc
 
 fifth_of : (a b c d e : Bool) → (a && b && c && d && e) ≡ true → e ≡ true
 fifth_of true true true true e k = k
@@ -218,9 +214,14 @@ counted_at r h hart entry at = record {
   free = at.free;
 }
 
+-- where the run goes on, an event happens
+pub runs_on : (r : State) (e : Event) → r.journal.verdict ≡ Running → step r e ≡ happen r e
+unfolding step happen_under
+runs_on r e on = ap (λ (v : Verdict). happen_under v r e) on
+
 running : (r : State) (h : ℕ) → r.journal.verdict ≡ Running → step r (Turn h) ≡ turn (count r count_turn) h
-unfolding step happen_under happen
-running r h on = ap (λ (v : Verdict). happen_under v r (Turn h)) on
+unfolding happen
+running r h on = runs_on r (Turn h) on
 
 step_at_entry : (r : State) (h : ℕ) (hart : Hart) (entry : Binding) → IsSound r → IsAtEntry r h hart entry → r.journal.verdict ≡ Running
     → deliverable hart.mode hart.supervisor (lines_at r.devices h) ≡ None → DemotesOrReads r h hart entry
@@ -306,11 +307,6 @@ none_delivered User r h hart e masked = absurd (cc)
 abbrev entered : Rules → Hart → Bool → ℕ → ℕ → Hart
 entered rules hart interrupt cause tval = hart_at_trap rules hart User interrupt cause tval
 
-get_here : (harts : List Hart) (h : ℕ) (hart next : Hart) → slice_get harts h ≡ Some hart → slice_get (slice_set harts h next) h ≡ Some next
-get_here [] h hart next e = absurd (cc)
-get_here (x ∷ harts) zero hart next e = refl
-get_here (x ∷ harts) (suc h) hart next e = get_here harts h hart next e
-
 enters_at : (r : State) (h : ℕ) (hart : Hart) (interrupt : Bool) (cause tval : ℕ) (b : Bool) → has_number r.rules.entries (trap_target hart.supervisor.stvec interrupt cause) ≡ b → b ≡ true
     → slice_get r.harts h ≡ Some hart → hart.started ≡ true → IsNotLoading h r.loading
     → IsWaiting h (entered r.rules hart interrupt cause tval) (trap_from r h hart User interrupt cause tval)
@@ -319,7 +315,7 @@ enters_at r h hart interrupt cause tval false permitted on found started free = 
 enters_at r h hart interrupt cause tval true permitted on found started free =
     rw permitted (record {
       hart = entered r.rules hart interrupt cause tval;
-      found = get_here r.harts h hart (entered r.rules hart interrupt cause tval) found;
+      found = get_back r.harts h hart (entered r.rules hart interrupt cause tval) found;
       looks = record { started = started; mode = refl; pc = refl; entry = refl; status = refl };
       free = free;
     })

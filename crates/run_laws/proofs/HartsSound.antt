@@ -1,5 +1,5 @@
 -- Sound harts after what a turn sets in one.
-use Rattle.std.proofs.Common.{◌≡◌, ℕ, zero, suc, ◌+◌, ◌-◌, ◌%◌, ◌^◌, ◌<◌, ◌≤◌, List, [], ◌∷◌, ◌++◌, length, refl, ◌∙◌, ap, subst, Bool, true, false, ◌&&◌, ◌||◌, arith, lit<, bit_and}
+use Rattle.std.proofs.Common.{◌≡◌, ℕ, zero, suc, ◌+◌, ◌-◌, ◌%◌, ◌^◌, ◌<◌, ◌≤◌, List, [], ◌∷◌, ◌++◌, length, refl, ◌∙◌, ap, subst, Bool, true, false, ◌||◌, arith, lit<, bit_and}
 use Rattle.std.specs.Prelude.{Option, Some, None, option_map, slice_get, if◌then◌else◌, ◌==◌, IsTrue}
 use Rattle.processor.specs.Traps.{trap_target, mode_at_return}
 use Rattle.std.proofs.lemmas.Bool.{eqb-true}
@@ -14,15 +14,13 @@ use Rattle.processor.specs.declared.mode.Mode.{Mode}
 use Rattle.processor.specs.declared.mode.Mode.TheVariants.{Kernel, User}
 use Rattle.processor_laws.proofs.GuestViews.{guest_write_is_legal, guest_trap_is_legal, guest_return_is_legal}
 use Rattle.processor_laws.proofs.RegisterBits.{target_aligned, target_small, epc_aligned}
+use Rattle.processor_laws.proofs.EffectRequests.{next_aligned}
 use Rattle.reference.specs.States.{Hart, Binding, binding_of, binding_at, place_of_entry, has_number}
 use Rattle.reference.specs.Trapping.{hart_at_trap, hart_at_return, entry_at_trap, entry_in}
 use Rattle.reference.specs.Calls.{hart_at, stopped_hart, interrupted, with_software, supervisor_at_boot}
 use Rattle.reference.specs.Soundness.{IsSoundHart, IsSoundEntry}
-use Rattle.run_laws.proofs.Lookups.{and_first, and_second, both}
+use Rattle.run_laws.proofs.Lookups.{and_first, and_second, both, second_of}
 use Rattle.run_laws.proofs.Sounds.{AreSound}
-
-next_aligned : (pc : ℕ) → pc % 4 ≡ 0 → next_pc pc % 4 ≡ 0
-next_aligned pc e = omega arith
 
 word_below : (n : ℕ) → n % 2 ^ 64 < 2 ^ 64
 word_below n = omega arith
@@ -151,22 +149,12 @@ aligned_among before (x ∷ entries) entry within e =
     entry_by x entries entry true at aligned e more = subst (λ (n : ℕ). n % 4 ≡ 0) (eqb-true x entry at) aligned
     entry_by x entries entry false at aligned e more = more e
 
-lists_by : (a b c d e : Bool) → (a && b && c && d && e) ≡ true → b ≡ true
-lists_by true true c d e k = refl
-lists_by true false c d e k = cc
-lists_by false b c d e k = cc
-
-entries_by : (a b c d e : Bool) → (a && b && c && d && e) ≡ true → b ≡ true
-entries_by true true c d e k = refl
-entries_by true false c d e k = cc
-entries_by false b c d e k = cc
-
 -- a permitted entry is an instruction's address
 pub entry_aligned : (rules : Rules) (entry : ℕ) → IsTrue (rules_within rules) → has_number rules.entries entry ≡ true → entry % 4 ≡ 0
 entry_aligned rules entry within e =
-    let lists = lists_by (numbers_within rules) (lists_within rules) (init_within rules.ram_pages rules.init) (modules_count_within (length rules.modules)) (modules_within (length rules.exports) rules.modules) within in
+    let lists = second_of (numbers_within rules) (lists_within rules) (init_within rules.ram_pages rules.init) (modules_count_within (length rules.modules)) (modules_within (length rules.exports) rules.modules) within in
     aligned_among [] rules.entries entry
-    (entries_by (entries_count_within (length rules.entries)) (entries_within rules.entries) (exports_count_within (length rules.exports)) (exports_within rules.exports) (bound_within rules) lists) e
+    (second_of (entries_count_within (length rules.entries)) (entries_within rules.entries) (exports_count_within (length rules.exports)) (exports_within rules.exports) (bound_within rules) lists) e
 
 -- ---- software interrupts
 

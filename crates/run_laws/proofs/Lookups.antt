@@ -1,11 +1,12 @@
 -- What is found among approved pages and loaded modules after a change of their lists.
 use Rattle.attempt_laws.proofs.LoadsKept.{or_first, or_second}
-use Rattle.std.proofs.Common.{◌≡◌, ℕ, zero, suc, ◌+◌, ◌<◌, ◌≤◌, ◌⊎◌, inl, inr, List, [], ◌∷◌, ◌++◌, filter, refl, sym, ◌∙◌, ap, subst, Bool, true, false, not, ◌&&◌, ◌||◌, arith, slice_get, length, length-take, take, drop, min}
+use Rattle.std.proofs.Common.{◌≡◌, ℕ, zero, suc, ◌+◌, ◌<◌, ◌≤◌, ◌⊎◌, inl, inr, List, [], ◌∷◌, ◌++◌, filter, map, refl, sym, ◌∙◌, ap, subst, Bool, true, false, not, ◌&&◌, ◌||◌, arith, slice_get, length, length-take, take, drop, min}
 use Rattle.std.specs.Prelude.{Option, Some, None, if◌then◌else◌, is_some, ◌==◌, nat_lt}
 use Rattle.std.proofs.lemmas.Bool.{eqb-true}
 use Rattle.std.proofs.lemmas.Bool.Decides.{nat_tests}
 use Rattle.processor.specs.Bytes.{page_bytes, part}
 use Rattle.sv_types.specs.ApprovedPages.{ApprovedPage, numbers_from, approved_pages, approved_bytes}
+use Rattle.sv_types.specs.declared.protection.Protection.{Protection}
 use Rattle.sv_types.specs.declared.saved.SavedModule.{SavedModule}
 use Rattle.reference.specs.Origins.{AllAbove, Ascends}
 use Rattle.reference.specs.States.{has_number, without_pages, find_module, with_module, without_module, State, is_protected, is_approved_in}
@@ -32,6 +33,11 @@ and_first false b e = e
 pub and_second : (a b : Bool) → (a && b) ≡ true → b ≡ true
 and_second true b e = e
 and_second false b e = cc
+
+pub second_of : (a b c d e : Bool) → (a && b && c && d && e) ≡ true → b ≡ true
+second_of true true c d e k = refl
+second_of true false c d e k = cc
+second_of false b c d e k = cc
 
 pub not_false : (b : Bool) → not b ≡ true → b ≡ false
 not_false true e = cc
@@ -60,6 +66,10 @@ numbers_bounds first (suc n) q e = bounds_by first n q (first == q) refl e (numb
         → (has_number (numbers_from (first + 1) n) q ≡ true → (first + 1 ≤ q) × (q < first + 1 + n)) → (first ≤ q) × (q < first + suc n)
     bounds_by first n q true at e rest = let same : first ≡ q = eqb-true first q at in (omega arith, omega arith)
     bounds_by first n q false at e rest = let k = rest e in (omega arith, omega arith)
+
+pub length_pages : (f : ℕ → Protection) (first n : ℕ) → length (map f (numbers_from first n)) ≡ n
+length_pages f first zero = refl
+length_pages f first (suc n) = ap suc (length_pages f (first + 1) n)
 
 filtered_by : (f : ℕ → Bool) (x n : ℕ) (xs : List ℕ) (at passes : Bool) → (x == n) ≡ at → f x ≡ passes
     → has_number (filter f xs) n ≡ (has_number xs n && f n)
@@ -206,7 +216,7 @@ found_without (m ∷ modules) gone id =
 
 -- ---- the list of modules ascends
 
-above_less : (low high : ℕ) (modules : List SavedModule) → low < high → AllAbove high modules → AllAbove low modules
+pub above_less : (low high : ℕ) (modules : List SavedModule) → low < high → AllAbove high modules → AllAbove low modules
 above_less low high [] less all = tt
 above_less low high (m ∷ modules) less all = let first : high < m.id = all.0 in (omega arith, above_less low high modules less all.1)
 

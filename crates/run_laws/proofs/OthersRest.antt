@@ -68,7 +68,7 @@ then_rests z r mid next s t w = t (s w)
 
 -- ---- lists of harts
 
-get_beside : (harts : List Hart) (h k : ℕ) (x y : Hart) → (h ≡ k → ⊥) → slice_get harts k ≡ Some y → slice_get (slice_set harts h x) k ≡ Some y
+pub get_beside : (harts : List Hart) (h k : ℕ) (x y : Hart) → (h ≡ k → ⊥) → slice_get harts k ≡ Some y → slice_get (slice_set harts h x) k ≡ Some y
 get_beside [] h k x y other e = absurd (cc)
 get_beside (a ∷ harts) zero zero x y other e = absurd (other refl)
 get_beside (a ∷ harts) zero (suc k) x y other e = e

@@ -1,5 +1,5 @@
 -- Soundness after traps, loads, stores and register accesses.
-use Rattle.std.proofs.Common.{◌≡◌, ℕ, ◌+◌, ◌*◌, ◌/◌, ◌%◌, ◌^◌, ◌≤◌, inl, inr, List, length, refl, sym, ◌∙◌, ap, subst, Bool, true, false, ◌&&◌, arith}
+use Rattle.std.proofs.Common.{◌≡◌, ℕ, ◌+◌, ◌*◌, ◌/◌, ◌%◌, ◌^◌, ◌≤◌, List, length, refl, sym, ◌∙◌, ap, subst, Bool, true, false, ◌&&◌, arith}
 use Rattle.std.specs.Prelude.{Option, Some, None, option_map, if◌then◌else◌, ◌==◌, nat_le, nat_lt}
 use Rattle.std.proofs.lemmas.Bool.{eqb-true}
 use Rattle.std.proofs.lemmas.Bool.Decides.{nat_tests}
@@ -34,6 +34,7 @@ use Rattle.reference.specs.Trapping.{trap_from, exception, returned_from_trap, h
 use Rattle.reference.specs.Soundness.{IsSound, IsSoundHart, IsSoundBlock, IsSoundDisk}
 use Rattle.attempt_laws.proofs.Everywhere.{Keeps, first_stage_keeps}
 use Rattle.attempt_laws.proofs.Under.{moved}
+use Rattle.attempt_laws.proofs.LoadsKept.{in_page}
 use Rattle.run_laws.proofs.VirtioSound.{virtio_stored}
 use Rattle.run_laws.proofs.Lookups.{unprotected, unheld, and_second}
 use Rattle.run_laws.proofs.HartsSound.{goes_behind, trap_sound, return_sound, csr_sound}
@@ -224,11 +225,8 @@ target_free r hart address width whole = choose_free r hart address width (addre
 
 -- ---- stores
 
-in_page : (width p : ℕ) → IsWidth width → p % width ≡ 0 → p + width ≤ 4096 * (p / 4096 + 1)
-in_page width p (inl one) aligned = rw one (grind arith)
-in_page width p (inr (inl two)) aligned = let e : p % 2 ≡ 0 = rw two at aligned in rw two (grind arith)
-in_page width p (inr (inr (inl four))) aligned = let e : p % 4 ≡ 0 = rw four at aligned in rw four (grind arith)
-in_page width p (inr (inr (inr eight))) aligned = let e : p % 8 ≡ 0 = rw eight at aligned in rw eight (grind arith)
+page_end : (width p : ℕ) → IsWidth width → p % width ≡ 0 → p + width ≤ 4096 * (p / 4096 + 1)
+page_end width p whole aligned = let inside = in_page width p whole aligned in omega (arith, inside)
 
 room_of : (ram : List ℕ) (gpa width : ℕ) → in_ram ram gpa width ≡ true → ram_place gpa + width ≤ length ram
 room_of ram gpa width e = grind (arith, nat_tests)
@@ -243,7 +241,7 @@ free_page r h next gpa width value whole free =
       free = unprotected r (page_of gpa) free.free;
       unheld = unheld r (page_of gpa) free.free;
       first = whole_page (ram_place gpa);
-      last = rw size (in_page width (ram_place gpa) whole free.aligned);
+      last = rw size (page_end width (ram_place gpa) whole free.aligned);
       inside = rw size (room_of r.ram gpa width free.inside);
     }
   where

@@ -103,7 +103,7 @@ get_map f (x ∷ harts) (suc k) z e = get_map f harts k z e
 forgot_sound : {rules : Rules} (place width : ℕ) (hart : Hart) → IsSoundHart rules hart → IsSoundHart rules (hart_after_write place width hart)
 forgot_sound place width hart s = record { aligned = s.aligned; small = s.small; legal = s.legal; entry = s.entry; stopped = λ off. record { mode = (s.stopped off).mode; entry = (s.stopped off).entry } }
 
-apart : (p q : ℕ) → (p ≡ q → ⊥) → (p < q) ⊎ (q < p)
+pub apart : (p q : ℕ) → (p ≡ q → ⊥) → (p < q) ⊎ (q < p)
 apart p q other = elim (lt_or_le p q) [
   | inl less ↦ inl less
   | inr least ↦ elim (lt_or_le q p) [ inl more ↦ inr more | inr most ↦ absurd (other (omega arith)) ]

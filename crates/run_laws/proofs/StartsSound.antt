@@ -1,5 +1,5 @@
 -- A start is sound.
-use Rattle.std.proofs.Common.{◌≡◌, ℕ, zero, suc, ◌+◌, ◌-◌, ◌*◌, ◌/◌, ◌%◌, ◌^◌, ◌<◌, ◌≤◌, inl, inr, List, [], ◌∷◌, ◌++◌, length, replicate, map, flat_map, fold, refl, sym, ◌∙◌, ap, subst, Bool, true, false, not, ◌&&◌, ◌||◌, arith, lit<, slice_get, length-append}
+use Rattle.std.proofs.Common.{◌≡◌, ℕ, zero, suc, ◌+◌, ◌-◌, ◌*◌, ◌/◌, ◌%◌, ◌^◌, ◌<◌, ◌≤◌, inl, inr, List, [], ◌∷◌, ◌++◌, length, replicate, map, flat_map, fold, refl, sym, ◌∙◌, ap, subst, Bool, true, false, not, ◌&&◌, ◌||◌, arith, lit<, slice_get}
 use Rattle.std.specs.Prelude.{Some, None, if◌then◌else◌, is_some, ◌==◌, nat_le, nat_lt, IsTrue}
 use Rattle.std.specs.List.{list_any}
 use Rattle.std.proofs.lemmas.Bool.{eqb-true}
@@ -13,11 +13,10 @@ use Rattle.sv_types.specs.ApprovedPages.{approved_bytes, approved_pages, numbers
 use Rattle.processor.specs.Regions.{most_ram_pages}
 use Rattle.sv_types.specs.declared.image_fault.ImageFault.{ImageFault}
 use Rattle.sv_types.specs.declared.kernel.ProgramHeader.{ProgramHeader}
-use Rattle.processor_laws.proofs.ByteLemmas.{length_overwrite}
+use Rattle.processor_laws.proofs.ByteLemmas.{length_overwrite, length_padded}
 use Rattle.sv_types.specs.declared.saved.SavedModule.{SavedModule}
 use Rattle.reference.specs.States.{Disk, has_number, is_approved_in, find_module}
 use Rattle.reference.specs.Calls.{hart_at, stopped_hart, registers_at_boot}
-use Rattle.reference.specs.Origins.{ownership, is_kernel_text}
 use Rattle.reference.specs.Start.{start, harts_at_boot, flat_rules, block_disk, virtio_disk, AreWords}
 use Rattle.reference.specs.VirtioStores.{reset}
 use Rattle.reference.specs.Soundness.{IsSound, IsSoundHart, IsSoundDisk}
@@ -46,17 +45,17 @@ boot_harts harts entry aligned small zero hart e =
     let same : hart_at entry registers_at_boot ≡ hart = cc in subst (IsSoundHart _) same (begin_sound entry registers_at_boot aligned small)
 boot_harts harts entry aligned small (suc k) hart e = subst (IsSoundHart _) (get_same stopped_hart hart (harts - 1) k e) stopped_sound
 
-one_hart : (a b c d e f g : Bool) → ((a && b && c) && d && e && f && g) ≡ true → b ≡ true
-one_hart true true c d e f g k = refl
-one_hart true false c d e f g k = cc
-one_hart false b c d e f g k = cc
+pub harts_of_seven : (a b c d e f g : Bool) → ((a && b && c) && d && e && f && g) ≡ true → b ≡ true
+harts_of_seven true true c d e f g k = refl
+harts_of_seven true false c d e f g k = cc
+harts_of_seven false b c d e f g k = cc
 
 at_least : (n : ℕ) → harts_within n ≡ true → 1 ≤ n
 at_least n e = grind (arith, nat_tests)
 
 some_hart : (rules : Rules) → IsTrue (rules_within rules) → 1 ≤ rules.harts
 some_hart rules within =
-    at_least rules.harts (one_hart (format_within rules.format) (harts_within rules.harts) (ram_pages_within rules.ram_pages) (lists_within rules)
+    at_least rules.harts (harts_of_seven (format_within rules.format) (harts_within rules.harts) (ram_pages_within rules.ram_pages) (lists_within rules)
     (init_within rules.ram_pages rules.init) (modules_count_within (length rules.modules)) (modules_within (length rules.exports) rules.modules) within)
 
 count_harts : (harts entry : ℕ) → 1 ≤ harts → length (harts_at_boot harts entry) ≡ harts
@@ -83,12 +82,6 @@ text_kept ram text page bytes e = elim (is_there (has_number text page)) [
 none_found : (id : ℕ) (m : SavedModule) → find_module [] id ≡ Some m → ⊥
 unfolding find_module
 none_found id m e = cc
-
--- the kernel's text has the bytes that RAM has
-pub start_text : (rules : Rules) (ram text : List ℕ) (entry : ℕ) (disk : Disk) (page : ℕ) → is_kernel_text (ownership (start rules ram text entry disk)) page ≡ true
-    → approved_bytes (start rules ram text entry disk).approved page ≡ Some (page_bytes ram page)
-unfolding start
-start_text rules ram text entry disk page e = text_case ram text page true (and_first (has_number text page) true e)
 
 pub start_sound : (rules : Rules) (ram text : List ℕ) (entry : ℕ) (disk : Disk) → CanStart rules ram text entry → IsSoundDisk disk → IsSound (start rules ram text entry disk)
 unfolding start
@@ -124,12 +117,6 @@ virtio_quiet bytes = record { aligned = λ ready. cc; moves = tt }
 
 -- ---- plain pages
 
-padded_size : (bytes : List ℕ) (size : ℕ) → length bytes ≤ size → length (padded bytes size) ≡ size
-padded_size bytes size fits =
-    let zeros : List ℕ = replicate (size - length bytes) 0 in
-    let k : length zeros ≡ size - length bytes = length-replicate (size - length bytes) 0 in
-    length-append bytes zeros ∙ ap (λ (n : ℕ). length bytes + n) k ∙ omega arith
-
 flat_words : (digest : List ℕ) → AreWords (flat_rules digest).entries
 flat_words digest entry e = words_by entry (0x80000000 == entry) (0x80000100 == entry) refl refl e
   where
@@ -143,7 +130,7 @@ pub flat_can : (pages digest : List ℕ) → length pages ≤ page_size * flat_r
 flat_can pages digest fits = record {
   within = refl;
   words = flat_words digest;
-  size = padded_size pages (page_size * flat_ram_pages) fits;
+  size = length_padded pages (page_size * flat_ram_pages) fits;
   below = λ page e. page_below (length pages) page fits (numbers_bounds 0 (length pages / page_size) page e).1;
   aligned = refl;
   small = lit< tt;
@@ -192,7 +179,7 @@ segment_fits : (file ram : List ℕ) (ram_pages : ℕ) (h : ProgramHeader) → I
     → length (with_segment ram (loaded_segment file h)) ≡ page_size * ram_pages
 segment_fits file ram ram_pages h good size =
     let small : length (part file h.offset h.file_size) ≤ h.memory_size = grind (arith, nat_tests, part_short file h.offset h.file_size, good.short) in
-    let whole : length (padded (part file h.offset h.file_size) h.memory_size) ≡ h.memory_size = padded_size (part file h.offset h.file_size) h.memory_size small in
+    let whole : length (padded (part file h.offset h.file_size) h.memory_size) ≡ h.memory_size = length_padded (part file h.offset h.file_size) h.memory_size small in
     let inside : ram_place h.gpa + h.memory_size ≤ length ram = grind (arith, nat_tests, good.in_ram) in
     length_overwrite ram (padded (part file h.offset h.file_size) h.memory_size) (ram_place h.gpa) (rw whole inside) ∙ size
 

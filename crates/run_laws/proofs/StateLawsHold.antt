@@ -1,7 +1,6 @@
 -- The laws of bytes and of modules.
-use Rattle.std.proofs.Common.{◌≡◌, ℕ, ◌+◌, ◌-◌, ◌*◌, ◌/◌, ◌%◌, ◌<◌, ◌≤◌, inl, inr, List, [], length, take, drop, refl, sym, ◌∙◌, ap, subst, arith, true, false, slice_get}
-use Rattle.std.proofs.lemmas.List.{drop-take, take-take, drop-drop}
-use Rattle.std.specs.Prelude.{Option, Some, None}
+use Rattle.std.proofs.Common.{◌≡◌, ℕ, ◌+◌, ◌-◌, ◌*◌, ◌/◌, ◌%◌, ◌<◌, ◌≤◌, inl, inr, List, [], length, refl, sym, ◌∙◌, ap, subst, arith, true, false, slice_get}
+use Rattle.std.specs.Prelude.{Option, Some, None, is_some}
 use Rattle.sv_types.specs.Boot.{flat_ram_pages}
 use Rattle.processor.specs.Bytes.{padded, part, page_bytes, page_size, ram_base, ram_place}
 use Rattle.sv_types.specs.Kernel.{header_entry, kernel_segments, segments_ram, text_pages}
@@ -12,46 +11,39 @@ use Rattle.sv_types.specs.declared.saved.SavedModule.{SavedModule}
 use Rattle.reference.specs.Origins.{IsPageOf, IsOwned, TextStays, is_kernel_text, ownership}
 use Rattle.reference.specs.States.{State, Disk, Loading, has_number, is_approved_in, find_module, pages_in_rule}
 use Rattle.reference.specs.Run.{run}
-use Rattle.reference.specs.Start.{IsStart, StartsFlat, StartsBy, start, flat_rules, flat_start, image_start, boot_start, virtio_start, block_disk, virtio_disk}
+use Rattle.reference.specs.Start.{IsStart, StartsFlat, StartsBy, flat_rules, flat_start, image_start, boot_start, virtio_start, block_disk, virtio_disk}
 use Rattle.reference.specs.Soundness.{IsSound, IsSoundDisk, IsSoundLoad, HoldsModule}
 use Rattle.run_laws.specs.StateLaws.{BytesLaw, SoundLaw, IsText, IsModulePage, HasOrigin, HoldsLoad, HasOrigins, ModulesLaw}
 use Rattle.run_laws.proofs.Lookups.{not_true, both, all_found, numbers_bounds}
 use Rattle.run_laws.proofs.ModulesSound.{same_module}
 use Rattle.run_laws.proofs.Sounds.{Goes}
-use Rattle.run_laws.proofs.StartsSound.{CanStart, start_sound, start_text, block_quiet, virtio_quiet, flat_can, image_can}
+use Rattle.run_laws.proofs.StartsSound.{start_sound, block_quiet, virtio_quiet, flat_can, image_can}
 use Rattle.run_laws.proofs.StepsSound.{run_goes}
+use Rattle.processor_laws.proofs.ByteLemmas.{part_of_part}
 
 -- ---- starts
 
--- a start is sound, and its text has the bytes that RAM has
-record Begins (s : State) : Type 0 where
-  sound : IsSound s
-  text : (page : ℕ) → is_kernel_text (ownership s) page ≡ true → approved_bytes s.approved page ≡ Some (page_bytes s.ram page)
-
-start_begins : (rules : Rules) (ram text : List ℕ) (entry : ℕ) (disk : Disk) → CanStart rules ram text entry → IsSoundDisk disk → Begins (start rules ram text entry disk)
-unfolding start
-start_begins rules ram text entry disk can quiet = record { sound = start_sound rules ram text entry disk can quiet; text = λ page e. start_text rules ram text entry disk page e }
-
-flat_begins : (s : State) → StartsFlat s → Begins s
+flat_sound : (s : State) → StartsFlat s → IsSound s
 unfolding flat_start
-flat_begins s k = subst Begins (sym k.same)
-    (start_begins (flat_rules k.digest) (padded k.pages (page_size * flat_ram_pages)) (numbers_from 0 (length k.pages / page_size)) ram_base (block_disk [])
+flat_sound s k = subst IsSound (sym k.same)
+    (start_sound (flat_rules k.digest) (padded k.pages (page_size * flat_ram_pages)) (numbers_from 0 (length k.pages / page_size)) ram_base (block_disk [])
     (flat_can k.pages k.digest k.fits) (block_quiet []))
 
-image_begins : {boot : Rules → (file disk : List ℕ) → State} (s : State) (disk : Disk) (k : StartsBy boot s) → boot k.rules k.file k.disk ≡ image_start k.rules k.file disk → IsSoundDisk disk → Begins s
-image_begins s disk k same quiet = subst Begins (sym (k.same ∙ same))
-    (start_begins k.rules (segments_ram (kernel_segments k.file) k.rules.ram_pages) (text_pages (kernel_segments k.file)) (header_entry k.file) disk
+image_sound : {boot : Rules → (file disk : List ℕ) → State} (s : State) (disk : Disk) (k : StartsBy boot s) → boot k.rules k.file k.disk ≡ image_start k.rules k.file disk → IsSoundDisk disk → IsSound s
+image_sound s disk k same quiet = subst IsSound (sym (k.same ∙ same))
+    (start_sound k.rules (segments_ram (kernel_segments k.file) k.rules.ram_pages) (text_pages (kernel_segments k.file)) (header_entry k.file) disk
     (image_can k.rules k.file k.within k.words k.accepted k.entry) quiet)
 
-begins : (s : State) → IsStart s → Begins s
+-- a start is sound
+begins_sound : (s : State) → IsStart s → IsSound s
 unfolding boot_start virtio_start
-begins s (inl flat) = flat_begins s flat
-begins s (inr (inl k)) = image_begins s (block_disk k.disk) k refl (block_quiet k.disk)
-begins s (inr (inr k)) = image_begins s (virtio_disk k.disk) k refl (virtio_quiet k.disk)
+begins_sound s (inl flat) = flat_sound s flat
+begins_sound s (inr (inl k)) = image_sound s (block_disk k.disk) k refl (block_quiet k.disk)
+begins_sound s (inr (inr k)) = image_sound s (virtio_disk k.disk) k refl (virtio_quiet k.disk)
 
 -- every state that a run reaches from a start is sound
 pub reached_sound : (s : State) (events : List Event) → IsStart s → IsSound (run s events)
-reached_sound s events is_start = (run_goes s events (begins s is_start).sound).sound
+reached_sound s events is_start = (run_goes s events (begins_sound s is_start)).sound
 
 -- ---- bytes
 
@@ -61,17 +53,22 @@ bytes_law s events is_start = (reached_sound s events is_start).text
 pub sound_law : SoundLaw
 sound_law s events is_start = reached_sound s events is_start
 
+-- ---- the kernel's text
+
+some_bytes : (x : Option (List ℕ)) → is_some x ≡ true → (bytes : List ℕ) × (x ≡ Some bytes)
+some_bytes None e = absurd cc
+some_bytes (Some bytes) e = (bytes, refl)
+
+-- in a sound state it has the bytes that RAM has
+pub text_bytes : (s : State) (page : ℕ) → IsSound s → is_kernel_text (ownership s) page ≡ true → approved_bytes s.approved page ≡ Some (page_bytes s.ram page)
+text_bytes s page sound e =
+    let there = some_bytes (approved_bytes s.approved page) (sound.pages.text page e) in
+    there.1 ∙ ap (λ (bytes : List ℕ). Some bytes) (sym (sound.text.same page there.0 there.1))
+
+text_of : (s r : State) (page : ℕ) → IsSound s → TextStays (ownership s) (ownership r) → is_kernel_text (ownership r) page ≡ true → IsText s r page
+text_of s r page sound stays e = record { unretired = e; bytes = stays.bytes page e ∙ text_bytes s page sound (stays.was page e) }
+
 -- ---- modules
-
-text_of_start : (s r : State) (page : ℕ) → Begins s → TextStays (ownership s) (ownership r) → is_kernel_text (ownership r) page ≡ true → IsText s r page
-text_of_start s r page b stays e = record { unretired = e; bytes = stays.bytes page e ∙ b.text page (stays.was page e) }
-
--- a part of a part of a list
-part_in : (list : List ℕ) (at n i m : ℕ) → i + m ≤ n → part (part list at n) i m ≡ part list (at + i) m
-part_in list at n i m fits =
-    let split : n ≡ i + (n - i) = omega arith in
-    let e = subst (λ (k : ℕ). drop i (take k (drop at list)) ≡ take (n - i) (drop i (drop at list))) (sym split) (drop-take i (n - i) (drop at list)) in
-    rw (e, drop-drop) (take-take m (n - i) (drop (at + i) list) (omega arith))
 
 page_place : (at page : ℕ) → at % 4096 ≡ 0 → at / 4096 ≤ page → at + 4096 * (page - at / 4096) ≡ 4096 * page
 page_place at page aligned behind = omega arith
@@ -80,11 +77,11 @@ page_fits : (first n page : ℕ) → first ≤ page → page < first + n → 409
 page_fits first n page behind before = omega arith
 
 -- a module's page is a part of its text, since the module begins with a page
-pub page_in_text : (ram : List ℕ) (place n page : ℕ) → place % 4096 ≡ 0 → has_number (numbers_from (place / 4096) n) page ≡ true
+page_in_text : (ram : List ℕ) (place n page : ℕ) → place % 4096 ≡ 0 → has_number (numbers_from (place / 4096) n) page ≡ true
     → page_bytes ram page ≡ part (part ram place (page_size * n)) (page_size * (page - place / 4096)) page_size
 page_in_text ram place n page aligned inside =
     let bounds = numbers_bounds (place / 4096) n page inside in
-    sym (part_in ram place (page_size * n) (page_size * (page - place / 4096)) page_size (page_fits (place / 4096) n page bounds.0 bounds.1)
+    sym (part_of_part ram place (page_size * n) (page_size * (page - place / 4096)) page_size (page_fits (place / 4096) n page bounds.0 bounds.1)
     ∙ ap (λ (at : ℕ). part ram at page_size) (page_place place page aligned bounds.0))
 
 module_page : (r : State) (m : SavedModule) (page : ℕ) → IsSound r → IsPageOf r.rules r.loaded m page → IsModulePage r m page
@@ -95,9 +92,9 @@ module_page r m page sound p = record {
   text = page_in_text r.ram (ram_place m.gpa) (pages_in_rule (slice_get r.rules.modules m.id)) page (sound.modules m p.loaded_is).aligned p.inside;
 }
 
-origin_of : (s r : State) (page : ℕ) → Begins s → Goes s r → IsOwned (ownership r) page → HasOrigin s r page
-origin_of s r page b goes (inl text) = inl (text_of_start s r page b goes.text text)
-origin_of s r page b goes (inr of) = inr (of.0, module_page r of.0 page goes.sound of.1)
+origin_of : (s r : State) (page : ℕ) → IsSound s → Goes s r → IsOwned (ownership r) page → HasOrigin s r page
+origin_of s r page sound goes (inl text) = inl (text_of s r page sound goes.text text)
+origin_of s r page sound goes (inr of) = inr (of.0, module_page r of.0 page goes.sound of.1)
 
 held_by : (r : State) (x : Option Loading) → IsSoundLoad r.rules r.approved r.loaded r.held x → HoldsLoad r x
 held_by r None load = load
@@ -106,7 +103,7 @@ held_by r (Some load) k = k.pages
 no_held : (held : List ℕ) (page : ℕ) → held ≡ [] → has_number held page ≡ true → ⊥
 no_held held page none e = let k : has_number [] page ≡ true = subst (λ (list : List ℕ). has_number list page ≡ true) none e in cc
 
-held_free : (r : State) (x : Option Loading) (page : ℕ) → IsSoundLoad r.rules r.approved r.loaded r.held x → has_number r.held page ≡ true → is_approved_in r.approved page ≡ false
+pub held_free : (r : State) (x : Option Loading) (page : ℕ) → IsSoundLoad r.rules r.approved r.loaded r.held x → has_number r.held page ≡ true → is_approved_in r.approved page ≡ false
 held_free r None page load e = absurd (no_held r.held page load e)
 held_free r (Some load) page k e = k.free page e
 
@@ -118,11 +115,12 @@ not_loaded : (r : State) (load : Loading) → IsSound r → r.loading ≡ Some l
 not_loaded r load sound under =
     let k : HoldsModule r.rules r.approved r.loaded r.held load = subst (IsSoundLoad r.rules r.approved r.loaded r.held) under sound.load in k.other
 
-has_origins : (s r : State) → Begins s → Goes s r → HasOrigins s r
-has_origins s r b goes = record {
+-- whose pages are, in a run from a sound state
+pub has_origins : (s r : State) → IsSound s → Goes s r → HasOrigins s r
+has_origins s r sound goes = record {
   rules = goes.text.rules;
   text = goes.text.text;
-  origin = λ page e. origin_of s r page b goes (goes.sound.pages.owned page e);
+  origin = λ page e. origin_of s r page sound goes (goes.sound.pages.owned page e);
   held = held_by r r.loading goes.sound.load;
   text_and_module = λ m page p. goes.sound.pages.no_text m page p;
   text_and_held = λ page e. not_true (is_kernel_text (ownership r) page)
@@ -138,4 +136,4 @@ has_origins s r b goes = record {
 }
 
 pub modules_law : ModulesLaw
-modules_law s events is_start = let b = begins s is_start in has_origins s (run s events) b (run_goes s events b.sound)
+modules_law s events is_start = let sound = begins_sound s is_start in has_origins s (run s events) sound (run_goes s events sound)

@@ -12,11 +12,11 @@ use Rattle.reference.specs.Soundness.{IsSound, IsSoundLoad, HoldsModule}
 use Rattle.machine_model.specs.Machine.{Machine}
 use Rattle.machine_model.specs.StandsFor.{Unseen, machine_of, protections_of, load_kept, load_kept_by}
 use Rattle.attempt_laws.proofs.LoadsKept.{elsewhere}
-use Rattle.run_laws.proofs.Lookups.{is_there, and_first, and_second, found_id}
+use Rattle.run_laws.proofs.Lookups.{is_there, and_first, and_second, found_id, length_pages}
 use Rattle.page_guard.specs.Guarded.{IsInRam, AllAre}
 use Rattle.module_gate.specs.Gates.{module_span, AreApproved}
 use Rattle.standing_laws.specs.Laws.{LoadedLaw, HoldsItsPages, LoadingLaw}
-use Rattle.standing_laws.proofs.Standings.{listed, length_pages}
+use Rattle.standing_laws.proofs.Standings.{listed}
 
 -- ---- spans
 
@@ -55,7 +55,7 @@ rule_pages exports before rule e = some_pages rule.pages
     first_of true b c d k = refl
     first_of false b c d k = cc
 
-there_is : (modules : List ModuleRule) (id : ℕ) → id < length modules → (rule : ModuleRule) × (slice_get modules id ≡ Some rule)
+pub there_is : (modules : List ModuleRule) (id : ℕ) → id < length modules → (rule : ModuleRule) × (slice_get modules id ≡ Some rule)
 there_is [] id below = absurd (omega arith)
 there_is (x ∷ modules) zero below = (x, refl)
 there_is (x ∷ modules) (suc id) below = there_is modules id (omega arith)

@@ -1,9 +1,8 @@
 -- Harts, pages and views of a machine that stands for a state.
-use Rattle.std.proofs.Common.{◌≡◌, ℕ, zero, suc, ◌+◌, ◌*◌, ◌/◌, ◌^◌, ◌<◌, ◌≤◌, List, [], ◌∷◌, map, length, refl, sym, ◌∙◌, ap, subst, Bool, true, false, ◌&&◌, arith, slice_get}
+use Rattle.std.proofs.Common.{◌≡◌, ℕ, zero, suc, ◌+◌, ◌*◌, ◌/◌, ◌^◌, ◌<◌, ◌≤◌, List, [], ◌∷◌, length, refl, sym, ◌∙◌, ap, subst, Bool, true, false, ◌&&◌, arith, slice_get}
 use Rattle.std.specs.Prelude.{Option, Some, None, option_map, nat_le, slice_index_or}
 use Rattle.std.proofs.lemmas.Bool.{leb-true}
 use Rattle.std.proofs.lemmas.Option.{slice_get_within}
-use Rattle.sv_types.specs.ApprovedPages.{numbers_from}
 use Rattle.processor.specs.Bytes.{page_of}
 use Rattle.processor.specs.HypervisorRegisters.{HypervisorRegisters}
 use Rattle.sv_types.specs.Policies.{Rules, rules_within, numbers_within, harts_within, format_within, ram_pages_within, lists_within, init_within, modules_count_within, modules_within, entries_count_within, entries_within, exports_count_within, exports_within, bound_within}
@@ -12,7 +11,6 @@ use Rattle.processor.specs.Roots.{IsSv39x4}
 use Rattle.sv_types.specs.Views.{OfKernel, OfUser, OfEntry, with_ram, view_hgatp}
 use Rattle.processor.specs.declared.mode.Mode.{Mode}
 use Rattle.processor.specs.declared.mode.Mode.TheVariants.{Kernel, User}
-use Rattle.sv_types.specs.declared.protection.Protection.{Protection}
 use Rattle.sv_types.specs.declared.view.View.TheVariants as View
 use Rattle.view_laws.proofs.Views.{view_walks_apart}
 use Rattle.reference.specs.Protections.{or_free, protection_at}
@@ -22,7 +20,7 @@ use Rattle.machine_model.specs.Machine.{Machine, HostHart}
 use Rattle.machine_model.specs.StandsFor.{Unseen, IsRightFor, machine_of, host_hart, host_harts, hregs_in, bound_pages, protections_of}
 use Rattle.attempt_laws.proofs.Under.{bound_page}
 use Rattle.answer_laws.proofs.ViewsMeet.{get_numbers, views_meet}
-use Rattle.run_laws.proofs.Lookups.{and_second}
+use Rattle.run_laws.proofs.Lookups.{and_second, length_pages}
 use Rattle.hart.specs.Conditions.{KeepsMode}
 use Rattle.standing_laws.specs.Laws.{MayAttempt, HartsLaw, HartInLaw, NoEntryLaw, IsInOrder, OrderLaw}
 
@@ -165,10 +163,6 @@ length_hosts t [] [] size = refl
 length_hosts t [] (y ∷ harts) size = cc
 length_hosts t (x ∷ exits) [] size = refl
 length_hosts t (x ∷ exits) (y ∷ harts) size = ap suc (length_hosts t exits harts (cc))
-
-pub length_pages : (f : ℕ → Protection) (first n : ℕ) → length (map f (numbers_from first n)) ≡ n
-length_pages f first zero = refl
-length_pages f first (suc n) = ap suc (length_pages f (first + 1) n)
 
 most_harts : (n : ℕ) → (nat_le 1 n && nat_le n 4) ≡ true → n ≤ 4
 most_harts n e = leb-true n 4 (and_second (nat_le 1 n) (nat_le n 4) e)

@@ -1,5 +1,5 @@
 -- A chain of which a first part is read already.
-use Rattle.std.proofs.Common.{◌≡◌, ℕ, suc, ◌+◌, ◌-◌, ◌*◌, ◌<◌, ◌≤◌, true, false, nat_lt, List, [], ◌∷◌, ◌++◌, Option, Some, None, option_map, refl, ◌∙◌, sym, ap, append_assoc, arith}
+use Rattle.std.proofs.Common.{◌≡◌, ℕ, suc, ◌+◌, ◌-◌, ◌*◌, ◌<◌, true, false, nat_lt, List, [], ◌∷◌, ◌++◌, Option, Some, None, option_map, refl, ◌∙◌, sym, ap, append_assoc, arith}
 use Rattle.reference.specs.VirtioChain.{descriptor_at, with_rest, chain, most_parts}
 use Rattle.sv_types.specs.declared.virtio.VirtioDescriptor.{VirtioDescriptor}
 use Rattle.sv_types.specs.declared.virtio.VirtioPart.{VirtioPart}
@@ -26,20 +26,6 @@ chain_step n ram table size index d is below =
 after_place : (place : ℕ) → place < most_parts → most_parts - place ≡ suc (most_parts - (place + 1))
 after_place place below = omega (arith, below)
 
-pub chain_outside : (place : ℕ) (parts : List VirtioPart) (ram : List ℕ) (table size index : ℕ) (whole : Option (List VirtioPart)) → place < most_parts → size ≤ index → before parts (chain (most_parts - place) ram table size index) ≡ whole → None ≡ whole
-unfolding chain
-chain_outside place parts ram table size index whole below out chained =
-    let test : nat_lt index size ≡ false = grind (arith, out) in
-    let none : chain (most_parts - place) ram table size index ≡ None = rw (after_place place below, test) refl in
-    sym (ap (before parts) none) ∙ chained
-
-pub chain_indirect : (place : ℕ) (parts : List VirtioPart) (ram : List ℕ) (table size index : ℕ) (d : VirtioDescriptor) (whole : Option (List VirtioPart)) → place < most_parts → index < size → d ≡ descriptor_at ram (table + 16 * index) → d.is_indirect ≡ true → before parts (chain (most_parts - place) ram table size index) ≡ whole → None ≡ whole
-unfolding with_rest
-chain_indirect place parts ram table size index d whole below inside is indirect chained =
-    let step = chain_step (most_parts - (place + 1)) ram table size index d is inside in
-    let none : chain (most_parts - place) ram table size index ≡ None = rw (after_place place below, step, indirect) refl in
-    sym (ap (before parts) none) ∙ chained
-
 pub chain_ends : (place : ℕ) (parts : List VirtioPart) (ram : List ℕ) (table size index : ℕ) (d : VirtioDescriptor) (whole : Option (List VirtioPart)) → place < most_parts → index < size → d ≡ descriptor_at ram (table + 16 * index) → d.is_indirect ≡ false → d.goes_on ≡ false → before parts (chain (most_parts - place) ram table size index) ≡ whole → Some (parts ++ d.part ∷ []) ≡ whole
 unfolding with_rest
 chain_ends place parts ram table size index d whole below inside is direct ends chained =
@@ -54,10 +40,3 @@ chain_goes_on place parts ram table size index d whole below inside is direct go
     let rest = chain (most_parts - (place + 1)) ram table size d.next in
     let more : chain (most_parts - place) ram table size index ≡ option_map (λ more. d.part ∷ more) rest = rw (after_place place below, step, direct, goes) refl in
     before_one_more parts d.part rest ∙ sym (ap (before parts) more) ∙ chained
-
-pub chain_too_long : (place : ℕ) (parts : List VirtioPart) (ram : List ℕ) (table size index : ℕ) (whole : Option (List VirtioPart)) → most_parts ≤ place → before parts (chain (most_parts - place) ram table size index) ≡ whole → None ≡ whole
-unfolding chain
-chain_too_long place parts ram table size index whole all chained =
-    let zero_left : most_parts - place ≡ 0 = omega (arith, all) in
-    let none : chain (most_parts - place) ram table size index ≡ None = rw zero_left refl in
-    sym (ap (before parts) none) ∙ chained

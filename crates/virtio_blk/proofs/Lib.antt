@@ -4,4 +4,3 @@ pub mod DataMoves
 pub mod NewRequests
 pub mod Places
 pub mod Sums
-pub mod Writes

@@ -78,9 +78,6 @@ passed_same start q same placed before all = record {
   others = ap (λ (r : VirtioRequest). record r { part = q.part + 1; offset = 0 }) same.others;
 }
 
-pub same_at_start : (q : VirtioRequest) → IsSame q q
-same_at_start q = record { moves = λ accepted. refl; disk = λ n on. on; others = refl }
-
 -- ---- a piece is moved
 
 abbrev pub moved : VirtioRequest → ℕ → VirtioRequest
@@ -121,24 +118,6 @@ piece_on_disk disk_size q n placed before most on =
     let old = left_bytes q placed before in
     let there = on before in
     omega (arith, old, there, most)
-
-pub moved_placed : (q : VirtioRequest) (n : ℕ) → IsPlaced q → q.part < last_place q → n ≤ (part_at q q.part).len - q.offset → IsPlaced (moved q n)
-moved_placed q n placed before most = record {
-  parts = placed.parts;
-  least = placed.least;
-  most = placed.most;
-  begun = placed.begun;
-  inside = placed.inside;
-  tail = placed.tail;
-  data_first = placed.data_first;
-  offset = λ next. let reached = placed.offset before in omega (arith, reached, most);
-  at_end = λ end. absurd (omega (arith, end, before));
-  addresses = placed.addresses;
-  size_some = placed.size_some;
-  size_most = placed.size_most;
-  aligned = placed.aligned;
-  used = placed.used;
-}
 
 -- ---- behind all data
 
@@ -181,30 +160,8 @@ word_in_page gpa aligned =
 
 -- ---- the last moves
 
-pub tail_placed : (q : VirtioRequest) → IsPlaced q → q.part ≡ last_place q → q.tail < 4 → IsPlaced (record q { tail = q.tail + 1 })
-tail_placed q placed end more = record {
-  parts = placed.parts;
-  least = placed.least;
-  most = placed.most;
-  begun = placed.begun;
-  inside = placed.inside;
-  tail = omega (arith, more);
-  data_first = λ before. absurd (omega (arith, before, end));
-  offset = placed.offset;
-  at_end = placed.at_end;
-  addresses = placed.addresses;
-  size_some = placed.size_some;
-  size_most = placed.size_most;
-  aligned = placed.aligned;
-  used = placed.used;
-}
-
 pub last_left_more : (accepted : ℕ) (q : VirtioRequest) → last_left accepted (record q { tail = q.tail + 1 }) ≡ drop 1 (last_left accepted q)
 last_left_more accepted q = sym (drop-drop 1 q.tail (last_moves (part_at q (last_place q)).gpa q.used q.size q.head accepted))
-
-pub no_first : (moves : List VirtioMove) → None ≡ first_move moves → moves ≡ drop 1 moves
-no_first [] none = refl
-no_first (move ∷ moves) none = absurd (cc)
 
 pub first_at : (tail k : ℕ) (moves : List VirtioMove) → tail ≡ k → first_move (drop tail moves) ≡ first_move (drop k moves)
 first_at tail k moves is = ap (λ (n : ℕ). first_move (drop n moves)) is

@@ -5,16 +5,16 @@ use Rattle.sv_types.specs.Policies.{rules_of}
 use Rattle.sv_types.specs.declared.saved.SavedModule.{SavedModule}
 use Rattle.snapshot_form.specs.Snapshots.{contents}
 use Rattle.resumption.specs.Judgements.{fits}
-use Rattle.resumption.proofs.ModuleSites.{modules_fit, pages_are}
+use Rattle.resumption.proofs.ModuleSites.{of_policy}
 use Rattle.resumption.proofs.modules.has_modules.Goals as goal
 
 pub are_good-requires-clause-fitting : goal.are_good-requires-clause-fitting
 are_good-requires-clause-fitting g c κs within =
     ap (λ (modules : List SavedModule). list_all (fits (rules_of c.args.policy.now)) modules) c.deref-2.ensures.value
-    ∙ modules_fit (rules_of c.args.policy.now) (contents c.args.snapshot.now) c.requires.policy
+    ∙ (of_policy (rules_of c.args.policy.now) (contents c.args.snapshot.now) c.requires.policy).modules
 
 pub are_good-requires-clause-ram : goal.are_good-requires-clause-ram
 are_good-requires-clause-ram g c κs within =
     ap (λ (bytes : List ℕ). length bytes) c.deref.ensures.value
     ∙ c.requires.ram
-    ∙ ap (λ (pages : ℕ). page_size * pages) (pages_are (rules_of c.args.policy.now) (contents c.args.snapshot.now) c.requires.policy)
+    ∙ ap (λ (pages : ℕ). page_size * pages) (of_policy (rules_of c.args.policy.now) (contents c.args.snapshot.now) c.requires.policy).pages

@@ -1,7 +1,6 @@
 use Rattle.std.proofs.Common.{rules, ◌≡◌, ◌+◌, ◌-◌, ◌∙◌, sym, List, ℕ, ap, arith, length}
 use borrow.Rule.Slice.PartMut.{put_mid}
-use Rattle.host_mem.proofs.WordFacts.{part_put}
-use Rattle.virtio_blk.proofs.Writes.{written_over}
+use Rattle.host_mem.proofs.WordFacts.{part_put, written_over}
 use Rattle.virtio_blk.proofs.Virtio.keep_bytes.Goals as goal
 
 pub returns-clause-value : goal.returns-clause-value

@@ -1,9 +1,8 @@
 use Rattle.std.proofs.Common.{rules, ◌≡◌, ◌+◌, ◌-◌, ◌∙◌, sym, List, ℕ, ap, arith, length}
 use borrow.Rule.Slice.PartMut.{put_mid}
-use Rattle.host_mem.proofs.WordFacts.{part_put}
+use Rattle.host_mem.proofs.WordFacts.{part_put, written_over}
 use Rattle.processor.specs.Bytes.{overwrite}
 use Rattle.reference.specs.BlockDisk.{beat_place}
-use Rattle.devices.proofs.Writes.{written_over}
 use Rattle.devices.proofs.block.Block.keep.Goals as goal
 
 pub returns : goal.returns
