@@ -1,6 +1,7 @@
 // Accesses to device registers.
 
 ghost use Rattle.std.specs.Prelude.{◌≡◌, ◌%◌, ◌<◌, length};
+ghost use Rattle.processor.specs.IntegerRegisters.{register_count};
 ghost use Rattle.processor.specs.declared.exit.ExitCause.{ExitCause};
 ghost use Rattle.sv_types.specs.Limits.{most_printed};
 ghost use Rattle.reference.specs.Counting.{MayCount};
@@ -52,7 +53,7 @@ pub fn device_load<D: DiskPort>(
 )
     requires aligned { seat.old.hart.core.pc % 4 ≡ 0 }
     requires counts { MayCount journal.old.counts }
-    requires register { load.rd < 32 }
+    requires register { load.rd < register_count }
     ensures machine { (m : Machine) → m.rules.entries ≡ entries.now.entries → m.rules.bound ≡ entries.now.bound → with_devices m which (host_at seat.new) devices.new journal.new ≡ host_device_load (with_devices m which (host_at seat.old) devices.old journal.old) which (host_at seat.old) (mode_of seat.old.side) load.rd load.address load.width load.signed (device_load devices.old load.gpa load.width) }
 {
     match devices.load(load.gpa, load.width) {

@@ -3,6 +3,7 @@
 ghost use Rattle.std.specs.Prelude.{◌≡◌, ◌<◌, ◌%◌, true, false, None, OnOk, OnErr, IfErr};
 ghost use Rattle.sv_types.specs.Policies.{Rules};
 ghost use Rattle.sv_types.specs.declared.view.View.{View};
+ghost use Rattle.processor.specs.IntegerRegisters.{register_count};
 ghost use Rattle.processor.specs.Traps.{is_interrupt, guest_number, trap_target, mode_at_return};
 ghost use Rattle.processor.specs.declared.mode.Mode.TheVariants.{Kernel};
 ghost use Rattle.reference.specs.Trapping.{may_enter};
@@ -28,6 +29,7 @@ pub struct Trap {
 
 /// The hart comes to its guest's trap handler, on the kernel's side or in the entry that it is bound to. From user mode only a
 /// permitted target is entered, and else the target is the answer, and hart and side stay as they were.
+#[inline(always)]
 pub fn take_trap(
     hart: &mut Hart,
     side: &mut Side,
@@ -50,6 +52,7 @@ pub fn take_trap(
 }
 
 // The hart in its trap handler, which it came to from a mode.
+#[inline(always)]
 fn enter_handler(hart: &mut Hart, from: Mode, trap: Trap)
     requires { hart.old.core.pc % 4 ≡ 0 }
     ensures { hart.new ≡ in_handler hart.old from (is_interrupt trap.cause) (guest_number trap.cause) trap.tval }
@@ -118,7 +121,7 @@ pub fn pass(hart: &mut Hart)
 /// The hart goes on after its instruction with one register set.
 #[tactic(auto, unfolding(machine_model::specs::HostHarts::host_with, machine_model::specs::HostHarts::host_passed))]
 pub fn set(hart: &mut Hart, rd: u8, value: u64)
-    requires { rd < 32 }
+    requires { rd < register_count }
     ensures hart { (view : View) → host_of hart.new view ≡ host_with rd value (host_of hart.old view) }
 {
     hart.core.regs.set(rd, value);

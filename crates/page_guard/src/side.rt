@@ -99,6 +99,7 @@ impl Side {
 
     /// Enters the kernel: from kernel mode at any target, from user mode at a permitted one alone. From user mode the hart comes to
     /// the target's entry, where that is bound, and in kernel mode it stays in its own.
+    #[inline(always)]
     pub fn enter(&mut self, guard: &Guard, entries: &Entries, target: u64) -> Result<(), Forbidden>
         ensures permitted { (rules : Rules) → rules.entries ≡ entries.now.entries → OnOk result (may_enter rules (mode_of self.old) target ≡ true) }
         ensures forbidden { (rules : Rules) → rules.entries ≡ entries.now.entries → OnErr result (may_enter rules (mode_of self.old) target ≡ false) }

@@ -24,12 +24,13 @@ use Rattle.processor.specs.declared.instruction.AmoOp.{AmoOp}
 use Rattle.processor.specs.declared.instruction.AmoOp.TheVariants.{Amoswap, Amoadd, Amoxor, Amoand, Amoor, Amomin, Amomax, Amominu, Amomaxu}
 use Rattle.processor.specs.declared.instruction.HyperOp.{HyperOp}
 use Rattle.processor.specs.declared.instruction.HyperOp.TheVariants.{HlvB, HlvBu, HlvH, HlvHu, HlvxHu, HlvW, HlvWu, HlvxWu, HlvD, HsvB, HsvH, HsvW, HsvD, HfenceVvma, HfenceGvma}
+use Rattle.processor.specs.IntegerRegisters.{register_count}
 use Rattle.processor.specs.Instructions.{bits}
 
 -- ---- fields in range
 
 abbrev pub is_register : ℕ → Bool
-is_register number = nat_lt number 32
+is_register number = nat_lt number register_count
 
 -- a signed number of n bits, a multiple of a step
 abbrev pub is_immediate : ℕ → ℕ → ℤ → Bool

@@ -3,6 +3,7 @@
 ghost use Rattle.std.specs.Prelude.{◌≡◌, ◌<◌, ◌≤◌, ◌&&◌, ◌==◌, if◌then◌else◌};
 ghost use Rattle.processor.specs.Encoding as table;
 
+use processor::REGISTERS;
 use rv64_decode::{HyperOp, Instr, OpImm32Op, OpImmOp};
 
 /// Whether an instruction's fields are in range, so that a word encodes it.
@@ -66,7 +67,7 @@ pub fn fits(instr: &Instr) -> bool
 fn register(number: u8) -> bool
     ensures { result ≡ table.is_register number }
 {
-    number < 32
+    usize::from(number) < REGISTERS
 }
 
 fn registers(first: u8, second: u8) -> bool

@@ -7,12 +7,14 @@ use crate::divide::{quotient, quotient_unsigned, remainder, remainder_unsigned};
 use rv64_decode::{BranchOp, OpImmOp, OpOp};
 
 // The low 6 bits of a shift's operand are its count.
+#[inline(always)]
 fn count(b: u64) -> u32
     ensures { result ≡ b % 64 }
 {
     (b % 64) as u32
 }
 
+#[inline(always)]
 fn shift_left(a: u64, count: u32) -> u64
     requires { count < 64 }
     ensures { result ≡ table.shift_left a count }
@@ -20,6 +22,7 @@ fn shift_left(a: u64, count: u32) -> u64
     a.wrapping_shl(count)
 }
 
+#[inline(always)]
 fn shift_right(a: u64, count: u32) -> u64
     requires { count < 64 }
     ensures { result ≡ table.shift_right a count }
@@ -27,6 +30,7 @@ fn shift_right(a: u64, count: u32) -> u64
     a.wrapping_shr(count)
 }
 
+#[inline(always)]
 fn shift_right_signed(a: u64, count: u32) -> u64
     requires { count < 64 }
     ensures { result ≡ table.shift_right_signed a count }
@@ -34,6 +38,7 @@ fn shift_right_signed(a: u64, count: u32) -> u64
     a.cast_signed().wrapping_shr(count).cast_unsigned()
 }
 
+#[inline(always)]
 fn upper_signed(a: u64, b: u64) -> u64
     ensures { result ≡ table.upper (table.signed a *ℤ table.signed b) }
 {
@@ -41,6 +46,7 @@ fn upper_signed(a: u64, b: u64) -> u64
     (product.cast_unsigned() >> 64) as u64
 }
 
+#[inline(always)]
 fn upper_mixed(a: u64, b: u64) -> u64
     ensures { result ≡ table.upper (table.signed a *ℤ pos b) }
 {
@@ -48,6 +54,7 @@ fn upper_mixed(a: u64, b: u64) -> u64
     (product.cast_unsigned() >> 64) as u64
 }
 
+#[inline(always)]
 fn upper_unsigned(a: u64, b: u64) -> u64
     ensures { result ≡ a * b / 2 ^ 64 }
 {
@@ -55,6 +62,7 @@ fn upper_unsigned(a: u64, b: u64) -> u64
 }
 
 #[tactic(auto, unfolding(processor::specs::Effects::op_value))]
+#[inline(always)]
 pub fn op(op: OpOp, a: u64, b: u64) -> u64
     ensures { result ≡ table.op_value op a b }
 {
@@ -81,6 +89,7 @@ pub fn op(op: OpOp, a: u64, b: u64) -> u64
 }
 
 #[tactic(auto, unfolding(processor::specs::Effects::op_imm_value))]
+#[inline(always)]
 pub fn op_imm(op: OpImmOp, a: u64, imm: u64, shamt: u8) -> u64
     requires { shamt < 64 }
     ensures { result ≡ table.op_imm_value op a imm shamt }
@@ -99,6 +108,7 @@ pub fn op_imm(op: OpImmOp, a: u64, imm: u64, shamt: u8) -> u64
 }
 
 #[tactic(auto, unfolding(processor::specs::Effects::branch_taken))]
+#[inline(always)]
 pub fn branch_taken(op: BranchOp, a: u64, b: u64) -> bool
     ensures { result ≡ table.branch_taken op a b }
 {

@@ -8,12 +8,14 @@ use crate::word::{extended, low_word, sign_extended, signed_low};
 use rv64_decode::{Op32Op, OpImm32Op};
 
 // The low 5 bits of a shift's operand are its count.
+#[inline(always)]
 fn count(b: u64) -> u32
     ensures { result ≡ b % 32 }
 {
     (b % 32) as u32
 }
 
+#[inline(always)]
 fn shift_left(a: u64, count: u32) -> u64
     requires { count < 32 }
     ensures { result ≡ table.shift_left_low a count }
@@ -21,6 +23,7 @@ fn shift_left(a: u64, count: u32) -> u64
     extended(a.wrapping_shl(count))
 }
 
+#[inline(always)]
 fn shift_right(a: u64, count: u32) -> u64
     requires { count < 32 }
     ensures { result ≡ table.shift_right_low a count }
@@ -28,6 +31,7 @@ fn shift_right(a: u64, count: u32) -> u64
     extended(u64::from(low_word(a).wrapping_shr(count)))
 }
 
+#[inline(always)]
 fn shift_right_signed(a: u64, count: u32) -> u64
     requires { count < 32 }
     ensures { result ≡ table.shift_right_signed_low a count }
@@ -36,6 +40,7 @@ fn shift_right_signed(a: u64, count: u32) -> u64
 }
 
 #[tactic(auto, unfolding(processor::specs::Effects::op_32_value))]
+#[inline(always)]
 pub fn op_32(op: Op32Op, a: u64, b: u64) -> u64
     ensures { result ≡ table.op_32_value op a b }
 {
@@ -54,6 +59,7 @@ pub fn op_32(op: Op32Op, a: u64, b: u64) -> u64
 }
 
 #[tactic(auto, unfolding(processor::specs::Effects::op_imm_32_value))]
+#[inline(always)]
 pub fn op_imm_32(op: OpImm32Op, a: u64, imm: u64, shamt: u8) -> u64
     requires { shamt < 32 }
     ensures { result ≡ table.op_imm_32_value op a imm shamt }

@@ -5,6 +5,7 @@ ghost use Rattle.processor.specs.Effects as table;
 
 use crate::word::{extended, low_word, sign_extended, signed_low};
 
+#[inline(always)]
 pub fn quotient(a: u64, b: u64) -> u64
     ensures { result ≡ table.quotient a b }
 {
@@ -17,12 +18,14 @@ pub fn quotient(a: u64, b: u64) -> u64
     }
 }
 
+#[inline(always)]
 pub fn quotient_unsigned(a: u64, b: u64) -> u64
     ensures { result ≡ table.quotient_unsigned a b }
 {
     a.checked_div(b).unwrap_or(u64::MAX)
 }
 
+#[inline(always)]
 pub fn remainder(a: u64, b: u64) -> u64
     ensures { result ≡ table.remainder a b }
 {
@@ -35,12 +38,14 @@ pub fn remainder(a: u64, b: u64) -> u64
     }
 }
 
+#[inline(always)]
 pub fn remainder_unsigned(a: u64, b: u64) -> u64
     ensures { result ≡ table.remainder_unsigned a b }
 {
     a.checked_rem(b).unwrap_or(a)
 }
 
+#[inline(always)]
 pub fn quotient_low(a: u64, b: u64) -> u64
     ensures { result ≡ table.quotient_low a b }
 {
@@ -51,6 +56,7 @@ pub fn quotient_low(a: u64, b: u64) -> u64
     }
 }
 
+#[inline(always)]
 pub fn quotient_unsigned_low(a: u64, b: u64) -> u64
     ensures { result ≡ table.quotient_unsigned_low a b }
 {
@@ -61,6 +67,7 @@ pub fn quotient_unsigned_low(a: u64, b: u64) -> u64
     }
 }
 
+#[inline(always)]
 pub fn remainder_low(a: u64, b: u64) -> u64
     ensures { result ≡ table.remainder_low a b }
 {
@@ -71,6 +78,7 @@ pub fn remainder_low(a: u64, b: u64) -> u64
     }
 }
 
+#[inline(always)]
 pub fn remainder_unsigned_low(a: u64, b: u64) -> u64
     ensures { result ≡ table.remainder_unsigned_low a b }
 {

@@ -102,12 +102,14 @@ pub fn effect(instr: &Instr, regs: &Regs, pc: u64) -> Effect
     }
 }
 
+#[inline(always)]
 fn set(rd: u8, value: u64, next: u64) -> Effect
     ensures { result ≡ Effect.Set rd value next }
 {
     Effect::Set { rd, value, next }
 }
 
+#[inline(always)]
 fn offset(base: u64, imm: i64) -> u64
     ensures { result ≡ table.plus base (table.immediate imm) }
 {
@@ -115,12 +117,14 @@ fn offset(base: u64, imm: i64) -> u64
 }
 
 // A jump's target has bit 0 cleared where a register gives it.
+#[inline(always)]
 fn even(target: u64) -> u64
     ensures { result ≡ table.even target }
 {
     target - target % 2
 }
 
+#[inline(always)]
 fn jump(rd: u8, link: u64, target: u64) -> Effect
     ensures { result ≡ table.jump rd link target }
 {
@@ -131,6 +135,7 @@ fn jump(rd: u8, link: u64, target: u64) -> Effect
     }
 }
 
+#[inline(always)]
 fn branch(taken: bool, target: u64, next: u64) -> Effect
     ensures { result ≡ table.branch taken target next }
 {
@@ -142,6 +147,7 @@ fn branch(taken: bool, target: u64, next: u64) -> Effect
 }
 
 #[tactic(auto, unfolding(processor::specs::Effects::load_width, processor::specs::Effects::load_signed))]
+#[inline(always)]
 fn load(op: LoadOp, rd: u8, addr: u64) -> Effect
     ensures { result ≡ Effect.Load rd addr (table.load_width op) (table.load_signed op) }
 {
@@ -163,6 +169,7 @@ fn load(op: LoadOp, rd: u8, addr: u64) -> Effect
 }
 
 #[tactic(auto, unfolding(processor::specs::Effects::store_width))]
+#[inline(always)]
 fn store(op: StoreOp, addr: u64, value: u64) -> Effect
     ensures { result ≡ Effect.Store addr (table.store_width op) value }
 {
@@ -176,6 +183,7 @@ fn store(op: StoreOp, addr: u64, value: u64) -> Effect
 }
 
 #[tactic(auto, unfolding(processor::specs::Effects::csr_operand, processor::specs::Effects::csr_writes))]
+#[inline(always)]
 fn access(op: CsrOp, rd: u8, rs1: u8, number: u16, register: u64) -> Effect
     ensures { result ≡ Effect.Csr rd number op (table.csr_operand op register rs1) (table.csr_writes op rs1) }
 {

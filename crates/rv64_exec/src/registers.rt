@@ -28,7 +28,9 @@ impl Regs {
     pub fn new() -> Self
         ensures { result ≡ replicate register_count 0 }
     {
-        Regs { values: [0; REGISTERS] }
+        Regs {
+            values: [0; REGISTERS],
+        }
     }
 
     /// Registers with these values, of which the first is 0.

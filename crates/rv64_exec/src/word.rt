@@ -4,12 +4,14 @@ ghost use Rattle.std.specs.Int.{cast_signed};
 ghost use Rattle.std.specs.Prelude.{◌≡◌};
 ghost use Rattle.processor.specs.Effects as table;
 
+#[inline(always)]
 pub fn low_word(a: u64) -> u32
     ensures { result ≡ table.low_word a }
 {
     (a % 0x1_0000_0000) as u32
 }
 
+#[inline(always)]
 pub fn signed_low(a: u64) -> i32
     ensures { result ≡ table.signed_low a }
 {
@@ -17,6 +19,7 @@ pub fn signed_low(a: u64) -> i32
 }
 
 // A signed number as a machine word.
+#[inline(always)]
 pub fn sign_extended(low: i32) -> u64
     ensures { result ≡ table.machine_word low }
 {
@@ -24,6 +27,7 @@ pub fn sign_extended(low: i32) -> u64
 }
 
 // The low 32 bits, sign-extended.
+#[inline(always)]
 pub fn extended(a: u64) -> u64
     ensures { result ≡ table.extended a }
 {

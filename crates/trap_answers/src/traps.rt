@@ -17,6 +17,7 @@ use page_guard::{Entries, Guard};
 use sv_types::Rule;
 
 /// A trap of the guest: it comes to its handler, or, from user mode to a target that isn't permitted, the machine stops.
+#[inline(always)]
 pub fn guest_trap(
     which: u8,
     seat: &mut Seat,
