@@ -9,7 +9,7 @@ use Rattle.machine.proofs.machine.Machine.hart_turns.Goals as goal
 pub returns-then-made-most-clause-counts : goal.returns-then-made-most-clause-counts
 returns-then-made-most-clause-counts c =
     subst (λ (made : ℕ). (n : ℕ) → CountsAtMost n c.args.self.now.journal.counts → CountsAtMost (n + made) c.row-row.new.self.journal.counts)
-        (sym c.turns-made.ensures) c.row-row.ensures.counts
+    (sym c.turns-made.ensures) c.row-row.ensures.counts
 
 pub make-requires-clause-counts : goal.make-requires-clause-counts
 make-requires-clause-counts c =
@@ -27,5 +27,5 @@ pub returns-clause-counts : goal.returns-clause-counts
 returns-clause-counts c =
     counts_more c.turns-made.result c.args.self.now.journal.counts c.row-row.new.self.journal.counts c.make.new.self.journal.counts
     (subst (λ (made : ℕ). (n : ℕ) → CountsAtMost n c.args.self.now.journal.counts → CountsAtMost (n + made) c.row-row.new.self.journal.counts)
-        (sym c.turns-made.ensures) c.row-row.ensures.counts)
+    (sym c.turns-made.ensures) c.row-row.ensures.counts)
     c.make.ensures.counts
