@@ -1,5 +1,6 @@
 -- A journal's fields as one record, and the room that they have. This project's own.
-use Rattle.std.specs.Prelude.{◌≤◌, length, vec_capacity}
+use Rattle.std.specs.Prelude.{ℕ, ◌+◌, ◌≤◌, length, vec_capacity}
+use Rattle.sv_types.specs.declared.event.Counts.{Counts}
 use Rattle.sv_types.specs.Limits.{most_printed, most_notes}
 use Rattle.reference.specs.States.{Journal}
 use Rattle.journal_records.specs.declared.journal.Journal.TheInside.{Inside}
@@ -12,3 +13,7 @@ pub record HasRoom (j : Inside) : Type 0 where
   pub printed : most_printed ≤ vec_capacity j.printed
   pub notes : most_notes ≤ vec_capacity j.notes
   pub few : length j.notes.items ≤ most_notes
+
+-- so many turns of a hart, in each of which an instruction was carried out
+abbrev pub count_row : ℕ → Counts → Counts
+count_row n c = record c { turns = c.turns + n; retired = c.retired + n }

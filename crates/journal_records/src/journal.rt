@@ -1,12 +1,13 @@
 // What the machine records.
 
-ghost use Rattle.std.specs.Prelude.{◌≡◌, ◌<◌, ◌≤◌, ◌-◌, ◌^◌, [], length, IfOk};
+ghost use Rattle.std.specs.Prelude.{◌+◌, ◌≡◌, ◌<◌, ◌≤◌, ◌-◌, ◌^◌, [], length, IfOk};
 ghost use Rattle.sv_types.specs.Limits.{most_printed, most_notes};
 ghost use Rattle.sv_types.specs.Boot.{no_counts};
 ghost use Rattle.sv_types.specs.declared.event.Note.TheVariants.{Demote, Denied, Load, Unload, Retire};
 ghost use Rattle.sv_types.specs.declared.event.Verdict.TheVariants.{Running, Shutdown, Stopped};
 ghost use Rattle.sv_types.specs.declared.sbi.SbiCode.TheVariants.{Success};
 ghost use Rattle.reference.specs.Counting.{counted, count_turn, count_beat, count_key, count_tick, count_retired, count_trap, count_return, count_demote, count_denied, count_dropped, count_load, count_unload, MayCount, noted, printed_low, machine_ended};
+ghost use Rattle.journal_records.specs.Journals.{count_row};
 ghost use Rattle.reference.specs.Answers.{count_answer, journal_beside};
 
 use processor::Mode;
@@ -173,6 +174,17 @@ impl Journal {
         ensures { self.new ≡ counted count_retired self.old }
     {
         self.counts.retired += 1;
+    }
+
+    /// So many turns of a hart, in each of which an instruction was carried out.
+    #[inline(always)]
+    pub fn count_row(&mut self, made: u64)
+        requires turns { self.old.counts.turns + made < 2 ^ 64 }
+        requires retired { self.old.counts.retired + made < 2 ^ 64 }
+        ensures { self.new ≡ counted (count_row made) self.old }
+    {
+        self.counts.turns += made;
+        self.counts.retired += made;
     }
 
     /// A trap of the guest; one from user mode enters the kernel.

@@ -240,7 +240,7 @@ may_trap left n m mid h may ends aligned = record {
   aligned = aligned;
 }
 
-pub row_within : (left : Leaving) (n : ℕ) → n ≤ with_leaving left n
+row_within : (left : Leaving) (n : ℕ) → n ≤ with_leaving left n
 row_within Stays n = omega arith
 row_within Calls n = omega arith
 row_within Returns n = omega arith
@@ -273,25 +273,3 @@ pub behind_bounded : (left : Leaving) (n : ℕ) (m mid : Machine) (h : ℕ) → 
 behind_bounded left n m mid h begins ends =
     let row = first_rowed left n m mid h begins ends in
     subst Bounded (sym ends.same) (record { attempts = row.bounded.attempts; printed = row.bounded.printed })
-
--- a row that ends with an exit has a turn
-pub row_counts : (left : Leaving) (n : ℕ) → is_left left ≡ true → 0 < with_leaving left n
-row_counts Stays n e = absurd (cc)
-row_counts Calls n e = omega arith
-row_counts Returns n e = omega arith
-
--- rows that were made, and one more
-pub record More (first turns : ℕ) (m mid after : Machine) (e : Event) : Type 0 where
-  pub chain : Repeats (first + turns) m e after
-  pub quiet : IsQuiet m after
-  pub counts : (n : ℕ) → CountsAtMost n m.journal.counts → CountsAtMost (n + (first + turns)) after.journal.counts
-
-pub more_on : (first turns k : ℕ) (m mid after : Machine) (e : Event) → turns ≡ k → Repeats first m e mid → IsQuiet m mid
-    → ((n : ℕ) → CountsAtMost n m.journal.counts → CountsAtMost (n + first) mid.journal.counts) → Repeats k mid e after → IsQuiet mid after
-    → ((n : ℕ) → CountsAtMost n mid.journal.counts → CountsAtMost (n + k) after.journal.counts) → More first turns m mid after e
-more_on first turns k m mid after e same chain quiet counts more still rise =
-    subst (λ (i : ℕ). More first i m mid after e) (sym same) (record {
-      chain = repeats_on first k m mid after e chain quiet more;
-      quiet = still ∙ quiet;
-      counts = counts_on first k m.journal.counts mid.journal.counts after.journal.counts counts rise;
-    })

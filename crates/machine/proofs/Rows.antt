@@ -20,6 +20,7 @@ use Rattle.reference.specs.Counting.{counted, count_turn, count_retired, CountsA
 use Rattle.reference.specs.Devices.{lines_at}
 use Rattle.reference.specs.Run.{step}
 use Rattle.reference.specs.States.{State, Journal}
+use Rattle.journal_records.specs.Journals.{count_row}
 use Rattle.machine_model.specs.HardwareEvent.{attempted, left_by}
 use Rattle.machine_model.specs.Machine.{Machine, HostHart, raised, update, with_core, forgets, all_forget}
 use Rattle.machine_model.specs.StandsFor.{StandsFor}
@@ -236,11 +237,19 @@ rowed zero m h r region core may stands addresses bounded row = no_turn m h r re
 rowed (suc n) m h r region core may stands addresses bounded (mid, (before, (row, carries))) =
     one_turn m h n mid before region core may carries (rowed n m h r mid before may stands addresses bounded row)
 
--- ---- one count more
+-- ---- turns that are counted at once
 
-pub counted_more : (n : ℕ) (j after : Journal) → after ≡ counted_row n j → counted count_retired (counted count_turn after) ≡ counted_row (n + 1) j
-counted_more n j after same =
-    ap (λ (x : Journal). counted count_retired (counted count_turn x)) same ∙ ap (λ (k : ℕ). counted_row k j) (sym (add-one n))
+counted_same : (j : Journal) (turns retired others more : ℕ) → turns ≡ others → retired ≡ more
+    → record j { counts = record j.counts { turns = turns; retired = retired } } ≡ record j { counts = record j.counts { turns = others; retired = more } }
+counted_same j turns retired others more same alike =
+    ap (λ (n : ℕ). record j { counts = record j.counts { turns = n; retired = retired } }) same
+    ∙ ap (λ (n : ℕ). record j { counts = record j.counts { turns = others; retired = n } }) alike
+
+pub row_counted : (n : ℕ) (j : Journal) → counted (count_row n) j ≡ counted_row n j
+row_counted zero j = counted_same j (j.counts.turns + 0) (j.counts.retired + 0) j.counts.turns j.counts.retired (omega arith) (omega arith)
+row_counted (suc n) j =
+    counted_same j (j.counts.turns + suc n) (j.counts.retired + suc n) (j.counts.turns + n + 1) (j.counts.retired + n + 1) (omega arith) (omega arith)
+    ∙ ap (λ (x : Journal). counted count_retired (counted count_turn x)) (row_counted n j)
 
 -- ---- seats
 

@@ -77,7 +77,7 @@ impl Machine {
         made
     }
 
-    // A row, and one event behind it where some are left.
+    // The event once, or turns of a hart in a row.
     #[inline(always)]
     fn round(&mut self, event: Event, most: u64) -> u64
         requires asked { 0 < most }
@@ -89,52 +89,49 @@ impl Machine {
         ensures some { 0 < result }
         ensures most { result ≤ most }
     {
-        let made = self.row(event, most);
-        if made == most {
-            return made;
+        if let Event::Turn(which) = event {
+            return self.hart_turns(which, most);
         }
         self.make(event);
+        1
+    }
+
+    // A row of turns of a hart, and the turn that stopped it where some are left.
+    #[inline(always)]
+    fn hart_turns(&mut self, which: u8, most: u64) -> u64
+        requires asked { 0 < most }
+        requires few { most ≤ most_counts }
+        requires room { length self.old.journal.printed < most_printed }
+        requires counts { CountsAtMost (most_counts - most) self.old.journal.counts }
+        ensures chain { Repeats result self.old (Turn which) self.new }
+        ensures counts { (n : ℕ) → CountsAtMost n self.old.journal.counts → CountsAtMost (n + result) self.new.journal.counts }
+        ensures some { 0 < result }
+        ensures most { result ≤ most }
+    {
+        let row = self.row(which, most);
+        let made = row.turns();
+        if made == most || row.left.is_left() {
+            return made;
+        }
+        self.make(Event::Turn(which));
         made + 1
     }
 
-    // Turns that only carry out instructions or that leave the guest by a call or a return, by a shorter way.
+    // Turns of a hart that only carry out instructions, and one that leaves the guest by a call or a return, by a shorter way.
     #[inline(always)]
-    fn row(&mut self, event: Event, most: u64) -> u64
+    fn row(&mut self, which: u8, most: u64) -> Row
         requires few { most ≤ most_counts }
         requires counts { CountsAtMost (most_counts - most) self.old.journal.counts }
-        ensures chain { Repeats result self.old event self.new }
+        ensures chain { Repeats (turns_of result) self.old (Turn which) self.new }
         ensures quiet { IsQuiet self.old self.new }
-        ensures counts { (n : ℕ) → CountsAtMost n self.old.journal.counts → CountsAtMost (n + result) self.new.journal.counts }
-        ensures most { result ≤ most }
+        ensures counts { (n : ℕ) → CountsAtMost n self.old.journal.counts → CountsAtMost (n + turns_of result) self.new.journal.counts }
+        ensures most { turns_of result ≤ most }
     {
-        match event {
-            Event::Turn(which) => self.rows(which, most),
-            Event::Beat | Event::Key(_) | Event::Tick(_) => 0,
+        if self.may_row(which) {
+            self.one_row(which, most)
+        } else {
+            Row::none()
         }
-    }
-
-    // Rows of turns of a hart, one behind another.
-    #[inline(always)]
-    fn rows(&mut self, which: u8, most: u64) -> u64
-        requires few { most ≤ most_counts }
-        requires counts { CountsAtMost (most_counts - most) self.old.journal.counts }
-        ensures chain { Repeats result self.old (Turn which) self.new }
-        ensures quiet { IsQuiet self.old self.new }
-        ensures counts { (n : ℕ) → CountsAtMost n self.old.journal.counts → CountsAtMost (n + result) self.new.journal.counts }
-        ensures most { result ≤ most }
-    {
-        let mut made = 0;
-        'rows: while made < most {
-            if !self.may_row(which) {
-                return made;
-            }
-            let row = self.one_row(which, most - made);
-            made += row.turns();
-            if !row.left.is_left() {
-                return made;
-            }
-        }
-        made
     }
 
     // A hart makes attempts in its turns, no interrupt is due, and no write of it meets a reservation.

@@ -104,18 +104,14 @@ fn are_free(seats: &[Seat]) -> bool
 }
 
 // So many turns counted, each with its instruction.
+#[tactic(auto, using(crate::proofs::Rows::row_counted))]
 #[inline(always)]
 fn count_row(journal: &mut Journal, made: u64)
     requires turns { journal.old.counts.turns + made < 2 ^ 64 }
     requires retired { journal.old.counts.retired + made < 2 ^ 64 }
     ensures { journal.new ≡ counted_row made journal.old }
 {
-    let mut counted = 0;
-    'turns: while counted < made {
-        journal.count_turn();
-        journal.count_retired();
-        counted += 1;
-    }
+    journal.count_row(made);
 }
 
 impl Parts {

@@ -1,7 +1,18 @@
--- Fields of flat instructions.
-use Rattle.std.proofs.Common.{◌≡◌, ℕ, ◌+◌, ◌<◌, pos, Bool, true, false, if◌then◌else◌, arith}
+-- Fields of flat instructions, and what such an instruction does.
+use Rattle.std.proofs.Common.{◌≡◌, ℕ, ◌+◌, ◌<◌, pos, Bool, true, false, if◌then◌else◌, arith, refl, ◌∙◌, List, Option, Some, None, IsTrue, sym, subst, ap, ◌%◌}
 use Rattle.std.proofs.lemmas.Bool.Decides.{nat_tests}
-use Rattle.quick_turns.specs.Flat.{number, width, acquires, releases}
+use Rattle.processor.specs.Effects.{effect_of}
+use Rattle.processor.specs.Encoding.{fits}
+use Rattle.processor.specs.Hardware.{Core}
+use Rattle.processor.specs.HardwareAttempt.{after_word, after_instruction, after_effect}
+use Rattle.processor.specs.Instructions.{instruction_of}
+use Rattle.processor.specs.Regions.{Region}
+use Rattle.processor.specs.Requests.{IsRequest}
+use Rattle.processor.specs.declared.effect.Effect.{Effect}
+use Rattle.processor.specs.declared.instruction.Instr.{Instr}
+use Rattle.processor.specs.declared.lines.Lines.{Lines}
+use Rattle.processor_laws.proofs.EffectRequests.{is_request}
+use Rattle.quick_turns.specs.Flat.{effect_of_found, number, width, word_effect, acquires, releases}
 
 -- the number of a register comes back from the immediate's place
 pub number_of : (csr : ℕ) → csr < 65536 → number (pos csr) ≡ csr
@@ -25,3 +36,26 @@ releases_of w false false small = grind (arith, nat_tests)
 releases_of w false true small = grind (arith, nat_tests)
 releases_of w true false small = grind (arith, nat_tests)
 releases_of w true true small = grind (arith, nat_tests)
+
+-- ---- what a flat instruction does
+
+-- the effect of a word's instruction is the word's
+pub effect_done : (word pc : ℕ) (registers : List ℕ) (instr : Instr) (e : Effect) → instruction_of word ≡ Some instr → e ≡ effect_of instr registers pc
+    → word_effect word registers pc ≡ Some e
+effect_done word pc registers instr e here done = ap (effect_of_found registers pc) here ∙ ap Some (sym done)
+
+-- and asks what may be asked
+pub effect_asks : (pc : ℕ) (registers : List ℕ) (instr : Instr) (e : Effect) → IsTrue (fits instr) → e ≡ effect_of instr registers pc → pc % 4 ≡ 0 → IsRequest e
+effect_asks pc registers instr e fit done aligned = subst IsRequest (sym done) (is_request instr registers pc fit aligned)
+
+-- an attempt that has a word carries out its effect
+carried : (r : Region) (core : Core) (lines : Lines) (word : ℕ) (e : Effect) (found : Option Instr) → effect_of_found core.registers core.pc found ≡ Some e
+    → after_instruction r core lines word found ≡ after_effect r core lines word e
+unfolding after_instruction
+carried r core lines word e None done = cc
+carried r core lines word e (Some instr) done = let same : effect_of instr core.registers core.pc ≡ e = cc in ap (after_effect r core lines word) same
+
+pub word_carried : (r : Region) (core : Core) (lines : Lines) (word : ℕ) (e : Effect) → word_effect word core.registers core.pc ≡ Some e
+    → after_word r core lines word ≡ after_effect r core lines word e
+unfolding after_word
+word_carried r core lines word e done = carried r core lines word e (instruction_of word) done

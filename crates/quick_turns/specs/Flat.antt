@@ -1,6 +1,9 @@
 -- Instructions in a flat form: one operation, its registers and one number. This project's own.
-use Rattle.std.specs.Prelude.{ℕ, ◌/◌, ◌%◌, ◌^◌, ◌==◌, Bool, ℤ, Option, Some, None}
+use Rattle.std.specs.Prelude.{ℕ, ◌/◌, ◌%◌, ◌^◌, ◌==◌, Bool, ℤ, List, Option, Some, None}
 use Rattle.std.specs.Int.{w64, cast_unsigned}
+use Rattle.processor.specs.Effects.{effect_of}
+use Rattle.processor.specs.Instructions.{instruction_of}
+use Rattle.processor.specs.declared.effect.Effect.{Effect}
 use Rattle.processor.specs.declared.instruction.Instr.{Instr}
 use Rattle.processor.specs.declared.instruction.BranchOp.TheVariants as Branch
 use Rattle.processor.specs.declared.instruction.LoadOp.TheVariants as Load
@@ -13,6 +16,15 @@ use Rattle.processor.specs.declared.instruction.CsrOp.TheVariants as Csr
 use Rattle.processor.specs.declared.instruction.AmoOp.TheVariants as Amo
 use Rattle.quick_turns.specs.declared.flat_op.FlatOp.{FlatOp}
 use Rattle.quick_turns.specs.declared.flat_op.FlatOp.TheVariants as Flat
+
+-- what an instruction does, where there is one
+abbrev pub effect_of_found : List ℕ → ℕ → Option Instr → Option Effect
+effect_of_found registers pc None = None
+effect_of_found registers pc (Some instr) = Some (effect_of instr registers pc)
+
+-- what the instruction of a word does
+abbrev pub word_effect : ℕ → List ℕ → ℕ → Option Effect
+word_effect word registers pc = effect_of_found registers pc (instruction_of word)
 
 -- the number of a register of the system, which stands in the place of an immediate
 abbrev pub number : ℤ → ℕ

@@ -1,16 +1,19 @@
 // Instructions in a flat form: decoded once, and then one look tells what is done.
 
-ghost use Rattle.std.specs.Prelude.{◌≡◌, IfSome, IsTrue, Some};
+ghost use Rattle.std.specs.Prelude.{◌≡◌, ◌%◌, IfSome, IsTrue, Some};
 ghost use Rattle.std.specs.Option.{ForSome};
 ghost use Rattle.processor.specs.Encoding.{fits};
 ghost use Rattle.processor.specs.Instructions.{instruction_of};
+ghost use Rattle.processor.specs.Requests.{IsRequest};
 ghost use Rattle.processor.specs.declared.instruction.Instr.TheVariants as Instr;
-ghost use Rattle.quick_turns.specs.Flat.{flat_instr, number, width, acquires, releases};
+ghost use Rattle.quick_turns.specs.Flat.{flat_instr, number, width, word_effect, acquires, releases};
 
 use crate::flat_op::FlatOp;
+use processor::Effect;
 use rv64_decode::{
     AmoOp, BranchOp, CsrOp, Instr, LoadOp, Op32Op, OpImm32Op, OpImmOp, OpOp, StoreOp,
 };
+use rv64_exec::{Regs, effect};
 
 /// A word with its instruction in a flat form. What the operation doesn't have is 0. A shift's count stands in the place of
 /// `rs2`, and the number of a register of the system in that of the immediate.
@@ -55,106 +58,110 @@ fn releases(imm: i64) -> bool
 }
 
 impl Flat {
-    /// The instruction of the word. None where the word has none, or one that isn't carried out in a row.
-    #[inline(always)]
-    pub(crate) fn instr(&self) -> Option<Instr>
-        ensures instruction { IfSome result (λ i. instruction_of self.now.word ≡ Some i) }
-        ensures fields { IfSome result (λ i. IsTrue (fits i)) }
-    {
-        self.plain()
-    }
-
-    // The instruction that the flat form stands for, by a table of one line for each operation: it is one function, so that the
-    // compiler makes one dispatch of it.
+    /// What the word's instruction does on these registers at this pc, or asks of the rest of the machine. None where the word
+    /// has no instruction, or one that isn't carried out in a row. It is a table of one line for each operation: it is one
+    /// function, behind whose one dispatch the operation is known, so that nothing looks at it again.
     #[tactic(auto, unfolding(crate::specs::Flat::flat_instr))]
     #[inline(always)]
-    fn plain(&self) -> Option<Instr>
-        ensures { IfSome result (λ i. flat_instr self.now.op self.now.rd self.now.rs1 self.now.rs2 self.now.imm ≡ Some i) }
+    pub(crate) fn effect(&self, regs: &Regs, pc: u64) -> Option<Effect>
+        ensures effect { IfSome result (λ e. word_effect self.now.word regs.now pc ≡ Some e) }
+        ensures request { pc % 4 ≡ 0 → IfSome result IsRequest }
     {
         match self.op {
             FlatOp::Other => None,
-            FlatOp::Lui => Some(self.lui()),
-            FlatOp::Auipc => Some(self.auipc()),
-            FlatOp::Jal => Some(self.jal()),
-            FlatOp::Jalr => Some(self.jalr()),
-            FlatOp::Fence => Some(Instr::Fence),
-            FlatOp::FenceI => Some(Instr::FenceI),
-            FlatOp::Wfi => Some(Instr::Wfi),
-            FlatOp::SfenceVma => Some(self.sfence_vma()),
-            FlatOp::Beq => Some(self.branch(BranchOp::Beq)),
-            FlatOp::Bne => Some(self.branch(BranchOp::Bne)),
-            FlatOp::Blt => Some(self.branch(BranchOp::Blt)),
-            FlatOp::Bge => Some(self.branch(BranchOp::Bge)),
-            FlatOp::Bltu => Some(self.branch(BranchOp::Bltu)),
-            FlatOp::Bgeu => Some(self.branch(BranchOp::Bgeu)),
-            FlatOp::Lb => Some(self.load(LoadOp::Lb)),
-            FlatOp::Lh => Some(self.load(LoadOp::Lh)),
-            FlatOp::Lw => Some(self.load(LoadOp::Lw)),
-            FlatOp::Ld => Some(self.load(LoadOp::Ld)),
-            FlatOp::Lbu => Some(self.load(LoadOp::Lbu)),
-            FlatOp::Lhu => Some(self.load(LoadOp::Lhu)),
-            FlatOp::Lwu => Some(self.load(LoadOp::Lwu)),
-            FlatOp::Sb => Some(self.store(StoreOp::Sb)),
-            FlatOp::Sh => Some(self.store(StoreOp::Sh)),
-            FlatOp::Sw => Some(self.store(StoreOp::Sw)),
-            FlatOp::Sd => Some(self.store(StoreOp::Sd)),
-            FlatOp::Csrrw => Some(self.csr(CsrOp::Csrrw)),
-            FlatOp::Csrrs => Some(self.csr(CsrOp::Csrrs)),
-            FlatOp::Csrrc => Some(self.csr(CsrOp::Csrrc)),
-            FlatOp::Csrrwi => Some(self.csr(CsrOp::Csrrwi)),
-            FlatOp::Csrrsi => Some(self.csr(CsrOp::Csrrsi)),
-            FlatOp::Csrrci => Some(self.csr(CsrOp::Csrrci)),
-            FlatOp::Addi => Some(self.op_imm(OpImmOp::Addi)),
-            FlatOp::Slti => Some(self.op_imm(OpImmOp::Slti)),
-            FlatOp::Sltiu => Some(self.op_imm(OpImmOp::Sltiu)),
-            FlatOp::Xori => Some(self.op_imm(OpImmOp::Xori)),
-            FlatOp::Ori => Some(self.op_imm(OpImmOp::Ori)),
-            FlatOp::Andi => Some(self.op_imm(OpImmOp::Andi)),
-            FlatOp::Slli => Some(self.op_imm(OpImmOp::Slli)),
-            FlatOp::Srli => Some(self.op_imm(OpImmOp::Srli)),
-            FlatOp::Srai => Some(self.op_imm(OpImmOp::Srai)),
-            FlatOp::Addiw => Some(self.op_imm_32(OpImm32Op::Addiw)),
-            FlatOp::Slliw => Some(self.op_imm_32(OpImm32Op::Slliw)),
-            FlatOp::Srliw => Some(self.op_imm_32(OpImm32Op::Srliw)),
-            FlatOp::Sraiw => Some(self.op_imm_32(OpImm32Op::Sraiw)),
-            FlatOp::Add => Some(self.op(OpOp::Add)),
-            FlatOp::Sll => Some(self.op(OpOp::Sll)),
-            FlatOp::Slt => Some(self.op(OpOp::Slt)),
-            FlatOp::Sltu => Some(self.op(OpOp::Sltu)),
-            FlatOp::Xor => Some(self.op(OpOp::Xor)),
-            FlatOp::Srl => Some(self.op(OpOp::Srl)),
-            FlatOp::Or => Some(self.op(OpOp::Or)),
-            FlatOp::And => Some(self.op(OpOp::And)),
-            FlatOp::Sub => Some(self.op(OpOp::Sub)),
-            FlatOp::Sra => Some(self.op(OpOp::Sra)),
-            FlatOp::Mul => Some(self.op(OpOp::Mul)),
-            FlatOp::Mulh => Some(self.op(OpOp::Mulh)),
-            FlatOp::Mulhsu => Some(self.op(OpOp::Mulhsu)),
-            FlatOp::Mulhu => Some(self.op(OpOp::Mulhu)),
-            FlatOp::Div => Some(self.op(OpOp::Div)),
-            FlatOp::Divu => Some(self.op(OpOp::Divu)),
-            FlatOp::Rem => Some(self.op(OpOp::Rem)),
-            FlatOp::Remu => Some(self.op(OpOp::Remu)),
-            FlatOp::Addw => Some(self.op_32(Op32Op::Addw)),
-            FlatOp::Sllw => Some(self.op_32(Op32Op::Sllw)),
-            FlatOp::Srlw => Some(self.op_32(Op32Op::Srlw)),
-            FlatOp::Subw => Some(self.op_32(Op32Op::Subw)),
-            FlatOp::Sraw => Some(self.op_32(Op32Op::Sraw)),
-            FlatOp::Mulw => Some(self.op_32(Op32Op::Mulw)),
-            FlatOp::Divw => Some(self.op_32(Op32Op::Divw)),
-            FlatOp::Divuw => Some(self.op_32(Op32Op::Divuw)),
-            FlatOp::Remw => Some(self.op_32(Op32Op::Remw)),
-            FlatOp::Remuw => Some(self.op_32(Op32Op::Remuw)),
-            FlatOp::Amoswap => Some(self.amo(AmoOp::Amoswap)),
-            FlatOp::Amoadd => Some(self.amo(AmoOp::Amoadd)),
-            FlatOp::Amoxor => Some(self.amo(AmoOp::Amoxor)),
-            FlatOp::Amoand => Some(self.amo(AmoOp::Amoand)),
-            FlatOp::Amoor => Some(self.amo(AmoOp::Amoor)),
-            FlatOp::Amomin => Some(self.amo(AmoOp::Amomin)),
-            FlatOp::Amomax => Some(self.amo(AmoOp::Amomax)),
-            FlatOp::Amominu => Some(self.amo(AmoOp::Amominu)),
-            FlatOp::Amomaxu => Some(self.amo(AmoOp::Amomaxu)),
+            FlatOp::Lui => Some(self.effect_by(self.lui(), regs, pc)),
+            FlatOp::Auipc => Some(self.effect_by(self.auipc(), regs, pc)),
+            FlatOp::Jal => Some(self.effect_by(self.jal(), regs, pc)),
+            FlatOp::Jalr => Some(self.effect_by(self.jalr(), regs, pc)),
+            FlatOp::Fence => Some(self.effect_by(Instr::Fence, regs, pc)),
+            FlatOp::FenceI => Some(self.effect_by(Instr::FenceI, regs, pc)),
+            FlatOp::Wfi => Some(self.effect_by(Instr::Wfi, regs, pc)),
+            FlatOp::SfenceVma => Some(self.effect_by(self.sfence_vma(), regs, pc)),
+            FlatOp::Beq => Some(self.effect_by(self.branch(BranchOp::Beq), regs, pc)),
+            FlatOp::Bne => Some(self.effect_by(self.branch(BranchOp::Bne), regs, pc)),
+            FlatOp::Blt => Some(self.effect_by(self.branch(BranchOp::Blt), regs, pc)),
+            FlatOp::Bge => Some(self.effect_by(self.branch(BranchOp::Bge), regs, pc)),
+            FlatOp::Bltu => Some(self.effect_by(self.branch(BranchOp::Bltu), regs, pc)),
+            FlatOp::Bgeu => Some(self.effect_by(self.branch(BranchOp::Bgeu), regs, pc)),
+            FlatOp::Lb => Some(self.effect_by(self.load(LoadOp::Lb), regs, pc)),
+            FlatOp::Lh => Some(self.effect_by(self.load(LoadOp::Lh), regs, pc)),
+            FlatOp::Lw => Some(self.effect_by(self.load(LoadOp::Lw), regs, pc)),
+            FlatOp::Ld => Some(self.effect_by(self.load(LoadOp::Ld), regs, pc)),
+            FlatOp::Lbu => Some(self.effect_by(self.load(LoadOp::Lbu), regs, pc)),
+            FlatOp::Lhu => Some(self.effect_by(self.load(LoadOp::Lhu), regs, pc)),
+            FlatOp::Lwu => Some(self.effect_by(self.load(LoadOp::Lwu), regs, pc)),
+            FlatOp::Sb => Some(self.effect_by(self.store(StoreOp::Sb), regs, pc)),
+            FlatOp::Sh => Some(self.effect_by(self.store(StoreOp::Sh), regs, pc)),
+            FlatOp::Sw => Some(self.effect_by(self.store(StoreOp::Sw), regs, pc)),
+            FlatOp::Sd => Some(self.effect_by(self.store(StoreOp::Sd), regs, pc)),
+            FlatOp::Csrrw => Some(self.effect_by(self.csr(CsrOp::Csrrw), regs, pc)),
+            FlatOp::Csrrs => Some(self.effect_by(self.csr(CsrOp::Csrrs), regs, pc)),
+            FlatOp::Csrrc => Some(self.effect_by(self.csr(CsrOp::Csrrc), regs, pc)),
+            FlatOp::Csrrwi => Some(self.effect_by(self.csr(CsrOp::Csrrwi), regs, pc)),
+            FlatOp::Csrrsi => Some(self.effect_by(self.csr(CsrOp::Csrrsi), regs, pc)),
+            FlatOp::Csrrci => Some(self.effect_by(self.csr(CsrOp::Csrrci), regs, pc)),
+            FlatOp::Addi => Some(self.effect_by(self.op_imm(OpImmOp::Addi), regs, pc)),
+            FlatOp::Slti => Some(self.effect_by(self.op_imm(OpImmOp::Slti), regs, pc)),
+            FlatOp::Sltiu => Some(self.effect_by(self.op_imm(OpImmOp::Sltiu), regs, pc)),
+            FlatOp::Xori => Some(self.effect_by(self.op_imm(OpImmOp::Xori), regs, pc)),
+            FlatOp::Ori => Some(self.effect_by(self.op_imm(OpImmOp::Ori), regs, pc)),
+            FlatOp::Andi => Some(self.effect_by(self.op_imm(OpImmOp::Andi), regs, pc)),
+            FlatOp::Slli => Some(self.effect_by(self.op_imm(OpImmOp::Slli), regs, pc)),
+            FlatOp::Srli => Some(self.effect_by(self.op_imm(OpImmOp::Srli), regs, pc)),
+            FlatOp::Srai => Some(self.effect_by(self.op_imm(OpImmOp::Srai), regs, pc)),
+            FlatOp::Addiw => Some(self.effect_by(self.op_imm_32(OpImm32Op::Addiw), regs, pc)),
+            FlatOp::Slliw => Some(self.effect_by(self.op_imm_32(OpImm32Op::Slliw), regs, pc)),
+            FlatOp::Srliw => Some(self.effect_by(self.op_imm_32(OpImm32Op::Srliw), regs, pc)),
+            FlatOp::Sraiw => Some(self.effect_by(self.op_imm_32(OpImm32Op::Sraiw), regs, pc)),
+            FlatOp::Add => Some(self.effect_by(self.op(OpOp::Add), regs, pc)),
+            FlatOp::Sll => Some(self.effect_by(self.op(OpOp::Sll), regs, pc)),
+            FlatOp::Slt => Some(self.effect_by(self.op(OpOp::Slt), regs, pc)),
+            FlatOp::Sltu => Some(self.effect_by(self.op(OpOp::Sltu), regs, pc)),
+            FlatOp::Xor => Some(self.effect_by(self.op(OpOp::Xor), regs, pc)),
+            FlatOp::Srl => Some(self.effect_by(self.op(OpOp::Srl), regs, pc)),
+            FlatOp::Or => Some(self.effect_by(self.op(OpOp::Or), regs, pc)),
+            FlatOp::And => Some(self.effect_by(self.op(OpOp::And), regs, pc)),
+            FlatOp::Sub => Some(self.effect_by(self.op(OpOp::Sub), regs, pc)),
+            FlatOp::Sra => Some(self.effect_by(self.op(OpOp::Sra), regs, pc)),
+            FlatOp::Mul => Some(self.effect_by(self.op(OpOp::Mul), regs, pc)),
+            FlatOp::Mulh => Some(self.effect_by(self.op(OpOp::Mulh), regs, pc)),
+            FlatOp::Mulhsu => Some(self.effect_by(self.op(OpOp::Mulhsu), regs, pc)),
+            FlatOp::Mulhu => Some(self.effect_by(self.op(OpOp::Mulhu), regs, pc)),
+            FlatOp::Div => Some(self.effect_by(self.op(OpOp::Div), regs, pc)),
+            FlatOp::Divu => Some(self.effect_by(self.op(OpOp::Divu), regs, pc)),
+            FlatOp::Rem => Some(self.effect_by(self.op(OpOp::Rem), regs, pc)),
+            FlatOp::Remu => Some(self.effect_by(self.op(OpOp::Remu), regs, pc)),
+            FlatOp::Addw => Some(self.effect_by(self.op_32(Op32Op::Addw), regs, pc)),
+            FlatOp::Sllw => Some(self.effect_by(self.op_32(Op32Op::Sllw), regs, pc)),
+            FlatOp::Srlw => Some(self.effect_by(self.op_32(Op32Op::Srlw), regs, pc)),
+            FlatOp::Subw => Some(self.effect_by(self.op_32(Op32Op::Subw), regs, pc)),
+            FlatOp::Sraw => Some(self.effect_by(self.op_32(Op32Op::Sraw), regs, pc)),
+            FlatOp::Mulw => Some(self.effect_by(self.op_32(Op32Op::Mulw), regs, pc)),
+            FlatOp::Divw => Some(self.effect_by(self.op_32(Op32Op::Divw), regs, pc)),
+            FlatOp::Divuw => Some(self.effect_by(self.op_32(Op32Op::Divuw), regs, pc)),
+            FlatOp::Remw => Some(self.effect_by(self.op_32(Op32Op::Remw), regs, pc)),
+            FlatOp::Remuw => Some(self.effect_by(self.op_32(Op32Op::Remuw), regs, pc)),
+            FlatOp::Amoswap => Some(self.effect_by(self.amo(AmoOp::Amoswap), regs, pc)),
+            FlatOp::Amoadd => Some(self.effect_by(self.amo(AmoOp::Amoadd), regs, pc)),
+            FlatOp::Amoxor => Some(self.effect_by(self.amo(AmoOp::Amoxor), regs, pc)),
+            FlatOp::Amoand => Some(self.effect_by(self.amo(AmoOp::Amoand), regs, pc)),
+            FlatOp::Amoor => Some(self.effect_by(self.amo(AmoOp::Amoor), regs, pc)),
+            FlatOp::Amomin => Some(self.effect_by(self.amo(AmoOp::Amomin), regs, pc)),
+            FlatOp::Amomax => Some(self.effect_by(self.amo(AmoOp::Amomax), regs, pc)),
+            FlatOp::Amominu => Some(self.effect_by(self.amo(AmoOp::Amominu), regs, pc)),
+            FlatOp::Amomaxu => Some(self.effect_by(self.amo(AmoOp::Amomaxu), regs, pc)),
         }
+    }
+
+    // What the instruction does that the flat form stands for.
+    #[tactic(auto, using(crate::proofs::Flats::effect_done, crate::proofs::Flats::effect_asks))]
+    #[inline(always)]
+    fn effect_by(&self, instr: Instr, regs: &Regs, pc: u64) -> Effect
+        requires { flat_instr self.now.op self.now.rd self.now.rs1 self.now.rs2 self.now.imm ≡ Some instr }
+        ensures effect { word_effect self.now.word regs.now pc ≡ Some result }
+        ensures request { pc % 4 ≡ 0 → IsRequest result }
+    {
+        effect(&instr, regs, pc)
     }
 
     #[inline(always)]

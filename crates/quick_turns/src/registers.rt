@@ -98,6 +98,29 @@ fn exchange(csrs: &mut Csrs, hideleg: u64, access: CsrAccess, csr: Csr) -> Optio
     Some(Exchanged { old, steers })
 }
 
+// The same by one look at the register, so that neither its reading nor its writing looks at it again.
+#[inline(always)]
+fn exchange_by(csrs: &mut Csrs, hideleg: u64, access: CsrAccess, csr: Csr) -> Option<Exchanged>
+    ensures value { (lines : Lines) → IfSome result (λ done. done.old ≡ read_virtual hideleg csrs.old lines csr) }
+    ensures written { (lines : Lines) → IfSome result (λ done. csrs.new ≡ (if access.writes then write_virtual hideleg csrs.old csr (csr_value access.op (read_virtual hideleg csrs.old lines csr) access.operand) else csrs.old)) }
+    ensures refused { result ≡ None → csrs.new ≡ csrs.old }
+    ensures course { IfSome result (λ done. done.steers ≡ false → SameCourse csrs.old csrs.new) }
+{
+    match csr {
+        Csr::Sstatus => exchange(csrs, hideleg, access, Csr::Sstatus),
+        Csr::Sie => exchange(csrs, hideleg, access, Csr::Sie),
+        Csr::Stvec => exchange(csrs, hideleg, access, Csr::Stvec),
+        Csr::Scounteren => exchange(csrs, hideleg, access, Csr::Scounteren),
+        Csr::Sscratch => exchange(csrs, hideleg, access, Csr::Sscratch),
+        Csr::Sepc => exchange(csrs, hideleg, access, Csr::Sepc),
+        Csr::Scause => exchange(csrs, hideleg, access, Csr::Scause),
+        Csr::Stval => exchange(csrs, hideleg, access, Csr::Stval),
+        Csr::Sip => exchange(csrs, hideleg, access, Csr::Sip),
+        Csr::Satp => exchange(csrs, hideleg, access, Csr::Satp),
+        Csr::Time => exchange(csrs, hideleg, access, Csr::Time),
+    }
+}
+
 /// An access to a supervisor register, where the mode has it and its value doesn't go by the wires.
 #[tactic(auto, unfolding(processor::specs::HardwareAttempt::csr_reached, processor::specs::HardwareAttempt::after_csr))]
 #[inline(always)]
@@ -113,7 +136,7 @@ pub(crate) fn csr(core: &mut Core, regs: &HRegs, access: CsrAccess) -> Tried
     let Ok(csr) = core.csrs.access(regs.mode, access.number, access.writes) else {
         return Tried::Stopped;
     };
-    let Some(done) = exchange(&mut core.csrs, regs.hideleg, access, csr) else {
+    let Some(done) = exchange_by(&mut core.csrs, regs.hideleg, access, csr) else {
         return Tried::Stopped;
     };
     core.regs.set(access.rd, done.old);

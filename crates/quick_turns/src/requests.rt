@@ -2,9 +2,9 @@
 
 ghost use Rattle.std.specs.Prelude.{◌≡◌, ◌⊎◌, ◌<◌, ◌%◌, ℕ, None};
 ghost use Rattle.processor.specs.Regions.{IsWidth, Region};
-ghost use Rattle.processor.specs.Requests.{loaded_value};
+ghost use Rattle.processor.specs.Requests.{loaded_value, IsRequest};
 ghost use Rattle.processor.specs.Hardware.{with_region};
-ghost use Rattle.processor.specs.HardwareAttempt.{after_word, after_supervisor_only};
+ghost use Rattle.processor.specs.HardwareAttempt.{after_effect, after_supervisor_only, after_word};
 ghost use Rattle.processor.specs.HardwareMemory.{reached, after_amo, after_load, after_store};
 ghost use Rattle.processor.specs.IntegerRegisters.{register_count};
 ghost use Rattle.processor.specs.declared.access.Access.TheVariants as Access;
@@ -23,7 +23,7 @@ use hart::Core;
 use host_mem::HostMem;
 use processor::{Access, AmoOp, Effect, HRegs, INSTRUCTION_BYTES, Mode};
 use reach::Reach;
-use rv64_exec::{amo, effect, loaded_value};
+use rv64_exec::{amo, loaded_value};
 
 // A load into a register.
 #[derive(Clone, Copy, Drop)]
@@ -189,30 +189,28 @@ fn supervisor_only(core: &mut Core, regs: &HRegs) -> Tried
     }
 }
 
-/// An instruction carried out, where it only computes, loads, stores, operates on a word of memory, or reads or writes a
-/// register that doesn't go by the wires.
-#[tactic(auto, using(gstage_cache::specs::Fills::nothing_filled, processor_laws::proofs::EffectRequests::is_request), unfolding(processor::specs::HardwareAttempt::after_word, processor::specs::HardwareAttempt::after_instruction, processor::specs::HardwareAttempt::after_effect))]
+// An effect carried out, where it only computes, loads, stores, operates on a word of memory, or reads or writes a register that
+// doesn't go by the wires.
+#[tactic(auto, using(gstage_cache::specs::Fills::nothing_filled), unfolding(processor::specs::HardwareAttempt::after_effect))]
 #[inline(always)]
-pub(crate) fn carry_out(
+fn apply(
     core: &mut Core,
     regs: &HRegs,
     cache: &mut Cache,
     reach: &mut Reach,
     mem: &mut HostMem,
-    flat: &Flat,
+    effect: Effect,
 ) -> Tried
     requires ready { MayAttempt mem.old core.old regs.now cache.old }
     requires free { core.old.reservation ≡ None }
     requires reach { ReachAgrees mem.old.tables reach.old }
-    ensures comes { (lines : Lines) → Comes result (after_word mem.old (core_of core.old regs.now) lines flat.now.word) mem.old mem.new (core_of core.old regs.now) (core_of core.new regs.now) }
+    requires request { IsRequest effect }
+    ensures comes { (lines : Lines) → (word : ℕ) → Comes result (after_effect mem.old (core_of core.old regs.now) lines word effect) mem.old mem.new (core_of core.old regs.now) (core_of core.new regs.now) }
     ensures on { GoesOn mem.old mem.new core.old core.new regs.now cache.old cache.new }
     ensures course { Steers result core.old.csrs core.new.csrs }
     ensures reach { ReachAgrees mem.new.tables reach.new }
 {
-    let Some(instr) = flat.instr() else {
-        return Tried::Stopped;
-    };
-    match effect(&instr, &core.regs, core.pc) {
+    match effect {
         Effect::Set { rd, value, next } => {
             core.regs.set(rd, value);
             core.pc = next;
@@ -291,5 +289,30 @@ pub(crate) fn carry_out(
         }
         Effect::Wfi | Effect::SfenceVma => supervisor_only(core, regs),
         _ => Tried::Stopped,
+    }
+}
+
+/// An instruction carried out, where it is one that rows have and its effect can be carried out in one.
+#[tactic(auto, using(gstage_cache::specs::Fills::nothing_filled))]
+#[inline(always)]
+pub(crate) fn carry_out(
+    core: &mut Core,
+    regs: &HRegs,
+    cache: &mut Cache,
+    reach: &mut Reach,
+    mem: &mut HostMem,
+    flat: &Flat,
+) -> Tried
+    requires ready { MayAttempt mem.old core.old regs.now cache.old }
+    requires free { core.old.reservation ≡ None }
+    requires reach { ReachAgrees mem.old.tables reach.old }
+    ensures comes { (lines : Lines) → Comes result (after_word mem.old (core_of core.old regs.now) lines flat.now.word) mem.old mem.new (core_of core.old regs.now) (core_of core.new regs.now) }
+    ensures on { GoesOn mem.old mem.new core.old core.new regs.now cache.old cache.new }
+    ensures course { Steers result core.old.csrs core.new.csrs }
+    ensures reach { ReachAgrees mem.new.tables reach.new }
+{
+    match flat.effect(&core.regs, core.pc) {
+        Some(effect) => apply(core, regs, cache, reach, mem, effect),
+        None => Tried::Stopped,
     }
 }

@@ -10,6 +10,7 @@ ghost use Rattle.quick_turns.specs.Quick.{Comes, GoesOn, Leads, Steers};
 ghost use Rattle.quick_turns.specs.Ends.{turns_of};
 ghost use Rattle.quick_turns.specs.Rows.{EndsBy};
 ghost use Rattle.reach.specs.Kept.{ReachAgrees};
+ghost use Rattle.quick_turns.specs.declared.leaving.Leaving.TheVariants.{Stays};
 
 use crate::leaving::{Leaving, leave};
 use crate::requests::carry_out;
@@ -75,6 +76,17 @@ pub struct Row {
 }
 
 impl Row {
+    /// No turn was made.
+    #[inline(always)]
+    pub fn none() -> Row
+        ensures { result ≡ record { made = 0; left = Stays } }
+    {
+        Row {
+            made: 0,
+            left: Leaving::Stays,
+        }
+    }
+
     /// All turns that were made.
     #[inline(always)]
     pub fn turns(self) -> u64
