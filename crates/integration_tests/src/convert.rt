@@ -1,6 +1,6 @@
 // Runs of `convert`: the generated guest's policy with its entries bound.
 use crate::generated::files;
-use crate::program::{GOOD, call};
+use memory_runs::{GOOD, call};
 use secvisor_cli::Status;
 use std::test::Fail;
 

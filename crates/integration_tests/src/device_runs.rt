@@ -1,7 +1,7 @@
 // Guests whose disk writes beside their instructions.
 
 use crate::kernel::{GUEST, Guest, KERNEL, Kernel, run_as_printed};
-use crate::program::{PRINTED, Printed};
+use memory_runs::{PRINTED, Printed};
 use std::test::Fail;
 
 static GUESTS: [Guest; 2] = [

@@ -2,7 +2,7 @@
 ghost use Rattle.std.specs.Prelude.{◌<◌};
 
 use crate::generated::run;
-use crate::program::{GOOD, Outside};
+use memory_runs::{GOOD, Outside};
 use secvisor_cli::Status;
 use std::test::Fail;
 

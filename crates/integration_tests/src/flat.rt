@@ -1,7 +1,7 @@
 // Runs of `flat`, and the words and files that are refused before one.
 ghost use Rattle.std.specs.Prelude.{◌≡◌, ◌<◌, ◌-◌, ◌^◌, ℕ, List, IfOk, OnOk, IsTrue, vec_len};
 
-use crate::program::{
+use memory_runs::{
     GOOD, Handed, Left, Outside, PRINTED, Printed, answer_on, call, line_of, text_of,
 };
 use outside::{Files, MemSink, RealFiles};

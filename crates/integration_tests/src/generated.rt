@@ -1,7 +1,7 @@
 // Runs of the generated guest: by `gen`, and by `run` over its files.
 
-use crate::program::{GOOD, Handed, Left, Outside, PRINTED, Printed, call, text_of};
 use guest_gen::generate;
+use memory_runs::{GOOD, Handed, Left, Outside, PRINTED, Printed, call, text_of};
 use secvisor_cli::Status;
 use std::alloc::{AllocError, Global};
 use std::test::Fail;

@@ -3,8 +3,8 @@
 use crate::flat::{PRINTS_A_AND_SHUTS_DOWN, measure_text, page, push_words};
 use crate::generated::{WORDS, files};
 use crate::kernel::{POLICY, Policy, policy_text, put};
-use crate::program::{GOOD, Handed, PRINTED, Printed, call, text_of};
 use guest_gen::image;
+use memory_runs::{GOOD, Handed, PRINTED, Printed, call, text_of};
 use secvisor_cli::Status;
 use std::alloc::{AllocError, Global};
 use std::test::Fail;

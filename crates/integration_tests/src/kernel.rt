@@ -2,8 +2,8 @@
 ghost use Rattle.std.specs.Prelude.{◌≡◌, IfOk, vec_len};
 
 use crate::flat::{fill, push_words};
-use crate::program::{GOOD, Handed, Left, PRINTED, Printed, call, text_of};
 use guest_gen::image;
+use memory_runs::{GOOD, Handed, Left, PRINTED, Printed, call, text_of};
 use page_measure::{join_digests, page_digest};
 use secvisor_cli::Status;
 use std::alloc::{AllocError, Global};

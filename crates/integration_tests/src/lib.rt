@@ -18,19 +18,13 @@ mod images;
 #[cfg(test)]
 mod kernel;
 #[cfg(test)]
-mod live;
-#[cfg(test)]
 mod measure;
 #[cfg(test)]
 mod modules;
 #[cfg(test)]
 mod objects;
 #[cfg(test)]
-mod program;
-#[cfg(test)]
 mod real;
-#[cfg(test)]
-mod snap;
 #[cfg(test)]
 mod texts;
 #[cfg(test)]

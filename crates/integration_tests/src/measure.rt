@@ -1,7 +1,7 @@
 // Runs of `measure`: the generated guest's policy, and what is refused.
 
 use crate::generated::files;
-use crate::program::{GOOD, Outside, call};
+use memory_runs::{GOOD, Outside, call};
 use secvisor_cli::Status;
 use std::alloc::{AllocError, Global};
 use std::process::Abort;

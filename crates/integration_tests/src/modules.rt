@@ -3,7 +3,7 @@
 use crate::kernel::{
     GUEST, Guest, KERNEL, Kernel, Module, ONE_PAGE, POLICY, Policy, THREE_PAGES, run_as_printed,
 };
-use crate::program::{PRINTED, Printed};
+use memory_runs::{PRINTED, Printed};
 use secvisor_cli::Status;
 use std::test::Fail;
 

@@ -2,7 +2,7 @@
 
 use crate::generated::files;
 use crate::images::{Bad, Field, put_fields};
-use crate::program::{GOOD, Handed, call};
+use memory_runs::{GOOD, Handed, call};
 use secvisor_cli::Status;
 use std::alloc::{AllocError, Global};
 use std::test::Fail;

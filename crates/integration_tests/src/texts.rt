@@ -2,7 +2,7 @@
 ghost use Rattle.std.specs.Prelude.{◌≤◌};
 
 use crate::generated::{WORDS, files};
-use crate::program::{GOOD, PRINTED, Printed, call, text_of};
+use memory_runs::{GOOD, PRINTED, Printed, call, text_of};
 use secvisor_cli::Status;
 use std::alloc::{AllocError, Global};
 use std::test::Fail;

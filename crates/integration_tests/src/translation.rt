@@ -4,7 +4,7 @@ use crate::kernel::{
     ALL, Entry, GUEST, Guest, KERNEL, Kernel, POINTER, POLICY, Policy, READ_EXECUTE, READ_WRITE,
     TELLS_AND_GOES_ON, TRANSLATED, Table, USER_READ_EXECUTE, USER_READ_WRITE, run_as_printed,
 };
-use crate::program::{PRINTED, Printed};
+use memory_runs::{PRINTED, Printed};
 use secvisor_cli::Status;
 use std::test::Fail;
 

@@ -4,7 +4,7 @@ use Rattle.secvisor_cli.specs.CommandLine.{judged}
 use Rattle.secvisor_cli.specs.Plans.{plan_of}
 use Rattle.secvisor_cli.specs.Reading.{MayFollow}
 use Rattle.secvisor_cli.proofs.PlanLemmas.{may_follow}
-use Rattle.integration_tests.proofs.program.answer_on.Goals as goal
+use Rattle.memory_runs.proofs.calls.answer_on.Goals as goal
 
 words_follow : (words : List (List ℕ)) (files : FilesState) → ((asked : List (List ℕ × ℕ)) → IsTrue (files.permits asked)) →
     ((saves : List (List ℕ × List ℕ)) → IsTrue (files.permits_save saves)) → MayFollow (plan_of (judged words)) files

@@ -13,38 +13,38 @@ const HANDED: u64 = 4;
 const FILE_ROOM: usize = 8_388_608;
 
 /// The most bytes that a call prints.
-pub(crate) const PRINTED_ROOM: usize = 20_000;
+pub const PRINTED_ROOM: usize = 20_000;
 
 /// The files before a call, each under the name of its field.
 #[derive(Drop)]
-pub(crate) struct Handed {
-    pub(crate) image: Vec<u8>,
-    pub(crate) policy: Vec<u8>,
-    pub(crate) disk: Vec<u8>,
-    pub(crate) script: Vec<u8>,
+pub struct Handed {
+    pub image: Vec<u8>,
+    pub policy: Vec<u8>,
+    pub disk: Vec<u8>,
+    pub script: Vec<u8>,
 }
 
 /// What a call left behind.
 #[derive(Drop)]
-pub(crate) struct Left {
-    pub(crate) status: Status,
-    pub(crate) taken: Vec<u8>,
+pub struct Left {
+    pub status: Status,
+    pub taken: Vec<u8>,
     /// What lies under the name `saved`.
-    pub(crate) saved: Option<Vec<u8>>,
-    pub(crate) is_booted: bool,
+    pub saved: Option<Vec<u8>>,
+    pub is_booted: bool,
 }
 
 /// What the outside does: the read, the write and the save that fail, counted from 1, and the most bytes that a write
 /// takes.
 #[derive(Clone, Copy)]
-pub(crate) struct Outside {
-    pub(crate) failing_read: u64,
-    pub(crate) failing_write: u64,
-    pub(crate) failing_save: u64,
-    pub(crate) piece: usize,
+pub struct Outside {
+    pub failing_read: u64,
+    pub failing_write: u64,
+    pub failing_save: u64,
+    pub piece: usize,
 }
 
-pub(crate) const GOOD: Outside = Outside {
+pub const GOOD: Outside = Outside {
     failing_read: 0,
     failing_write: 0,
     failing_save: 0,
@@ -53,16 +53,16 @@ pub(crate) const GOOD: Outside = Outside {
 
 /// What the program prints of a run.
 #[derive(Clone, Copy)]
-pub(crate) struct Printed {
-    pub(crate) console: &'static str,
-    pub(crate) notes: &'static [&'static str],
-    pub(crate) events: &'static str,
-    pub(crate) turns: &'static str,
-    pub(crate) devices: &'static str,
-    pub(crate) verdict: &'static str,
+pub struct Printed {
+    pub console: &'static str,
+    pub notes: &'static [&'static str],
+    pub events: &'static str,
+    pub turns: &'static str,
+    pub devices: &'static str,
+    pub verdict: &'static str,
 }
 
-pub(crate) const PRINTED: Printed = Printed {
+pub const PRINTED: Printed = Printed {
     console: "",
     notes: &[],
     events: "turns 0 beats 0 keys 0 ticks 0",
@@ -72,7 +72,7 @@ pub(crate) const PRINTED: Printed = Printed {
 };
 
 /// The printed lines as one text.
-pub(crate) fn text_of(alloc: Global, printed: &Printed) -> Result<String, AllocError> {
+pub fn text_of(alloc: Global, printed: &Printed) -> Result<String, AllocError> {
     let console = printed.console;
     let mut text = format!(in alloc; "{console}\n")?;
     for note in printed.notes {
@@ -99,7 +99,7 @@ fn save_number(outside: Outside) -> u64 {
 }
 
 /// Holds the files, with room for one more.
-pub(crate) fn hold(alloc: Global, handed: &Handed, outside: Outside) -> Result<MemFiles, AllocError>
+pub fn hold(alloc: Global, handed: &Handed, outside: Outside) -> Result<MemFiles, AllocError>
     ensures reads { IfOk result (λ files. files.read_faults ≡ 0) }
     ensures saves { IfOk result (λ files. files.save_faults ≡ 0) }
 {
@@ -123,7 +123,7 @@ pub(crate) fn hold(alloc: Global, handed: &Handed, outside: Outside) -> Result<M
 }
 
 /// The words of a call.
-pub(crate) fn line_of(alloc: Global, words: &[&str]) -> Result<Vec<String>, AllocError> {
+pub fn line_of(alloc: Global, words: &[&str]) -> Result<Vec<String>, AllocError> {
     let mut line = Vec::new(alloc);
     for word in words {
         line.push(String::from_str(alloc, word)?)?;
@@ -133,13 +133,13 @@ pub(crate) fn line_of(alloc: Global, words: &[&str]) -> Result<Vec<String>, Allo
 
 /// What a call answers, and whether a machine was booted.
 #[derive(Clone, Copy)]
-pub(crate) struct Answer {
-    pub(crate) status: Status,
-    pub(crate) is_booted: bool,
+pub struct Answer {
+    pub status: Status,
+    pub is_booted: bool,
 }
 
 /// The call with these words, over files that may be asked for any name and save under any.
-pub(crate) fn answer_on<R: Threads + Sync, F: Files, O: Sink>(
+pub fn answer_on<R: Threads + Sync, F: Files, O: Sink>(
     rt: &R,
     alloc: Global,
     line: &[String],
@@ -162,7 +162,7 @@ pub(crate) fn answer_on<R: Threads + Sync, F: Files, O: Sink>(
 }
 
 /// The call with these words, over these files in memory.
-pub(crate) fn call<R: Threads + Sync>(
+pub fn call<R: Threads + Sync>(
     rt: &R,
     alloc: Global,
     handed: &Handed,
@@ -182,7 +182,7 @@ pub(crate) fn call<R: Threads + Sync>(
 }
 
 /// What is left of a call in its files and its sink.
-pub(crate) fn left_behind(
+pub fn left_behind(
     alloc: Global,
     answer: Answer,
     files: &MemFiles,

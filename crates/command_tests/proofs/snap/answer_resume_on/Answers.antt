@@ -4,7 +4,7 @@ use Rattle.secvisor_cli.specs.Reading.{MayFollow}
 use Rattle.secvisor_cli.proofs.PlanLemmas.{may_follow}
 use Rattle.resume_cli.specs.ResumePlans.{resume_plan}
 use Rattle.resume_cli.specs.ResumeWords.{resume_judged}
-use Rattle.integration_tests.proofs.snap.answer_resume_on.Goals as goal
+use Rattle.command_tests.proofs.snap.answer_resume_on.Goals as goal
 
 words_follow : (words : List (List ℕ)) (files : FilesState) → ((asked : List (List ℕ × ℕ)) → IsTrue (files.permits asked)) →
     ((saves : List (List ℕ × List ℕ)) → IsTrue (files.permits_save saves)) → MayFollow (resume_plan (resume_judged words)) files

@@ -1,10 +1,10 @@
 // Machines that are saved as snapshots, and what is said of them.
 ghost use Rattle.std.specs.Prelude.{◌<◌, ◌-◌, ◌^◌, ℕ, List, IsTrue};
 
-use crate::program::{
+use guest_gen::generate;
+use memory_runs::{
     Answer, GOOD, Handed, Left, Outside, PRINTED_ROOM, call, hold, left_behind, line_of,
 };
-use guest_gen::generate;
 use outside::{Files, MemSink, Sink};
 use resume_cli::secvisor_resume;
 use secvisor_cli::{Bench, Status};

@@ -3,7 +3,7 @@ use Rattle.outside.specs.Outside.{FilesState}
 use Rattle.secvisor_cli.specs.Reading.{MayFollow}
 use Rattle.secvisor_cli.proofs.PlanLemmas.{may_follow}
 use Rattle.live_cli.specs.LiveWords.{live_judged, live_plan}
-use Rattle.integration_tests.proofs.live.answer_live_on.Goals as goal
+use Rattle.command_tests.proofs.live.answer_live_on.Goals as goal
 
 words_follow : (words : List (List ℕ)) (files : FilesState) → ((asked : List (List ℕ × ℕ)) → IsTrue (files.permits asked)) →
     ((saves : List (List ℕ × List ℕ)) → IsTrue (files.permits_save saves)) → MayFollow (live_plan (live_judged words)) files

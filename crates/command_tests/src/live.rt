@@ -1,13 +1,13 @@
 // Runs with keys in memory, and the scripts that they save.
 ghost use Rattle.std.specs.Prelude.{◌≡◌, ◌<◌, ◌≤◌, ◌-◌, ◌^◌, ℕ, List, IfOk, IsTrue};
 
-use crate::program::{
-    Answer, GOOD, Handed, Left, Outside, PRINTED, PRINTED_ROOM, Printed, call, hold, left_behind,
-    line_of, text_of,
-};
 use guest_gen::generate;
 use live_cli::secvisor_live;
 use live_keys::{Keys, MemKeys, Pace, Still};
+use memory_runs::{
+    Answer, GOOD, Handed, Left, Outside, PRINTED, PRINTED_ROOM, Printed, call, hold, left_behind,
+    line_of, text_of,
+};
 use outside::{Failed, Files, MemSink, Sink};
 use secvisor_cli::{Bench, Status};
 use std::alloc::{AllocError, Global};

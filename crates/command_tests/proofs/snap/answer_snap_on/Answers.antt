@@ -3,7 +3,7 @@ use Rattle.outside.specs.Outside.{FilesState}
 use Rattle.secvisor_cli.specs.Reading.{MayFollow}
 use Rattle.secvisor_cli.proofs.PlanLemmas.{may_follow}
 use Rattle.snap_cli.specs.SnapWords.{snap_judged, snap_plan}
-use Rattle.integration_tests.proofs.snap.answer_snap_on.Goals as goal
+use Rattle.command_tests.proofs.snap.answer_snap_on.Goals as goal
 
 words_follow : (words : List (List ℕ)) (files : FilesState) → ((asked : List (List ℕ × ℕ)) → IsTrue (files.permits asked)) →
     ((saves : List (List ℕ × List ℕ)) → IsTrue (files.permits_save saves)) → MayFollow (snap_plan (snap_judged words)) files

@@ -1,7 +1,7 @@
 use Rattle.std.proofs.Common.{ℕ, List, IsTrue, Option, Some, None}
 use Rattle.outside.specs.Outside.{FilesState}
 use Rattle.show_cli.specs.Answers.{MayAsk}
-use Rattle.integration_tests.proofs.snap.answer_show_on.Goals as goal
+use Rattle.command_tests.proofs.snap.answer_show_on.Goals as goal
 
 may_ask : (asked : Option (List ℕ)) (files : FilesState) → ((names : List (List ℕ × ℕ)) → IsTrue (files.permits names)) → MayAsk asked files
 may_ask None files all = tt

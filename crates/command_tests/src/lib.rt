@@ -1,0 +1,7 @@
+//! Whole runs of the commands that record keys or save machines, over files and a sink in memory.
+#![tactic(auto)]
+
+#[cfg(test)]
+mod live;
+#[cfg(test)]
+mod snap;
