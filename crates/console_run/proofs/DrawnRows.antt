@@ -1,7 +1,9 @@
 -- Events that are drawn in rows.
-use Rattle.std.proofs.Common.{◌≡◌, ℕ, [], ◌++◌, replicate, sym, ◌∙◌, ap, None}
+use Rattle.std.proofs.Common.{◌≡◌, ◌<◌, ◌+◌, ◌-◌, ℕ, [], ◌++◌, replicate, sym, ◌∙◌, ap, None, arith}
 use Rattle.sv_types.specs.declared.event.Event.{Event}
 use Rattle.sv_types.specs.Schedule.{Schedule, first_events, next_event}
+use Rattle.script.specs.Runs.{BeginsWith}
+use Rattle.script.specs.declared.event_run.EventRun.{EventRun}
 use Rattle.script.proofs.FirstEvents.{begun_none}
 
 -- no event is at hand, and none is to be drawn
@@ -15,3 +17,10 @@ pub none_drawn : (count undrawn : ℕ) (event : Event) (script : Schedule) → c
     replicate count event ++ first_events undrawn script ≡ []
 none_drawn count undrawn event script none end =
     ap (λ (n : ℕ). replicate n event ++ first_events undrawn script) none ∙ begun_none undrawn script (sym end)
+
+-- one event is drawn
+pub one_drawn : (left made : ℕ) (run : EventRun) (old new : Schedule) → 0 < left → run.count ≡ 1 → made ≡ 1 → BeginsWith old run new
+    → first_events left old ≡ replicate made run.event ++ first_events (left - 1) new
+one_drawn left made run old new some one once begins =
+    let all : left ≡ run.count + (left - 1) = omega (arith, some, one) in
+    ap (λ (n : ℕ). first_events n old) all ∙ begins (left - 1) ∙ ap (λ (n : ℕ). replicate n run.event ++ first_events (left - 1) new) (one ∙ sym once)

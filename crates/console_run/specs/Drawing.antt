@@ -1,21 +1,21 @@
 -- The events of a run that are still to be made.
 use Rattle.std.specs.Prelude.{◌≡◌, ◌<◌, ℕ, ◌+◌, List, ◌++◌, replicate}
 use Rattle.sv_types.specs.declared.event.Event.{Event}
-use Rattle.sv_types.specs.Schedule.{first_events}
+use Rattle.sv_types.specs.Schedule.{Schedule, first_events}
 use Rattle.script.specs.declared.event_run.EventRun.{EventRun}
 use Rattle.console_run.specs.declared.drawing.Drawing.{Drawing}
 
--- those of the row that was drawn, and those that the script still has
-abbrev pub events_left : Drawing → List Event
-events_left d = replicate d.row.count d.row.event ++ first_events d.undrawn d.script
+-- those of the row that was drawn, and those that the source still has
+abbrev pub events_left : {S : Type 0} → (schedule : S → Schedule) → Drawing S → List Event
+events_left schedule d = replicate d.row.count d.row.event ++ first_events d.undrawn (schedule d.source)
 
 -- how many they are at most
-abbrev pub count_left : Drawing → ℕ
+abbrev pub count_left : {S : Type 0} → Drawing S → ℕ
 count_left d = d.row.count + d.undrawn
 
 -- a row of equal events stands at the head of the same events
-pub record IsAtHand (old new : Drawing) (row : EventRun) : Type 0 where
+pub record IsAtHand {S : Type 0} (schedule : S → Schedule) (old new : Drawing S) (row : EventRun) : Type 0 where
   pub row_is : row ≡ new.row
   pub some : 0 < row.count
-  pub left : events_left new ≡ events_left old
+  pub left : events_left schedule new ≡ events_left schedule old
   pub count : count_left new ≡ count_left old

@@ -11,7 +11,7 @@ ghost use Rattle.console_run.specs.Console.{is_due, Flushed, HasTaken, HasRunFro
 use crate::drawing::Drawing;
 use machine::Machine;
 use outside::{Failed, Sink, write_all};
-use script::Script;
+use script::{EventSource, Script, Source};
 use sv_types::{MOST_PRINTED, Verdict};
 
 /// Whether the console's bytes are to be written now: the last of them is a line feed, or 4,096 of them stand.
@@ -46,8 +46,76 @@ pub fn flush_due<O: Sink>(machine: &mut Machine, out: &mut O) -> Result<(), Fail
     Ok(())
 }
 
+// Runs a machine over the first events of a source, of which equal ones come in rows.
+#[inline(never)]
+fn run_in_rows<S: EventSource + Drop, O: Sink>(
+    machine: &mut Machine,
+    source: S,
+    events: u64,
+    out: &mut O,
+) -> Result<(), Failed>
+    requires sink { MayWrite (O.state out.old) }
+    requires events { events ≤ most_events }
+    requires state { HasState machine.old }
+    requires counts { CountsAtMost most_events machine.old.journal.counts }
+    requires console { machine.old.journal.printed ≡ [] }
+    ensures all { OnOk result (HasRunFromStart machine.old (first_events events (S.schedule source)) machine.new (O.state out.old) (O.state out.new)) }
+    ensures taken { OnOk result (HasTaken (O.state out.old) (O.state out.new)) }
+    ensures room { OnOk result (length machine.new.journal.printed < most_printed) }
+    ensures rest { OnOk result (IsFalse (is_due machine.new.journal.printed)) }
+    ensures some { OnErr result (RunBrokeFromStart machine.old (first_events events (S.schedule source)) machine.new (O.state out.old) (O.state out.new)) }
+{
+    let mut drawing = Drawing::new(source, events);
+    'events: while let Some(row) = drawing.draw() {
+        if machine.verdict() != Verdict::Running {
+            return Ok(());
+        }
+        let made = machine.repeat(row.event, row.count);
+        drawing.made(made);
+        flush_due(machine, out)?;
+    }
+    Ok(())
+}
+
+// The same for a source whose equal events seldom come in a row: they are made one by one, and nothing counts a row.
+#[inline(never)]
+fn run_one_by_one<S: EventSource + Drop, O: Sink>(
+    machine: &mut Machine,
+    source: S,
+    events: u64,
+    out: &mut O,
+) -> Result<(), Failed>
+    requires sink { MayWrite (O.state out.old) }
+    requires events { events ≤ most_events }
+    requires state { HasState machine.old }
+    requires counts { CountsAtMost most_events machine.old.journal.counts }
+    requires console { machine.old.journal.printed ≡ [] }
+    ensures all { OnOk result (HasRunFromStart machine.old (first_events events (S.schedule source)) machine.new (O.state out.old) (O.state out.new)) }
+    ensures taken { OnOk result (HasTaken (O.state out.old) (O.state out.new)) }
+    ensures room { OnOk result (length machine.new.journal.printed < most_printed) }
+    ensures rest { OnOk result (IsFalse (is_due machine.new.journal.printed)) }
+    ensures some { OnErr result (RunBrokeFromStart machine.old (first_events events (S.schedule source)) machine.new (O.state out.old) (O.state out.new)) }
+{
+    let mut source = source;
+    let mut left = events;
+    'events: while left > 0 {
+        if machine.verdict() != Verdict::Running {
+            return Ok(());
+        }
+        let Some(one) = source.draw(1) else {
+            return Ok(());
+        };
+        machine.repeat(one.event, 1);
+        left -= 1;
+        flush_due(machine, out)?;
+    }
+    Ok(())
+}
+
 /// Runs a machine of which nothing is printed yet over the first events of a script, up to its verdict, and writes its console
 /// at each line feed and whenever 4,096 bytes stand. Where a write fails it stands after some of the events.
+///
+/// Each kind of source has a loop of its own, which doesn't ask for it again.
 pub fn run<O: Sink>(
     machine: &mut Machine,
     script: Script,
@@ -65,14 +133,22 @@ pub fn run<O: Sink>(
     ensures rest { OnOk result (IsFalse (is_due machine.new.journal.printed)) }
     ensures some { OnErr result (RunBrokeFromStart machine.old (first_events events script) machine.new (O.state out.old) (O.state out.new)) }
 {
-    let mut drawing = Drawing::new(script, events);
-    'events: while let Some(row) = drawing.draw() {
-        if machine.verdict() != Verdict::Running {
-            return Ok(());
+    match script.into_source() {
+        Source::Listed(listed) => run_in_rows(machine, listed, events, out),
+        Source::Weave(weave) => run_in_rows(machine, weave, events, out),
+        Source::Rounds(rounds) => {
+            if rounds.is_of_several() {
+                run_one_by_one(machine, rounds, events, out)
+            } else {
+                run_in_rows(machine, rounds, events, out)
+            }
         }
-        let made = machine.repeat(row.event, row.count);
-        drawing.made(made);
-        flush_due(machine, out)?;
+        Source::Auto(auto) => {
+            if auto.is_of_several() {
+                run_one_by_one(machine, auto, events, out)
+            } else {
+                run_in_rows(machine, auto, events, out)
+            }
+        }
     }
-    Ok(())
 }

@@ -17,3 +17,4 @@ pub mod Addressed
 pub mod Rows
 pub mod Resuming
 pub mod Behind
+pub mod Reservations

@@ -21,8 +21,8 @@ use Rattle.resumed_parts.specs.Parts.{AreResumed}
 use Rattle.resumed_parts.specs.declared.parts.ResumedParts.{ResumedParts}
 use Rattle.hart_answers.specs.Hosts.{hosts_of}
 use Rattle.module_answers.specs.Parts.{loading_of}
+use Rattle.machine.proofs.NewFit.{unnoted}
 use Rattle.machine.specs.Machines.{HasAddress, HaveAddresses, IsFit}
-use Rattle.machine.specs.declared.machine.Machine.TheInside.{Inside}
 
 -- ---- reservations
 
@@ -52,12 +52,12 @@ resumed_journal tables rules s = refl
 
 -- ---- the machine is fit
 
-pub resumed_fit : (m : Inside) (rules : Rules) (s : Contents) → IsTrue (rules_within rules) → IsResumable rules s → IsNew m.parts (resumed_state rules s)
-    → m.parts.journal ≡ (resumed_state rules s).journal → IsFit m
+pub resumed_fit : (m : Machine) (rules : Rules) (s : Contents) → IsTrue (rules_within rules) → IsResumable rules s → IsNew m (resumed_state rules s)
+    → m.journal ≡ (resumed_state rules s).journal → IsFit (unnoted m)
 resumed_fit m rules s within resumable new journal =
     let attempts = new.attempts in
     let cleared = new.cleared in
-    let printed : length m.parts.journal.printed ≡ 0 = ap (λ (j : Journal). length j.printed) journal ∙ ap length (none_printed rules s) in
+    let printed : length m.journal.printed ≡ 0 = ap (λ (j : Journal). length j.printed) journal ∙ ap length (none_printed rules s) in
     record {
       state = resumed_state rules s;
       stands = new.stands;
@@ -65,6 +65,7 @@ resumed_fit m rules s within resumable new journal =
           (subst (λ (r : Rules). AreKeepable (page_size * r.ram_pages) (resumed_state rules s).harts) (rules_are rules s) resumable.keepable.harts);
       attempts = omega (arith, attempts);
       few = omega (arith, attempts);
+      free = tt;
       printed = omega (arith, cleared, printed);
     }
 

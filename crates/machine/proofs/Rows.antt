@@ -89,7 +89,7 @@ forgets_none hpa width x none =
     ap (λ (o : Option ℕ). record x { core = record x.core { reservation = after_write hpa width o } }) none
     ∙ ap (λ (o : Option ℕ). record x { core = record x.core { reservation = o } }) (sym none)
 
-map_none : (hpa width : ℕ) (harts : List HostHart) → AreFree harts → map (forgets hpa width) harts ≡ harts
+pub map_none : (hpa width : ℕ) (harts : List HostHart) → AreFree harts → map (forgets hpa width) harts ≡ harts
 map_none hpa width [] free = refl
 map_none hpa width (x ∷ harts) free = rw (forgets_none hpa width x (free zero), map_none hpa width harts (λ h. free (suc h))) refl
 
@@ -277,6 +277,11 @@ pub harts_there : (seats : List Seat) (h : ℕ) (d new : Seat) → h < length se
 harts_there seats h d new below same =
     core_put seats h d new (λ _. (host_at new).core) below same
     ∙ ap (λ (x : HostHart). update (hosts_of seats) h (with_core x.core)) (sym (seat_there seats h new below))
+
+pub free_there : (seats : List Seat) (h : ℕ) (d new : Seat) → h < length seats → host_at new ≡ with_core (host_at new).core (host_at (slice_index_or seats h d))
+    → (host_at new).core.reservation ≡ None → AreFree (hosts_of seats) → AreFree (hosts_of (slice_set seats h new))
+free_there seats h d new below same none free =
+    subst AreFree (sym (core_put seats h d new (λ _. (host_at new).core) below same)) (still_free (hosts_of seats) h (host_at new).core none free)
 
 -- ---- reservations
 

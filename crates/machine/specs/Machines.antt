@@ -3,6 +3,7 @@ use Rattle.std.specs.Prelude.{◌+◌, ◌*◌, ◌^◌, ◌<◌, ◌≤◌, ℕ
 use Rattle.reference.specs.States.{State, Hart}
 use Rattle.machine_model.specs.StandsFor.{StandsFor}
 use Rattle.saved_machine.specs.SavedStates.{gpa_at}
+use Rattle.machine.specs.Rows.{AreFreeWhere}
 use Rattle.machine.specs.declared.machine.Machine.TheInside.{Inside}
 
 -- the guest-physical address of a reservation is a number of 64 bits
@@ -15,11 +16,12 @@ HaveAddresses [] = Unit {0}
 HaveAddresses (hart ∷ harts) = HasAddress hart.reservation × HaveAddresses harts
 
 -- it stands for a state of the reference machine whose reservations have addresses. There were two attempts a turn at most,
--- which a word of 64 bits counts, and no more bytes printed than turns
+-- which a word of 64 bits counts, and no more bytes printed than turns. No hart has a reservation where that is noted
 pub record IsFit (m : Inside) : Type 0 where
   pub state : State
   pub stands : StandsFor m.parts state
   pub addresses : HaveAddresses state.harts
   pub attempts : m.parts.attempts ≤ 2 * m.parts.journal.counts.turns
   pub few : m.parts.attempts < 2 ^ 64
+  pub free : AreFreeWhere m.none_reserved m.parts.harts
   pub printed : m.parts.cleared + length m.parts.journal.printed ≤ m.parts.journal.counts.turns

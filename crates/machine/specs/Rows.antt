@@ -1,5 +1,5 @@
 -- Turns of one hart in a row, each of which carries out an instruction: what they make of the machine. This project's own.
-use Rattle.std.specs.Prelude.{◌≡◌, ℕ, zero, suc, ◌+◌, ◌/◌, ◌%◌, ◌^◌, ◌<◌, List, length, None}
+use Rattle.std.specs.Prelude.{◌≡◌, ℕ, zero, suc, ◌+◌, ◌/◌, ◌%◌, ◌^◌, ◌<◌, Bool, true, false, List, length, None}
 use Rattle.processor.specs.Hardware.{Core}
 use Rattle.processor.specs.HardwareAttempt.{attempt}
 use Rattle.processor.specs.HypervisorRegisters.{pending}
@@ -12,6 +12,8 @@ use Rattle.hart.specs.Conditions.{KeepsMode}
 use Rattle.machine_model.specs.Steps.{WithTables}
 use Rattle.machine_model.specs.declared.exits.ExitAnswer.{ExitAnswer}
 use Rattle.machine_model.specs.declared.exits.ExitAnswer.TheVariants.{Traps}
+use Rattle.sv_types.specs.declared.event.Event.{Event}
+use Rattle.sv_types.specs.declared.event.Event.TheVariants.{Turn, Beat, Key, Tick}
 use Rattle.sv_types.specs.declared.event.Verdict.TheVariants.{Running}
 use Rattle.reference.specs.Counting.{counted, count_turn, count_retired}
 use Rattle.reference.specs.Devices.{lines_at}
@@ -26,6 +28,18 @@ use Rattle.machine.specs.Turns.{Attempts, answered_exit}
 -- no hart has a reservation
 abbrev pub AreFree : List HostHart → Type 0
 AreFree harts = (h : ℕ) → (hart_in harts h).core.reservation ≡ None
+
+-- no hart has one, where that is known
+abbrev pub AreFreeWhere : (known : Bool) → List HostHart → Type 0
+AreFreeWhere true harts = AreFree harts
+AreFreeWhere false harts = Unit {0}
+
+-- an event by which no hart gets a reservation
+abbrev pub reserves_nothing : Event → Bool
+reserves_nothing (Turn h) = false
+reserves_nothing Beat = true
+reserves_nothing (Key byte) = true
+reserves_nothing (Tick n) = true
 
 -- a hart stands at an instruction, and its walks lead to RAM
 pub record WalksUnderRoot (region : Region) (host : HostHart) : Type 0 where
@@ -48,7 +62,14 @@ after_row m h n region core = record m {
   attempts = m.attempts + n;
 }
 
--- hart h makes attempts in its turns, takes no interrupt, and no write meets a reservation
+-- hart h makes attempts in its turns, and takes no interrupt
+pub record IsQuietAt (m : Machine) (h : ℕ) : Type 0 where
+  pub running : m.journal.verdict ≡ Running
+  pub below : h < length m.harts
+  pub attempts : Attempts m h
+  pub quiet : pending (hart_in m.harts h).core.hregs (hart_in m.harts h).core.csrs (lines_at m.devices h) ≡ None
+
+-- the same, and no write meets a reservation
 pub record MayRow (m : Machine) (h : ℕ) : Type 0 where
   pub running : m.journal.verdict ≡ Running
   pub below : h < length m.harts

@@ -1,6 +1,6 @@
 // The machine.
 
-ghost use Rattle.std.specs.Prelude.{◌≡◌, ℕ, ◌+◌, ◌-◌, ◌<◌, ◌≤◌, [], length, replicate, true};
+ghost use Rattle.std.specs.Prelude.{◌≡◌, ◌&&◌, ℕ, ◌+◌, ◌-◌, ◌<◌, ◌≤◌, [], length, replicate, true};
 ghost use Rattle.sv_types.specs.Limits.{most_printed};
 ghost use Rattle.sv_types.specs.declared.event.Event.TheVariants.{Turn};
 ghost use Rattle.sv_types.specs.declared.event.Verdict.TheVariants.{Running};
@@ -13,7 +13,7 @@ ghost use Rattle.machine_model.specs.Reaches.{Cleared};
 ghost use Rattle.machine_model.specs.StandsFor.{StandsFor};
 ghost use Rattle.machine.specs.Limits.{most_counts};
 ghost use Rattle.machine.specs.Repeats.{IsQuiet, Makes, Repeats};
-ghost use Rattle.machine.specs.Rows.{MayRow};
+ghost use Rattle.machine.specs.Rows.{AreFree, MayRow, reserves_nothing};
 ghost use Rattle.quick_turns.specs.Ends.{turns_of};
 
 use crate::parts::Parts;
@@ -25,6 +25,8 @@ use sv_types::{Counts, Event, Note, Verdict};
 /// dropped at any moment.
 pub struct Machine {
     pub(crate) parts: Parts,
+    // No hart has a reservation. Where it isn't noted, one may have one or not.
+    pub(crate) none_reserved: bool,
 }
 
 impl Model for Machine {
@@ -55,6 +57,30 @@ impl Machine {
     /// often it was made.
     #[inline(always)]
     pub fn repeat(&mut self, event: Event, count: u64) -> u64
+        requires asked { 0 < count }
+        requires few { count ≤ most_counts }
+        requires room { length self.old.journal.printed < most_printed }
+        requires counts { CountsAtMost (most_counts - count) self.old.journal.counts }
+        ensures stands { (r : State) → StandsFor self.old r → StandsFor self.new (run r (replicate result event)) }
+        ensures chain { Repeats result self.old event self.new }
+        ensures counts { (n : ℕ) → CountsAtMost n self.old.journal.counts → CountsAtMost (n + result) self.new.journal.counts }
+        ensures some { 0 < result }
+        ensures most { result ≤ count }
+        ensures all { length self.new.journal.printed ≡ length self.old.journal.printed → self.new.journal.verdict ≡ Running → result ≡ count }
+    {
+        if count == 1 {
+            return self.round(event, 1);
+        }
+        // The loop of each kind of event asks for it no more.
+        match event {
+            Event::Turn(which) => self.rounds(Event::Turn(which), count),
+            Event::Beat | Event::Key(_) | Event::Tick(_) => self.rounds(event, count),
+        }
+    }
+
+    // Rounds of one event, up to `count` times.
+    #[inline(always)]
+    fn rounds(&mut self, event: Event, count: u64) -> u64
         requires asked { 0 < count }
         requires few { count ≤ most_counts }
         requires room { length self.old.journal.printed < most_printed }
@@ -136,10 +162,23 @@ impl Machine {
 
     // A hart makes attempts in its turns, no interrupt is due, and no write of it meets a reservation.
     #[inline(always)]
-    fn may_row(&self, which: u8) -> bool
-        ensures { result ≡ true → MayRow self.now which }
+    fn may_row(&mut self, which: u8) -> bool
+        ensures may { result ≡ true → MayRow self.new which }
+        ensures same { self.new ≡ self.old }
     {
-        self.parts.may_row(which)
+        self.is_unreserved() && self.parts.is_quiet_at(which)
+    }
+
+    // No hart has a reservation. That is noted, since only an attempt that isn't made in a row gives one.
+    #[inline(always)]
+    fn is_unreserved(&mut self) -> bool
+        ensures free { result ≡ true → AreFree self.new.harts }
+        ensures same { self.new ≡ self.old }
+    {
+        if !self.none_reserved {
+            self.none_reserved = self.parts.are_free();
+        }
+        self.none_reserved
     }
 
     // A row of turns of a hart, with the answer to the exit by which it left the guest behind them.
@@ -154,6 +193,7 @@ impl Machine {
         ensures most { turns_of result ≤ most }
     {
         let row = self.parts.row(which, most);
+        self.none_reserved = !row.left.is_left();
         self.parts.answer_leaving(which, row.left);
         row
     }
@@ -166,6 +206,7 @@ impl Machine {
         ensures makes { Makes self.old event self.new }
         ensures counts { (n : ℕ) → CountsAtMost n self.old.journal.counts → CountsAtMost (n + 1) self.new.journal.counts }
     {
+        self.none_reserved = stays_unreserved(self.none_reserved, event);
         self.parts.step(event);
     }
 
@@ -221,10 +262,24 @@ impl Machine {
     }
 }
 
+// Whether no hart has a reservation behind an event, where that was known before it.
+#[inline(always)]
+fn stays_unreserved(known: bool, event: Event) -> bool
+    ensures { result ≡ (known && reserves_nothing event) }
+{
+    match event {
+        Event::Turn(_) => false,
+        Event::Beat | Event::Key(_) | Event::Tick(_) => known,
+    }
+}
+
 impl Drop for Machine {
     // A load under way frees its pages.
     fn drop(self) {
-        let Machine { parts } = self;
+        let Machine {
+            parts,
+            none_reserved: _,
+        } = self;
         parts.end();
     }
 }

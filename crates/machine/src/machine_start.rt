@@ -41,7 +41,10 @@ impl Machine {
         ensures refused { IfErr result (RefusesFlat pages.now wanted) }
     {
         let parts = Parts::flat(rt, alloc, pages, wanted)?;
-        Ok(Machine { parts })
+        Ok(Machine {
+            parts,
+            none_reserved: false,
+        })
     }
 
     /// A machine of a kernel's image under a policy: the image's segments in RAM, its text approved, and hart 0 at its
@@ -104,6 +107,9 @@ impl Machine {
         ensures refused { IfErr result (RefusesImage image.now (rules_of policy)) }
     {
         let parts = Parts::boot(rt, alloc, image, policy, port)?;
-        Ok(Machine { parts })
+        Ok(Machine {
+            parts,
+            none_reserved: false,
+        })
     }
 }

@@ -15,7 +15,7 @@ ghost use Rattle.machine_model.specs.Reaches.{without_first_printed};
 ghost use Rattle.machine_model.specs.Steps.{AttemptServed, IsStep, IsTurn, TurnServed, WithTables};
 ghost use Rattle.machine.specs.Attempts.{hart_in, IsReady};
 ghost use Rattle.machine.specs.Limits.{most_counts};
-ghost use Rattle.machine.specs.Turns.{Concluded, ExitServed, Finished, IsGuarded, IsReadyAt, MayAttemptAgain, MayServe, MayTrap, MayTurn, asked_of, left_entry};
+ghost use Rattle.machine.specs.Turns.{Attempts, Concluded, ExitServed, Finished, IsGuarded, IsReadyAt, IsReadyTwice, MayAttemptAgain, MayServe, MayTrap, MayTurn, asked_of, left_entry};
 
 use crate::attempts::attempt;
 use crate::beats::beat_disk;
@@ -179,6 +179,21 @@ impl Parts {
         }
     }
 
+    // A turn in which a hart makes an attempt, or two. It stands once, out of the way of the loops over events.
+    #[tactic(auto)]
+    #[inline(never)]
+    fn serve_attempts(&mut self, which: u8)
+        requires there { which < length self.old.harts }
+        requires attempts { Attempts self.old which }
+        requires count { self.old.attempts < 2 ^ 64 - 2 }
+        requires may { MayServe self.old }
+        requires ready { IsReadyTwice self.old which }
+        ensures { TurnServed self.old which (slice_get self.old.harts which) self.new }
+    {
+        let outcome = self.attempt(which);
+        self.conclude(which, outcome);
+    }
+
     // A turn of a hart, the count of turns raised already.
     #[tactic(auto)]
     #[inline(always)]
@@ -198,8 +213,7 @@ impl Parts {
             self.serve_load_turn(which);
             return;
         }
-        let outcome = self.attempt(which);
-        self.conclude(which, outcome);
+        self.serve_attempts(which);
     }
 
     /// A turn of a hart, which is counted.

@@ -65,7 +65,10 @@ impl Machine {
         law_resumed_start();
         law_resumed_sound();
         let parts = Parts::resume(alloc, snapshot, policy)?;
-        Ok(Machine { parts })
+        Ok(Machine {
+            parts,
+            none_reserved: false,
+        })
     }
 }
 

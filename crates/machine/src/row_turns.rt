@@ -13,7 +13,7 @@ ghost use Rattle.quick_turns.specs.Rows.{EndsBy};
 ghost use Rattle.quick_turns.specs.declared.leaving.Leaving.TheVariants.{Returns};
 ghost use Rattle.machine.specs.Attempts.{hart_in, IsReady, IsUsable, AreUsable};
 ghost use Rattle.machine.specs.Limits.{most_counts};
-ghost use Rattle.machine.specs.Rows.{AnswersLeaving, AreFree, EndsRow, WalksUnderRoot, counted_leaving, counted_row, MayRow};
+ghost use Rattle.machine.specs.Rows.{AnswersLeaving, AreFree, EndsRow, WalksUnderRoot, IsQuietAt, counted_leaving, counted_row, MayRow};
 ghost use Rattle.machine.specs.Turns.{MayTrap};
 
 use crate::caches::HartCaches;
@@ -41,6 +41,7 @@ fn row_in_seat(
     ensures ends { (lines : Lines) → pending (host_at seat.old).core.hregs (host_at seat.old).core.csrs lines ≡ None → EndsBy result.left result.made mem.old (host_at seat.old).core lines mem.new (host_at seat.new).core }
     ensures host { host_at seat.new ≡ with_core (host_at seat.new).core (host_at seat.old) }
     ensures aligned { (host_at seat.new).core.pc % 4 ≡ 0 }
+    ensures free { (host_at seat.new).core.reservation ≡ None }
     ensures most { turns_of result ≤ most }
     ensures tables { mem.new.tables ≡ mem.old.tables }
     ensures ram { length mem.new.ram ≡ length mem.old.ram }
@@ -76,6 +77,7 @@ fn row(
     ensures ends { (lines : Lines) → pending (hart_in (hosts_of seats.old) which).core.hregs (hart_in (hosts_of seats.old) which).core.csrs lines ≡ None → EndsBy result.left result.made mem.old (hart_in (hosts_of seats.old) which).core lines mem.new (hart_in (hosts_of seats.new) which).core }
     ensures harts { hosts_of seats.new ≡ update (hosts_of seats.old) which (with_core (hart_in (hosts_of seats.new) which).core) }
     ensures aligned { (hart_in (hosts_of seats.new) which).core.pc % 4 ≡ 0 }
+    ensures free { AreFree (hosts_of seats.new) }
     ensures most { turns_of result ≤ most }
     ensures seats { length seats.new ≡ length seats.old }
     ensures caches { length caches.new ≡ length caches.old }
@@ -134,10 +136,18 @@ impl Parts {
         .is_some()
     }
 
-    /// A hart makes attempts in its turns, no interrupt is due, and no write of it meets a reservation.
+    /// No hart has a reservation.
     #[inline(always)]
-    pub(crate) fn may_row(&self, which: u8) -> bool
-        ensures { result ≡ true → MayRow self.now which }
+    pub(crate) fn are_free(&self) -> bool
+        ensures { result ≡ true → AreFree self.now.harts }
+    {
+        are_free(&self.seats)
+    }
+
+    /// A hart makes attempts in its turns, and no interrupt is due.
+    #[inline(always)]
+    pub(crate) fn is_quiet_at(&self, which: u8) -> bool
+        ensures { result ≡ true → IsQuietAt self.now which }
     {
         if self.journal.verdict() != Verdict::Running {
             return false;
@@ -148,7 +158,7 @@ impl Parts {
         if !self.seats[which as usize].hart.started || self.is_loading(which) {
             return false;
         }
-        are_free(&self.seats) && !self.is_interrupted(which)
+        !self.is_interrupted(which)
     }
 
     /// Up to so many turns of a hart, each of which carries out an instruction, and one behind them in which it leaves the
@@ -162,6 +172,7 @@ impl Parts {
         requires attempts { self.old.attempts + most < 2 ^ 64 }
         ensures ends { EndsRow result.left result.made self.old which self.new }
         ensures aligned { (hart_in self.new.harts which).core.pc % 4 ≡ 0 }
+        ensures free { AreFree self.new.harts }
         ensures most { turns_of result ≤ most }
     {
         let row = row(

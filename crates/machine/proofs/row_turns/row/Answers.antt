@@ -1,6 +1,6 @@
 use Rattle.std.proofs.Common.{sym, subst, ◌<◌, ℕ}
 use Rattle.machine.proofs.Hosts.{usable_there, usable_set}
-use Rattle.machine.proofs.Rows.{aligned_there, harts_there, row_there}
+use Rattle.machine.proofs.Rows.{aligned_there, free_there, harts_there, row_there}
 use Rattle.machine.proofs.row_turns.row.Goals as goal
 
 pub row_in_seat-requires-clause-usable : goal.row_in_seat-requires-clause-usable
@@ -23,3 +23,6 @@ pub returns-clause-usable : goal.returns-clause-usable
 returns-clause-usable c =
     usable_set c.args.mem.now.tables c.row_in_seat.new.mem.tables c.args.caches.now c.args.which c.row_in_seat.new.own
     c.requires.usable c.row_in_seat.ensures.tables c.row_in_seat.ensures.usable
+
+pub returns-clause-free : goal.returns-clause-free
+returns-clause-free c = free_there c.args.seats.now c.args.which c.index-seats-which.result c.row_in_seat.new.seat c.requires.there c.row_in_seat.ensures.host c.row_in_seat.ensures.free c.requires.free

@@ -3,6 +3,6 @@ use Rattle.script.proofs.EventRuns.{in_two}
 use Rattle.console_run.proofs.drawing.Drawing.made.Goals as goal
 
 pub returns-clause-left : goal.returns-clause-left
-returns-clause-left c =
+returns-clause-left g c =
     let old = c.args.self.now in
-    in_two c.args.count old.row.count old.row.event (first_events old.undrawn old.script) c.requires
+    in_two c.args.count old.row.count old.row.event (first_events old.undrawn (g.S.EventSource.schedule old.source)) c.requires

@@ -2,6 +2,7 @@ use Rattle.std.proofs.Common.{◌≡◌, ◌<◌, sym, ap, subst, arith}
 use Rattle.machine_model.specs.Machine.{Machine}
 use Rattle.machine_model.specs.StandsFor.{StandsFor}
 use Rattle.machine.proofs.Stepped.{Bounded, cleared_stands, cleared_bounded}
+use Rattle.machine.specs.Rows.{AreFreeWhere}
 use Rattle.machine.proofs.machine.Machine.clear_printed.Goals as goal
 
 pub clear_printed-requires : goal.clear_printed-requires
@@ -20,5 +21,6 @@ invariant_of-self c =
       addresses = c.self.invariant.addresses;
       attempts = bounded.attempts;
       few = subst (λ (m : Machine). m.attempts < 18446744073709551616) (sym c.clear_printed.ensures) c.self.invariant.few;
+      free = subst (λ (m : Machine). AreFreeWhere c.self.inside.none_reserved m.harts) (sym c.clear_printed.ensures) c.self.invariant.free;
       printed = bounded.printed;
     }

@@ -15,7 +15,7 @@ invariant_of-result g c =
     let made = c.in_ok-parts.ensures.made in
     let new = c.law_resumed_start.ensures c.in_ok-parts.parts rules s c.requires.within words c.requires.form accepted c.in_ok-parts.ensures.guarded made in
     let journal = ap (λ (m : Machine). m.journal) made ∙ resumed_journal c.in_ok-parts.parts.region.tables rules s in
-    resumed_fit (record { parts = c.in_ok-parts.parts }) rules s c.requires.within (c.law_resumed_sound.ensures rules s c.requires.within words c.requires.form accepted) new journal
+    resumed_fit c.in_ok-parts.parts rules s c.requires.within (c.law_resumed_sound.ensures rules s c.requires.within words c.requires.form accepted) new journal
 
 pub returns-clause-new : goal.returns-clause-new
 returns-clause-new g c =

@@ -1,4 +1,4 @@
-use Rattle.std.proofs.Common.{subst, sym, arith}
+use Rattle.std.proofs.Common.{Bool, subst, sym, arith}
 use Rattle.reference.specs.Counting.{CountsAtMost}
 use Rattle.reference.specs.Run.{step}
 use Rattle.machine_model.specs.Machine.{Machine}
@@ -7,7 +7,9 @@ use Rattle.machine_model.specs.Steps.{IsStep}
 use Rattle.machine.proofs.Addressed.{step_addressed}
 use Rattle.machine.proofs.Ready.{guarded, may_turn}
 use Rattle.machine.proofs.Repeated.{step_counts}
+use Rattle.machine.proofs.Reservations.{step_free}
 use Rattle.machine.proofs.Stepped.{step_bounded, step_happens, step_stands}
+use Rattle.machine.specs.Rows.{AreFreeWhere}
 use Rattle.machine.proofs.machine.Machine.make.Goals as goal
 
 pub step-requires-clause-guarded : goal.step-requires-clause-guarded
@@ -29,6 +31,8 @@ invariant_of-self c =
       addresses = step_addressed c.self.invariant.state c.args.event c.self.invariant.stands.unseen_is_right.region.most c.self.invariant.addresses;
       attempts = bounded.attempts;
       few = let two = bounded.attempts in let turns = counts.turns in omega (arith, two, turns);
+      free = subst (λ (known : Bool). AreFreeWhere known c.step.new.self.harts) (sym c.stays_unreserved-self-inside.ensures)
+          (step_free c.self.inside.none_reserved c.self.inside.parts c.step.new.self c.args.event c.self.invariant.free c.step.ensures.step);
       printed = bounded.printed;
     }
 

@@ -1,13 +1,14 @@
-use Rattle.std.proofs.Common.{◌+◌, ◌-◌, ℕ, subst, sym, arith}
+use Rattle.std.proofs.Common.{◌+◌, ◌-◌, ℕ, Bool, not, subst, sym, arith}
 use Rattle.sv_types.specs.declared.event.Event.TheVariants.{Turn}
 use Rattle.reference.specs.Counting.{CountsAtMost}
 use Rattle.machine_model.specs.Machine.{Machine}
 use Rattle.quick_turns.specs.Ends.{turns_of}
 use Rattle.machine.proofs.Behind.{Begins, behind_bounded, behind_counts, ends_rowed, in_kernel, may_count, may_trap}
 use Rattle.machine.proofs.Ready.{ready_at}
+use Rattle.machine.proofs.Reservations.{leaving_free}
 use Rattle.machine.proofs.Rows.{Rowed}
 use Rattle.machine.specs.Repeats.{IsQuiet, Repeats}
-use Rattle.machine.specs.Rows.{MayRow}
+use Rattle.machine.specs.Rows.{AreFreeWhere, MayRow}
 use Rattle.machine.proofs.machine.Machine.one_row.Goals as goal
 
 pub row-row-requires-clause-may : goal.row-row-requires-clause-may
@@ -104,6 +105,8 @@ invariant_of-self c =
       addresses = rowed.addresses;
       attempts = rowed.bounded.attempts;
       few = let two = rowed.bounded.attempts in let turns = after.turns in omega (arith, two, turns, c.row-row.ensures.most, c.requires.few);
+      free = subst (λ (left : Bool). AreFreeWhere (not left) c.answer_leaving.new.self.harts) (sym c.is_left.ensures)
+          (leaving_free c.row-row.result.left c.row-row.new.self c.args.which c.answer_leaving.new.self c.row-row.ensures.free c.answer_leaving.ensures);
       printed = rowed.bounded.printed;
     }
 

@@ -1,33 +1,5 @@
-use Rattle.std.proofs.Common.{◌+◌, ◌-◌, rules, arith}
-use Rattle.machine.proofs.Repeated.{counts_on, counts_within, repeats_on, repeats_stand}
+use Rattle.machine.proofs.Repeated.{repeats_stand}
 use Rattle.machine.proofs.machine.Machine.repeat.Goals as goal
 
-pub round-made-requires-clause-counts : goal.round-made-requires-clause-counts
-round-made-requires-clause-counts c =
-    counts_within (9223372036854775807 - c.args.count + c.events.made) (9223372036854775807 - (c.args.count - c.events.made)) c.events.self.journal.counts
-    (omega (arith, c.events-test.true, c.requires.few))
-    (c.events.invariant.counts (9223372036854775807 - c.args.count) c.requires.counts)
-
-pub returns-then-printed-clause-stands : goal.returns-then-printed-clause-stands
-returns-then-printed-clause-stands c =
-    repeats_stand (c.events.made + c.round-made.result) c.args.self.now c.round-made.new.self c.args.event
-    (repeats_on c.events.made c.round-made.result c.args.self.now c.events.self c.round-made.new.self c.args.event c.events.invariant.chain c.events.invariant.quiet c.round-made.ensures.chain)
-
-pub returns-then-printed-clause-chain : goal.returns-then-printed-clause-chain
-returns-then-printed-clause-chain c =
-    repeats_on c.events.made c.round-made.result c.args.self.now c.events.self c.round-made.new.self c.args.event c.events.invariant.chain c.events.invariant.quiet c.round-made.ensures.chain
-
-pub returns-then-printed-clause-counts : goal.returns-then-printed-clause-counts
-returns-then-printed-clause-counts c =
-    counts_on c.events.made c.round-made.result c.args.self.now.journal.counts c.events.self.journal.counts c.round-made.new.self.journal.counts c.events.invariant.counts c.round-made.ensures.counts
-
-pub events-preserved : goal.events-preserved
-events-preserved c = record {
-  chain = repeats_on c.events.made c.round-made.result c.args.self.now c.events.self c.round-made.new.self c.args.event c.events.invariant.chain c.events.invariant.quiet c.round-made.ensures.chain;
-  quiet = search rules;
-  few = omega (arith, c.events-test.true, c.round-made.ensures.most);
-  counts = counts_on c.events.made c.round-made.result c.args.self.now.journal.counts c.events.self.journal.counts c.round-made.new.self.journal.counts c.events.invariant.counts c.round-made.ensures.counts;
-}
-
-pub returns-clause-stands : goal.returns-clause-stands
-returns-clause-stands c = repeats_stand c.events.made c.args.self.now c.events.self c.args.event c.events.invariant.chain
+pub returns-then-count-eq1-clause-stands : goal.returns-then-count-eq1-clause-stands
+returns-then-count-eq1-clause-stands c = repeats_stand c.round.result c.args.self.now c.round.new.self c.args.event c.round.ensures.chain

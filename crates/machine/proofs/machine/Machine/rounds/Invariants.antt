@@ -1,7 +1,7 @@
 use Rattle.std.proofs.Common.{◌≡◌, ◌≤◌, ◌+◌, ◌-◌, ℕ, length}
 use Rattle.reference.specs.Counting.{CountsAtMost}
 use Rattle.machine.specs.Repeats.{Repeats}
-use Rattle.machine.proofs.machine.Machine.repeat.Given as goal
+use Rattle.machine.proofs.machine.Machine.rounds.Given as goal
 
 abbrev pub invariant-events : goal.invariant-events
 invariant-events l = record {

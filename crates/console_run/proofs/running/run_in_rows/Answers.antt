@@ -9,7 +9,7 @@ use Rattle.machine.proofs.Repeated.{counts_within}
 use Rattle.console_run.specs.Console.{is_due, RunBrokeFromStart}
 use Rattle.console_run.specs.Drawing.{count_left, events_left, IsAtHand}
 use Rattle.console_run.proofs.ConsoleLemmas.{runs_none, runs_more, runs_broke, ran_ended, ran_all, taken_none, taken_more, state_after, flushed_counts, room_again}
-use Rattle.console_run.proofs.running.run.Goals as goal
+use Rattle.console_run.proofs.running.run_in_rows.Goals as goal
 
 pub events-init : goal.events-init
 events-init g c =
@@ -31,14 +31,14 @@ returns-then-ne-clause-all g c =
 
 pub repeat-made-requires-clause-few : goal.repeat-made-requires-clause-few
 repeat-made-requires-clause-few g c =
-    let hand : IsAtHand c.events.drawing c.draw.new.self c.in-Some.row = c.in-Some.ensures.row in
+    let hand : IsAtHand g.S.EventSource.schedule c.events.drawing c.draw.new.self c.in-Some.row = c.in-Some.ensures.row in
     let all : c.in-Some.row.count + c.draw.new.self.undrawn ≡ c.events.drawing.row.count + c.events.drawing.undrawn =
     ap (λ (r : EventRun). r.count + c.draw.new.self.undrawn) hand.row_is ∙ hand.count in
     omega (arith, all, c.events.invariant.few, c.requires.events)
 
 pub repeat-made-requires-clause-counts : goal.repeat-made-requires-clause-counts
 repeat-made-requires-clause-counts g c =
-    let hand : IsAtHand c.events.drawing c.draw.new.self c.in-Some.row = c.in-Some.ensures.row in
+    let hand : IsAtHand g.S.EventSource.schedule c.events.drawing c.draw.new.self c.in-Some.row = c.in-Some.ensures.row in
     let all : c.in-Some.row.count + c.draw.new.self.undrawn ≡ c.events.drawing.row.count + c.events.drawing.undrawn =
     ap (λ (r : EventRun). r.count + c.draw.new.self.undrawn) hand.row_is ∙ hand.count in
     counts_within (most_events + (c.args.events - count_left c.events.drawing)) (9223372036854775807 - c.in-Some.row.count) c.events.machine.journal.counts
@@ -56,26 +56,26 @@ flush_due-requires g c = record {
 
 pub returns-in_err-flush_due-clause-some : goal.returns-in_err-flush_due-clause-some
 returns-in_err-flush_due-clause-some g c =
-    let hand : IsAtHand c.events.drawing c.draw.new.self c.in-Some.row = c.in-Some.ensures.row in
-    let parts : events_left c.events.drawing ≡ replicate c.repeat-made.result c.in-Some.row.event ++ events_left c.made.new.self =
-    sym hand.left ∙ c.made.ensures.left ∙ ap (λ (r : EventRun). replicate c.repeat-made.result r.event ++ events_left c.made.new.self) (sym hand.row_is) in
+    let hand : IsAtHand g.S.EventSource.schedule c.events.drawing c.draw.new.self c.in-Some.row = c.in-Some.ensures.row in
+    let parts : events_left g.S.EventSource.schedule c.events.drawing ≡ replicate c.repeat-made.result c.in-Some.row.event ++ events_left g.S.EventSource.schedule c.made.new.self =
+    sym hand.left ∙ c.made.ensures.left ∙ ap (λ (r : EventRun). replicate c.repeat-made.result r.event ++ events_left g.S.EventSource.schedule c.made.new.self) (sym hand.row_is) in
     let room = room_again c.repeat-made.result c.events.machine c.repeat-made.new.self c.in-Some.row.event c.events.invariant.has c.repeat-made.ensures.chain c.events.invariant.room in
-    let broke : RunBrokeFromStart c.args.machine.now (first_events c.args.events c.args.script) c.flush_due.new.machine (g.O.Sink.state c.args.out.now) (g.O.Sink.state c.flush_due.new.out) =
-    λ start new. runs_broke c.repeat-made.result _ start _ (events_left c.events.drawing) (events_left c.made.new.self) c.events.machine c.repeat-made.new.self c.flush_due.new.machine
+    let broke : RunBrokeFromStart c.args.machine.now (first_events c.args.events (g.S.EventSource.schedule c.args.source)) c.flush_due.new.machine (g.O.Sink.state c.args.out.now) (g.O.Sink.state c.flush_due.new.out) =
+    λ start new. runs_broke c.repeat-made.result _ start _ (events_left g.S.EventSource.schedule c.events.drawing) (events_left g.S.EventSource.schedule c.made.new.self) c.events.machine c.repeat-made.new.self c.flush_due.new.machine
     c.in-Some.row.event _ _ _ (c.events.invariant.on start new) parts c.repeat-made.ensures.chain
     c.in_err-flush_due.ensures.machine room c.in_err-flush_due.ensures.due c.in_err-flush_due.ensures.failed in
     on_err _ _ broke
 
 pub events-preserved : goal.events-preserved
 events-preserved g c =
-    let hand : IsAtHand c.events.drawing c.draw.new.self c.in-Some.row = c.in-Some.ensures.row in
-    let parts : events_left c.events.drawing ≡ replicate c.repeat-made.result c.in-Some.row.event ++ events_left c.made.new.self =
-    sym hand.left ∙ c.made.ensures.left ∙ ap (λ (r : EventRun). replicate c.repeat-made.result r.event ++ events_left c.made.new.self) (sym hand.row_is) in
+    let hand : IsAtHand g.S.EventSource.schedule c.events.drawing c.draw.new.self c.in-Some.row = c.in-Some.ensures.row in
+    let parts : events_left g.S.EventSource.schedule c.events.drawing ≡ replicate c.repeat-made.result c.in-Some.row.event ++ events_left g.S.EventSource.schedule c.made.new.self =
+    sym hand.left ∙ c.made.ensures.left ∙ ap (λ (r : EventRun). replicate c.repeat-made.result r.event ++ events_left g.S.EventSource.schedule c.made.new.self) (sym hand.row_is) in
     let fewer : c.made.new.self.row.count + c.made.new.self.undrawn + c.repeat-made.result ≡ c.events.drawing.row.count + c.events.drawing.undrawn = c.made.ensures.count ∙ hand.count in
     let before : c.events.drawing.row.count + c.events.drawing.undrawn ≤ c.args.events = c.events.invariant.few in
     let flushed = c.in_ok-flush_due.ensures.flushed in
     record {
-      on = λ start new. runs_more c.repeat-made.result _ start _ (events_left c.events.drawing) (events_left c.made.new.self) c.events.machine c.repeat-made.new.self c.flush_due.new.machine
+      on = λ start new. runs_more c.repeat-made.result _ start _ (events_left g.S.EventSource.schedule c.events.drawing) (events_left g.S.EventSource.schedule c.made.new.self) c.events.machine c.repeat-made.new.self c.flush_due.new.machine
           c.in-Some.row.event _ _ _ c.repeat-made.ensures.some (c.events.invariant.on start new) parts c.repeat-made.ensures.chain flushed;
       has = state_after c.repeat-made.result c.events.machine c.repeat-made.new.self c.flush_due.new.machine c.in-Some.row.event _ _ c.events.invariant.has c.repeat-made.ensures.chain flushed;
       taken = taken_more _ c.repeat-made.new.self c.flush_due.new.machine _ _ c.events.invariant.taken flushed;

@@ -8,12 +8,12 @@ use Rattle.console_run.specs.Drawing.{count_left, events_left}
 use Rattle.console_run.specs.Standing.{HasState}
 use Rattle.console_run.specs.Console.{is_due, HasTaken}
 use Rattle.console_run.proofs.ConsoleLemmas.{RunsOn}
-use Rattle.console_run.proofs.running.run.Given as goal
+use Rattle.console_run.proofs.running.run_in_rows.Given as goal
 
 abbrev pub invariant-events : goal.invariant-events
 invariant-events g l = record {
   on : (start : State) → IsNew l.initial.machine start →
-      RunsOn l.initial.machine start (first_events l.events l.fn.script) (events_left l.drawing) l.machine (g.O.Sink.state l.initial.out) (g.O.Sink.state l.out);
+      RunsOn l.initial.machine start (first_events l.events (g.S.EventSource.schedule l.fn.source)) (events_left g.S.EventSource.schedule l.drawing) l.machine (g.O.Sink.state l.initial.out) (g.O.Sink.state l.out);
   has : HasState l.machine;
   taken : HasTaken (g.O.Sink.state l.initial.out) (g.O.Sink.state l.out);
   few : count_left l.drawing ≤ l.events;
