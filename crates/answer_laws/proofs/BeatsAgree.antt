@@ -1,9 +1,9 @@
 -- A beat of the machine's is the reference machine's: it asks DMA bits where the reference asks protections.
-use Rattle.std.proofs.Common.{◌≡◌, ℕ, zero, suc, ◌+◌, ◌*◌, ◌<◌, ◌≤◌, List, [], ◌∷◌, length, map, refl, sym, ◌∙◌, ap, subst, Bool, true, false, not, ◌&&◌, ◌||◌, arith, slice_get}
+use Rattle.std.proofs.Common.{◌≡◌, ℕ, ◌+◌, ◌*◌, ◌<◌, ◌≤◌, List, [], ◌∷◌, length, map, refl, sym, ◌∙◌, ap, subst, Bool, true, false, not, ◌&&◌, ◌||◌, arith}
 use Rattle.std.specs.Prelude.{Option, Some, None, unwrap_or, option_map, if◌then◌else◌, nat_le}
 use Rattle.std.proofs.lemmas.Bool.Decides.{nat_tests}
+use Rattle.std.proofs.lemmas.Option.{slice_get-map}
 use Rattle.processor.specs.Bytes.{part, overwrite, low_bytes, in_ram, ram_base, ram_place, page_of, page_size}
-use Rattle.sv_types.specs.declared.protection.Protection.{Protection}
 use Rattle.sv_types.specs.declared.block.BlockStatus.{BlockStatus}
 use Rattle.sv_types.specs.declared.virtio.VirtioMove.{VirtioMove}
 use Rattle.processor_laws.proofs.ByteLemmas.{length_low_bytes}
@@ -32,16 +32,11 @@ free_by true b = refl
 free_by false true = refl
 free_by false false = refl
 
-pub map_get : (f : Protection → Bool) (xs : List Protection) (i : ℕ) → slice_get (map f xs) i ≡ option_map f (slice_get xs i)
-map_get f [] i = refl
-map_get f (x ∷ xs) zero = refl
-map_get f (x ∷ xs) (suc i) = map_get f xs i
-
 bit_of : (r : State) (page : ℕ) → page < r.rules.ram_pages → is_writable (map is_free (protections_of r)) page ≡ not (is_protected r page)
 unfolding protection_in is_protected
 bit_of r page below =
     let first : 0 + page ≡ page = omega arith in
-    ap (λ (bit : Option Bool). unwrap_or bit false) (map_get is_free (protections_of r) page ∙ ap (option_map is_free) (get_numbers (protection_in r.approved r.held) 0 r.rules.ram_pages page below
+    ap (λ (bit : Option Bool). unwrap_or bit false) (slice_get-map is_free (protections_of r) page ∙ ap (option_map is_free) (get_numbers (protection_in r.approved r.held) 0 r.rules.ram_pages page below
     ∙ ap (λ (k : ℕ). Some (protection_in r.approved r.held k)) first))
     ∙ free_by (is_approved_in r.approved page) (has_number r.held page)
 

@@ -1,7 +1,6 @@
 -- Calls: SecVisor's answers go with the reference machine's, by what an answer does.
 use Rattle.attempt_laws.proofs.Hosts.{hosts_update}
 use Rattle.attempt_laws.proofs.Stays.{length_set}
-use Rattle.attempt_laws.proofs.Under.{same_mode}
 use Rattle.std.proofs.Common.{◌≡◌, ℕ, zero, suc, ◌+◌, ◌≤◌, List, [], ◌∷◌, length, map, refl, sym, ◌∙◌, ap, subst, Bool, true, false, not, slice_get, slice_set}
 use Rattle.std.specs.Prelude.{Some, None, if◌then◌else◌, IsTrue}
 use Rattle.processor.specs.HypervisorRegisters.{HypervisorRegisters, registers_at_boot}
@@ -25,6 +24,7 @@ use Rattle.answer_laws.proofs.Mirrored.{Mirrors, Adds, Changed, hosts_in, framed
 use Rattle.answer_laws.proofs.ModulesMirrored.{facts_same, paged}
 use Rattle.run_laws.proofs.AnswersMay.{MayBeside, answer_may}
 use Rattle.run_laws.proofs.CallsSound.{harts_number}
+use Rattle.machine_model.proofs.Sides.{same_mode}
 
 -- ---- an answer, by what becomes of the hart and by what happens beside
 

@@ -3,6 +3,7 @@ use Rattle.attempt_laws.proofs.Stays.{length_map}
 use Rattle.std.proofs.Common.{◌≡◌, ℕ, ◌+◌, ◌%◌, ◌<◌, ◌≤◌, List, length, map, refl, sym, ◌∙◌, ap, subst, Bool, true, false, not, arith, slice_get}
 use Rattle.std.specs.Prelude.{Some, None, option_map, if◌then◌else◌}
 use Rattle.std.proofs.lemmas.Bool.Decides.{nat_tests}
+use Rattle.std.proofs.lemmas.Option.{slice_get-map}
 use Rattle.processor.specs.Bytes.{overwrite, in_ram, page_of, ram_place}
 use Rattle.sv_types.specs.Clock.{after_tick}
 use Rattle.sv_types.specs.Console.{after_key, has_room}
@@ -27,7 +28,7 @@ use Rattle.machine_model.specs.HostEvents.{beat_served, key_served, tick_served,
 use Rattle.reference.specs.Run.{step, happen}
 use Rattle.machine_model.specs.StandsFor.{Unseen, IsRightFor, StandsFor, machine_of, protections_of, without_printed}
 use Rattle.reference.specs.Soundness.{IsSound}
-use Rattle.answer_laws.proofs.BeatsAgree.{beat_agrees, free_by, map_get, page_of_beat}
+use Rattle.answer_laws.proofs.BeatsAgree.{beat_agrees, free_by, page_of_beat}
 use Rattle.attempt_laws.proofs.Hosts.{hosts_forget}
 use Rattle.run_laws.proofs.Sounds.{bytes_keep_load}
 use Rattle.run_laws.proofs.BeatsSound.{IsFreeBeat, FreeMove, beat_page, beat_sound}
@@ -84,7 +85,7 @@ permits : (r : State) (page : ℕ) → page < r.rules.ram_pages → not (is_prot
 unfolding protection_in is_protected
 permits r page below free =
     let first : 0 + page ≡ page = omega arith in
-    map_get is_free (protections_of r) page ∙ ap (option_map is_free) (get_numbers (protection_in r.approved r.held) 0 r.rules.ram_pages page below
+    slice_get-map is_free (protections_of r) page ∙ ap (option_map is_free) (get_numbers (protection_in r.approved r.held) 0 r.rules.ram_pages page below
     ∙ ap (λ (k : ℕ). Some (protection_in r.approved r.held k)) first)
     ∙ ap Some (free_by (is_approved_in r.approved page) (has_number r.held page) ∙ free)
 

@@ -33,7 +33,7 @@ use Rattle.answer_laws.proofs.LawsHold.{exit_turn, asked, asked_same}
 use Rattle.answer_laws.proofs.Mirrored.{Mirrors, host_there}
 use Rattle.answer_laws.proofs.ProtectionsChange.{views_from, views_to}
 use Rattle.run_laws.proofs.StepsSound.{turn_goes}
-use Rattle.attempt_laws.proofs.Under.{same_mode}
+use Rattle.machine_model.proofs.Sides.{same_mode}
 
 -- ---- exits
 

@@ -23,8 +23,8 @@ use Rattle.reference.specs.Requests.{carry_out_device_load, carry_out_device_sto
 use Rattle.machine_model.specs.StandsFor.{Unseen, machine_of, host_hart, without_printed}
 use Rattle.reference.specs.Trapping.{hart_at_trap, hart_at_return, trap_from, exception, returned_from_trap, may_enter}
 use Rattle.reference.specs.Turn.{demote, demoted, outside}
-use Rattle.attempt_laws.proofs.Under.{same_mode}
 use Rattle.answer_laws.proofs.Mirrored.{Mirrors, choose, one_hart, no_hart, Adds, prints_none, dropped_more}
+use Rattle.machine_model.proofs.Sides.{same_mode}
 
 abbrev pub host_in : Unseen → HypervisorRegisters → Hart → HostHart
 host_in o c hart = host_hart (length o.tables) c hart

@@ -8,7 +8,6 @@ use Rattle.processor.specs.declared.exit.Exit.{Exit}
 use Rattle.reference.specs.States.{State, Hart, Loading}
 use Rattle.machine_model.specs.Machine.{Machine, HostHart, raised, after_attempt, after_quiet_attempt, all_forget, with_core}
 use Rattle.machine_model.specs.HostHarts.{with_host, host_outside, host_seen}
-use Rattle.attempt_laws.proofs.Under.{same_mode}
 use Rattle.machine_model.specs.declared.exits.ExitAnswer.{ExitAnswer}
 use Rattle.machine_model.specs.declared.exits.ExitAnswer.TheVariants.{Traps, Returns, Demotes, LeavesEntry, StopsAtWrite, LoadsDevice, StoresDevice, Calls}
 use Rattle.answer_laws.proofs.HartsMirrored.{mirror_outside}
@@ -16,11 +15,7 @@ use Rattle.machine_model.specs.StandsFor.{StandsFor, Unseen, IsRightFor, machine
 use Rattle.reference.specs.Soundness.{IsSound}
 use Rattle.machine_model.specs.Served.{seen_of, exit_answer, exit_answered, serve_exit, is_again}
 use Rattle.reference.specs.Turn.{turn, outside, leave_entry}
-use Rattle.reference.specs.Run.{step, happen, happen_under}
 use Rattle.reference.specs.Counting.{count, count_turn}
-use Rattle.sv_types.specs.declared.event.Event.TheVariants.{Turn}
-use Rattle.sv_types.specs.declared.event.Verdict.{Verdict}
-use Rattle.sv_types.specs.declared.event.Verdict.TheVariants.{Running}
 use Rattle.attempt_laws.specs.Agree.{IsAt, AgreesBy, IsNotLoading, region_at, core_at, one_attempt_more}
 use Rattle.answer_laws.specs.Laws.{MakesAttempt, IsQuiet, QuietLaw, ExitLaw}
 use Rattle.machine_model.specs.HardwareEvent.{attempted}
@@ -28,6 +23,8 @@ use Rattle.attempt_laws.proofs.Hosts.{hosts_get, hosts_exit, hosts_update}
 use Rattle.attempt_laws.proofs.Stays.{length_set}
 use Rattle.attempt_laws.proofs.AttemptLawHolds.{attempt_law}
 use Rattle.run_laws.proofs.StepsSound.{turn_goes, counted_sound, leave_goes}
+use Rattle.machine_model.proofs.Sides.{same_mode}
+use Rattle.run_laws.proofs.EntriesHold.{running}
 
 not_loading : (h : ℕ) (x : Option Loading) → ((load : Loading) → x ≡ Some load → (load.hart == h) ≡ false) → IsNotLoading h x
 not_loading h None other = tt
@@ -212,10 +209,6 @@ raised_at o r p s = record {
 pub raised_stands : (m : Machine) (r : State) → StandsFor m r → StandsFor (raised m count_turn) (count r count_turn)
 raised_stands m r stands =
     subst (λ (x : Machine). StandsFor (raised x count_turn) (count r count_turn)) (sym stands.same) (raised_at stands.unseen r stands.unseen_is_right stands.sound)
-
-pub running : (r : State) (h : ℕ) → r.journal.verdict ≡ Running → step r (Turn h) ≡ turn (count r count_turn) h
-unfolding step happen_under happen
-running r h on = ap (λ (v : Verdict). happen_under v r (Turn h)) on
 
 pub makes_raised : (m : Machine) (r : State) (h : ℕ) (host : HostHart) (hart : Hart) → MakesAttempt m r h host hart
     → MakesAttempt (raised m count_turn) (count r count_turn) h host hart

@@ -5,6 +5,7 @@ use Rattle.std.proofs.Common.{◌≡◌, ℕ, zero, suc, ◌+◌, ◌-◌, ◌*�
 use Rattle.std.specs.Prelude.{Option, Some, None, option_map, if◌then◌else◌, ◌==◌, nat_lt, is_some}
 use Rattle.std.specs.List.{list_any}
 use Rattle.std.proofs.lemmas.Bool.Decides.{nat_tests}
+use Rattle.std.proofs.lemmas.Bool.{false_from_ne_true, cases_Bool, and_from, or_right}
 use Rattle.processor.specs.Bytes.{page_size, page_of, ram_place}
 use Rattle.processor.specs.HypervisorRegisters.{HypervisorRegisters}
 use Rattle.sv_types.specs.Policies.{ModuleRule}
@@ -28,10 +29,11 @@ use Rattle.reference.specs.Relocations.{fields_right}
 use Rattle.machine_model.specs.StandsFor.{Unseen, IsRightFor, machine_of, host_harts, load_kept, load_kept_by, kept_digests, kept_answer, protections_of, without_printed}
 use Rattle.reference.specs.Soundness.{IsSound, IsSoundLoad, HoldsModule}
 use Rattle.run_laws.proofs.AnswersMay.{MayBeside}
-use Rattle.run_laws.proofs.Lookups.{not_true, both, is_there, same_number, and_both, and_first, numbers_bounds}
+use Rattle.run_laws.proofs.Lookups.{both, same_number, numbers_bounds}
 use Rattle.run_laws.proofs.ModulesSound.{IsGoodAddress, approves}
 use Rattle.answer_laws.proofs.Mirrored.{Mirrors, Changed, with_parts}
 use Rattle.answer_laws.proofs.ProtectionsChange.{held_protections, approved_protections, released_protections, unloaded_protections, retired_protections, at_page}
+use Rattle.sv_types.proofs.TruthValues.{and_first}
 
 -- ---- protections of pages, in RAM and past its end
 
@@ -41,7 +43,7 @@ none_numbers f first (suc n) zero past = absurd (omega arith)
 none_numbers f first (suc n) (suc i) past = none_numbers f (first + 1) n i (omega arith)
 
 not_approved : (r : State) (page : ℕ) → IsSound r → r.rules.ram_pages ≤ page → is_approved_in r.approved page ≡ false
-not_approved r page s past = not_true (is_approved_in r.approved page) (λ t. let below : page < r.rules.ram_pages = s.pages.inside page t in absurd (omega arith))
+not_approved r page s past = false_from_ne_true (is_approved_in r.approved page) (λ t. let below : page < r.rules.ram_pages = s.pages.inside page t in absurd (omega arith))
 
 past_page : (r : State) (page : ℕ) → r.rules.ram_pages ≤ page → protection_at (protections_of r) page ≡ Free
 past_page r page past = ap or_free (none_numbers (protection_in r.approved r.held) 0 r.rules.ram_pages page past)
@@ -57,7 +59,7 @@ beyond place n ram_pages page inside below past = omega arith
 
 not_held_past : (r : State) (x : Option Loading) (page : ℕ) → IsSoundLoad r.rules r.approved r.loaded r.held x → r.rules.ram_pages ≤ page → has_number r.held page ≡ false
 not_held_past r None page k past = rw k refl
-not_held_past r (Some load) page k past = not_true (has_number r.held page) (λ t.
+not_held_past r (Some load) page k past = false_from_ne_true (has_number r.held page) (λ t.
     let there : has_number (module_pages r.rules load.about) page ≡ true = subst (λ (list : List ℕ). has_number list page ≡ true) k.pages t in
     let bounds = numbers_bounds (page_of load.about.gpa) (pages_in_rule (slice_get r.rules.modules load.about.id)) page there in
     beyond (ram_place load.about.gpa) (pages_in_rule (slice_get r.rules.modules load.about.id)) r.rules.ram_pages page k.inside bounds.1 past)
@@ -142,10 +144,6 @@ any_fits test (x ∷ modules) up e = fits_by test x modules (test x) refl up e (
     fits_by test x modules true at up e rest = fits_first test x modules at
     fits_by test x modules false at up e rest = fits_later test x modules up.0 (rest e)
 
-or_right : (a b : Bool) → b ≡ true → (a || b) ≡ true
-or_right true b e = refl
-or_right false b e = e
-
 fits_any : (test : SavedModule → Bool) (modules : List SavedModule) (id : ℕ) (m : SavedModule) → find_module modules id ≡ Some m → test m ≡ true → list_any test modules ≡ true
 unfolding find_module
 fits_any test [] id m found e = cc
@@ -160,10 +158,10 @@ abbrev pub in_modules : State → ℕ → Bool
 in_modules r page = list_any (λ (m : SavedModule). has_number (module_pages r.rules m) page) r.loaded
 
 text_is : (r : State) (page : ℕ) → r.retired ≡ false → has_number r.text page ≡ true → is_kernel_text (ownership r) page ≡ true
-text_is r page before e = rw before (and_both (has_number r.text page) true e refl)
+text_is r page before e = rw before (and_from (has_number r.text page) true e refl)
 
 no_module : (r : State) (page : ℕ) → IsSound r → is_kernel_text (ownership r) page ≡ true → in_modules r page ≡ false
-no_module r page s text = not_true (in_modules r page) (λ t.
+no_module r page s text = false_from_ne_true (in_modules r page) (λ t.
     let k = any_fits (λ (m : SavedModule). has_number (module_pages r.rules m) page) r.loaded s.ascends t in
     both (is_kernel_text (ownership r) page) text (s.pages.no_text k.one page (record { loaded_is = k.found; inside = k.holds })))
 
@@ -176,7 +174,7 @@ kernels_by true b all = rw (all refl) refl
 kernels_by false b all = refl
 
 text_pages : (r : State) (page : ℕ) → IsSound r → r.retired ≡ false → (is_approved_in r.approved page && not (in_modules r page)) ≡ has_number r.text page
-text_pages r page s before = elim (is_there (has_number r.text page)) [
+text_pages r page s before = elim (cases_Bool (has_number r.text page)) [
   | inl text ↦ let there = text_is r page before text in rw (s.pages.text page there, no_module r page s there) (sym text)
   | inr other ↦ kernels_by (is_approved_in r.approved page) (in_modules r page) (λ t. owned_not_text r page other (s.pages.owned page t)) ∙ sym other
 ]

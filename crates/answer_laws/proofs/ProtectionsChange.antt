@@ -1,7 +1,7 @@
 -- What each step of a load, an unload and a retirement makes of the protections of all pages, and the views for them.
 use Rattle.std.proofs.Common.{◌≡◌, ℕ, zero, suc, ◌+◌, ◌<◌, ◌≤◌, inl, inr, List, [], ◌∷◌, map, refl, sym, ◌∙◌, ap, subst, Bool, true, false, ◌||◌, arith, slice_get, slice_set}
 use Rattle.std.specs.Prelude.{Option, Some, None, if◌then◌else◌, ◌==◌}
-use Rattle.std.proofs.lemmas.Bool.{eqb-true}
+use Rattle.std.proofs.lemmas.Bool.{eqb-true, false_from_ne_true, cases_Bool}
 use Rattle.std.proofs.lemmas.Bool.Decides.{nat_tests}
 use Rattle.processor.specs.Bytes.{page_of}
 use Rattle.sv_types.specs.Policies.{Rules}
@@ -16,7 +16,7 @@ use Rattle.reference.specs.Protections.{or_free, protection_at, with_pages, with
 use Rattle.sv_types.specs.Views.{AreViews}
 use Rattle.machine_model.specs.StandsFor.{bound_pages, protections_of}
 use Rattle.reference.specs.Soundness.{IsSound, IsSoundLoad, HoldsModule}
-use Rattle.run_laws.proofs.Lookups.{not_true, both, is_there, same_number, numbers_bounds, approved_without}
+use Rattle.run_laws.proofs.Lookups.{both, same_number, numbers_bounds, approved_without}
 use Rattle.attempt_laws.proofs.LoadsKept.{elsewhere}
 use Rattle.run_laws.proofs.ModulesSound.{loads, approves, unloads, retires, front_case, bytes_left, text_before}
 use Rattle.answer_laws.proofs.ViewsMeet.{get_numbers, views_meet}
@@ -66,7 +66,7 @@ spanned f g p first count j true at e =
     omega_same first count j at = let same : j ≡ 0 + (first + count) = eqb-true j (0 + (first + count)) at in omega arith
 
     last_there : (first count j : ℕ) → j ≡ first + count → has_number (numbers_from first (suc count)) j ≡ true
-    last_there first count j same = elim (is_there (has_number (numbers_from first (suc count)) j)) [
+    last_there first count j same = elim (cases_Bool (has_number (numbers_from first (suc count)) j)) [
       | inl there ↦ there
       | inr gone ↦ absurd (elim (elsewhere first (suc count) j gone) [ inl before ↦ omega arith | inr behind ↦ omega arith ])
     ]
@@ -77,13 +77,13 @@ spanned f g p first count j false at e =
     plain first count j same = omega arith
 
     same_there : (first count j : ℕ) → (j == 0 + (first + count)) ≡ false → has_number (numbers_from first count) j ≡ has_number (numbers_from first (suc count)) j
-    same_there first count j at = elim (is_there (has_number (numbers_from first count) j)) [
-      | inl there ↦ elim (is_there (has_number (numbers_from first (suc count)) j)) [
+    same_there first count j at = elim (cases_Bool (has_number (numbers_from first count) j)) [
+      | inl there ↦ elim (cases_Bool (has_number (numbers_from first (suc count)) j)) [
         | inl also ↦ there ∙ sym also
         | inr gone ↦ let k = numbers_bounds first count j there in let low = k.0 in let high = k.1 in
             absurd (elim (elsewhere first (suc count) j gone) [ inl before ↦ omega arith | inr behind ↦ omega arith ])
       ]
-      | inr gone ↦ elim (is_there (has_number (numbers_from first (suc count)) j)) [
+      | inr gone ↦ elim (cases_Bool (has_number (numbers_from first (suc count)) j)) [
         | inl there ↦ let k = numbers_bounds first (suc count) j there in let low = k.0 in let high = k.1 in
             let other : j ≡ first + count → ⊥ = λ same. both (j == 0 + (first + count)) (subst (λ (x : ℕ). (j == x) ≡ true) (plain first count j same) (same_number j)) at in
             absurd (elim (elsewhere first count j gone) [ inl before ↦ omega arith | inr behind ↦ other (omega arith) ])
@@ -156,7 +156,7 @@ approved_protections r load k =
 
 not_held : (r : State) (x : Option Loading) (page : ℕ) → IsSoundLoad r.rules r.approved r.loaded r.held x → is_approved_in r.approved page ≡ true → has_number r.held page ≡ false
 not_held r None page load e = rw load refl
-not_held r (Some load) page k e = not_true (has_number r.held page) (λ t. both (is_approved_in r.approved page) e (k.free page t))
+not_held r (Some load) page k e = false_from_ne_true (has_number r.held page) (λ t. both (is_approved_in r.approved page) e (k.free page t))
 
 taken_away : (r : State) (pages : List ℕ) (page : ℕ) → has_number pages page ≡ true → approved_bytes (without_pages r.approved pages) page ≡ None
 taken_away r pages page there = approved_without r.approved pages page ∙ ap (λ (b : Bool). if b then None else approved_bytes r.approved page) there

@@ -1,21 +1,23 @@
 -- The fields of a module's text, page by page: a policy within its limits has each field in one page, so that clearing them and
 -- judging them goes page by page.
-use Rattle.std.proofs.Common.{◌≡◌, ℕ, zero, suc, ◌+◌, ◌-◌, ◌*◌, ◌/◌, ◌%◌, ◌<◌, ◌≤◌, ◌⊎◌, inl, inr, List, [], ◌∷◌, ◌++◌, length, take, drop, filter, refl, sym, ◌∙◌, ap, subst, Bool, true, false, not, ◌&&◌, ◌||◌, arith, slice_get, length-drop, drop-drop, take-append-drop}
+use Rattle.std.proofs.Common.{◌≡◌, ℕ, zero, suc, ◌+◌, ◌-◌, ◌*◌, ◌/◌, ◌%◌, ◌<◌, ◌≤◌, ◌⊎◌, inl, inr, List, [], ◌∷◌, ◌++◌, length, take, drop, filter, refl, sym, ◌∙◌, ap, subst, Bool, true, false, ◌&&◌, ◌||◌, arith, slice_get, length-drop, drop-drop, take-append-drop}
 use Rattle.std.specs.Prelude.{Some, if◌then◌else◌, ◌==◌, nat_lt, IsTrue}
-use Rattle.std.proofs.lemmas.Bool.{eqb-true}
+use Rattle.std.proofs.lemmas.Bool.{eqb-true, cases_Bool}
 use Rattle.std.proofs.lemmas.Bool.Decides.{nat_tests}
+use Rattle.std.proofs.lemmas.List.{take_at, drop_at}
 use Rattle.processor.specs.Bits.{without}
 use Rattle.processor.specs.Bytes.{page_size, page_bytes, word, overwrite, write_word, low_bytes}
 use Rattle.sv_types.specs.Measure.{page_digest, page_digests}
-use Rattle.sv_types.specs.Policies.{Rules, ModuleRule, rules_within, numbers_within, lists_within, init_within, modules_count_within, modules_within, module_within, module_pages_within, sites_count_within, sites_within, sites_of, is_module, each_within, next_site_within, site_within, place_within, base_within, anchor_within, is_behind, is_aligned, site_size}
+use Rattle.sv_types.specs.Policies.{Rules, ModuleRule, rules_within, each_within, next_site_within, site_within, place_within, base_within, anchor_within, is_behind, is_aligned, site_size}
 use Rattle.sv_types.specs.declared.module.Bases.{Bases}
 use Rattle.sv_types.specs.declared.module.Site.{Site}
 use Rattle.sv_types.specs.declared.policy.Export.{Export}
-use Rattle.processor_laws.proofs.ByteLemmas.{length_low_bytes, length_overwrite, length_write_word, drop_front, take_front, length_before, part_before, part_after, overwrite_behind, overwrite_in_front, word_in_page_bytes}
+use Rattle.processor_laws.proofs.ByteLemmas.{length_low_bytes, length_overwrite, length_write_word, length_before, part_before, part_after, overwrite_behind, overwrite_in_front, word_in_page_bytes}
 use Rattle.machine_model.specs.HostExits.{moved_site, is_site_in, page_sites}
 use Rattle.reference.specs.Relocations.{field_of, field_width, field_bits, field_word, clear_field, masked, field_right, fields_right, site_value}
 use Rattle.reference.proofs.FieldWidths.{width_by, sizes}
-use Rattle.run_laws.proofs.Lookups.{and_first, and_second, is_there}
+use Rattle.sv_types.proofs.TruthValues.{and_first, and_second, and_swap}
+use Rattle.sv_types.proofs.PolicyLimits.{rule_within}
 
 -- ---- where fields lie
 
@@ -58,24 +60,9 @@ all_lie pages exports before (site ∷ sites) e =
       all_lie pages exports (before ++ site ∷ []) sites (and_second (next_site_within pages exports before site) (each_within (next_site_within pages exports) (before ++ site ∷ []) sites) e),
     )
 
-one_within : (exports : ℕ) (before xs : List ModuleRule) (i : ℕ) (rule : ModuleRule) → each_within (module_within exports) before xs ≡ true → slice_get xs i ≡ Some rule
-    → (b : List ModuleRule) × (module_within exports b rule ≡ true)
-one_within exports before [] i rule e found = absurd (cc)
-one_within exports before (x ∷ xs) zero rule e found =
-    let same : x ≡ rule = cc in
-    (before, subst (λ (y : ModuleRule). module_within exports before y ≡ true) same (and_first (module_within exports before x) (each_within (module_within exports) (before ++ x ∷ []) xs) e))
-one_within exports before (x ∷ xs) (suc i) rule e found =
-    one_within exports (before ++ x ∷ []) xs i rule (and_second (module_within exports before x) (each_within (module_within exports) (before ++ x ∷ []) xs) e) found
-
 -- each field of a module of the policy lies in one page
 pub rule_lies : (rules : Rules) (i : ℕ) (rule : ModuleRule) → IsTrue (rules_within rules) → slice_get rules.modules i ≡ Some rule → AllLieIn (4096 * rule.pages) rule.sites
-rule_lies rules i rule within found =
-    let modules : modules_within (length rules.exports) rules.modules ≡ true =
-    and_second (numbers_within rules && lists_within rules && init_within rules.ram_pages rules.init && modules_count_within (length rules.modules)) (modules_within (length rules.exports) rules.modules) within in
-    let one = one_within (length rules.exports) [] rules.modules i rule modules found in
-    let front = and_first (module_pages_within rule.pages && sites_count_within (sites_of one.0) (length rule.sites) && sites_within rule.pages (length rules.exports) rule.sites) (not (is_module rule.name one.0)) one.1 in
-    all_lie rule.pages (length rules.exports) [] rule.sites
-    (and_second (module_pages_within rule.pages && sites_count_within (sites_of one.0) (length rule.sites)) (sites_within rule.pages (length rules.exports) rule.sites) front)
+rule_lies rules i rule within found = all_lie rule.pages (length rules.exports) [] rule.sites (rule_within rules i rule within found).1
 
 -- ---- digests
 
@@ -107,8 +94,8 @@ inside_page text bytes n k room fits =
     subst (λ (l : List ℕ). overwrite l k bytes ≡ overwrite page k bytes ++ drop 4096 rest) (take-append-drop 4096 rest)
     (overwrite_in_front page (drop 4096 rest) bytes k (rw full fits)) in
     ap (λ (l : List ℕ). page_bytes l n) whole
-    ∙ ap (take 4096) (drop_front front (overwrite rest k bytes) (4096 * n) size ∙ split)
-    ∙ take_front (overwrite page k bytes) (drop 4096 rest) 4096 (length_overwrite page bytes k (rw full fits) ∙ full)
+    ∙ ap (take 4096) (drop_at front (overwrite rest k bytes) (4096 * n) size ∙ split)
+    ∙ take_at (overwrite page k bytes) (drop 4096 rest) 4096 (length_overwrite page bytes k (rw full fits) ∙ full)
 
 -- the field of a page's word is that of the text's
 same_word : (text : List ℕ) (n : ℕ) (site : Site) → (4096 * n) + (site.offset - 4096 * n) ≡ site.offset → site.offset - 4096 * n + width_of site ≤ 4096
@@ -165,7 +152,7 @@ page_masked text n [] room all = refl
 page_masked text n (site ∷ sites) room all =
     let same = length_cleared text site all.0 in
     let rest = page_masked (clear_field text site) n sites (rw same room) (subst (λ (m : ℕ). AllLieIn m sites) (sym same) all.1) in
-    rest ∙ elim (is_there (site.offset / 4096 == n)) [
+    rest ∙ elim (cases_Bool (site.offset / 4096 == n)) [
       | inl here ↦ let k = in_page n site (length text) all.0 here in
           ap (λ (page : List ℕ). masked page (page_sites n sites)) (clear_here text n site room k.0 k.1)
           ∙ ap (λ (b : Bool). masked (page_bytes text n) (if b then moved_site n site ∷ page_sites n sites else page_sites n sites)) (sym here)
@@ -191,19 +178,13 @@ three : (p q x y z b c : Bool) → (c ≡ true → q ≡ p) → (b ≡ true → 
 three p q x y z true true same apart e = let no_such : true ≡ false = apart refl in cc
 three true q x y z true false same apart e = e
 three false q x y z true false same apart e = refl
-three p q x y z false true same apart e = rw (e, same refl) (swap p y z)
-  where
-    swap : (p y z : Bool) → (p && (y && z)) ≡ (y && (p && z))
-    swap true true z = refl
-    swap true false z = refl
-    swap false true z = refl
-    swap false false z = refl
+three p q x y z false true same apart e = rw (e, same refl) (and_swap p y z)
 three p q x y z false false same apart e = e
 
 bounds : (off n : ℕ) → nat_lt off (page_size * suc n) ≡ (nat_lt off (page_size * n) || off / page_size == n)
-bounds off n = elim (is_there (nat_lt off (page_size * n))) [
+bounds off n = elim (cases_Bool (nat_lt off (page_size * n))) [
   | inl lower ↦ let more : nat_lt off (page_size * suc n) ≡ true = grind (arith, nat_tests) in more ∙ ap (λ (b : Bool). b || off / page_size == n) (sym lower)
-  | inr higher ↦ elim (is_there (off / page_size == n)) [
+  | inr higher ↦ elim (cases_Bool (off / page_size == n)) [
     | inl here ↦ let more : nat_lt off (page_size * suc n) ≡ true = grind (arith, nat_tests) in
         more ∙ sym here ∙ ap (λ (b : Bool). b || off / page_size == n) (sym higher)
     | inr other ↦ let less : nat_lt off (page_size * suc n) ≡ false = grind (arith, nat_tests) in

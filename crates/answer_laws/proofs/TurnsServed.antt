@@ -3,7 +3,7 @@ use Rattle.sv_types.specs.Policies.{Rules}
 use Rattle.processor.specs.declared.cause.Cause.{Cause}
 use Rattle.processor.specs.declared.exit.Exit.{Exit}
 use Rattle.processor.specs.declared.exit.ExitCause.{ExitCause}
-use Rattle.std.proofs.Common.{◌≡◌, ℕ, zero, suc, List, [], ◌∷◌, length, refl, sym, ◌∙◌, ap, subst, Bool, true, false, slice_get}
+use Rattle.std.proofs.Common.{◌≡◌, ℕ, List, length, refl, sym, ◌∙◌, ap, subst, Bool, true, false, slice_get}
 use Rattle.std.specs.Prelude.{Option, Some, None, option_map, if◌then◌else◌, ◌==◌}
 use Rattle.sv_types.specs.declared.event.Event.{Event}
 use Rattle.sv_types.specs.declared.event.Event.TheVariants.{Turn, Beat, Key, Tick}
@@ -35,8 +35,10 @@ use Rattle.answer_laws.proofs.EventsAgree.{IsNoTurn, event_law, verdict_of}
 use Rattle.answer_laws.proofs.ExitsMirrored.{served_turn}
 use Rattle.attempt_laws.proofs.Hosts.{hosts_get}
 use Rattle.attempt_laws.proofs.AttemptsAgree.{get_back, turn_none, turn_stopped}
-use Rattle.answer_laws.proofs.LawsHold.{asked, quiet_turn, running, raised_at, makes_raised, exit_turn, outside_stands, again_turn}
+use Rattle.answer_laws.proofs.LawsHold.{asked, quiet_turn, raised_at, makes_raised, exit_turn, outside_stands, again_turn}
 use Rattle.answer_laws.proofs.LoadsMirrored.{load_turn}
+use Rattle.run_laws.proofs.EntriesHold.{running}
+use Rattle.machine_model.proofs.Frames.{get_own}
 
 -- ---- the frame, with the count of turns left aside
 
@@ -95,13 +97,7 @@ outcome_served m after r h host hart (Outcome.Exit exit) makes e once served =
 
 -- ---- one attempt, or two
 
-get_update : (harts : List HostHart) (h : ℕ) (host : HostHart) (change : HostHart → HostHart) → slice_get harts h ≡ Some host → slice_get (update harts h change) h ≡ Some (change host)
-unfolding update
-get_update [] h host change e = cc
-get_update (x ∷ harts) zero host change e = let same : x ≡ host = cc in rw same refl
-get_update (x ∷ harts) (suc h) host change e = get_update harts h host change e
-
-forgets_none : (x : Outcome) (exit : Exit) (harts : List HostHart) → x ≡ Outcome.Exit exit → all_forget x harts ≡ harts
+pub forgets_none : (x : Outcome) (exit : Exit) (harts : List HostHart) → x ≡ Outcome.Exit exit → all_forget x harts ≡ harts
 unfolding all_forget
 forgets_none (Outcome.Retired wrote) exit harts e = cc
 forgets_none Outcome.GuestTrap exit harts e = cc
@@ -111,9 +107,9 @@ forgets_none (Outcome.Exit other) exit harts e = refl
 again_there : (m : Machine) (h : ℕ) (host : HostHart) (exit : Exit) → slice_get m.harts h ≡ Some host → (attempted m h host).outcome ≡ Outcome.Exit exit
     → slice_get (sent_again m h host).harts h ≡ Some (hart_again m h host)
 again_there m h host exit there left =
-    get_update (left_by m h host).harts h (with_core (attempted m h host).core host) host_outside
+    get_own (left_by m h host).harts h host_outside (with_core (attempted m h host).core host)
     (ap (λ (l : List HostHart). slice_get l h) (forgets_none (attempted m h host).outcome exit (update m.harts h (with_core (attempted m h host).core)) left)
-    ∙ get_update m.harts h host (with_core (attempted m h host).core) there)
+    ∙ get_own m.harts h (with_core (attempted m h host).core) host there)
 
 makes_again : (m : Machine) (r : State) (h : ℕ) (host : HostHart) (hart : Hart) (exit : Exit) → MakesAttempt m r h host hart
     → (attempted m h host).outcome ≡ Outcome.Exit exit → MakesAttempt (sent_again m h host) (leave_entry r h hart) h (hart_again m h host) (outside hart)
@@ -216,7 +212,7 @@ again_law m r h host hart makes on again =
     )
 
 -- whose load it is
-loading_by : (o : Unseen) (r : State) → (machine_of o r).loading ≡ option_map (load_kept r.rules r.ram) r.loading
+pub loading_by : (o : Unseen) (r : State) → (machine_of o r).loading ≡ option_map (load_kept r.rules r.ram) r.loading
 unfolding machine_of
 loading_by o r = refl
 
@@ -230,7 +226,7 @@ its_by : (r : State) (h : ℕ) (x : Option Loading) (b : Bool) → is_loading (o
 its_by r h None b e on = absurd (cc)
 its_by r h (Some load) b e on = (load, (refl, ap (λ (n : ℕ). n == h) (sym (hart_of r load (slice_get r.rules.modules load.about.id))) ∙ e ∙ on))
 
-not_its : (r : State) (h : ℕ) (x : Option Loading) → is_loading (option_map (load_kept r.rules r.ram) x) h ≡ false → (load : Loading) → x ≡ Some load → (load.hart == h) ≡ false
+pub not_its : (r : State) (h : ℕ) (x : Option Loading) → is_loading (option_map (load_kept r.rules r.ram) x) h ≡ false → (load : Loading) → x ≡ Some load → (load.hart == h) ≡ false
 not_its r h None off load e = absurd (cc)
 not_its r h (Some other) off load e =
     let same : other ≡ load = cc in

@@ -26,7 +26,7 @@ use Rattle.machine_model.specs.StandsFor.{Unseen, hregs_in}
 use Rattle.attempt_laws.specs.Agree.{IsAt, Agrees, QuietTo, region_at, core_at}
 use Rattle.attempt_laws.proofs.Stays.{GoesOn, stays}
 use Rattle.attempt_laws.proofs.Excepts.{exception_agrees, exit_agrees}
-use Rattle.attempt_laws.proofs.Under.{same_mode}
+use Rattle.machine_model.proofs.Sides.{same_mode}
 
 pub same_hideleg : (mode : Mode) (entry : Option ℕ) → (hregs_in mode entry).hideleg ≡ hideleg_in mode
 same_hideleg Kernel entry = refl

@@ -21,11 +21,11 @@ use Rattle.machine_model.specs.StandsFor.{Unseen, hregs_in}
 use Rattle.attempt_laws.specs.Agree.{IsAt, Agrees, region_at, core_at}
 use Rattle.attempt_laws.proofs.Stays.{stays}
 use Rattle.attempt_laws.proofs.Excepts.{exception_agrees, exit_agrees}
-use Rattle.attempt_laws.proofs.Under.{same_mode}
 use Rattle.attempt_laws.proofs.LoadsAgree.{IsLoad, load_agrees}
 use Rattle.attempt_laws.proofs.StoresAgree.{IsStore, FreeKeeps, store_agrees}
 use Rattle.attempt_laws.proofs.CsrsAgree.{csr_agrees, virtual_served}
 use Rattle.attempt_laws.proofs.AtomicsAgree.{IsAtomicWord, lr_agrees, sc_agrees, amo_agrees}
+use Rattle.machine_model.proofs.Sides.{same_mode}
 
 -- what is known of a word's effect: what an exit tells of it, and whether it is SRET's
 abbrev pub IsTold : ℕ → Hart → Effect → Type 0

@@ -17,16 +17,7 @@ hosts_get t [] (x ∷ harts) h hart size found = cc
 hosts_get t (c ∷ exits) (x ∷ harts) zero hart size found = (c, (refl, ap (option_map (host_hart t c)) found))
 hosts_get t (c ∷ exits) (x ∷ harts) (suc h) hart size found = hosts_get t exits harts h hart (cc) found
 
--- a hart is changed on both sides
-pub hosts_set : (t : ℕ) (exits : List HypervisorRegisters) (harts : List Hart) (h : ℕ) (c : HypervisorRegisters) (next : Hart) → slice_get exits h ≡ Some c
-    → slice_set (host_harts t exits harts) h (host_hart t c next) ≡ host_harts t exits (slice_set harts h next)
-unfolding host_harts
-hosts_set t [] harts h c next found = cc
-hosts_set t (e ∷ exits) [] h c next found = refl
-hosts_set t (e ∷ exits) (x ∷ harts) zero c next found = let same : e ≡ c = cc in rw same refl
-hosts_set t (e ∷ exits) (x ∷ harts) (suc h) c next found = ap (◌∷◌ (host_hart t e x)) (hosts_set t exits harts h c next found)
-
--- the same by a change in place
+-- a hart is changed in place on both sides
 pub hosts_update : (t : ℕ) (exits : List HypervisorRegisters) (harts : List Hart) (h : ℕ) (c : HypervisorRegisters) (hart next : Hart) (change : HostHart → HostHart)
     → slice_get exits h ≡ Some c → slice_get harts h ≡ Some hart → change (host_hart t c hart) ≡ host_hart t c next
     → update (host_harts t exits harts) h change ≡ host_harts t exits (slice_set harts h next)

@@ -1,7 +1,8 @@
 -- Where an access of the hardware goes under the view of its mode: the plain translation, and the page's protection.
-use Rattle.std.proofs.Common.{◌≡◌, ℕ, zero, suc, ◌+◌, ◌*◌, ◌%◌, ◌/◌, inl, inr, List, [], ◌∷◌, map, length, refl, ◌∙◌, ap, Bool, true, false, ◌&&◌, ◌||◌, arith, slice_get}
+use Rattle.std.proofs.Common.{◌≡◌, ℕ, ◌+◌, ◌*◌, ◌%◌, ◌/◌, inl, inr, length, refl, ◌∙◌, ap, Bool, true, false, ◌&&◌, ◌||◌, arith, slice_get}
 use Rattle.std.specs.Prelude.{Option, Some, None, option_map, Result, nat_le, nat_lt, not, ◌==◌}
 use Rattle.std.proofs.lemmas.Bool.Decides.{nat_tests}
+use Rattle.std.proofs.lemmas.Option.{slice_get-map}
 use Rattle.processor.specs.Bytes.{ram_base, ram_place, page_of, in_ram}
 use Rattle.processor.specs.HardwareMemory.{translated, place_or_exception}
 use Rattle.processor.specs.HypervisorRegisters.{HypervisorRegisters}
@@ -23,6 +24,7 @@ use Rattle.machine_model.specs.StandsFor.{Unseen, IsRightFor, hregs_in, bound_pa
 use Rattle.reference.specs.Soundness.{IsSound, IsSoundEntry}
 use Rattle.reference.specs.Turn.{bound_entry}
 use Rattle.attempt_laws.specs.Agree.{IsAt, region_at, core_at}
+use Rattle.machine_model.proofs.Sides.{same_mode}
 
 -- what a hart in a mode and an entry sees
 abbrev pub sight_by : Mode → Option Binding → Sight
@@ -37,11 +39,6 @@ under o r sight access d = under_view (length o.tables) r.rules.ram_pages sight 
 abbrev pub sight_of_hart : State → Hart → Sight
 sight_of_hart r hart = sight_by hart.mode (bound_entry r.rules hart.entry)
 
-get_mapped : (f : ℕ → ℕ) (list : List ℕ) (i : ℕ) → slice_get (map f list) i ≡ option_map f (slice_get list i)
-get_mapped f [] i = refl
-get_mapped f (x ∷ list) zero = refl
-get_mapped f (x ∷ list) (suc i) = get_mapped f list i
-
 binds_to : (va gpa : Option ℕ) (entry : Binding) → binding_of va gpa ≡ Some entry → gpa ≡ Some entry.gpa
 binds_to None gpa entry e = absurd (cc)
 binds_to (Some va) None entry e = absurd (cc)
@@ -51,7 +48,7 @@ binds_to (Some va) (Some gpa) entry e = ap (option_map (λ (b : Binding). b.gpa)
 pub bound_page : (rules : Rules) (i : ℕ) (entry : Binding) → binding_at rules i ≡ Some entry → sight_of (bound_pages rules) (View.Entry i) ≡ Some (OfEntry (page_of entry.gpa))
 unfolding binding_at
 bound_page rules i entry e =
-    ap (option_map OfEntry) (get_mapped page_of rules.bound i
+    ap (option_map OfEntry) (slice_get-map page_of rules.bound i
     ∙ ap (option_map page_of) (binds_to (slice_get rules.entries i) (slice_get rules.bound i) entry e))
 
 stages_in : (o : Unseen) (r : State) (root : Mode) (entry : Option ℕ) (s : Settings) (mode : Mode) (va : ℕ) (access : Access) → IsRightFor o r → IsSound r
@@ -66,10 +63,6 @@ stages_in o r Kernel (Some i) s mode va access is_open sound known =
     (is_open.views.each (View.Entry i) (OfEntry (page_of known.0.gpa)) (bound_page r.rules i known.0 known.1)) sound.size s mode va access)
 stages_in o r User entry s mode va access is_open sound known =
     two_stages_under_view o.tables r.ram r.rules.ram_pages _ (protection_in r.approved r.held) OfUser (is_open.views.each View.User OfUser refl) sound.size s mode va access
-
-pub same_mode : (mode : Mode) (entry : Option ℕ) → (hregs_in mode entry).mode ≡ mode
-same_mode Kernel entry = refl
-same_mode User entry = refl
 
 pub translated_under : (o : Unseen) (r : State) (h : ℕ) (hart : Hart) (c : HypervisorRegisters) (access : Access) (va htinst : ℕ) → IsAt o r h hart c
     → translated (region_at o r) (core_at o c hart) access va htinst

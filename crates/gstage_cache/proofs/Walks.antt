@@ -90,7 +90,7 @@ leaf_moves (suc zero) e a b few same = omega arith
 leaf_moves (suc (suc zero)) e a b few same = omega arith
 leaf_moves (suc (suc (suc n))) e a b few same = absurd (omega arith)
 
-choose_moves : (c : Bool) (place : ℕ) (x y v w : Destination) → v ≡ moved place x → w ≡ moved place y → (if c then v else w) ≡ moved place (if c then x else y)
+pub choose_moves : (c : Bool) (place : ℕ) (x y v w : Destination) → v ≡ moved place x → w ≡ moved place y → (if c then v else w) ≡ moved place (if c then x else y)
 choose_moves true place x y v w h k = h
 choose_moves false place x y v w h k = k
 
@@ -103,7 +103,7 @@ entry_moves grants below at a b deeper other (Some e) few same deep =
     (choose_moves (is_leaf below e && grants e) (b % 4096) (At (leaf_address below e a)) PageFault (At (leaf_address below e b)) PageFault
     (ap At (leaf_moves below e a b few same)) refl)
 
-walk_moves : (read : ℕ → Option ℕ) (grants : ℕ → Bool) (indices : List ℕ) (table a b : ℕ) → length indices ≤ 3 → a / 4096 ≡ b / 4096
+pub walk_moves : (read : ℕ → Option ℕ) (grants : ℕ → Bool) (indices : List ℕ) (table a b : ℕ) → length indices ≤ 3 → a / 4096 ≡ b / 4096
     → walk read grants indices table b ≡ moved (b % 4096) (walk read grants indices table a)
 unfolding walk
 walk_moves read grants [] table a b few same = refl

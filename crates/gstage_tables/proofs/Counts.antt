@@ -110,7 +110,7 @@ block_none block = none_among (512 * block) 512
 -- ---- counts by block
 
 -- by a test
-by_test : {A : Type 0} (b : Bool) {c : Bool} → c ≡ b → (c ≡ true → A) → (c ≡ false → A) → A
+pub by_test : {A : Type 0} (b : Bool) {c : Bool} → c ≡ b → (c ≡ true → A) → (c ≡ false → A) → A
 by_test true is yes_case no_case = yes_case is
 by_test false is yes_case no_case = no_case is
 

@@ -4,6 +4,7 @@ use Rattle.std.specs.Prelude.{Option, Some, ◌==◌, ◌&&◌, nat_lt, nat_le, 
 use borrow.Author.Tests.{le-leb, lt-ltb, le-ltb, ne_eqb}
 use Rattle.std.proofs.lemmas.Bool.{lt-leb, leb-true, eqb-true, and_parts}
 use Rattle.std.proofs.lemmas.Bool.Decides.{nat_tests}
+use Rattle.std.proofs.lemmas.Option.{same_Some}
 use Rattle.processor.specs.Bytes.{word, page_of, ram_place}
 use Rattle.processor.specs.Regions.{host_word}
 use Rattle.processor.specs.Instructions.{bits}
@@ -20,7 +21,7 @@ use Rattle.processor_laws.proofs.Walks.{address_chosen}
 use Rattle.gstage_tables.specs.Blocks.{is_whole, taken_pages}
 use Rattle.gstage_tables.specs.Layout.{leaf_tables, table_pages, table_size, tree_count, sight_in, pointer, leaf, root_word, middle_word, leaf_word, HoldsTrees}
 use Rattle.gstage_tables.proofs.Bits.{pointer_gives, zero_gives, leaf_gives}
-use Rattle.gstage_tables.proofs.Counts.{block_free}
+use Rattle.gstage_tables.proofs.Counts.{block_free, by_test}
 use Rattle.gstage_tables.proofs.Places.{root_two, root_other, middle_there, middle_whole, middle_past, leaf_there, leaf_past}
 
 -- ---- one step
@@ -118,11 +119,6 @@ whole_parts : (pages : ℕ) (ps : ℕ → Protection) (block : ℕ) → is_whole
 whole_parts pages ps block is =
     let both = and_parts (nat_le (512 * block + 512) pages) (taken_pages ps block == 0) is in
     (leb-true (512 * block + 512) pages both.0, eqb-true (taken_pages ps block) 0 both.1)
-
--- by whether a block is whole
-by_form : {A : Type 0} (b : Bool) {c : Bool} → c ≡ b → (c ≡ true → A) → (c ≡ false → A) → A
-by_form true is whole parted = whole is
-by_form false is whole parted = parted is
 
 -- the tables of a tree below another lie in front of that one's
 pub in_front : (a b t : ℕ) → a < b → a * t + t ≤ b * t
@@ -229,7 +225,7 @@ module _ (read : ℕ → Option ℕ) (pages t n trees : ℕ) (sights : ℕ → S
                 | inr none ↦ no_table none ∙ outside (4096 * n) pages (sights tree) ps gpa access (not_past pages gpa above (omega arith))
                 | inl some ↦
                     let is : 512 * i1 + i0 ≡ (gpa - 0x80000000) / 4096 = omega arith in
-                    by_form (is_whole pages ps i1) refl (one_leaf some above near) (λ parted. one_table some parted ∙ elim (lt_or_le (512 * i1 + i0) pages) [
+                    by_test (is_whole pages ps i1) refl (one_leaf some above near) (λ parted. one_table some parted ∙ elim (lt_or_le (512 * i1 + i0) pages) [
                       | inl below ↦ mapped some below ∙ inside pages n (sights tree) ps gpa (512 * i1 + i0) access (within pages gpa above (omega arith)) above is
                       | inr beyond ↦ past some beyond ∙ outside (4096 * n) pages (sights tree) ps gpa access (not_past pages gpa above (omega arith))
                     ])
@@ -338,14 +334,11 @@ module _ (tables : List ℕ) (pages : ℕ) (bound : List ℕ) (ps : ℕ → Prot
 
 -- ---- every root that there is
 
-some_is : {a b : Sight} → Some a ≡ Some b → a ≡ b
-some_is e = cc
-
 -- the page that an entry is bound to
 bound_there : (bound : List ℕ) (i : ℕ) (sight : Sight) → option_map OfEntry (slice_get bound i) ≡ Some sight
     → (i < length bound) × (OfEntry (slice_index_or bound i 0) ≡ sight)
 bound_there [] i sight is = absurd (cc)
-bound_there (page ∷ bound) zero sight is = (omega arith, some_is is)
+bound_there (page ∷ bound) zero sight is = (omega arith, same_Some _ _ is)
 bound_there (page ∷ bound) (suc i) sight is = let rest = bound_there bound i sight is in (omega arith, rest.1)
 
 pub entry_root : (i : ℕ) → i ≤ 64 → root_of (view_hgatp (View.Entry i)) ≡ 16384 * (2 + i)
@@ -361,9 +354,9 @@ entry_sight bound i =
 views_each : (tables : List ℕ) (pages : ℕ) (bound : List ℕ) (ps : ℕ → Protection) → HoldsTrees tables pages bound ps → (view : View) (sight : Sight)
     → sight_of bound view ≡ Some sight → IsView tables pages ps sight (view_hgatp view)
 views_each tables pages bound ps h View.Kernel sight is =
-    subst (λ (s : Sight). IsView tables pages ps s (view_hgatp View.Kernel)) (some_is is) (is_view tables pages bound ps h 0 (view_hgatp View.Kernel) (omega arith) refl)
+    subst (λ (s : Sight). IsView tables pages ps s (view_hgatp View.Kernel)) (same_Some _ _ is) (is_view tables pages bound ps h 0 (view_hgatp View.Kernel) (omega arith) refl)
 views_each tables pages bound ps h View.User sight is =
-    subst (λ (s : Sight). IsView tables pages ps s (view_hgatp View.User)) (some_is is) (is_view tables pages bound ps h 1 (view_hgatp View.User) (omega arith) refl)
+    subst (λ (s : Sight). IsView tables pages ps s (view_hgatp View.User)) (same_Some _ _ is) (is_view tables pages bound ps h 1 (view_hgatp View.User) (omega arith) refl)
 views_each tables pages bound ps h (View.Entry i) sight is =
     let few = h.few in
     let entry = bound_there bound i sight is in

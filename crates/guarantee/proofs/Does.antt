@@ -1,6 +1,8 @@
 -- What a turn of a hart does: to protected bytes, to the hart, to other harts, and to the verdict.
 use Rattle.std.proofs.Common.{◌≡◌, ℕ, zero, suc, List, [], ◌∷◌, map, length, refl, sym, ◌∙◌, ap, subst, Bool, true, false, ◌||◌, slice_get, slice_set}
 use Rattle.std.specs.Prelude.{Option, Some, None, option_map, if◌then◌else◌}
+use Rattle.std.proofs.lemmas.List.{set-set}
+use Rattle.std.proofs.lemmas.Option.{slice_get-map}
 use Rattle.processor.specs.Bytes.{overwrite, page_bytes}
 use Rattle.sv_types.specs.Policies.{Rules}
 use Rattle.processor.specs.Traps.{trap_target, mode_at_return}
@@ -20,6 +22,7 @@ use Rattle.reference.specs.Turn.{after_going, demote, demoted, leave_entry, outs
 use Rattle.run_laws.proofs.Lookups.{both}
 use Rattle.run_laws.proofs.Sounds.{InFreePage, apart}
 use Rattle.attempt_laws.proofs.AttemptsAgree.{get_back}
+use Rattle.sv_types.proofs.SetElements.{set_other}
 
 -- ---- the four things
 
@@ -66,23 +69,6 @@ pub record Does (writes : ℕ → Type 0) (returns : Type 0) (q : State) (h : �
   pub ends : Ends writes q h hart next
 
 -- ---- lists of harts
-
-pub set_other : (harts : List Hart) (h k : ℕ) (x : Hart) → (k ≡ h → ⊥) → slice_get (slice_set harts h x) k ≡ slice_get harts k
-set_other [] h k x other = refl
-set_other (a ∷ harts) zero zero x other = absurd (other refl)
-set_other (a ∷ harts) zero (suc k) x other = refl
-set_other (a ∷ harts) (suc h) zero x other = refl
-set_other (a ∷ harts) (suc h) (suc k) x other = set_other harts h k x (λ e. other (ap suc e))
-
-pub set_twice : (harts : List Hart) (h : ℕ) (x y : Hart) → slice_set (slice_set harts h x) h y ≡ slice_set harts h y
-set_twice [] h x y = refl
-set_twice (a ∷ harts) zero x y = refl
-set_twice (a ∷ harts) (suc h) x y = ap (◌∷◌ a) (set_twice harts h x y)
-
-pub get_mapped : (f : Hart → Hart) (harts : List Hart) (k : ℕ) → slice_get (map f harts) k ≡ option_map f (slice_get harts k)
-get_mapped f [] k = refl
-get_mapped f (a ∷ harts) zero = refl
-get_mapped f (a ∷ harts) (suc k) = get_mapped f harts k
 
 pub same_one : (x : Option Hart) (a b : Hart) → x ≡ Some a → x ≡ Some b → a ≡ b
 same_one x a b e f = cc
@@ -146,12 +132,12 @@ does_write writes returns q h hart next x place bytes at free ram harts mode sta
   bytes = λ page e. ap (λ (l : List ℕ). page_bytes l page) ram
       ∙ page_kept q place bytes page free e;
   own = λ after e. let same : hart_after_write place (length bytes) x ≡ after = same_one (slice_get next.harts h) _ after
-      (ap (λ (l : List Hart). slice_get l h) harts ∙ get_mapped (hart_after_write place (length bytes)) (slice_set q.harts h x) h
+      (ap (λ (l : List Hart). slice_get l h) harts ∙ slice_get-map (hart_after_write place (length bytes)) (slice_set q.harts h x) h
       ∙ ap (option_map (hart_after_write place (length bytes))) (get_back q.harts h hart x at.found)) e in
       subst (Own returns q h hart next) same (Same mode started);
   others = λ k before after other was e.
       let same : hart_after_write place (length bytes) before ≡ after = same_one (slice_get next.harts k) _ after
-      (ap (λ (l : List Hart). slice_get l k) harts ∙ get_mapped (hart_after_write place (length bytes)) (slice_set q.harts h x) k
+      (ap (λ (l : List Hart). slice_get l k) harts ∙ slice_get-map (hart_after_write place (length bytes)) (slice_set q.harts h x) k
       ∙ ap (option_map (hart_after_write place (length bytes))) (set_other q.harts h k x other ∙ was)) e in
       subst (Other q k before) same (Rests refl refl);
   ends = GoesOn (no_stop next.journal.verdict running);
@@ -193,10 +179,10 @@ does_for first second why because q h hart next f g d = record {
 -- ---- a hart that left its entry first
 
 left_twice : (q : State) (h : ℕ) (hart : Hart) → leave_entry (leave_entry q h hart) h (outside hart) ≡ leave_entry q h hart
-left_twice q h hart = ap (λ (l : List Hart). record q { harts = l }) (set_twice q.harts h (outside hart) (outside hart))
+left_twice q h hart = ap (λ (l : List Hart). record q { harts = l }) (set-set q.harts h (outside hart) (outside hart))
 
 pub demote_left : (q : State) (h : ℕ) (hart : Hart) (gpa : ℕ) → demote (leave_entry q h hart) h (outside hart) gpa ≡ demote q h hart gpa
-demote_left q h hart gpa = ap (λ (l : List Hart). record (demote q h hart gpa) { harts = l }) (set_twice q.harts h (outside hart) (demoted hart))
+demote_left q h hart gpa = ap (λ (l : List Hart). record (demote q h hart gpa) { harts = l }) (set-set q.harts h (outside hart) (demoted hart))
 
 no_entry_in : (mode : Mode) (entry : Option ℕ) → mode ≡ User → entry_in mode None ≡ entry_in mode entry
 no_entry_in Kernel entry user = absurd (cc)

@@ -1,7 +1,8 @@
 -- The laws of the guarantee.
 use Rattle.std.proofs.Common.{◌≡◌, ℕ, ◌+◌, ◌⊎◌, inl, inr, List, [], ◌∷◌, map, length, refl, sym, ◌∙◌, ap, subst, Bool, true, false, ◌&&◌, not, slice_get}
 use Rattle.std.specs.Prelude.{Option, Some, None, option_map, if◌then◌else◌, is_some, ◌==◌}
-use Rattle.std.proofs.lemmas.Bool.{eqb-true, eq-eqb}
+use Rattle.std.proofs.lemmas.Bool.{eqb-true, eq-eqb, cases_Bool}
+use Rattle.std.proofs.lemmas.Option.{slice_get-map}
 use Rattle.sv_types.specs.ApprovedPages.{approved_bytes}
 use Rattle.processor.specs.Bytes.{low_bytes, page_bytes, page_of, ram_place, in_ram}
 use Rattle.processor.specs.Causes.{cause_number}
@@ -39,13 +40,13 @@ use Rattle.reference.specs.Start.{IsStart}
 use Rattle.reference.specs.States.{State, Hart, Disk, BlockDevice, BlockDisk, VirtioDisk, Binding, Loading, has_number, in_kernel, is_approved_in, is_protected}
 use Rattle.reference.specs.Trapping.{trap_from, hart_at_trap, hart_at_return}
 use Rattle.reference.specs.Turn.{going, after_going, Fetched, NoWord, Stray, Word, fetched_in, fetched_at, fetch, fetch_of, place_of_pc, leads_into, noted_gpa, fetch_in_entry, bound_entry, demote, act_on_fetch, act_on_pending, act, turn_of_started, turn_of, turn, carry_out_word, carry_out_instruction, carry_out_effect}
-use Rattle.run_laws.proofs.Lookups.{both, is_there}
+use Rattle.run_laws.proofs.Lookups.{both}
 use Rattle.run_laws.proofs.StateLawsHold.{reached_sound, bytes_law, modules_law}
 use Rattle.run_laws.proofs.BeatsSound.{FreeMove, beat_page, beat_sound}
 use Rattle.run_laws.proofs.StepsSound.{counted_sound}
 use Rattle.run_laws.proofs.EntriesHold.{runs_on}
 use Rattle.guarantee.specs.Guarantee.{move_gpa, first_gpa, request_gpa, disk_gpa, IsMeasuredWord, KernelTurn, Loads, Traps, Demotes, Executes, KernelWordsLaw, Enters, ByTrap, ByStart, EntriesLaw, Leaves, ByReturn, ByDemotion, ByStop, ExitsLaw, ProtectedBytesLaw, WritesGuarded, Stops, AtEntry, AtWrite, StopsRight, StopsLaw}
-use Rattle.guarantee.proofs.Does.{IsMoving, Own, Same, Entered, Returned, Demoted, Halted, Other, Rests, Begins, IsNoStop, Ends, GoesOn, StopsAtEntry, StopsAtWrite, get_mapped, same_one, page_kept, demote_left}
+use Rattle.guarantee.proofs.Does.{IsMoving, Own, Same, Entered, Returned, Demoted, Halted, Other, Rests, Begins, IsNoStop, Ends, GoesOn, StopsAtEntry, StopsAtWrite, same_one, page_kept, demote_left}
 use Rattle.guarantee.proofs.Turns.{FetchedWrites, FetchedReturns, turn_does}
 use Rattle.processor_laws.proofs.GuestViews.{and_false}
 use Rattle.attempt_laws.proofs.AttemptsAgree.{turn_none, turn_stopped}
@@ -58,7 +59,7 @@ Moves q h = (turn q h ≡ q) ⊎ ((hart : Hart) × IsMoving q h hart)
 
 moves_by : (q : State) (h : ℕ) (x : Option Hart) → IsSound q → q.journal.verdict ≡ Running → slice_get q.harts h ≡ x → Moves q h
 moves_by q h None s on found = inl (turn_none q h found)
-moves_by q h (Some hart) s on found = elim (is_there hart.started) [
+moves_by q h (Some hart) s on found = elim (cases_Bool hart.started) [
   | inl started ↦ inr (hart, record { sound = s; found = found; started = started; running = on })
   | inr off ↦ inl (turn_stopped q h hart found off)
 ]
@@ -251,7 +252,7 @@ mapped_rests : (r : State) (e : Event) (h : ℕ) (before : Hart) (next : State) 
     → slice_get (map (hart_after_write place width) r.harts) h ≡ Some after → Becomes r e h before next after
 mapped_rests r e h before next after place width was is =
     let same : hart_after_write place width before ≡ after = same_one (slice_get (map (hart_after_write place width) r.harts) h) _ after
-    (get_mapped (hart_after_write place width) r.harts h ∙ ap (option_map (hart_after_write place width)) was) is in
+    (slice_get-map (hart_after_write place width) r.harts h ∙ ap (option_map (hart_after_write place width)) was) is in
     subst (Becomes r e h before next) same (Rested refl refl)
 
 move_becomes : (r : State) (e : Event) (disk : Disk) (x : Move) (h : ℕ) (before : Hart) (next : State) (after : Hart) → slice_get r.harts h ≡ Some before

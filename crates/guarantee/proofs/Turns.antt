@@ -47,7 +47,8 @@ use Rattle.run_laws.proofs.RequestsSound.{FreeTarget, IsFreePlace, target_free, 
 use Rattle.run_laws.proofs.Sounds.{InFreePage}
 use Rattle.run_laws.proofs.StepsSound.{leave_goes}
 use Rattle.guarantee.specs.Guarantee.{WritesGuarded}
-use Rattle.guarantee.proofs.Does.{IsMoving, Own, Same, Entered, Returned, Demoted, Halted, Other, Rests, Begins, IsNoStop, GoesOn, StopsAtEntry, StopsAtWrite, Does, set_other, same_one, rests_other, does_nothing, does_set, does_write, choose_does, decide_does, does_for, does_left}
+use Rattle.guarantee.proofs.Does.{IsMoving, Own, Same, Entered, Returned, Demoted, Halted, Other, Rests, Begins, IsNoStop, GoesOn, StopsAtEntry, StopsAtWrite, Does, same_one, rests_other, does_nothing, does_set, does_write, choose_does, decide_does, does_for, does_left}
+use Rattle.sv_types.proofs.SetElements.{set_other}
 
 -- ---- traps
 

@@ -1,6 +1,6 @@
 -- Where both stages lead, a word of a width that divides the virtual address may be read and written.
 use Rattle.std.proofs.Common.{◌≡◌, ◌∙◌, ℕ, ◌+◌, ◌%◌, ◌^◌, ◌<◌, ◌≤◌, length, refl}
-use Rattle.std.specs.Prelude.{◌/◌, Option, Some, None, IfSome, Ok}
+use Rattle.std.specs.Prelude.{Option, Some, None, IfSome, Ok}
 use Rattle.processor.specs.declared.translation.Place.{Place}
 use Rattle.processor.specs.declared.access.Access.{Access}
 use Rattle.processor.specs.declared.mode.Mode.{Mode}
@@ -13,11 +13,7 @@ use Rattle.processor.specs.Roots.{IsBare}
 use Rattle.processor_laws.proofs.RegionLemmas.{keeps_width, ends_inside, whole_sum}
 use Rattle.processor_laws.proofs.Walks.{Fits, first_stage_fits, walk_guest_fits}
 
--- a root whose walks lead to RAM alone
-pub apart_inside : (r : Region) (hgatp : ℕ) → WalksApart r hgatp → WalksInside r hgatp
-apart_inside r hgatp apart = record { inside = λ gpa hpa access e. (apart.leads gpa hpa access e).1 }
-
-second_leads : (gpa : ℕ) (o : Option ℕ) (place : Place) → place_through gpa o ≡ Ok place → o ≡ Some place.hpa
+pub second_leads : (gpa : ℕ) (o : Option ℕ) (place : Place) → place_through gpa o ≡ Ok place → o ≡ Some place.hpa
 second_leads gpa None place e = absurd (cc)
 second_leads gpa (Some hpa) place e = let same : record { gpa = gpa; hpa = hpa } ≡ place = cc in rw (← same) refl
 

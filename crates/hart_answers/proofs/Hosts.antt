@@ -1,6 +1,6 @@
 -- The hosts of a list of seats, of which one is read or changed.
 use Rattle.std.proofs.Common.{◌≡◌, ℕ, zero, suc, List, [], ◌∷◌, length, refl, ap, slice_set}
-use Rattle.std.specs.Prelude.{slice_get, slice_index_or, option_map}
+use Rattle.std.specs.Prelude.{slice_index_or}
 use Rattle.machine_model.specs.Machine.{HostHart, update}
 use Rattle.hart_answers.specs.Hosts.{host_at, hosts_of}
 use Rattle.hart_answers.specs.declared.seats.Seat.{Seat}
@@ -8,11 +8,6 @@ use Rattle.hart_answers.specs.declared.seats.Seat.{Seat}
 pub hosts_length : (seats : List Seat) → length (hosts_of seats) ≡ length seats
 hosts_length [] = refl
 hosts_length (x ∷ seats) = ap (λ n. suc n) (hosts_length seats)
-
-pub hosts_get : (seats : List Seat) (h : ℕ) → slice_get (hosts_of seats) h ≡ option_map host_at (slice_get seats h)
-hosts_get [] h = refl
-hosts_get (x ∷ seats) zero = refl
-hosts_get (x ∷ seats) (suc h) = hosts_get seats h
 
 pub hosts_set : (seats : List Seat) (h : ℕ) (seat : Seat) → slice_set (hosts_of seats) h (host_at seat) ≡ hosts_of (slice_set seats h seat)
 hosts_set [] h seat = refl

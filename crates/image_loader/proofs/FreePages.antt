@@ -1,22 +1,19 @@
 -- Free pages that are held and then approved.
-use Rattle.std.proofs.Common.{◌≡◌, ℕ, zero, suc, ◌+◌, ◌-◌, ◌<◌, ◌≤◌, Bool, true, false, List, [], ◌∷◌, filter, refl, ◌∙◌, ap, arith, slice_set, slice_get, replicate, Some, None}
+use Rattle.std.proofs.Common.{◌≡◌, ℕ, suc, ◌+◌, ◌-◌, ◌<◌, ◌≤◌, Bool, true, false, List, ◌∷◌, filter, refl, ◌∙◌, ap, arith, slice_set, slice_get, Some, None}
 use Rattle.std.specs.Prelude.{if◌then◌else◌}
+use Rattle.std.proofs.lemmas.List.{set-set}
 use Rattle.sv_types.specs.ApprovedPages.{numbers_from}
 use Rattle.sv_types.specs.declared.protection.Protection.{Protection}
 use Rattle.sv_types.specs.declared.protection.Protection.TheVariants.{Free, Held, Approved}
 use Rattle.reference.specs.Protections.{with_pages, with_each}
 use Rattle.page_guard.specs.Guarded.{first_taken}
+use Rattle.sv_types.proofs.SetElements.{set_other}
 
 -- ---- one page
 
-set_twice : (guard : List Protection) (page : ℕ) (p q : Protection) → slice_set (slice_set guard page p) page q ≡ slice_set guard page q
-set_twice [] page p q = refl
-set_twice (x ∷ guard) zero p q = refl
-set_twice (x ∷ guard) (suc page) p q = ap (◌∷◌ x) (set_twice guard page p q)
-
 pub one_set : (guard : List Protection) (page : ℕ) → with_pages (with_pages guard page 1 Held) page 1 Approved ≡ slice_set guard page Approved
 unfolding with_pages
-one_set guard page = let e : page + 0 ≡ page = omega arith in rw e (set_twice guard page Held Approved)
+one_set guard page = let e : page + 0 ≡ page = omega arith in rw e (set-set guard page Held Approved)
 
 pub none_taken : (guard : List Protection) (page : ℕ) → slice_get guard page ≡ Some Free → first_taken guard (record { first = page; count = 1 }) ≡ None
 unfolding first_taken
@@ -28,21 +25,9 @@ approved_where test guard page = if test then slice_set guard page Approved else
 
 -- ---- all pages
 
-pub is_free : (n page : ℕ) → page < n → slice_get (replicate n Free) page ≡ Some Free
-is_free zero page below = absurd (omega arith)
-is_free (suc n) zero below = refl
-is_free (suc n) (suc page) below = is_free n page (omega arith)
-
-other_kept : (guard : List Protection) (page q : ℕ) → page < q → slice_get (slice_set guard page Approved) q ≡ slice_get guard q
-other_kept [] page q before = refl
-other_kept (x ∷ guard) zero zero before = absurd (omega arith)
-other_kept (x ∷ guard) zero (suc q) before = refl
-other_kept (x ∷ guard) (suc page) zero before = absurd (omega arith)
-other_kept (x ∷ guard) (suc page) (suc q) before = other_kept guard page q (omega arith)
-
 -- the pages behind it stay as they are
 pub behind_kept : (test : Bool) (guard : List Protection) (page q : ℕ) → page < q → slice_get (approved_where test guard page) q ≡ slice_get guard q
-behind_kept true guard page q before = other_kept guard page q before
+behind_kept true guard page q before = set_other guard page q Approved (λ same. omega (arith, before, same))
 behind_kept false guard page q before = refl
 
 next_tested : (test : Bool) (guard : List Protection) (page : ℕ) (pages : List ℕ)

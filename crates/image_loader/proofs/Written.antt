@@ -1,13 +1,13 @@
 -- Bytes written one behind the other.
 use Rattle.std.proofs.Common.{◌≡◌, ℕ, zero, suc, ◌+◌, ◌-◌, ◌<◌, ◌≤◌, List, [], ◌∷◌, ◌++◌, refl, get_or, inl, inr, Bool, true, false, length-take, length, take, drop, sym, ◌∙◌, ap, arith, length-append, append_assoc, replicate}
 use Rattle.std.proofs.Math.Seq.{drop-append-add}
-use Rattle.std.proofs.lemmas.List.{drop-drop, take-append-drop, length-replicate}
+use Rattle.std.proofs.lemmas.List.{drop-drop, take-append-drop, length-replicate, take_at}
 use Rattle.std.specs.Prelude.{max, min, ◌*◌, ◌/◌, ◌==◌, nat_le, nat_lt, ◌&&◌, if◌then◌else◌}
 use Rattle.std.proofs.lemmas.Bool.Decides.{nat_tests}
 use Rattle.processor.specs.Bytes.{overwrite, padded, part}
 use Rattle.sv_types.specs.Kernel.{LoadedSegment, with_segment}
 use Rattle.processor.specs.Regions.{Region}
-use Rattle.processor_laws.proofs.ByteLemmas.{lt_or_le, take_front, length_before, length_overwrite, length_padded}
+use Rattle.processor_laws.proofs.ByteLemmas.{lt_or_le, length_before, length_overwrite, length_padded}
 use Rattle.elf64_load.proofs.LoadedBytes.{length_with_segment, at_before, at_written, at_behind, at_padded, at_part}
 use Rattle.image_loader.specs.Placed.{IsPlaced}
 
@@ -22,7 +22,7 @@ overwrite_joined list front rest at fits =
     let size : length start ≡ at + length front = length-append (take at list) front ∙ ap (λ n. n + length front) before in
     let joined : take at list ++ (front ++ behind) ≡ start ++ behind = sym (append_assoc (take at list) front behind) in
     let first : take (at + length front) (take at list ++ (front ++ behind)) ≡ start =
-    ap (take (at + length front)) joined ∙ take_front start behind (at + length front) size in
+    ap (take (at + length front)) joined ∙ take_at start behind (at + length front) size in
     let place : at + length front + length rest ≡ length start + length rest = ap (λ n. n + length rest) (sym size) in
     let end : at + length front + length rest ≡ at + length (front ++ rest) = rw length-append (omega arith) in
     let last : drop (at + length front + length rest) (take at list ++ (front ++ behind)) ≡ drop (at + length (front ++ rest)) list =

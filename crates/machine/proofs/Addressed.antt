@@ -2,7 +2,6 @@
 -- and nothing else moves one.
 use Rattle.std.proofs.Common.{◌≡◌, ℕ, zero, suc, ◌+◌, ◌*◌, ◌%◌, ◌^◌, ◌<◌, ◌≤◌, List, [], ◌∷◌, map, length, refl, sym, subst, Bool, true, false, not, arith, slice_get, slice_set}
 use Rattle.std.specs.Prelude.{Option, Some, None, if◌then◌else◌, ◌==◌}
-use Rattle.std.proofs.lemmas.Bool.Decides.{nat_tests}
 use Rattle.processor.specs.Bytes.{in_ram, page_of, page_size, ram_place}
 use Rattle.processor.specs.Causes.{cause_number}
 use Rattle.processor.specs.Effects.{effect_of}
@@ -44,6 +43,7 @@ use Rattle.reference.specs.Trapping.{hart_at_return, hart_at_trap, trap_from, ex
 use Rattle.reference.specs.Turn.{carry_out_kernel_only, carry_out_ecall, carry_out_sret, carry_out_effect, carry_out_instruction, carry_out_word, Fetched, NoWord, Stray, Word, fetch_of, act_on_fetch, place_of_pc, leads_into, outside, leave_entry, fetch_in_entry, bound_entry, act_on_pending, act, turn_of_started, turn_of, turn}
 use Rattle.saved_machine.specs.SavedStates.{gpa_at}
 use Rattle.machine.specs.Machines.{HasAddress, HaveAddresses}
+use Rattle.run_laws.proofs.RequestsSound.{room_of}
 
 -- ---- all harts
 
@@ -148,9 +148,6 @@ is_source ram settings mode address width = aligned_source ram width (address % 
 -- RAM lies below the end of all addresses
 abbrev IsSmall : List ℕ → Type 0
 IsSmall ram = length ram ≤ page_size * most_ram_pages
-
-room_of : (ram : List ℕ) (gpa width : ℕ) → in_ram ram gpa width ≡ true → ram_place gpa + width ≤ length ram
-room_of ram gpa width e = grind (arith, nat_tests)
 
 reserved_address : (ram : List ℕ) (gpa width : ℕ) → IsSmall ram → in_ram ram gpa width ≡ true → gpa_at (reserved_at (ram_place gpa)) < 2 ^ 64
 reserved_address ram gpa width small inside = below (ram_place gpa) width (length ram) small (room_of ram gpa width inside)

@@ -19,15 +19,13 @@ use Rattle.reference.specs.Move.{Move, Idle, FromRam, IntoRam, DeniedAt, Outside
 use Rattle.dma_guard.specs.Transfers.{told, after_move}
 use Rattle.run_laws.proofs.Lookups.{part_short}
 use Rattle.machine.specs.Beats.{LiesInRam, ToldInRam}
+use Rattle.run_laws.proofs.BeatsSound.{room_of}
 
 begins : (ram : List ℕ) (gpa size : ℕ) → in_ram ram gpa size ≡ true → ram_base ≤ gpa
 begins ram gpa size e = grind (arith, nat_tests)
 
-ends : (ram : List ℕ) (gpa n size : ℕ) → n ≤ size → in_ram ram gpa size ≡ true → ram_place gpa + n ≤ length ram
-ends ram gpa n size small e = grind (arith, nat_tests)
-
 lies_there : (ram : List ℕ) (gpa size : ℕ) (bytes : List ℕ) → length bytes ≤ size → in_ram ram gpa size ≡ true → LiesInRam ram gpa (length bytes)
-lies_there ram gpa size bytes short e = record { first = begins ram gpa size e; last = ends ram gpa (length bytes) size short e }
+lies_there ram gpa size bytes short e = record { first = begins ram gpa size e; last = room_of ram gpa (length bytes) size short e }
 
 -- ---- this project's block device
 
@@ -65,14 +63,11 @@ data_fits d q gpa place size ram true true e = lies_there ram gpa size (part d.b
 data_fits d q gpa place size ram true false e = tt
 data_fits d q gpa place size ram false free e = tt
 
-same_size : (n : ℕ) → n ≤ n
-same_size n = omega arith
-
 put_fits : (d next : VirtioDevice) (gpa : ℕ) (bytes ram : List ℕ) (inside free : Bool) → in_ram ram gpa (length bytes) ≡ inside
     → ToldInRam ram (told (if not inside then broken d OutsideRam
     else if free then record { device = next; move = IntoRam gpa bytes }
     else broken d (DeniedAt gpa)).move)
-put_fits d next gpa bytes ram true true e = lies_there ram gpa (length bytes) bytes (same_size (length bytes)) e
+put_fits d next gpa bytes ram true true e = lies_there ram gpa (length bytes) bytes (omega arith) e
 put_fits d next gpa bytes ram true false e = tt
 put_fits d next gpa bytes ram false free e = tt
 

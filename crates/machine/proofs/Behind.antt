@@ -34,12 +34,13 @@ use Rattle.quick_turns.specs.declared.leaving.Leaving.TheVariants.{Stays, Calls,
 use Rattle.machine.proofs.Repeated.{counts_on, counts_within, repeats_on}
 use Rattle.machine.proofs.Rows.{Rowed, one_step, row_printed, row_verdict, rowed, still_there, there_updated, updated_twice}
 use Rattle.machine.proofs.Stepped.{Bounded}
-use Rattle.machine.proofs.Turns.{carried, exit_served, forgets_none, turn_served}
+use Rattle.machine.proofs.Turns.{carried, exit_served, turn_served}
 use Rattle.machine.specs.Attempts.{hart_in}
 use Rattle.machine.specs.Machines.{HaveAddresses}
 use Rattle.machine.specs.Repeats.{IsQuiet, Repeats}
 use Rattle.machine.specs.Rows.{AnswersLeaving, EndsRow, MayRow, after_row, call_answer, counted_leaving, counted_row}
 use Rattle.machine.specs.Turns.{MayTrap, answered_exit}
+use Rattle.answer_laws.proofs.TurnsServed.{forgets_none}
 
 -- ---- what is answered, whatever entry the hart is in
 

@@ -1,5 +1,5 @@
 -- A hart, and a cache, among all.
-use Rattle.std.proofs.Common.{◌≡◌, ℕ, zero, suc, ◌<◌, ◌⊎◌, inl, inr, List, [], ◌∷◌, length, map, refl, ap, sym, ◌∙◌, arith, subst, slice_set, Bool}
+use Rattle.std.proofs.Common.{◌≡◌, ℕ, zero, suc, ◌<◌, inl, inr, List, [], ◌∷◌, length, map, refl, ap, sym, ◌∙◌, arith, subst, slice_set, Bool}
 use Rattle.std.specs.Prelude.{Some, None, slice_get, slice_index_or}
 use Rattle.processor.specs.Hardware.{Core}
 use Rattle.processor.specs.declared.outcome.Outcome.{Outcome}
@@ -9,6 +9,7 @@ use Rattle.hart_answers.specs.Hosts.{host_at, hosts_of}
 use Rattle.hart_answers.specs.declared.seats.Seat.{Seat}
 use Rattle.machine.specs.Attempts.{hart_in, IsUsable, AreUsable}
 use Rattle.machine.specs.declared.caches.HartCaches.{HartCaches}
+use Rattle.sv_types.proofs.SetElements.{set_or_there}
 
 pub host_there : (seats : List Seat) (h : ℕ) (d : Seat) → h < length seats → hart_in (hosts_of seats) h ≡ host_at (slice_index_or seats h d)
 host_there [] h d below = absurd (omega arith)
@@ -35,17 +36,10 @@ pub usable_there : (tables : List ℕ) (caches : List HartCaches) (h : ℕ) (d :
     → IsUsable tables (slice_index_or caches h d)
 usable_there tables caches h d are below = are.each h (slice_index_or caches h d) (there caches h d below)
 
-either : (caches : List HartCaches) (h i : ℕ) (new own : HartCaches) → slice_get (slice_set caches h new) i ≡ Some own → (new ≡ own) ⊎ (slice_get caches i ≡ Some own)
-either [] h i new own e = inr e
-either (x ∷ caches) zero zero new own e = inl (cc)
-either (x ∷ caches) zero (suc i) new own e = inr e
-either (x ∷ caches) (suc h) zero new own e = inr e
-either (x ∷ caches) (suc h) (suc i) new own e = either caches h i new own e
-
 pub usable_set : (tables after : List ℕ) (caches : List HartCaches) (h : ℕ) (new : HartCaches) → AreUsable tables caches → after ≡ tables → IsUsable after new
     → AreUsable after (slice_set caches h new)
 usable_set tables after caches h new are same is = record {
-  each = λ i own e. elim (either caches h i new own e) [
+  each = λ i own e. elim (set_or_there caches h i new own e) [
     | inl at ↦ subst (λ (l : HartCaches). IsUsable after l) at is
     | inr old ↦ subst (λ (t : List ℕ). IsUsable t own) (sym same) (are.each i own old)
   ];

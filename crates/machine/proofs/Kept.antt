@@ -5,11 +5,9 @@ use Rattle.processor.specs.Bits.{flag}
 use Rattle.sv_types.specs.Clock.{Clock, timer_of}
 use Rattle.processor.specs.HypervisorRegisters.{HypervisorRegisters, at_guest_places, virtual_software_bit}
 use Rattle.sv_types.specs.Policies.{Rules, ModuleRule}
-use Rattle.processor.specs.declared.mode.Mode.{Mode}
-use Rattle.processor.specs.declared.mode.Mode.TheVariants.{Kernel, User}
 use Rattle.reference.specs.States.{State, Hart, Loading}
 use Rattle.machine_model.specs.Machine.{Machine, HostHart}
-use Rattle.machine_model.specs.StandsFor.{StandsFor, Unseen, IsRightFor, machine_of, host_hart, host_harts, host_reservation, hregs_in, load_kept, load_kept_by}
+use Rattle.machine_model.specs.StandsFor.{StandsFor, Unseen, IsRightFor, machine_of, host_hart, host_harts, host_reservation, load_kept, load_kept_by}
 use Rattle.saved_machine.specs.SavedStates.{gpa_at, saved_hart, saved_harts, saved_load, IsSaved}
 use Rattle.saved_machine.specs.declared.harts.SavedHart.{SavedHart}
 use Rattle.saved_machine.specs.declared.whole.Saved.{Saved}
@@ -18,12 +16,9 @@ use Rattle.hart_answers.specs.declared.seats.Seat.{Seat}
 use Rattle.machine.specs.Machines.{HasAddress, HaveAddresses}
 use Rattle.machine.proofs.Hosts.{host_there}
 use Rattle.machine.specs.Keeping.{AreKeepable, IsKeepable, gpa_behind, kept_hart, kept_harts, kept_load, IsKept}
+use Rattle.machine_model.proofs.Sides.{same_mode}
 
 -- ---- harts
-
-mode_kept : (mode : Mode) (entry : Option ℕ) → (hregs_in mode entry).mode ≡ mode
-mode_kept Kernel entry = refl
-mode_kept User entry = refl
 
 enabled_kept : (sie : ℕ) → at_guest_places (2 * sie) ≡ sie
 enabled_kept sie = omega arith
@@ -39,7 +34,7 @@ reservation_kept tables (Some place) = let same : tables + place - tables ≡ pl
 hart_kept : (tables : ℕ) (exits : HypervisorRegisters) (clock : Clock) (h : ℕ) (hart : Hart)
     → kept_hart tables (timer_of clock h) (host_hart tables exits hart) ≡ saved_hart clock h hart
 hart_kept tables exits clock h hart =
-    rw (mode_kept hart.mode hart.entry, enabled_kept hart.supervisor.sie, software_kept hart.supervisor.software, reservation_kept tables hart.reservation) refl
+    rw (same_mode hart.mode hart.entry, enabled_kept hart.supervisor.sie, software_kept hart.supervisor.software, reservation_kept tables hart.reservation) refl
 
 harts_kept : (tables : ℕ) (exits : List HypervisorRegisters) (clock : Clock) (h : ℕ) (harts : List Hart) → length exits ≡ length harts
     → kept_harts tables clock h (host_harts tables exits harts) ≡ saved_harts clock h harts

@@ -1,11 +1,11 @@
 -- What a machine that stands for a state may do.
-use Rattle.std.proofs.Common.{◌≡◌, ℕ, zero, suc, ◌<◌, List, [], ◌∷◌, length, refl, sym, ◌∙◌, ap, subst, arith, true, false, ◌*◌, slice_get}
-use Rattle.std.specs.Prelude.{Option, Some, None, IfSome, option_map, ◌==◌}
+use Rattle.std.proofs.Common.{◌≡◌, ℕ, zero, suc, ◌<◌, List, [], ◌∷◌, length, refl, sym, ◌∙◌, ap, subst, arith, true, ◌*◌, slice_get}
+use Rattle.std.specs.Prelude.{Option, Some, None, IfSome, option_map}
 use Rattle.processor.specs.Hardware.{Core}
 use Rattle.processor.specs.HardwareAttempt.{attempt, after_pending, OnlyWrites}
 use Rattle.processor.specs.HardwareMemory.{translated}
 use Rattle.processor.specs.HypervisorRegisters.{HypervisorRegisters, pending}
-use Rattle.sv_types.specs.Policies.{Rules, ModuleRule}
+use Rattle.sv_types.specs.Policies.{Rules}
 use Rattle.processor.specs.Regions.{Region}
 use Rattle.sv_types.specs.declared.event.Event.TheVariants.{Turn}
 use Rattle.sv_types.specs.declared.event.Verdict.{Verdict}
@@ -22,16 +22,16 @@ use Rattle.processor_laws.proofs.HardwareWrites.{interrupt_writes, fetch_writes}
 use Rattle.reference.specs.Counting.{counted, count_turn, count_retired, count_trap}
 use Rattle.reference.specs.Devices.{lines_at}
 use Rattle.reference.specs.Run.{step}
-use Rattle.reference.specs.States.{State, Hart, Loading}
+use Rattle.reference.specs.States.{State, Hart}
 use Rattle.reference.specs.Turn.{leave_entry}
 use Rattle.machine_model.specs.HardwareEvent.{attempted, hart_again, is_loading, left_by, sent_again}
 use Rattle.machine_model.specs.HostHarts.{asks_again, host_outside}
 use Rattle.machine_model.specs.Machine.{Machine, HostHart, HostLoad, raised}
-use Rattle.machine_model.specs.StandsFor.{StandsFor, Unseen, machine_of, host_hart, host_harts, load_kept, load_kept_by}
+use Rattle.machine_model.specs.StandsFor.{StandsFor, Unseen, machine_of, host_hart, host_harts, load_kept}
 use Rattle.machine_model.specs.Steps.{IsStep, IsTurn, StepsUnder}
 use Rattle.answer_laws.specs.Laws.{IsQuiet, MakesAttempt}
 use Rattle.answer_laws.proofs.LawsHold.{asked_same, exit_turn}
-use Rattle.answer_laws.proofs.TurnsServed.{again_law, step_law}
+use Rattle.answer_laws.proofs.TurnsServed.{again_law, step_law, loading_by, not_its}
 use Rattle.standing_laws.proofs.Standings.{hart_in_may_attempt, in_order}
 use Rattle.standing_laws.proofs.Loads.{loaded_approved, loading_held}
 use Rattle.standing_laws.specs.Laws.{HoldsItsPages}
@@ -87,29 +87,13 @@ behind_of : (o : Unseen) (r : State) (h : ℕ) (host : HostHart) → slice_get (
 unfolding machine_of
 behind_of o r h host e = behind_at (length o.tables) o.exits r.harts h host e
 
--- whose load is under way
-loading_of : (o : Unseen) (r : State) → (machine_of o r).loading ≡ option_map (load_kept r.rules r.ram) r.loading
-unfolding machine_of
-loading_of o r = refl
-
-load_of : (r : State) (load : Loading) (x : Option ModuleRule) → (load_kept_by r.rules r.ram load x).hart ≡ load.hart
-unfolding load_kept_by
-load_of r load None = refl
-load_of r load (Some rule) = refl
-
-not_its : (r : State) (h : ℕ) (x : Option Loading) → is_loading (option_map (load_kept r.rules r.ram) x) h ≡ false → (load : Loading) → x ≡ Some load → (load.hart == h) ≡ false
-not_its r h None off load e = absurd (cc)
-not_its r h (Some other) off load e =
-    let same : other ≡ load = cc in
-    subst (λ (l : Loading). (l.hart == h) ≡ false) same (ap (λ (n : ℕ). n == h) (sym (load_of r other (slice_get r.rules.modules other.about.id))) ∙ off)
-
 -- a hart that makes an attempt is the state's
 makes_attempt : (m : Machine) (r : State) (h : ℕ) → StandsFor m r → Attempts m h → (hart : Hart) × MakesAttempt m r h (hart_in m.harts h) hart
 makes_attempt m r h stands makes =
     let there : slice_get m.harts h ≡ Some (hart_in m.harts h) = hart_there m.harts h (started_below m.harts h makes.started) in
     let is : IsOf (slice_get r.harts h) (hart_in m.harts h) =
     behind_of stands.unseen r h (hart_in m.harts h) (subst (λ (x : Machine). slice_get x.harts h ≡ Some (hart_in m.harts h)) stands.same there) in
-    let loading : m.loading ≡ option_map (load_kept r.rules r.ram) r.loading = ap (λ (x : Machine). x.loading) stands.same ∙ loading_of stands.unseen r in (
+    let loading : m.loading ≡ option_map (load_kept r.rules r.ram) r.loading = ap (λ (x : Machine). x.loading) stands.same ∙ loading_by stands.unseen r in (
       is.0,
       record {
         stands = stands;

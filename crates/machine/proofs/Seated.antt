@@ -1,16 +1,15 @@
 -- An answer on one hart is the machine's.
 use Rattle.std.proofs.Common.{◌≡◌, ℕ, ◌<◌, true, false, List, length, refl, sym, ◌∙◌, ap, subst}
-use Rattle.std.specs.Prelude.{Option, slice_index_or, slice_set}
+use Rattle.std.specs.Prelude.{slice_index_or, slice_set}
 use Rattle.sv_types.specs.Policies.{rules_of}
 use Rattle.processor.specs.declared.exit.Exit.{Exit}
 use Rattle.processor.specs.declared.mode.Mode.{Mode}
-use Rattle.processor.specs.declared.mode.Mode.TheVariants.{Kernel, User}
 use Rattle.reference.specs.States.{Devices, Journal}
 use Rattle.machine_model.specs.HardwareEvent.{is_loading}
 use Rattle.machine_model.specs.HostHarts.{host_outside, host_seen, with_host}
 use Rattle.machine_model.specs.Machine.{Machine, HostHart}
 use Rattle.machine_model.specs.Served.{exit_answer}
-use Rattle.machine_model.specs.StandsFor.{hregs_in, bound_pages}
+use Rattle.machine_model.specs.StandsFor.{bound_pages}
 use Rattle.machine_model.specs.Steps.{WithTables}
 use Rattle.machine_model.specs.declared.exits.ExitAnswer.{ExitAnswer}
 use Rattle.page_guard.specs.Guarded.{IsTheirs}
@@ -27,10 +26,7 @@ use Rattle.machine.specs.Attempts.{hart_in}
 use Rattle.machine.specs.Parts.{machine_of_parts}
 use Rattle.machine.specs.Turns.{Attempts, HasPagesOf, left_entry}
 use Rattle.machine.specs.declared.parts.Parts.TheInside.{Inside}
-
-pub same_mode : (mode : Mode) (entry : Option ℕ) → (hregs_in mode entry).mode ≡ mode
-same_mode Kernel entry = refl
-same_mode User entry = refl
+use Rattle.machine_model.proofs.Sides.{same_mode}
 
 module _ (p : Inside) (h : ℕ) (old : Seat) (is : old ≡ slice_index_or p.seats.items h old) where
   abbrev whole : Machine

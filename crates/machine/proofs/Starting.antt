@@ -3,7 +3,6 @@ use Rattle.std.proofs.Common.{◌≡◌, ℕ, zero, suc, ◌+◌, ◌-◌, ◌�
 use Rattle.std.specs.Prelude.{find, is_some, Option, Some, None, IfSome, slice_get}
 use Rattle.std.proofs.lemmas.List.{drop-replicate, replicate_more}
 use Rattle.page_guard.specs.Guarded.{first_taken}
-use Rattle.page_guard.proofs.Spans.{all_free_at}
 use Rattle.hart_answers.specs.Hosts.{host_at, hosts_of}
 use Rattle.hart_answers.specs.declared.seats.Seat.{Seat}
 use Rattle.machine_model.specs.Machine.{Machine, HostHart}
@@ -25,6 +24,7 @@ use Rattle.sv_types.specs.declared.protection.Protection.TheVariants.{Free}
 use Rattle.machine.specs.Attempts.{nothing_kept, IsUsable, AreUsable}
 use Rattle.machine.specs.declared.caches.HartCaches.{HartCaches}
 use Rattle.machine.proofs.Emptied.{nothing_usable}
+use Rattle.reference.proofs.Runs.{all_free_at}
 
 -- ---- harts
 

@@ -21,11 +21,11 @@ use Rattle.machine_model.specs.HostEvents.{event_served, beat_served, key_served
 use Rattle.machine_model.specs.Machine.{Machine, HostHart, raised}
 use Rattle.machine_model.specs.StandsFor.{StandsFor, Unseen, IsRightFor, machine_of}
 use Rattle.machine_model.specs.Steps.{IsStep, StepsUnder}
-use Rattle.answer_laws.proofs.LawsHold.{running}
 use Rattle.machine_model.specs.Reaches.{without_first_printed}
 use Rattle.answer_laws.proofs.RunsReach.{clear_law}
 use Rattle.answer_laws.proofs.TurnsServed.{step_law}
 use Rattle.run_laws.proofs.StepsGrow.{turn_gains}
+use Rattle.run_laws.proofs.EntriesHold.{running}
 
 -- ---- the two laws of a step
 

@@ -22,6 +22,7 @@ use Rattle.machine_model.specs.declared.exits.ExitAnswer.{ExitAnswer}
 use Rattle.page_guard.specs.Guarded.{Guarded, IsTheirs}
 use Rattle.machine.specs.Attempts.{hart_in}
 use Rattle.machine.specs.Turns.{Concluded, ExitServed, Finished, HasPagesOf, IsReadyTwice, MayAttemptAgain, MayServe, answered_exit, asked_of, left_entry}
+use Rattle.answer_laws.proofs.TurnsServed.{forgets_none}
 
 -- the guard's tables show every view, where they are drawn for the pages that the policy binds its entries to
 pub views_shown : (rules : Rules) (region : Region) (guard : Guarded) → IsTheirs region guard → length guard.pages ≡ rules.ram_pages → guard.bound ≡ bound_pages rules
@@ -115,12 +116,6 @@ unfolding update
 length_update [] h change = refl
 length_update (x ∷ harts) zero change = refl
 length_update (x ∷ harts) (suc h) change = ap (λ (n : ℕ). suc n) (length_update harts h change)
-
-pub forgets_none : (o : Outcome) (exit : Exit) (harts : List HostHart) → o ≡ Outcome.Exit exit → all_forget o harts ≡ harts
-unfolding all_forget
-forgets_none (Outcome.Retired wrote) exit harts e = cc
-forgets_none Outcome.GuestTrap exit harts e = cc
-forgets_none (Outcome.Exit other) exit harts e = refl
 
 -- the hart that an attempt with an exit leaves
 pub left_there : (m : Machine) (h : ℕ) (exit : Exit) → h < length m.harts → (attempted m h (hart_in m.harts h)).outcome ≡ Outcome.Exit exit

@@ -1,20 +1,14 @@
 -- The frame of an answer.
-use Rattle.std.proofs.Common.{◌≡◌, ℕ, zero, suc, ◌+◌, ◌⊎◌, inl, inr, List, [], ◌∷◌, length, refl, sym, ◌∙◌, ap, subst, Bool, true, false, ◌==◌, not, slice_get, slice_set}
+use Rattle.std.proofs.Common.{◌≡◌, ℕ, zero, suc, ◌+◌, ◌⊎◌, inl, inr, List, [], ◌∷◌, length, refl, sym, ◌∙◌, ap, subst, Bool, true, false, ◌==◌, not, slice_get}
 use Rattle.std.specs.Prelude.{Option, Some, if◌then◌else◌}
-use Rattle.std.proofs.lemmas.Bool.{eqb-true, eq-eqb}
+use Rattle.std.proofs.lemmas.Bool.{eqb-true, eqb-false, cases_Bool, not-true}
 use Rattle.reference.specs.Calls.{mask_names}
 use Rattle.machine_model.specs.Machine.{Machine, HostHart, update}
 use Rattle.machine_model.specs.HardwareEvent.{Answer, Others, Nobody, Starts, Interrupts, MayChange, is_stopped, hart_answered, software_set, interrupted_hosts, others_changed, answered}
 use Rattle.machine_model.specs.Frame.{FrameLaw, OtherStays, OwnStays}
+use Rattle.sv_types.proofs.SetElements.{set_other}
 
 -- ---- lists of harts
-
-apart : (k h : ℕ) → (k == h) ≡ false → k ≡ h → ⊥
-apart k h other same = let e = eq-eqb k h same in cc
-
-is_there : (b : Bool) → (b ≡ true) ⊎ (b ≡ false)
-is_there true = inl refl
-is_there false = inr refl
 
 get_updated : (harts : List HostHart) (h k : ℕ) (change : HostHart → HostHart) → (k ≡ h → ⊥) → slice_get (update harts h change) k ≡ slice_get harts k
 unfolding update
@@ -24,19 +18,12 @@ get_updated (x ∷ harts) zero (suc k) change other = refl
 get_updated (x ∷ harts) (suc h) zero change other = refl
 get_updated (x ∷ harts) (suc h) (suc k) change other = get_updated harts h k change (λ e. other (ap suc e))
 
-get_own : (harts : List HostHart) (h : ℕ) (change : HostHart → HostHart) (host : HostHart) → slice_get harts h ≡ Some host
+pub get_own : (harts : List HostHart) (h : ℕ) (change : HostHart → HostHart) (host : HostHart) → slice_get harts h ≡ Some host
     → slice_get (update harts h change) h ≡ Some (change host)
 unfolding update
 get_own [] h change host found = cc
 get_own (x ∷ harts) zero change host found = let same : x ≡ host = cc in rw same refl
 get_own (x ∷ harts) (suc h) change host found = get_own harts h change host found
-
-get_set_other : (harts : List HostHart) (o k : ℕ) (y : HostHart) → (k ≡ o → ⊥) → slice_get (slice_set harts o y) k ≡ slice_get harts k
-get_set_other [] o k y other = refl
-get_set_other (x ∷ harts) zero zero y other = absurd (other refl)
-get_set_other (x ∷ harts) zero (suc k) y other = refl
-get_set_other (x ∷ harts) (suc o) zero y other = refl
-get_set_other (x ∷ harts) (suc o) (suc k) y other = get_set_other harts o k y (λ e. other (ap suc e))
 
 abbrev interrupted_by : Bool → HostHart → HostHart
 interrupted_by true host = software_set host
@@ -63,19 +50,15 @@ stopped_is : (harts : List HostHart) (k o : ℕ) (host : HostHart) → (k == o) 
     → host.started ≡ false
 stopped_is harts k o host same found stopped =
     let at : slice_get harts o ≡ Some host = subst (λ n. slice_get harts n ≡ Some host) (eqb-true k o same) found in
-    let k : not host.started ≡ true = subst (λ x. is_stopped x ≡ true) at stopped in was host.started k
-  where
-    was : (b : Bool) → not b ≡ true → b ≡ false
-    was true e = cc
-    was false e = refl
+    let k : not host.started ≡ true = subst (λ x. is_stopped x ≡ true) at stopped in not-true host.started k
 
 get_others : (o : Others) (harts next : List HostHart) (k : ℕ) (host now : HostHart) → MayChange harts o → slice_get harts k ≡ Some host
     → slice_get next k ≡ Some now → Left host now (slice_get (others_changed o next) k)
 unfolding others_changed
 get_others Nobody harts next k host now may found there = inl (false, there)
-get_others (Starts o hart) harts next k host now may found there = elim (is_there (k == o)) [
+get_others (Starts o hart) harts next k host now may found there = elim (cases_Bool (k == o)) [
   | inl same ↦ inr (stopped_is harts k o host same found may)
-  | inr other ↦ inl (false, get_set_other next o k hart (apart k o other) ∙ there)
+  | inr other ↦ inl (false, set_other next o k hart (eqb-false k o other) ∙ there)
 ]
 get_others (Interrupts mask base) harts next k host now may found there = inl (get_interrupted (mask_names mask base) 0 next k now there)
 
@@ -93,7 +76,7 @@ others_kept : (before : Machine) (h : ℕ) (a : Answer) (k : ℕ) (host : HostHa
     → slice_get before.harts k ≡ Some host → OtherStays host (slice_get (answered before h a).harts k)
 others_kept before h a k host may other found = other_stays host _
     (get_others a.others before.harts (update before.harts h (hart_answered a.hart)) k host host may found
-    (get_updated before.harts h k (hart_answered a.hart) (apart k h other) ∙ found))
+    (get_updated before.harts h k (hart_answered a.hart) (eqb-false k h other) ∙ found))
 
 own_kept : (before : Machine) (h : ℕ) (a : Answer) (host : HostHart) → MayChange before.harts a.others → slice_get before.harts h ≡ Some host
     → OwnStays host (slice_get (answered before h a).harts h)

@@ -1,7 +1,6 @@
 -- What an answer that is given may do to pages and modules: a line for each that changes them.
-use Rattle.std.proofs.Common.{◌≡◌, ℕ, List, [], ◌∷◌, length, refl, sym, ◌∙◌, ap, subst, Bool, true, false, not, slice_get, inl, inr}
+use Rattle.std.proofs.Common.{◌≡◌, ℕ, List, [], length, refl, sym, ◌∙◌, ap, subst, Bool, true, false, not, slice_get, inl, inr}
 use Rattle.std.specs.Prelude.{Option, Some, None, option_map, if◌then◌else◌, ◌==◌, nat_le, is_some}
-use Rattle.std.proofs.lemmas.Bool.{eqb-true}
 use Rattle.sv_types.specs.Policies.{Rules, ModuleRule}
 use Rattle.sv_types.specs.declared.module.Span.{Span}
 use Rattle.sv_types.specs.declared.saved.SavedModule.{SavedModule}
@@ -19,6 +18,7 @@ use Rattle.module_gate.specs.Gates.{is_good_place}
 use Rattle.module_answers.specs.Parts.{load_of, loading_of, facts_in}
 use Rattle.module_answers.specs.declared.modules.Modules.{Modules}
 use Rattle.module_answers.specs.declared.modules.UnderWay.{UnderWay}
+use Rattle.reference.proofs.LoadedModules.{found_id}
 
 -- a load may begin, as a rule of the policy says
 pub record MayBegin (rules : Rules) (ram : List ℕ) (guard : List Protection) (modules : Modules) (about : SavedModule) (pages : ℕ) : Type 0 where
@@ -34,17 +34,6 @@ pub record IsCounted (modules : Modules) (about : SavedModule) : Type 0 where
   pub there : modules.loading ≡ Some under_way
   pub counted : under_way.load.left ≡ 0
   pub about_it : under_way.load.about ≡ about
-
--- ---- a module that was found has the id that was looked for
-
-found_by : (first about : SavedModule) (id : ℕ) (rest : Option SavedModule) (b : Bool) → (first.id == id) ≡ b → (if b then Some first else rest) ≡ Some about → (rest ≡ Some about → about.id ≡ id) → about.id ≡ id
-found_by first about id rest true here e below = let same : first ≡ about = cc in subst (λ (m : SavedModule). m.id ≡ id) same (eqb-true first.id id here)
-found_by first about id rest false other e below = below e
-
-found_id : (modules : List SavedModule) (id : ℕ) (about : SavedModule) → find_module modules id ≡ Some about → about.id ≡ id
-unfolding find_module
-found_id [] id about e = cc
-found_id (first ∷ rest) id about e = found_by first about id (find_module rest id) (first.id == id) refl e (found_id rest id about)
 
 module _ (rules : Rules) (ram : List ℕ) (guard : List Protection) (modules : Modules) where
   abbrev pub MayDo : Beside → Type 0

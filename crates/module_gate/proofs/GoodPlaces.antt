@@ -2,15 +2,15 @@
 use Rattle.std.proofs.Common.{◌≡◌, ℕ, zero, suc, ◌+◌, ◌*◌, ◌&&◌, List, [], ◌∷◌, ◌++◌, length, refl, ◌∙◌, ap, Bool, true, false, not, arith, add-one}
 use Rattle.std.specs.Prelude.{Some, None, find, if◌then◌else◌, ◌||◌, ◌==◌, ◌%◌}
 use Rattle.std.specs.List.{list_any}
-use Rattle.std.proofs.lemmas.Bool.{and_parts}
+use Rattle.std.proofs.lemmas.Bool.{and_parts, not-true}
 use Rattle.std.proofs.lemmas.Bool.Decides.{nat_tests}
 use Rattle.processor.specs.Bytes.{page_of, in_ram}
 use Rattle.sv_types.specs.ApprovedPages.{numbers_from}
 use Rattle.sv_types.specs.declared.saved.SavedModule.{SavedModule}
 use Rattle.sv_types.specs.declared.protection.Protection.{Protection}
 use Rattle.page_guard.specs.Guarded.{first_taken, IsInRam}
-use Rattle.page_guard.proofs.Spans.{numbers_more}
 use Rattle.module_gate.specs.Gates.{is_place, is_good_place, is_taken, pages_at}
+use Rattle.sv_types.proofs.PageNumbers.{numbers_more}
 
 -- ---- a test of numbers, one after another
 
@@ -59,15 +59,11 @@ none_found test (x ∷ xs) e = by (test x) e (none_found test xs)
 
 -- ---- the pages of a place
 
-negated : (b : Bool) → not b ≡ true → b ≡ false
-negated true e = cc
-negated false e = refl
-
 good_parts : (ram : List ℕ) (guard : List Protection) (about : SavedModule) (pages : ℕ) → is_good_place ram guard about pages ≡ true
     → (is_place ram about.gpa about.va pages ≡ true) × (list_any (is_taken guard) (numbers_from (page_of about.gpa) pages) ≡ false)
 unfolding is_good_place
 good_parts ram guard about pages good =
-    let parts = and_parts (is_place ram about.gpa about.va pages) (not (list_any (is_taken guard) (numbers_from (page_of about.gpa) pages))) good in (parts.0, negated _ parts.1)
+    let parts = and_parts (is_place ram about.gpa about.va pages) (not (list_any (is_taken guard) (numbers_from (page_of about.gpa) pages))) good in (parts.0, not-true _ parts.1)
 
 pub none_taken : (ram : List ℕ) (guard : List Protection) (about : SavedModule) (pages : ℕ) → is_good_place ram guard about pages ≡ true
     → first_taken guard (pages_at about.gpa pages) ≡ None

@@ -6,7 +6,8 @@ use Rattle.std.proofs.lemmas.Bool.Decides.{nat_tests}
 use Rattle.std.proofs.lemmas.Option.{slice_get_within}
 use Rattle.sv_types.specs.Policies.{Rules, ModuleRule, rules_within}
 use Rattle.relocated_fields.specs.Pieces.{IsAligned}
-use Rattle.relocated_fields.proofs.RulesWithin.{modules_part, rule_within, sites_aligned}
+use Rattle.relocated_fields.proofs.RulesWithin.{sites_aligned}
+use Rattle.sv_types.proofs.PolicyLimits.{modules_part, rule_within}
 
 pub few_pages : (rules : Rules) (id : ℕ) (rule : ModuleRule) → IsTrue (rules_within rules) → slice_get rules.modules id ≡ Some rule → rule.pages ≤ 1024
 few_pages rules id rule within found =

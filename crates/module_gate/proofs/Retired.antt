@@ -8,8 +8,8 @@ use Rattle.reference.specs.Protections.{or_free, protection_at, freed_one, freed
 use Rattle.sv_types.specs.declared.module.Span.{Span}
 use Rattle.machine_model.specs.HostCalls.{is_approved_one}
 use Rattle.page_guard.specs.Guarded.{AllAre, with_span}
-use Rattle.page_guard.proofs.Sets.{get_other}
-use Rattle.page_guard.proofs.Spans.{numbers_more}
+use Rattle.sv_types.proofs.PageNumbers.{numbers_more}
+use Rattle.sv_types.proofs.SetElements.{set_other}
 
 -- a page that is behind those that were freed is as it was
 freed_kept : (picks : ℕ → Protection → Bool) (guard : List Protection) (first count k : ℕ) → count ≤ k → slice_get (freed_by picks guard first count) (first + k) ≡ slice_get guard (first + k)
@@ -20,7 +20,7 @@ freed_kept picks guard first (suc count) k behind =
   where
     by : (b : Bool) → slice_get (freed_by picks guard first count) (first + k) ≡ slice_get guard (first + k)
         → slice_get (if b then slice_set (freed_by picks guard first count) (first + count) Free else freed_by picks guard first count) (first + k) ≡ slice_get guard (first + k)
-    by true before = get_other (freed_by picks guard first count) (first + count) (first + k) Free (λ same. absurd (omega (arith, behind, same))) ∙ before
+    by true before = set_other (freed_by picks guard first count) (first + count) (first + k) Free (λ same. absurd (omega (arith, behind, same))) ∙ before
     by false before = before
 
 next_as_it_was : (picks : ℕ → Protection → Bool) (guard : List Protection) (first count : ℕ)

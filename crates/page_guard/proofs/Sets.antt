@@ -11,23 +11,17 @@ use Rattle.gstage_tables.specs.Blocks.{CountsTaken}
 use Rattle.gstage_tables.specs.Layout.{Shape, HoldsTrees, AreDrawn}
 use Rattle.reference.specs.Protections.{protection_at, or_free}
 use Rattle.page_guard.specs.Guarded.{IsTheirs}
+use Rattle.sv_types.proofs.SetElements.{set_other}
 
 pub get_same : (g : List Protection) (page : ℕ) (x : Protection) → page < length g → slice_get (slice_set g page x) page ≡ Some x
 get_same [] page x below = absurd (omega arith)
 get_same (y ∷ g) zero x below = refl
 get_same (y ∷ g) (suc page) x below = get_same g page x (omega arith)
 
-pub get_other : (g : List Protection) (page k : ℕ) (x : Protection) → (k ≡ page → ⊥) → slice_get (slice_set g page x) k ≡ slice_get g k
-get_other [] page k x other = refl
-get_other (y ∷ g) zero zero x other = absurd (other refl)
-get_other (y ∷ g) zero (suc k) x other = refl
-get_other (y ∷ g) (suc page) zero x other = refl
-get_other (y ∷ g) (suc page) (suc k) x other = get_other g page k x (λ e. other (ap suc e))
-
 by_test : (g : List Protection) (page k : ℕ) (x : Protection) (b : Bool) → (k == page) ≡ b → page < length g
     → or_free (slice_get (slice_set g page x) k) ≡ (if b then x else or_free (slice_get g k))
 by_test g page k x true e below = let same : k ≡ page = eqb-true k page e in ap or_free (subst (λ (n : ℕ). slice_get (slice_set g page x) n ≡ Some x) (sym same) (get_same g page x below))
-by_test g page k x false e below = ap or_free (get_other g page k x (λ same. let t : (page == page) ≡ false = subst (λ (n : ℕ). (n == page) ≡ false) same e in apart page t))
+by_test g page k x false e below = ap or_free (set_other g page k x (λ same. let t : (page == page) ≡ false = subst (λ (n : ℕ). (n == page) ≡ false) same e in apart page t))
   where
     apart : (n : ℕ) → (n == n) ≡ false → ⊥
     apart n t = let r : (n == n) ≡ true = eq-eqb n n refl in cc

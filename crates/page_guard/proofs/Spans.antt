@@ -1,5 +1,5 @@
 -- Spans of pages: one page more, and what a span changes of the list of protections.
-use Rattle.std.proofs.Common.{◌≡◌, refl, ℕ, zero, suc, ◌+◌, ◌*◌, ◌<◌, ◌≤◌, List, [], ◌∷◌, ◌++◌, length, sym, ◌∙◌, ap, subst, Bool, true, false, not, map, slice_get, slice_set, get_or, replicate, arith, add-one}
+use Rattle.std.proofs.Common.{◌≡◌, refl, ℕ, zero, suc, ◌+◌, ◌*◌, ◌<◌, ◌≤◌, List, [], ◌∷◌, length, sym, ◌∙◌, ap, subst, Bool, true, false, not, map, slice_get, slice_set, get_or, replicate, arith, add-one}
 use Rattle.std.specs.Prelude.{Option, Some, None, find, ◌==◌}
 use Rattle.std.specs.Option.{option_or}
 use Rattle.std.proofs.lemmas.Bool.{eqb-true, eq-eqb}
@@ -16,15 +16,10 @@ use Rattle.sv_types.specs.declared.protection.Protection.TheVariants.{Free}
 use Rattle.reference.specs.Protections.{protection_at, or_free, with_pages}
 use Rattle.reference.specs.Protections.{is_free}
 use Rattle.page_guard.specs.Guarded.{IsTheirs}
-use Rattle.page_guard.proofs.Sets.{get_same, get_other}
-
--- the numbers of one page more
-pub numbers_more : (first count : ℕ) → numbers_from first (suc count) ≡ numbers_from first count ++ (first + count) ∷ []
-numbers_more first zero = let same : first ≡ first + 0 = omega arith in ap (λ (n : ℕ). n ∷ []) same
-numbers_more first (suc count) =
-    let last : first + 1 + count ≡ first + suc count = omega arith in
-    ap (λ (ns : List ℕ). first ∷ ns) (numbers_more (first + 1) count)
-    ∙ ap (λ (n : ℕ). first ∷ (numbers_from (first + 1) count ++ n ∷ [])) last
+use Rattle.page_guard.proofs.Sets.{get_same}
+use Rattle.sv_types.proofs.PageNumbers.{numbers_more}
+use Rattle.reference.proofs.Runs.{all_free_at}
+use Rattle.sv_types.proofs.SetElements.{set_other}
 
 pub length_pages : (guard : List Protection) (first count : ℕ) (p : Protection) → length (with_pages guard first count p) ≡ length guard
 unfolding with_pages
@@ -44,7 +39,7 @@ changed_or_before g first n i p true last there before =
     subst (λ (k : ℕ). slice_get (slice_set g (first + n) p) (first + k) ≡ Some p) (sym (eqb-true i n last)) (get_same g (first + n) p there)
 changed_or_before g first n i p false other there before =
     let apart : i ≡ n → ⊥ = λ same. let r : (i == n) ≡ true = eq-eqb i n same in cc in
-    get_other g (first + n) (first + i) p (λ same. apart (omega (arith, same))) ∙ before apart
+    set_other g (first + n) (first + i) p (λ same. apart (omega (arith, same))) ∙ before apart
 
 -- each page of the span has it
 pub pages_are : (guard : List Protection) (first count : ℕ) (p : Protection) → first + count ≤ length guard
@@ -96,12 +91,6 @@ is_taken guard page = not (is_free (protection_at guard page))
 
 pub taken_by : (guard : List Protection) (page : ℕ) (p : Protection) → page < length guard → p ≡ get_or guard page p → is_taken guard page ≡ not (is_free p)
 taken_by guard page p below read = ap (λ (o : Option Protection). not (is_free (or_free o))) (slice_get_read guard (length guard) page p refl below read)
-
--- pages that are all free
-pub all_free_at : (n page : ℕ) → protection_at (replicate n Free) page ≡ Free
-all_free_at zero page = refl
-all_free_at (suc n) zero = refl
-all_free_at (suc n) (suc page) = all_free_at n page
 
 pub free_bits : (n : ℕ) → map is_free (replicate n Free) ≡ replicate n true
 free_bits zero = refl

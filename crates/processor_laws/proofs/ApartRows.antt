@@ -3,9 +3,8 @@ use Rattle.std.proofs.Common.{◌≡◌, ℕ, ◌≤◌, List, [], ◌∷◌, le
 use Rattle.std.specs.Prelude.{filter, bit_and, ◌==◌, ◌&&◌, not}
 use Rattle.std.specs.List.{list_all}
 use Rattle.std.proofs.lemmas.Nat.{and_assoc, and_comm}
-use Rattle.std.proofs.lemmas.Bool.{eqb-true, eq-eqb}
+use Rattle.std.proofs.lemmas.Bool.{eqb-true, eq-eqb, and_parts}
 use Rattle.processor.specs.Instructions.{Row, has_row, rows}
-use Rattle.processor_laws.proofs.Decoding.{both}
 
 -- the rows differ in a bit that both fix
 abbrev apart : Row → Row → Bool
@@ -32,24 +31,24 @@ never e = cc
 
 alone : (w : ℕ) (a : Row) (rs : List Row) → has_row w a ≡ true → list_all (apart a) rs ≡ true → filter (has_row w) rs ≡ []
 alone w a [] e all = refl
-alone w a (row ∷ rs) e all = step (has_row w row) refl (alone w a rs e (both (apart a row) (list_all (apart a) rs) all).1)
+alone w a (row ∷ rs) e all = step (has_row w row) refl (alone w a rs e (and_parts (apart a row) (list_all (apart a) rs) all).1)
   where
     step : (b : Bool) → has_row w row ≡ b → filter (has_row w) rs ≡ [] → cond b (row ∷ filter (has_row w) rs) (filter (has_row w) rs) ≡ []
     step false f rest = rest
     step true f rest =
-        let differ = (both (apart a row) (list_all (apart a) rs) all).0 in
+        let differ = (and_parts (apart a row) (list_all (apart a) rs) all).0 in
         let same = eq-eqb (bit_and row.match a.mask) (bit_and a.match row.mask) (shared w a row e f) in
         let clash : not true ≡ true = rw same at differ in
         absurd (never clash)
 
 one_row : (w : ℕ) (rs : List Row) → each_apart rs ≡ true → length (filter (has_row w) rs) ≤ 1
 one_row w [] h = omega arith
-one_row w (row ∷ rs) h = step (has_row w row) refl (one_row w rs (both (list_all (apart row) rs) (each_apart rs) h).1)
+one_row w (row ∷ rs) h = step (has_row w row) refl (one_row w rs (and_parts (list_all (apart row) rs) (each_apart rs) h).1)
   where
     step : (b : Bool) → has_row w row ≡ b → length (filter (has_row w) rs) ≤ 1
         → length (cond b (row ∷ filter (has_row w) rs) (filter (has_row w) rs)) ≤ 1
     step false f rest = rest
-    step true f rest = rw (alone w row rs f (both (list_all (apart row) rs) (each_apart rs) h).0) (omega arith)
+    step true f rest = rw (alone w row rs f (and_parts (list_all (apart row) rs) (each_apart rs) h).0) (omega arith)
 
 pub at_most_one_row : (w : ℕ) → length (filter (has_row w) rows) ≤ 1
 at_most_one_row w = one_row w rows rows-apart

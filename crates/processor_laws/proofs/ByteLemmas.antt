@@ -2,8 +2,8 @@
 use Rattle.std.proofs.Common.{◌≡◌, ℕ, zero, suc, ◌+◌, ◌-◌, ◌*◌, ◌/◌, ◌%◌, ◌^◌, ◌<◌, ◌≤◌, List, ◌++◌, length, take, drop, true, false, ltb, refl, sym, ◌∙◌, ap, subst, arith, length-append, length-take, length-drop, append_assoc, lit<, ◌⊎◌, inl, inr}
 use Rattle.std.proofs.Math.Nat.{pow-suc, mod-one}
 use Rattle.std.proofs.Math.Arith.{mod-mul}
-use Rattle.std.proofs.Math.Seq.{drop-append_seam, take-append_seam, drop-append-add, take-append-add}
-use Rattle.std.proofs.lemmas.List.{take-append-le, drop-append-le, drop-take, take-take, drop-drop, length-replicate}
+use Rattle.std.proofs.Math.Seq.{take-append_seam, drop-append-add, take-append-add}
+use Rattle.std.proofs.lemmas.List.{take-append-le, drop-append-le, drop-take, take-take, drop-drop, length-replicate, drop_at}
 use borrow.Author.Tests.{ltb-true, ltb-false}
 use Rattle.processor.specs.Bytes.{word, overwrite, write_word, low_bytes, little_endian, padded, part, page_bytes, page_size}
 
@@ -45,20 +45,13 @@ word_of_bytes (suc n) value =
 
 -- ---- a part of what was written
 
--- the front of a list, of a known length, and what follows it
-pub drop_front : (front rest : List ℕ) (n : ℕ) → length front ≡ n → drop n (front ++ rest) ≡ rest
-drop_front front rest n e = subst (λ (m : ℕ). drop m (front ++ rest) ≡ rest) e (drop-append_seam front rest)
-
-pub take_front : (front rest : List ℕ) (n : ℕ) → length front ≡ n → take n (front ++ rest) ≡ front
-take_front front rest n e = subst (λ (m : ℕ). take m (front ++ rest) ≡ front) e (take-append_seam front rest)
-
 pub length_before : (list : List ℕ) (at : ℕ) → at ≤ length list → length (take at list) ≡ at
 length_before list at h = simp length-take (omega arith)
 
 pub part_written : (list bytes : List ℕ) (at : ℕ) → at + length bytes ≤ length list → part (overwrite list at bytes) at (length bytes) ≡ bytes
 unfolding overwrite
 part_written list bytes at fits =
-    let e = drop_front (take at list) (bytes ++ drop (at + length bytes) list) at (length_before list at (omega arith)) in
+    let e = drop_at (take at list) (bytes ++ drop (at + length bytes) list) at (length_before list at (omega arith)) in
     rw e (take-append_seam bytes (drop (at + length bytes) list))
 
 pub part_before : (list bytes : List ℕ) (at from n : ℕ) → at + length bytes ≤ length list → from + n ≤ at → part (overwrite list at bytes) from n ≡ part list from n

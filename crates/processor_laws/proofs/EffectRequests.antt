@@ -43,7 +43,7 @@ store_asks Sh = inr (inl refl)
 store_asks Sw = inr (inr (inl refl))
 store_asks Sd = inr (inr (inr refl))
 
-four_or_eight : (width : ℕ) → IsTrue (is_width width) → (width ≡ 4) ⊎ (width ≡ 8)
+pub four_or_eight : (width : ℕ) → IsTrue (is_width width) → (width ≡ 4) ⊎ (width ≡ 8)
 four_or_eight width fit = grind (arith, nat_tests)
 
 memory_width : (width : ℕ) → (width ≡ 4) ⊎ (width ≡ 8) → IsWidth width

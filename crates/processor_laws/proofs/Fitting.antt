@@ -3,7 +3,7 @@ use Rattle.std.proofs.Common.{◌≡◌, ℕ, ◌+◌, ◌*◌, ◌/◌, ◌%◌
 use Rattle.std.specs.Prelude.{find, ◌&&◌, Some, IfSome}
 use Rattle.std.specs.Option.{option_map}
 use Rattle.std.proofs.lemmas.Int.{ints}
-use Rattle.std.proofs.lemmas.Bool.{lt-ltb}
+use Rattle.std.proofs.lemmas.Bool.{lt-ltb, and_from}
 use Rattle.std.proofs.lemmas.Bool.Decides.{nat_tests}
 use Rattle.processor.specs.declared.instruction.Instr.{Instr}
 use Rattle.processor.specs.declared.instruction.BranchOp.{BranchOp}
@@ -60,9 +60,6 @@ imm_j-fits w = signed_21 (2 * bits w 21 31 + 2 ^ 11 * bits w 20 21 + 2 ^ 12 * bi
 register-fits : (x : ℕ) → is_register (x % 32) ≡ true
 register-fits x = lt-ltb (x % 32) 32 (omega arith)
 
-all_2 : (a b : Bool) → a ≡ true → b ≡ true → (a && b) ≡ true
-all_2 a b p q = rw (p, q) refl
-
 all_3 : (a b c : Bool) → a ≡ true → b ≡ true → c ≡ true → (a && b && c) ≡ true
 all_3 a b c p q r = rw (p, q, r) refl
 
@@ -83,15 +80,15 @@ module _ (w : ℕ) where
 
   lui-fits : fits (lui w) ≡ true
   unfolding fits
-  lui-fits = all_2 _ _ rd-fits (imm_u-fits w)
+  lui-fits = and_from _ _ rd-fits (imm_u-fits w)
 
   auipc-fits : fits (auipc w) ≡ true
   unfolding fits
-  auipc-fits = all_2 _ _ rd-fits (imm_u-fits w)
+  auipc-fits = and_from _ _ rd-fits (imm_u-fits w)
 
   jal-fits : fits (jal w) ≡ true
   unfolding fits
-  jal-fits = all_2 _ _ rd-fits (imm_j-fits w)
+  jal-fits = and_from _ _ rd-fits (imm_j-fits w)
 
   jalr-fits : fits (jalr w) ≡ true
   unfolding fits
@@ -111,7 +108,7 @@ module _ (w : ℕ) where
 
   op_imm-fits : (op : OpImmOp) → is_shift op ≡ false → fits (op_imm op w) ≡ true
   unfolding fits
-  op_imm-fits op s = all_3 _ _ _ rd-fits rs1-fits (rw s (all_2 _ _ (imm_i-fits w) refl))
+  op_imm-fits op s = all_3 _ _ _ rd-fits rs1-fits (rw s (and_from _ _ (imm_i-fits w) refl))
 
   shift-fits : (op : OpImmOp) → is_shift op ≡ true → fits (shift op w) ≡ true
   unfolding fits
@@ -119,7 +116,7 @@ module _ (w : ℕ) where
 
   op_imm_32-fits : (op : OpImm32Op) → is_shift_32 op ≡ false → fits (op_imm_32 op w) ≡ true
   unfolding fits
-  op_imm_32-fits op s = all_3 _ _ _ rd-fits rs1-fits (rw s (all_2 _ _ (imm_i-fits w) refl))
+  op_imm_32-fits op s = all_3 _ _ _ rd-fits rs1-fits (rw s (and_from _ _ (imm_i-fits w) refl))
 
   shift_32-fits : (op : OpImm32Op) → is_shift_32 op ≡ true → fits (shift_32 op w) ≡ true
   unfolding fits
@@ -138,7 +135,7 @@ module _ (w : ℕ) where
 
   sfence-fits : fits (sfence w) ≡ true
   unfolding fits
-  sfence-fits = all_2 _ _ rs1-fits rs2-fits
+  sfence-fits = and_from _ _ rs1-fits rs2-fits
 
   csr-fits : (op : CsrOp) → fits (csr op w) ≡ true
   unfolding fits

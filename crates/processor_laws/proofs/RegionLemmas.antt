@@ -2,9 +2,10 @@
 use Rattle.std.proofs.Common.{◌≡◌, ℕ, ◌+◌, ◌-◌, ◌%◌, ◌<◌, ◌≤◌, ◌⊎◌, inl, inr, List, length, take-append-drop, refl, sym, ◌∙◌, ap, arith, true, false}
 use Rattle.std.specs.Prelude.{nat_lt}
 use Rattle.std.proofs.lemmas.Bool.Decides.{nat_tests}
+use Rattle.std.proofs.lemmas.List.{take_at, drop_at}
 use Rattle.processor.specs.Bytes.{word, write_word, low_bytes}
 use Rattle.processor.specs.Regions.{Region, IsHostPlace, IsWidth, host_bytes, region_of, host_word, write_host}
-use Rattle.processor_laws.proofs.ByteLemmas.{word_behind, word_in_front, overwrite_behind, overwrite_in_front, lt_or_le, length_low_bytes, length_write_word, drop_front, take_front}
+use Rattle.processor_laws.proofs.ByteLemmas.{word_behind, word_in_front, overwrite_behind, overwrite_in_front, lt_or_le, length_low_bytes, length_write_word}
 
 same_region : (r q : Region) → r.tables ≡ q.tables → r.ram ≡ q.ram → r ≡ q
 same_region r q tables ram = λ i. record { tables = tables i; ram = ram i }
@@ -29,12 +30,12 @@ write_in_ram r i n value = rw (not_in_tables (length r.tables) i, less_tables (l
 
 -- ---- all bytes
 
--- an aligned word that begins in the tables, which are whole pages, ends there
-ends_in_tables : (at n t : ℕ) → IsWidth n → at % n ≡ 0 → t % 4096 ≡ 0 → at < t → at + n ≤ t
-ends_in_tables at n t (inl one) aligned whole below = omega arith
-ends_in_tables at n t (inr (inl two)) aligned whole below = let e : at % 2 ≡ 0 = rw two at aligned in omega arith
-ends_in_tables at n t (inr (inr (inl four))) aligned whole below = let e : at % 4 ≡ 0 = rw four at aligned in omega arith
-ends_in_tables at n t (inr (inr (inr eight))) aligned whole below = let e : at % 8 ≡ 0 = rw eight at aligned in omega arith
+-- an aligned word that begins in whole pages ends there
+pub ends_inside : (n at size : ℕ) → IsWidth n → at % n ≡ 0 → size % 4096 ≡ 0 → at < size → at + n ≤ size
+ends_inside n at size (inl one) aligned whole below = omega arith
+ends_inside n at size (inr (inl two)) aligned whole below = let e : at % 2 ≡ 0 = rw two at aligned in omega arith
+ends_inside n at size (inr (inr (inl four))) aligned whole below = let e : at % 4 ≡ 0 = rw four at aligned in omega arith
+ends_inside n at size (inr (inr (inr eight))) aligned whole below = let e : at % 8 ≡ 0 = rw eight at aligned in omega arith
 
 -- where a word begins
 data Begins (t at n : ℕ) : Type 0 where
@@ -42,7 +43,7 @@ data Begins (t at n : ℕ) : Type 0 where
   InRam : (i : ℕ) → at ≡ t + i → Begins t at n
 
 begins_by : (t at n : ℕ) → IsWidth n → at % n ≡ 0 → t % 4096 ≡ 0 → (at < t) ⊎ (t ≤ at) → Begins t at n
-begins_by t at n width aligned whole (inl below) = InTables (grind (arith, nat_tests)) (ends_in_tables at n t width aligned whole below)
+begins_by t at n width aligned whole (inl below) = InTables (grind (arith, nat_tests)) (ends_inside n at t width aligned whole below)
 begins_by t at n width aligned whole (inr above) = InRam (at - t) (omega arith)
 
 begins : (r : Region) (at n : ℕ) → length r.tables % 4096 ≡ 0 → IsHostPlace r at n → Begins (length r.tables) at n
@@ -84,7 +85,7 @@ tables_of_region r at n value whole place = tables_there r at n value (begins r 
 -- a region is its bytes and the place where RAM begins
 pub region_of_bytes : (r : Region) (tables : ℕ) → length r.tables ≡ tables → region_of tables (host_bytes r) ≡ r
 region_of_bytes r tables e =
-    same_region (region_of tables (host_bytes r)) r (take_front r.tables r.ram tables e) (drop_front r.tables r.ram tables e)
+    same_region (region_of tables (host_bytes r)) r (take_at r.tables r.ram tables e) (drop_at r.tables r.ram tables e)
 
 pub bytes_of_region : (tables : ℕ) (bytes : List ℕ) → host_bytes (region_of tables bytes) ≡ bytes
 bytes_of_region tables bytes = take-append-drop tables bytes
@@ -104,13 +105,6 @@ keeps_width n a b (inl one) same aligned = rw one (omega arith)
 keeps_width n a b (inr (inl two)) same aligned = let e : a % 2 ≡ 0 = rw two at aligned in rw two (omega arith)
 keeps_width n a b (inr (inr (inl four))) same aligned = let e : a % 4 ≡ 0 = rw four at aligned in rw four (omega arith)
 keeps_width n a b (inr (inr (inr eight))) same aligned = let e : a % 8 ≡ 0 = rw eight at aligned in rw eight (omega arith)
-
--- an aligned word that begins in whole pages ends there
-pub ends_inside : (n at size : ℕ) → IsWidth n → at % n ≡ 0 → size % 4096 ≡ 0 → at < size → at + n ≤ size
-ends_inside n at size (inl one) aligned whole below = omega arith
-ends_inside n at size (inr (inl two)) aligned whole below = let e : at % 2 ≡ 0 = rw two at aligned in omega arith
-ends_inside n at size (inr (inr (inl four))) aligned whole below = let e : at % 4 ≡ 0 = rw four at aligned in omega arith
-ends_inside n at size (inr (inr (inr eight))) aligned whole below = let e : at % 8 ≡ 0 = rw eight at aligned in omega arith
 
 pub whole_sum : (a b : ℕ) → a % 4096 ≡ 0 → b % 4096 ≡ 0 → (a + b) % 4096 ≡ 0
 whole_sum a b h k = omega arith

@@ -8,7 +8,7 @@ use Rattle.processor.specs.declared.mode.Mode.{Mode}
 use Rattle.processor.specs.Instructions.{bits}
 use Rattle.processor.specs.Regions.{Region}
 use Rattle.processor.specs.Translation.{walk, is_pointer, is_leaf, entry_page, leaf_address, at_leaf, at_entry, Destination, At, PageFault, Unreadable, Settings, first_stage, permits_access, sv39_indices, is_canonical, root_of}
-use Rattle.processor.specs.SecondStage.{walk_guest, address_at, entry_in_region, permits_guest, sv39x4_indices}
+use Rattle.processor.specs.SecondStage.{walk_guest, address_at, entry_in_region, permits_guest, sv39x4_indices, WalksInside, WalksApart}
 
 -- ---- two readers
 
@@ -126,3 +126,7 @@ walk_guest_fits r hgatp gpa at access e =
 pub address_chosen : (b : Bool) (x : ℕ) → address_at (if b then At x else PageFault) ≡ (if b then Some x else None)
 address_chosen true x = refl
 address_chosen false x = refl
+
+-- a root whose walks lead to RAM alone
+pub apart_inside : (r : Region) (hgatp : ℕ) → WalksApart r hgatp → WalksInside r hgatp
+apart_inside r hgatp apart = record { inside = λ gpa hpa access walked. (apart.leads gpa hpa access walked).1 }

@@ -1,8 +1,8 @@
 -- The word of an instruction whose fields are in range decodes to it.
-use Rattle.std.proofs.Common.{◌≡◌, ℕ, suc, ◌+◌, ◌*◌, ◌/◌, ◌%◌, ◌^◌, ◌<◌, ◌≤◌, refl, sym, ◌∙◌, ap, subst, Bool, true, false, arith, ℤ, pos, negsuc, ◌⊎◌, inl, inr}
-use Rattle.std.specs.Prelude.{◌==◌, ◌&&◌, ◌||◌, Some, nat_lt, if◌then◌else◌}
+use Rattle.std.proofs.Common.{◌≡◌, ℕ, suc, ◌+◌, ◌*◌, ◌/◌, ◌%◌, ◌^◌, ◌<◌, ◌≤◌, refl, sym, ◌∙◌, ap, subst, Bool, true, false, arith, ℤ, pos, negsuc, inl, inr}
+use Rattle.std.specs.Prelude.{◌==◌, ◌&&◌, Some, nat_lt, if◌then◌else◌}
 use Rattle.std.specs.Int.{from_bool}
-use Rattle.std.proofs.lemmas.Bool.{ltb-true, eqb-true}
+use Rattle.std.proofs.lemmas.Bool.{ltb-true, eqb-true, and_parts}
 use Rattle.processor.specs.declared.instruction.Instr.{Instr}
 use Rattle.processor.specs.declared.instruction.BranchOp.{BranchOp}
 use Rattle.processor.specs.declared.instruction.BranchOp.TheVariants.{Beq, Bne, Blt, Bge, Bltu, Bgeu}
@@ -26,16 +26,17 @@ use Rattle.processor.specs.declared.instruction.HyperOp.{HyperOp}
 use Rattle.processor.specs.declared.instruction.HyperOp.TheVariants.{HlvB, HlvBu, HlvH, HlvHu, HlvxHu, HlvW, HlvWu, HlvxWu, HlvD, HsvB, HsvH, HsvW, HsvD, HfenceVvma, HfenceGvma}
 use Rattle.processor.specs.Instructions.{bits, lui, auipc, jal, jalr, branch, load, store, op_imm, shift, op_imm_32, shift_32, op_op, op_32, plain, sfence, csr, lr, sc, amo, hyper_load, hyper_store, rows, instruction_of}
 use Rattle.processor.specs.Encoding.{fits, is_register, is_immediate, is_operand, is_shift, is_shift_32, is_hyper_load, is_width, is_zero, imm_bits, r_word, i_word, s_word, b_word, u_word, j_word, branch_funct3, load_funct3, store_funct3, op_imm_funct3, op_imm_32_funct3, arithmetic_bit, arithmetic_bit_32, op_funct7, op_funct3, op_32_funct7, op_32_funct3, csr_funct3, amo_funct5, hyper_funct7, hyper_funct3, hyper_number, ordered, word_of}
-use Rattle.processor_laws.proofs.Decoding.{IsOnlyRow, found, both, mask_opcode, mask_funct3, mask_funct7, mask_funct6, mask_funct5, mask_funct5_rs2, mask_funct7_rs2, mask_funct7_no_rd}
+use Rattle.processor_laws.proofs.Decoding.{IsOnlyRow, found, mask_opcode, mask_funct3, mask_funct7, mask_funct6, mask_funct5, mask_funct5_rs2, mask_funct7_rs2, mask_funct7_no_rd}
 use Rattle.processor_laws.proofs.WordFields.{r_opcode, r_rd, r_funct3, r_rs1, r_rs2, r_funct7, r_rd_low, r_rd_high, r_funct7_low, r_funct7_high, r_funct5, r_aq, r_rl, i_opcode, i_rd, i_funct3, i_rs1, i_field, i_count, i_count_low, i_funct6, i_funct7, u_opcode, u_rd, u_field, j_opcode, j_rd, j_12_20, j_20, j_21_31, j_31, signed_12, signed_13, signed_21, signed_32, step_13, step_21, step_32}
+use Rattle.processor_laws.proofs.EffectRequests.{four_or_eight}
 
 -- ---- tests that hold
 
 both_3 : (a b c : Bool) → (a && b && c) ≡ true → (a ≡ true) × (b ≡ true) × (c ≡ true)
-both_3 a b c h = let p = both (a && b) c h in let q = both a b p.0 in (q.0, q.1, p.1)
+both_3 a b c h = let p = and_parts (a && b) c h in let q = and_parts a b p.0 in (q.0, q.1, p.1)
 
 both_4 : (a b c d : Bool) → (a && b && c && d) ≡ true → (a ≡ true) × (b ≡ true) × (c ≡ true) × (d ≡ true)
-both_4 a b c d h = let p = both (a && b && c) d h in let q = both_3 a b c p.0 in (q.0, q.1, q.2, p.1)
+both_4 a b c d h = let p = and_parts (a && b && c) d h in let q = both_3 a b c p.0 in (q.0, q.1, q.2, p.1)
 
 below_32 : (n : ℕ) → is_register n ≡ true → n < 32
 below_32 n h = ltb-true n 32 h
@@ -316,9 +317,9 @@ zero_bits (negsuc n) h = absurd (omega (arith, eqb-true (suc n) 0 h))
 operand_fits : (shifts : Bool) (limit : ℕ) (imm : ℤ) (n bit : ℕ) → is_operand shifts limit imm n ≡ true → limit ≤ 64
     → (shifts ≡ false → bit ≡ 0) → bit ≤ 2 ^ 10 → imm_bits imm 0 12 + n + bit < 4096
 operand_fits true limit imm n bit h most none within =
-    let q = both (is_zero imm) (nat_lt n limit) h in omega (arith, zero_bits imm q.0, ltb-true n limit q.1)
+    let q = and_parts (is_zero imm) (nat_lt n limit) h in omega (arith, zero_bits imm q.0, ltb-true n limit q.1)
 operand_fits false limit imm n bit h most none within =
-    let q = both (is_immediate 12 1 imm) (n == 0) h in omega (arith, eqb-true n 0 q.1, none refl)
+    let q = and_parts (is_immediate 12 1 imm) (n == 0) h in omega (arith, eqb-true n 0 q.1, none refl)
 
 never : true ≡ false → ⊥
 never e = cc
@@ -380,7 +381,7 @@ field_32-below op d a imm n h =
 lui-decodes : (d : ℕ) (imm : ℤ) → fits (Instr.Lui d imm) ≡ true → Decodes (Instr.Lui d imm)
 unfolding fits word_of rows
 lui-decodes d imm h =
-    let p = both (is_register d) (is_immediate 32 4096 imm) h in
+    let p = and_parts (is_register d) (is_immediate 32 4096 imm) h in
     let in_d = below_32 d p.0 in
     let in_v : imm_bits imm 12 32 < 2 ^ 20 = omega arith in
     let w = u_word 0x37 d imm in
@@ -418,7 +419,7 @@ branch-decodes op a b imm h =
 auipc-decodes : (d : ℕ) (imm : ℤ) → fits (Instr.Auipc d imm) ≡ true → Decodes (Instr.Auipc d imm)
 unfolding fits word_of rows
 auipc-decodes d imm h =
-    let p = both (is_register d) (is_immediate 32 4096 imm) h in
+    let p = and_parts (is_register d) (is_immediate 32 4096 imm) h in
     let in_d = below_32 d p.0 in
     let in_v : imm_bits imm 12 32 < 2 ^ 20 = omega arith in
     let w = u_word 0x17 d imm in
@@ -429,7 +430,7 @@ auipc-decodes d imm h =
 jal-decodes : (d : ℕ) (imm : ℤ) → fits (Instr.Jal d imm) ≡ true → Decodes (Instr.Jal d imm)
 unfolding fits word_of rows
 jal-decodes d imm h =
-    let p = both (is_register d) (is_immediate 21 2 imm) h in
+    let p = and_parts (is_register d) (is_immediate 21 2 imm) h in
     let in_o : 0x6F < 128 = omega arith in
     let in_d = below_32 d p.0 in
     let x = imm_bits imm 12 20 in
@@ -511,7 +512,7 @@ unfolding fits word_of
 op_imm-plain op d a imm n no_shift bit only h =
     let p = both_3 (is_register d) (is_register a) (is_operand (is_shift op) 64 imm n) h in
     let operand : is_operand false 64 imm n ≡ true = rw no_shift at p.2 in
-    let q = both (is_immediate 12 1 imm) (n == 0) operand in
+    let q = and_parts (is_immediate 12 1 imm) (n == 0) operand in
     let none : n ≡ 0 = eqb-true n 0 q.1 in
     let in_o : 0x13 < 128 = omega arith in
     let f = op_imm_funct3 op in
@@ -531,7 +532,7 @@ unfolding fits word_of
 op_imm-shift op d a imm n g is_one bit in_g only h =
     let p = both_3 (is_register d) (is_register a) (is_operand (is_shift op) 64 imm n) h in
     let operand : is_operand true 64 imm n ≡ true = rw is_one at p.2 in
-    let q = both (is_zero imm) (nat_lt n 64) operand in
+    let q = and_parts (is_zero imm) (nat_lt n 64) operand in
     let none = zero_imm imm q.0 in
     let in_n = ltb-true n 64 q.1 in
     let in_o : 0x13 < 128 = omega arith in
@@ -568,7 +569,7 @@ unfolding fits word_of
 op_imm_32-plain op d a imm n no_shift bit only h =
     let p = both_3 (is_register d) (is_register a) (is_operand (is_shift_32 op) 32 imm n) h in
     let operand : is_operand false 32 imm n ≡ true = rw no_shift at p.2 in
-    let q = both (is_immediate 12 1 imm) (n == 0) operand in
+    let q = and_parts (is_immediate 12 1 imm) (n == 0) operand in
     let none : n ≡ 0 = eqb-true n 0 q.1 in
     let in_o : 0x1B < 128 = omega arith in
     let f = op_imm_32_funct3 op in
@@ -588,7 +589,7 @@ unfolding fits word_of
 op_imm_32-shift op d a imm n g is_one bit in_g only h =
     let p = both_3 (is_register d) (is_register a) (is_operand (is_shift_32 op) 32 imm n) h in
     let operand : is_operand true 32 imm n ≡ true = rw is_one at p.2 in
-    let q = both (is_zero imm) (nat_lt n 32) operand in
+    let q = and_parts (is_zero imm) (nat_lt n 32) operand in
     let none = zero_imm imm q.0 in
     let in_n = ltb-true n 32 q.1 in
     let in_o : 0x1B < 128 = omega arith in
@@ -648,7 +649,7 @@ op_32-decodes op d a b h =
 sfence-decodes : (a b : ℕ) → fits (Instr.SfenceVma a b) ≡ true → Decodes (Instr.SfenceVma a b)
 unfolding fits word_of rows
 sfence-decodes a b h =
-    let p = both (is_register a) (is_register b) h in
+    let p = and_parts (is_register a) (is_register b) h in
     let in_o : 0x73 < 128 = omega arith in
     let in_g : 0x09 < 128 = omega arith in
     let in_f : 0 < 8 = omega arith in
@@ -703,13 +704,6 @@ ordered-rl n false false = omega arith
 flag_back : (q : Bool) → (from_bool q == 1) ≡ q
 flag_back true = refl
 flag_back false = refl
-
-either : (a b : Bool) → (a || b) ≡ true → (a ≡ true) ⊎ (b ≡ true)
-either true b e = inl refl
-either false b e = inr e
-
-four_or_eight : (n : ℕ) → is_width n ≡ true → (n ≡ 4) ⊎ (n ≡ 8)
-four_or_eight n h = elim (either (n == 4) (n == 8) h) [ inl e ↦ inl (eqb-true n 4 e) | inr e ↦ inr (eqb-true n 8 e) ]
 
 lr-decodes-4 : (d a : ℕ) (q r : Bool) → fits (Instr.Lr d a 4 q r) ≡ true → Decodes (Instr.Lr d a 4 q r)
 unfolding fits word_of rows

@@ -150,9 +150,6 @@ stored_leads r after core next regs x y here there on course apart leads bare pa
 next_aligned : (pc : ℕ) → pc % 4 ≡ 0 → (pc + 4) % 18446744073709551616 % 4 ≡ 0
 next_aligned pc aligned = omega arith
 
-pub course_same : (before after : HypervisorRegisters) → after ≡ before → SameCourse before after
-course_same before after same = subst (λ (c : HypervisorRegisters). SameCourse before c) (sym same) (course_stays before)
-
 -- a write to RAM, behind which the hart goes on at the next instruction
 pub write_goes : (r after : Region) (core next : Kept) (regs : HRegs) (lines held : List (Option CacheLine)) (at n value : ℕ) → MayAttempt r core regs lines
     → core.reservation ≡ None → Walked r.tables regs.hgatp lines held → length r.tables ≤ at → IsHostPlace r at n → after ≡ write_host r at n value

@@ -13,7 +13,8 @@ use Rattle.processor.specs.declared.translation.Place.{Place}
 use Rattle.sv39_walk.specs.Regimes.{settings_of}
 use Rattle.sv39_walk.specs.declared.first_stage.Regime.{Regime}
 use Rattle.reach.specs.Kept.{host_of, leads_under}
-use Rattle.hart.proofs.Places.{apart_inside, stages_place, stages_behind}
+use Rattle.hart.proofs.Places.{stages_place, stages_behind}
+use Rattle.processor_laws.proofs.Walks.{apart_inside}
 
 -- what holds of a value that is there
 pub some_where : (o : Option ℕ) {P : ℕ → Type 0} → ((x : ℕ) → o ≡ Some x → P x) → IfSome o P

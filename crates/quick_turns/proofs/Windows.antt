@@ -1,12 +1,12 @@
 -- The addresses of a page are fetched from one page of host memory.
-use Rattle.std.proofs.Common.{◌≡◌, ℕ, zero, suc, ◌+◌, ◌-◌, ◌*◌, ◌/◌, ◌%◌, ◌^◌, ◌<◌, ◌≤◌, inl, inr, List, [], ◌∷◌, length, refl, sym, ◌∙◌, ap, arith, lit≤, Bool, true, false, ◌&&◌}
-use Rattle.std.specs.Prelude.{Option, Some, None, Result, Ok, Err, if◌then◌else◌, ◌==◌}
+use Rattle.std.proofs.Common.{◌≡◌, ℕ, ◌+◌, ◌-◌, ◌/◌, ◌%◌, ◌^◌, ◌<◌, ◌≤◌, inl, inr, List, length, refl, sym, ◌∙◌, ap, arith, lit≤, Bool}
+use Rattle.std.specs.Prelude.{Option, Some, Result, Ok, Err, if◌then◌else◌, ◌==◌}
 use Rattle.processor.specs.Hardware.{Core}
 use Rattle.processor.specs.Bits.{bit}
 use Rattle.processor.specs.declared.hregs.HRegs.{HRegs}
 use Rattle.processor.specs.HardwareMemory.{settings_at, place_or_exception, translated}
 use Rattle.processor.specs.Regions.{Region, IsRegion, IsHostPlace}
-use Rattle.processor.specs.Translation.{walk, is_pointer, is_leaf, entry_page, leaf_address, at_leaf, at_entry, root_of, is_canonical, sv39_indices, permits_access, first_stage, Settings, Destination, At, PageFault, Unreadable}
+use Rattle.processor.specs.Translation.{walk, root_of, is_canonical, sv39_indices, permits_access, first_stage, Settings, Destination, At, PageFault, Unreadable}
 use Rattle.processor.specs.SecondStage.{walk_guest, address_at, entry_in_region, entry_through, guest_destination, place_through, after_first_stage, two_stages, WalksApart}
 use Rattle.processor.specs.Roots.{IsBare}
 use Rattle.processor.specs.declared.access.Access.{Access}
@@ -14,9 +14,11 @@ use Rattle.processor.specs.declared.access.Access.TheVariants.{Fetch}
 use Rattle.processor.specs.declared.mode.Mode.{Mode}
 use Rattle.processor.specs.declared.translation.Fault.{Fault}
 use Rattle.processor.specs.declared.translation.Place.{Place}
-use Rattle.gstage_cache.proofs.Walks.{moved, page_moves, answer_near, answer_is}
+use Rattle.gstage_cache.proofs.Walks.{moved, page_moves, answer_near, answer_is, choose_moves, walk_moves}
 use Rattle.quick_turns.specs.Quick.{Leads, SameCourse}
 use Rattle.quick_turns.proofs.Kept.{walks_kept}
+use Rattle.hart.proofs.Places.{second_leads}
+use Rattle.reach.proofs.Stages.{moved_address, same_canonical}
 
 -- what a first stage goes by, of the registers alone
 abbrev settings_by : (vsatp vsstatus : ℕ) → Settings
@@ -24,43 +26,12 @@ settings_by vsatp vsstatus = record { satp = vsatp; sum = bit vsstatus 18; mxr =
 
 -- ---- the first stage
 
-leaf_moves : (below e a b : ℕ) → below < 3 → a / 4096 ≡ b / 4096
-    → leaf_address below e b ≡ leaf_address below e a - leaf_address below e a % 4096 + b % 4096
-leaf_moves zero e a b few same = omega arith
-leaf_moves (suc zero) e a b few same = omega arith
-leaf_moves (suc (suc zero)) e a b few same = omega arith
-leaf_moves (suc (suc (suc n))) e a b few same = absurd (omega arith)
-
-choose_moves : (c : Bool) (place : ℕ) (x y v w : Destination) → v ≡ moved place x → w ≡ moved place y → (if c then v else w) ≡ moved place (if c then x else y)
-choose_moves true place x y v w h k = h
-choose_moves false place x y v w h k = k
-
-entry_moves : (grants : ℕ → Bool) (below at a b : ℕ) (deeper other : ℕ → Destination) (entry : Option ℕ) → below < 3 → a / 4096 ≡ b / 4096
-    → ((e : ℕ) → other (entry_page e) ≡ moved (b % 4096) (deeper (entry_page e)))
-    → at_entry grants below at other b entry ≡ moved (b % 4096) (at_entry grants below at deeper a entry)
-entry_moves grants below at a b deeper other None few same deep = refl
-entry_moves grants below at a b deeper other (Some e) few same deep =
-    choose_moves (is_pointer e) (b % 4096) (deeper (entry_page e)) (at_leaf grants below e a) (other (entry_page e)) (at_leaf grants below e b) (deep e)
-    (choose_moves (is_leaf below e && grants e) (b % 4096) (At (leaf_address below e a)) PageFault (At (leaf_address below e b)) PageFault
-    (ap At (leaf_moves below e a b few same)) refl)
-
-walk_moves : (read : ℕ → Option ℕ) (grants : ℕ → Bool) (indices : List ℕ) (table a b : ℕ) → length indices ≤ 3 → a / 4096 ≡ b / 4096
-    → walk read grants indices table b ≡ moved (b % 4096) (walk read grants indices table a)
-unfolding walk
-walk_moves read grants [] table a b few same = refl
-walk_moves read grants (index ∷ indices) table a b few same =
-    entry_moves grants (length indices) (table + 8 * index) a b (λ next. walk read grants indices next a) (λ next. walk read grants indices next b)
-    (read (table + 8 * index)) (omega arith) same (λ e. walk_moves read grants indices (entry_page e) a b (omega arith) same)
-
 same_indices : (a b : ℕ) → a / 4096 ≡ b / 4096 → sv39_indices b ≡ sv39_indices a
 same_indices a b same =
     let high : b / 2 ^ 30 ≡ a / 2 ^ 30 = omega arith in
     let middle : b / 2 ^ 21 ≡ a / 2 ^ 21 = omega arith in
     let low : b / 2 ^ 12 ≡ a / 2 ^ 12 = omega arith in
     rw (high, middle, low) refl
-
-same_canonical : (a b : ℕ) → a / 4096 ≡ b / 4096 → is_canonical b ≡ is_canonical a
-same_canonical a b same = let high : b / 2 ^ 38 ≡ a / 2 ^ 38 = omega arith in rw high refl
 
 bare_moves : (a b : ℕ) → a / 4096 ≡ b / 4096 → b ≡ a - a % 4096 + b % 4096
 bare_moves a b same = omega arith
@@ -75,16 +46,11 @@ stage_moves read s mode a b access same =
     ∙ walk_moves read grants (sv39_indices a) (root_of s.satp) a b (lit≤ tt) same in
     choose_moves (s.satp / 2 ^ 60 == 0) (b % 4096) (At a) (if is_canonical a then walk read grants (sv39_indices a) (root_of s.satp) a else PageFault)
     (At b) (if is_canonical b then walk read grants (sv39_indices b) (root_of s.satp) b else PageFault) (ap At (bare_moves a b same))
-    (ap (λ (c : Bool). if c then walk read grants (sv39_indices b) (root_of s.satp) b else PageFault) (same_canonical a b same)
+    (ap (λ (c : Bool). if c then walk read grants (sv39_indices b) (root_of s.satp) b else PageFault) (same_canonical b a (sym same))
     ∙ choose_moves (is_canonical a) (b % 4096) (walk read grants (sv39_indices a) (root_of s.satp) a) PageFault
     (walk read grants (sv39_indices b) (root_of s.satp) b) PageFault walked refl)
 
 -- ---- the second stage
-
-address_moves : (d : Destination) (place x : ℕ) → address_at d ≡ Some x → address_at (moved place d) ≡ Some (x - x % 4096 + place)
-address_moves (At found) place x e = let same : found ≡ x = cc in rw same refl
-address_moves PageFault place x e = absurd (cc)
-address_moves (Unreadable entry) place x e = absurd (cc)
 
 near_too : (a b : ℕ) → a / 4096 ≡ b / 4096 → a < 2 ^ 41 → b < 2 ^ 41
 near_too a b same near = omega arith
@@ -95,13 +61,9 @@ guest_moves r hgatp a b x access same e =
     let near : a < 2 ^ 41 = answer_near r hgatp a x access e in
     answer_is r hgatp b access (near_too a b same near)
     ∙ ap address_at (page_moves (entry_in_region r) hgatp a b access same)
-    ∙ address_moves (guest_destination (entry_in_region r) hgatp a access) (b % 4096) x (sym (answer_is r hgatp a access near) ∙ e)
+    ∙ moved_address (b % 4096) x (guest_destination (entry_in_region r) hgatp a access) (sym (answer_is r hgatp a access near) ∙ e)
 
 -- ---- both
-
-place_is : (gpa : ℕ) (o : Option ℕ) (place : Place) → place_through gpa o ≡ Ok place → o ≡ Some place.hpa
-place_is gpa None place e = absurd (cc)
-place_is gpa (Some hpa) place e = let same : record { gpa = gpa; hpa = hpa } ≡ place = cc in rw (← same) refl
 
 same_page : (x b : ℕ) → x / 4096 ≡ (x - x % 4096 + b % 4096) / 4096
 same_page x b = omega arith
@@ -116,7 +78,7 @@ behind_moves r hgatp b access (At gpa) place e =
     let to : ℕ = gpa - gpa % 4096 + b % 4096 in
     let hpa : ℕ = place.hpa - place.hpa % 4096 + to % 4096 in
     let walked : walk_guest r hgatp to access ≡ Some hpa =
-    guest_moves r hgatp gpa to place.hpa access (same_page gpa b) (place_is gpa (walk_guest r hgatp gpa access) place e) in
+    guest_moves r hgatp gpa to place.hpa access (same_page gpa b) (second_leads gpa (walk_guest r hgatp gpa access) place e) in
     (record { gpa = to; hpa = hpa }, (ap (place_through to) walked, ap (λ (n : ℕ). place.hpa - place.hpa % 4096 + n) (same_place gpa b)))
 behind_moves r hgatp b access PageFault place e = absurd (cc)
 behind_moves r hgatp b access (Unreadable entry) place e = absurd (cc)

@@ -1,6 +1,7 @@
 -- Lines that are held, and one more.
 use Rattle.std.proofs.Common.{◌≡◌, ℕ, zero, suc, ◌+◌, ◌*◌, ◌/◌, ◌%◌, ◌<◌, inl, inr, List, length, get_or, set, replicate, refl, sym, ◌∙◌, ap, subst, arith}
 use Rattle.std.specs.Prelude.{Option, Some, None}
+use Rattle.std.proofs.lemmas.Option.{same_Some}
 use Rattle.processor.specs.Regions.{Region}
 use Rattle.processor.specs.declared.access.Access.{Access}
 use Rattle.processor.specs.declared.access.Access.TheVariants.{Fetch, Load, Store}
@@ -24,9 +25,6 @@ place_inside Fetch page = omega arith
 place_inside Load page = omega arith
 place_inside Store page = omega arith
 
-some_same : (line found : Line) → Some line ≡ Some found → line ≡ found
-some_same line found e = cc
-
 pub kept_agrees : (tables : List ℕ) (before after : List (Option Line)) (line : Line) → IsKept before after line → LineAgrees tables line
     → ReachAgrees tables before → ReachAgrees tables after
 kept_agrees tables before after line kept agrees all = record {
@@ -35,7 +33,7 @@ kept_agrees tables before after line kept agrees all = record {
       let fits : i < length before = subst (λ (n : ℕ). i < n) (sym kept.size) (place_inside line.access line.page) in
       let at : get_or (set before i (Some line)) j None ≡ Some found = ap (λ (lines : List (Option Line)). get_or lines j None) (sym kept.is) ∙ e in
       elim (set_at before i j (Some line) fits) [
-        | inl same ↦ subst (λ (l : Line). LineAgrees tables l) (some_same line found (sym same.1 ∙ at)) agrees
+        | inl same ↦ subst (λ (l : Line). LineAgrees tables l) (same_Some line found (sym same.1 ∙ at)) agrees
         | inr other ↦ all.held j found (sym other.1 ∙ at)
       ];
 }

@@ -4,18 +4,16 @@ use Rattle.std.specs.Prelude.{Some}
 use Rattle.processor.specs.Instructions.{bits}
 use Rattle.processor.specs.Regions.{Region, IsRegion, IsHostPlace}
 use Rattle.processor.specs.Translation.{walk, is_pointer, entry_page}
-use Rattle.processor.specs.SecondStage.{walk_guest, entry_through, WalksApart, WalksInside}
+use Rattle.processor.specs.SecondStage.{walk_guest, entry_through, WalksApart}
 use Rattle.processor.specs.declared.access.Access.TheVariants.{Load}
 use Rattle.sv39_walk.specs.Levels.{indices_of}
 use Rattle.sv39_walk.proofs.Steps.{first_at, walk_pointer, walk_ends, entry_found, entry_place}
 use Rattle.reach.specs.declared.line.Entry.{Entry}
 use Rattle.reach.specs.declared.line.Entries.{Entries}
 use Rattle.reach.specs.Kept.{with_entry, Above, IsThere, IsPlace, EndsAt}
+use Rattle.processor_laws.proofs.Walks.{apart_inside}
 
 -- ---- where entries are read
-
-pub apart_inside : (r : Region) (hgatp : ℕ) → WalksApart r hgatp → WalksInside r hgatp
-apart_inside r hgatp apart = record { inside = λ gpa hpa access walked. (apart.leads gpa hpa access walked).1 }
 
 -- an entry's place is one of the region
 pub entry_here : (r : Region) (hgatp : ℕ) (seen : Entry) → IsRegion r → WalksApart r hgatp → IsPlace r.tables hgatp seen → IsHostPlace r seen.at 8

@@ -18,7 +18,7 @@ use Rattle.sv39_walk.proofs.Steps.{mapped_test}
 
 -- ---- the second stage
 
-moved_address : (place x : ℕ) (d : Destination) → address_at d ≡ Some x → address_at (moved place d) ≡ Some (x - x % 4096 + place)
+pub moved_address : (place x : ℕ) (d : Destination) → address_at d ≡ Some x → address_at (moved place d) ≡ Some (x - x % 4096 + place)
 moved_address place x (At found) e = let same : found ≡ x = cc in rw same refl
 moved_address place x PageFault e = absurd (cc)
 moved_address place x (Unreadable entry) e = absurd (cc)
@@ -57,7 +57,7 @@ first_ends : (read : ℕ → Option ℕ) (s : Settings) (mode : Mode) (va below 
 unfolding first_stage
 first_ends read s mode va below entry access paged ends = rw (mapped_test (s.satp / 2 ^ 60) paged, ends) refl
 
-same_canonical : (a b : ℕ) → a / 4096 ≡ b / 4096 → is_canonical a ≡ is_canonical b
+pub same_canonical : (a b : ℕ) → a / 4096 ≡ b / 4096 → is_canonical a ≡ is_canonical b
 same_canonical a b same =
     let high : a / 2 ^ 38 ≡ b / 2 ^ 38 = omega arith in
     ap (λ (n : ℕ). n == 0 || n == 2 ^ 26 - 1) high

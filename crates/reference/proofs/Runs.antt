@@ -1,9 +1,10 @@
 -- Runs of the reference machine, and the protection of a page.
-use Rattle.std.proofs.Common.{◌≡◌, ℕ, List, [], ◌∷◌, ◌++◌, refl, ◌∙◌, ap, Bool, true, false, not, ◌||◌}
+use Rattle.std.proofs.Common.{◌≡◌, ℕ, zero, suc, replicate, List, [], ◌∷◌, ◌++◌, refl, ◌∙◌, ap, Bool, true, false, not, ◌||◌}
 use Rattle.sv_types.specs.declared.event.Event.{Event}
 use Rattle.sv_types.specs.declared.event.Verdict.{Verdict}
 use Rattle.sv_types.specs.declared.event.Verdict.TheVariants.{Running, Shutdown, Stopped}
-use Rattle.reference.specs.Protections.{is_free}
+use Rattle.sv_types.specs.declared.protection.Protection.TheVariants.{Free}
+use Rattle.reference.specs.Protections.{is_free, protection_at}
 use Rattle.reference.specs.Run.{HasEnded, happen_under, step, run}
 use Rattle.reference.specs.States.{State, is_protected, protection, protection_in, protection_by, is_approved_in, has_number}
 
@@ -17,13 +18,19 @@ pub protected : (r : State) (page : ℕ) → is_protected r page ≡ not (is_fre
 unfolding is_protected protection_in
 protected r page = protected_by (is_approved_in r.approved page) (has_number r.held page)
 
+-- pages that are all free
+pub all_free_at : (n page : ℕ) → protection_at (replicate n Free) page ≡ Free
+all_free_at zero page = refl
+all_free_at (suc n) zero = refl
+all_free_at (suc n) (suc page) = all_free_at n page
+
 stays_under : (v : Verdict) (r : State) (e : Event) → HasEnded v → happen_under v r e ≡ r
 unfolding happen_under
 stays_under Running r e ended = absurd ended
 stays_under Shutdown r e ended = refl
 stays_under (Stopped rule hart at) r e ended = refl
 
-steps_nowhere : (r : State) (e : Event) → HasEnded r.journal.verdict → step r e ≡ r
+pub steps_nowhere : (r : State) (e : Event) → HasEnded r.journal.verdict → step r e ≡ r
 unfolding step
 steps_nowhere r e ended = stays_under r.journal.verdict r e ended
 

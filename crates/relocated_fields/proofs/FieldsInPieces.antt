@@ -2,7 +2,7 @@
 use Rattle.std.proofs.Common.{◌≡◌, ℕ, ◌+◌, ◌-◌, ◌%◌, ◌<◌, ◌≤◌, Bool, true, false, not, ◌&&◌, List, [], ◌∷◌, ◌++◌, length, refl, sym, ◌∙◌, ap, subst, arith, All, length-append}
 use Rattle.std.specs.Prelude.{nat_le, nat_lt, if◌then◌else◌}
 use Rattle.std.specs.List.{concat}
-use Rattle.std.proofs.Math.Bool.{and_assoc, and_comm}
+use Rattle.std.proofs.Math.Bool.{and_assoc}
 use Rattle.std.proofs.lemmas.Bool.Decides.{nat_tests}
 use Rattle.std.proofs.lemmas.List.Elements.{All-head, All-tail}
 use Rattle.processor.specs.Bits.{without}
@@ -16,6 +16,7 @@ use Rattle.relocated_fields.specs.Fields.{field_end, width_of}
 use Rattle.relocated_fields.specs.Pieces.{moved, piece_sites, IsAligned}
 use Rattle.relocated_fields.proofs.Sites.{ends_inside}
 use Rattle.relocated_fields.specs.Laws.{MaskLaw, RightLaw, cleared_from, right_from}
+use Rattle.sv_types.proofs.TruthValues.{and_swap}
 
 -- the sites from a byte on, their offsets counted from there
 unfoldable behind : ℕ → List Site → List Site
@@ -103,9 +104,6 @@ masked_parts first size piece rest (site ∷ sites) part len =
     one_masked first size piece rest site sites (nat_le first site.offset) (nat_lt (site.offset - first) size) refl refl part len
     (λ front back same. masked_parts first size front back sites left same)
 
-third : (a b c : Bool) → (a && (b && c)) ≡ (b && (a && c))
-third a b c = sym (and_assoc a b c) ∙ ap (λ (d : Bool). d && c) (and_comm a b) ∙ and_assoc b a c
-
 one_right : (exports : List Export) (bases : Bases) (first size : ℕ) (piece rest : List ℕ) (site : Site) (sites : List Site) (p q : Bool) → nat_le first site.offset ≡ p → nat_lt (site.offset - first) size ≡ q
     → IsPart first size (site ∷ sites) → length piece ≡ size
     → fields_right exports bases (behind first sites) (piece ++ rest) ≡ (fields_right exports bases (piece_sites first size sites) piece && fields_right exports bases (behind (first + size) sites) rest)
@@ -118,7 +116,7 @@ one_right exports bases first size piece rest site sites true true e f part len 
     (sym (and_assoc (field_right exports bases piece (moved first site)) _ _))
 one_right exports bases first size piece rest site sites true false e f part len again =
     rw (e, f, past first size site.offset true false e f, right_behind exports bases first size piece rest site len (grind (arith, nat_tests)), again)
-    (third (field_right exports bases rest (moved (first + size) site)) _ _)
+    (and_swap (field_right exports bases rest (moved (first + size) site)) _ _)
 
 right_parts : (exports : List Export) (bases : Bases) (first size : ℕ) (piece rest : List ℕ) (sites : List Site) → IsPart first size sites → length piece ≡ size
     → fields_right exports bases (behind first sites) (piece ++ rest) ≡ (fields_right exports bases (piece_sites first size sites) piece && fields_right exports bases (behind (first + size) sites) rest)

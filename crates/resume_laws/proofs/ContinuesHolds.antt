@@ -1,5 +1,5 @@
 -- What a run prints that goes on from a saved state.
-use Rattle.std.proofs.Common.{◌≡◌, ℕ, zero, suc, List, [], ◌∷◌, ◌++◌, take, drop, refl, sym, ap, subst, ◌∙◌, append_assoc}
+use Rattle.std.proofs.Common.{◌≡◌, ℕ, zero, suc, List, [], ◌∷◌, ◌++◌, take, drop, refl, sym, ap, subst, append_assoc}
 use Rattle.sv_types.specs.declared.event.Event.{Event}
 use Rattle.sv_types.specs.declared.event.Verdict.{Verdict}
 use Rattle.sv_types.specs.declared.event.Verdict.TheVariants.{Running, Shutdown, Stopped}
@@ -7,7 +7,7 @@ use Rattle.reference.specs.Disk.{disk_bytes}
 use Rattle.reference.specs.States.{State}
 use Rattle.reference.specs.Report.{output, report}
 use Rattle.reference.specs.Run.{step, run, HasEnded}
-use Rattle.reference.proofs.Runs.{ended_stays}
+use Rattle.reference.proofs.Runs.{ended_stays, steps_nowhere}
 use Rattle.resume_laws.proofs.AlikeSteps.{alike_law}
 use Rattle.resume_laws.specs.Continues.{Alike, drawn_under, drawn, ContinuesLaw}
 
@@ -15,9 +15,6 @@ use Rattle.resume_laws.specs.Continues.{Alike, drawn_under, drawn, ContinuesLaw}
 run_alike : (front : List ℕ) (r next : State) (events : List Event) → Alike front r next → Alike front (run r events) (run next events)
 run_alike front r next [] alike = alike
 run_alike front r next (e ∷ events) alike = run_alike front (step r e) (step next e) events (alike_law front r next e alike)
-
-stays : (r : State) (e : Event) → HasEnded r.journal.verdict → step r e ≡ r
-stays r e ended = ended_stays r (e ∷ []) ended
 
 -- the events that are left, made by the state behind the first ones
 goes_on_by : (verdict : Verdict) (s : State) (k : ℕ) (e : Event) (events : List Event) → s.journal.verdict ≡ verdict
@@ -27,11 +24,11 @@ unfolding drawn_under
 goes_on_by Running s k e events is rest = rest
 goes_on_by Shutdown s k e events is rest =
     let ended : HasEnded s.journal.verdict = subst HasEnded (sym is) tt in
-    let same = stays s e ended in
+    let same = steps_nowhere s e ended in
     rw (same, ended_stays s (take k events) ended, same) refl
 goes_on_by (Stopped rule h at) s k e events is rest =
     let ended : HasEnded s.journal.verdict = subst HasEnded (sym is) tt in
-    let same = stays s e ended in
+    let same = steps_nowhere s e ended in
     rw (same, ended_stays s (take k events) ended, same) refl
 
 goes_on : (s : State) (k : ℕ) (events : List Event) → run (run s (take k events)) (drop (drawn s (take k events)) events) ≡ run s events

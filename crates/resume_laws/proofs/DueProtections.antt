@@ -1,5 +1,5 @@
 -- Protections that are the due ones, page by page.
-use Rattle.std.proofs.Common.{◌≡◌, ℕ, zero, suc, ◌+◌, ◌<◌, List, [], ◌∷◌, length, map, replicate, refl, sym, ◌∙◌, ap, subst, Bool, true, false, arith}
+use Rattle.std.proofs.Common.{◌≡◌, ℕ, suc, ◌+◌, ◌<◌, List, [], ◌∷◌, length, map, refl, sym, ◌∙◌, ap, subst, Bool, true, false, arith}
 use Rattle.std.specs.Prelude.{Option, Some, None}
 use Rattle.sv_types.specs.ApprovedPages.{numbers_from}
 use Rattle.sv_types.specs.declared.protection.Protection.{Protection}
@@ -36,11 +36,6 @@ due_is None ps e = absurd cc
 due_is (Some guard) ps e = ap (λ (list : List Protection). Some list) (all_same guard ps e)
 
 -- ---- a list by its elements
-
-pub all_free : (n page : ℕ) → protection_at (replicate n Free) page ≡ Free
-all_free zero page = refl
-all_free (suc n) zero = refl
-all_free (suc n) (suc page) = all_free n page
 
 pub listed : (f : ℕ → Protection) (first : ℕ) (ps : List Protection) → ((i : ℕ) → i < length ps → protection_at ps i ≡ f (first + i))
     → map f (numbers_from first (length ps)) ≡ ps

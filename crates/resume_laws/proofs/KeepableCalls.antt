@@ -31,11 +31,11 @@ use Rattle.reference.specs.declared.answers.Extension.{Extension}
 use Rattle.reference.specs.declared.answers.Reply.{Reply}
 use Rattle.reference.specs.declared.answers.Reply.TheVariants.{Gives, Replies, Stays, Stops}
 use Rattle.run_laws.proofs.AnswersMay.{MayBeside, answer_may}
-use Rattle.run_laws.proofs.Lookups.{and_first, and_second}
 use Rattle.resume_laws.specs.Keepable.{ram_size, IsKeepableHart, AreKeepable, IsKeepableNote, IsKeepableJournal, IsKeepableClock, AreAligned, MayGoOn, IsKeepableLoad, IsKeepableText, IsKeepable}
 use Rattle.resume_laws.proofs.KeepableParts.{zero_stays, are_set, are_interrupted, below, load_beside, load_interrupted, load_begun, journal_noted, journal_ended, clock_set, aligned_with, aligned_without}
 use Rattle.resume_laws.proofs.KeepableRequests.{Moving, hart_kept, there, shorter}
 use Rattle.attempt_laws.proofs.AttemptsAgree.{get_back}
+use Rattle.sv_types.proofs.TruthValues.{and_first, and_second}
 
 -- ---- what a call may begin
 

@@ -3,6 +3,7 @@ use Rattle.std.proofs.Common.{◌≡◌, ℕ, zero, suc, ◌+◌, ◌%◌, ◌<�
 use Rattle.std.specs.Prelude.{Option, Some, None, if◌then◌else◌, ◌==◌, slice_index, option_map}
 use Rattle.std.proofs.lemmas.Bool.{eq-eqb}
 use Rattle.std.proofs.lemmas.List.{length-set}
+use Rattle.std.proofs.lemmas.Option.{same_Some}
 use Rattle.processor.specs.Bytes.{page_size}
 use Rattle.processor.specs.Effects.{set_register}
 use Rattle.processor.specs.Requests.{reserved_at, touches, after_write}
@@ -37,12 +38,9 @@ reserved_fits size place below = (omega arith, omega arith)
 
 -- ---- lists of harts
 
-pub some_is : {A : Type 0} (x y : A) → Some x ≡ Some y → x ≡ y
-some_is x y e = cc
-
 pub keepable_at : (size : ℕ) (harts : List Hart) (h : ℕ) (hart : Hart) → AreKeepable size harts → slice_get harts h ≡ Some hart → IsKeepableHart size hart
 keepable_at size [] h hart all e = cc
-keepable_at size (x ∷ harts) zero hart all e = subst (IsKeepableHart size) (some_is x hart e) all.0
+keepable_at size (x ∷ harts) zero hart all e = subst (IsKeepableHart size) (same_Some x hart e) all.0
 keepable_at size (x ∷ harts) (suc h) hart all e = keepable_at size harts h hart all.1 e
 
 pub are_set : (size : ℕ) (harts : List Hart) (h : ℕ) (next : Hart) → AreKeepable size harts → IsKeepableHart size next → AreKeepable size (slice_set harts h next)

@@ -26,9 +26,9 @@ use Rattle.reference.specs.Soundness.{IsSound}
 use Rattle.reference.specs.States.{State, Hart, Devices, Journal, Disk}
 use Rattle.reference.specs.Trapping.{trap_from, exception, returned_from_trap, may_enter, hart_at_trap, hart_at_return}
 use Rattle.attempt_laws.specs.Agree.{IsNotLoading}
-use Rattle.run_laws.proofs.Lookups.{and_second}
 use Rattle.resume_laws.specs.Keepable.{ram_size, IsReservable, IsKeepableHart, IsKeepableVerdict, IsKeepableJournal, IsKeepableClock, IsKeepable}
 use Rattle.resume_laws.proofs.KeepableParts.{zero_stays, reserved_fits, keepable_at, are_set, are_written, below, load_beside, load_written, journal_ended}
+use Rattle.sv_types.proofs.TruthValues.{and_second}
 
 -- ---- a hart that moves, no load of it under way
 

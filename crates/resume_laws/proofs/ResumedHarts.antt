@@ -2,8 +2,9 @@
 use Rattle.std.proofs.Common.{◌≡◌, ℕ, zero, suc, ◌+◌, ◌-◌, ◌*◌, ◌%◌, ◌^◌, ◌<◌, ◌≤◌, List, [], ◌∷◌, ◌++◌, length, map, min, drop, replicate, refl, ◌∙◌, ap, subst, Bool, true, false, not, ◌&&◌, ◌||◌, arith, slice_get, length-append}
 use Rattle.std.specs.Prelude.{Option, Some, None, option_map, is_some, ◌==◌, nat_lt, nat_le, slice_index}
 use Rattle.std.specs.List.{list_all}
-use Rattle.std.proofs.lemmas.Bool.{eqb-true}
+use Rattle.std.proofs.lemmas.Bool.{eqb-true, not-true}
 use Rattle.std.proofs.lemmas.List.{length-map, length-replicate}
+use Rattle.std.proofs.lemmas.Option.{same_Some}
 use Rattle.processor.specs.Bytes.{page_size, ram_base, ram_place}
 use Rattle.processor.specs.Registers.{IsLegalSupervisor, legal_status, legal_interrupts, legal_tvec, legal_counteren, legal_epc, legal_satp}
 use Rattle.processor.specs.declared.mode.Mode.{Mode}
@@ -28,10 +29,8 @@ use Rattle.resumption.specs.Judgements.{is_bound}
 use Rattle.resumption.specs.ResumedStates.{resumed_hart, resumed_load, timers_of}
 use Rattle.resume_laws.specs.Keepable.{IsReservable, IsKeepableHart, AreKeepable, IsKeepableNote, AreKeepableNotes, IsKeepableVerdict, IsKeepableJournal, IsKeepableClock, MayGoOn, IsKeepableLoad}
 use Rattle.resume_laws.proofs.FormParts.{is_small, below_is, most_is}
-use Rattle.resume_laws.proofs.KeepableParts.{some_is}
 use Rattle.resume_laws.proofs.KeepableStarts.{never}
 use Rattle.resume_laws.proofs.TakenPages.{found_later}
-use Rattle.run_laws.proofs.Lookups.{not_false}
 
 -- ---- values of a hart
 
@@ -107,7 +106,7 @@ reserved_by : (pages : ℕ) (address : Option ℕ) → (reservation pages).has a
 unfolding reservation
 reserved_by pages None h = tt
 reserved_by pages (Some address) h =
-    let other = not_false (address == 0) (first_true (not (address == 0)) _ h) in
+    let other = not-true (address == 0) (first_true (not (address == 0)) _ h) in
     let range = second_true (is_word address) (is_reservable pages address) (second_true (not (address == 0)) _ h) in
     let both = found_later (address == 0) (is_ram_address pages address && address % 8 == 0) range other in
     place_of_reserved pages address (first_true (is_ram_address pages address) _ both) (second_true (is_ram_address pages address) _ both)
@@ -184,7 +183,7 @@ unfolding has_all
 each_sound rules pages n before [] i h has bound at = cc
 each_sound rules pages zero before (x ∷ hs) i h has bound at = absurd cc
 each_sound rules pages (suc n) before (x ∷ hs) zero h has bound at =
-    subst (IsSoundHart rules) (some_is (resumed_hart x) h at)
+    subst (IsSoundHart rules) (same_Some (resumed_hart x) h at)
     (hart_resumes rules pages x (first_true ((hart pages).has x) _ has) (first_true (is_bound rules x.entry) _ bound)).sound
 each_sound rules pages (suc n) before (x ∷ hs) (suc i) h has bound at =
     each_sound rules pages n (before ++ x ∷ []) hs i h (second_true ((hart pages).has x) _ has) (second_true (is_bound rules x.entry) _ bound) at

@@ -1,6 +1,6 @@
 -- What a run keeps from a sound state on.
 use Rattle.std.proofs.Common.{◌≡◌, ℕ, List, sym, ap, ◌∙◌, true}
-use Rattle.std.specs.Prelude.{Some}
+use Rattle.std.proofs.lemmas.Option.{same_Some}
 use Rattle.processor.specs.Bytes.{page_bytes}
 use Rattle.run_laws.proofs.StateLawsHold.{text_bytes, has_origins}
 use Rattle.sv_types.specs.Measure.{page_digest}
@@ -15,12 +15,9 @@ use Rattle.resume_laws.specs.Resumed.{KeepsDigests, ResumedLaw}
 
 -- ---- digests
 
-some_is : (x y : List ℕ) → Some x ≡ Some y → x ≡ y
-some_is x y e = cc
-
 same_bytes : (s r : State) (page : ℕ) → IsSound s → Goes s r → is_kernel_text (ownership r) page ≡ true → page_bytes r.ram page ≡ page_bytes s.ram page
 same_bytes s r page sound goes e =
-    some_is (page_bytes r.ram page) (page_bytes s.ram page)
+    same_Some (page_bytes r.ram page) (page_bytes s.ram page)
     (sym (text_bytes r page goes.sound e) ∙ goes.text.bytes page e ∙ text_bytes s page sound (goes.text.was page e))
 
 digests : (s r : State) (kept : List TextPage) → IsSound s → Goes s r → KeepsDigests s kept → KeepsDigests r kept

@@ -2,7 +2,8 @@
 use Rattle.std.proofs.Common.{◌≡◌, ℕ, zero, suc, ◌+◌, ◌*◌, ◌/◌, ◌%◌, ◌<◌, ◌≤◌, ◌⊎◌, inl, inr, List, [], ◌∷◌, ◌++◌, length, refl, sym, ◌∙◌, ap, subst, Bool, true, false, ◌&&◌, ◌||◌, arith, slice_get}
 use Rattle.std.specs.Prelude.{Option, Some, None, option_map, is_some, if◌then◌else◌, ◌==◌, nat_lt, nat_le}
 use Rattle.std.specs.List.{list_all}
-use Rattle.std.proofs.lemmas.Bool.{eqb-true}
+use Rattle.std.proofs.lemmas.Bool.{eqb-true, or_cases}
+use Rattle.std.proofs.lemmas.Option.{same_Some}
 use Rattle.processor.specs.Bytes.{page_size, page_bytes, page_of, ram_base, ram_place}
 use Rattle.sv_types.specs.ApprovedPages.{approved_pages}
 use Rattle.sv_types.specs.Policies.{Rules}
@@ -20,7 +21,6 @@ use Rattle.snapshot_form.proofs.FormLaws.{first_true, second_true}
 use Rattle.resumption.specs.Judgements.{page_numbers, loaded_pages, fits}
 use Rattle.resume_laws.specs.Keepable.{AreAligned, AscendFrom}
 use Rattle.resume_laws.proofs.FormParts.{below_is, most_is, last_of}
-use Rattle.resume_laws.proofs.KeepableParts.{some_is}
 use Rattle.resume_laws.proofs.TakenPages.{Taking, AllBelow, taken_in_two, length_taken, apart, or_true}
 use Rattle.run_laws.proofs.Lookups.{approved_alone, numbers_bounds, above_less}
 
@@ -130,7 +130,7 @@ modules_parts ms h = (modules_from (length ms) [] ms None refl (second_true _ (h
 -- what a test finds of all modules it finds of one that is found
 found_by : (test : SavedModule → Bool) (x m : SavedModule) (id : ℕ) (b : Bool) (rest : Option SavedModule) → test x ≡ true → (rest ≡ Some m → test m ≡ true)
     → (if b then Some x else rest) ≡ Some m → test m ≡ true
-found_by test x m id true rest one more e = subst (λ (k : SavedModule). test k ≡ true) (some_is x m e) one
+found_by test x m id true rest one more e = subst (λ (k : SavedModule). test k ≡ true) (same_Some x m e) one
 found_by test x m id false rest one more e = more e
 
 pub found_all : (test : SavedModule → Bool) (ms : List SavedModule) (id : ℕ) (m : SavedModule) → list_all test ms ≡ true → find_module ms id ≡ Some m → test m ≡ true
@@ -141,7 +141,7 @@ found_all test (x ∷ ms) id m all e =
 
 begin_by : (x m : SavedModule) (b : Bool) (rest : Option SavedModule) → x.gpa % page_size ≡ 0 → (rest ≡ Some m → m.gpa % page_size ≡ 0)
     → (if b then Some x else rest) ≡ Some m → m.gpa % page_size ≡ 0
-begin_by x m true rest one more e = subst (λ (k : SavedModule). k.gpa % page_size ≡ 0) (some_is x m e) one
+begin_by x m true rest one more e = subst (λ (k : SavedModule). k.gpa % page_size ≡ 0) (same_Some x m e) one
 begin_by x m false rest one more e = more e
 
 pub found_begins : (ms : List SavedModule) (id : ℕ) (m : SavedModule) → BeginPages ms → find_module ms id ≡ Some m → m.gpa % page_size ≡ 0
@@ -194,12 +194,8 @@ in_first xs ys page e = has_either xs ys page ∙ ap (λ (b : Bool). b || has_nu
 pub in_second : (xs ys : List ℕ) (page : ℕ) → has_number ys page ≡ true → has_number (xs ++ ys) page ≡ true
 in_second xs ys page e = has_either xs ys page ∙ ap (λ (b : Bool). has_number xs page || b) e ∙ or_true (has_number xs page)
 
-split_by : (a b : Bool) → (a || b) ≡ true → (a ≡ true) ⊎ (b ≡ true)
-split_by true b e = inl refl
-split_by false b e = inr e
-
 pub in_one : (xs ys : List ℕ) (page : ℕ) → has_number (xs ++ ys) page ≡ true → (has_number xs page ≡ true) ⊎ (has_number ys page ≡ true)
-in_one xs ys page e = split_by (has_number xs page) (has_number ys page) (sym (has_either xs ys page) ∙ e)
+in_one xs ys page e = or_cases (has_number xs page) (has_number ys page) (sym (has_either xs ys page) ∙ e)
 
 pub both_below : (n : ℕ) (xs ys : List ℕ) → AllBelow n xs → AllBelow n ys → AllBelow n (xs ++ ys)
 both_below n xs ys first rest page there = elim (in_one xs ys page there) [
@@ -220,7 +216,7 @@ loaded_inside rules (m ∷ ms) all begin =
 among_by : (rules : Rules) (x m : SavedModule) (ms : List SavedModule) (page : ℕ) (b : Bool) → (find_module ms m.id ≡ Some m → has_number (loaded_pages rules ms) page ≡ true)
     → has_number (module_pages rules m) page ≡ true → (if b then Some x else find_module ms m.id) ≡ Some m → has_number (loaded_pages rules (x ∷ ms)) page ≡ true
 among_by rules x m ms page true later there e =
-    in_first (module_pages rules x) (loaded_pages rules ms) page (subst (λ (k : SavedModule). has_number (module_pages rules k) page ≡ true) (sym (some_is x m e)) there)
+    in_first (module_pages rules x) (loaded_pages rules ms) page (subst (λ (k : SavedModule). has_number (module_pages rules k) page ≡ true) (sym (same_Some x m e)) there)
 among_by rules x m ms page false later there e = in_second (module_pages rules x) (loaded_pages rules ms) page (later e)
 
 pub among_loaded : (rules : Rules) (ms : List SavedModule) (m : SavedModule) (page : ℕ) → find_module ms m.id ≡ Some m → has_number (module_pages rules m) page ≡ true
@@ -252,11 +248,11 @@ shares_by : (rules : Rules) (x m n : SavedModule) (ms : List SavedModule) (page 
     → (has_number (module_pages rules x) page ≡ true → has_number (loaded_pages rules ms) page ≡ true → ⊥) → Shares rules ms page m n
     → (if a then Some x else find_module ms m.id) ≡ Some m → (if b then Some x else find_module ms n.id) ≡ Some n
     → has_number (module_pages rules m) page ≡ true → has_number (module_pages rules n) page ≡ true → m.id ≡ n.id
-shares_by rules x m n ms page true true other rest e f s t = ap (λ (k : SavedModule). k.id) (sym (some_is x m e) ∙ some_is x n f)
+shares_by rules x m n ms page true true other rest e f s t = ap (λ (k : SavedModule). k.id) (sym (same_Some x m e) ∙ same_Some x n f)
 shares_by rules x m n ms page true false other rest e f s t =
-    absurd (other (subst (λ (k : SavedModule). has_number (module_pages rules k) page ≡ true) (sym (some_is x m e)) s) (among_loaded rules ms n page f t))
+    absurd (other (subst (λ (k : SavedModule). has_number (module_pages rules k) page ≡ true) (sym (same_Some x m e)) s) (among_loaded rules ms n page f t))
 shares_by rules x m n ms page false true other rest e f s t =
-    absurd (other (subst (λ (k : SavedModule). has_number (module_pages rules k) page ≡ true) (sym (some_is x n f)) t) (among_loaded rules ms m page e s))
+    absurd (other (subst (λ (k : SavedModule). has_number (module_pages rules k) page ≡ true) (sym (same_Some x n f)) t) (among_loaded rules ms m page e s))
 shares_by rules x m n ms page false false other rest e f s t = rest e f s t
 
 pub one_module : (rules : Rules) (guard after : List Protection) (ms : List SavedModule) (m n : SavedModule) (page : ℕ)
@@ -282,10 +278,7 @@ pub approved_is : (ram pages : List ℕ) (page : ℕ) → is_approved_in (approv
 approved_is ram pages page = ap is_some (approved_alone ram pages page) ∙ approved_by ram page (has_number pages page)
 
 bytes_by : (ram bytes : List ℕ) (page : ℕ) (b : Bool) → (if b then Some (page_bytes ram page) else None) ≡ Some bytes → page_bytes ram page ≡ bytes
-bytes_by ram bytes page true e = same (page_bytes ram page) bytes e
-  where
-    same : (x y : List ℕ) → Some x ≡ Some y → x ≡ y
-    same x y e = cc
+bytes_by ram bytes page true e = same_Some (page_bytes ram page) bytes e
 bytes_by ram bytes page false e = cc
 
 -- they have the bytes that RAM has

@@ -4,6 +4,7 @@ use Rattle.std.specs.Prelude.{Option, Some, None, option_map, if◌then◌else�
 use Rattle.std.specs.List.{list_all}
 use Rattle.std.proofs.lemmas.Slice.Eq.{bytes_eq-Decides}
 use Rattle.std.proofs.lemmas.List.{length-map, length-replicate}
+use Rattle.std.proofs.lemmas.Bool.{false_from_ne_true, not-true}
 use Rattle.processor.specs.Bytes.{page_size, page_bytes}
 use Rattle.sv_types.specs.ApprovedPages.{approved_pages, numbers_from}
 use Rattle.sv_types.specs.Console.{most_queued}
@@ -34,15 +35,16 @@ use Rattle.resumption.specs.declared.refusal.ResumeRefusal.TheVariants.{OtherPol
 use Rattle.resume_laws.specs.Keepable.{AreKeepable, IsKeepableJournal, IsKeepableClock, IsKeepable}
 use Rattle.resume_laws.specs.Resumed.{KeepsDigests}
 use Rattle.resume_laws.specs.ResumedSound.{ResumedGoesOnLaw, ResumedSoundLaw}
-use Rattle.resume_laws.proofs.DueProtections.{due_is, all_free, by_marks, listed}
+use Rattle.resume_laws.proofs.DueProtections.{due_is, by_marks, listed}
 use Rattle.resume_laws.proofs.FormParts.{HasParts, parts_of, most_is, block_goes}
 use Rattle.resume_laws.proofs.ResumedHarts.{harts_sound, harts_kept, LoadParts, load_parts_of, load_kept, journal_kept, clock_kept}
 use Rattle.resume_laws.proofs.KeepableSteps.{keeps_law}
 use Rattle.resume_laws.proofs.ResumedHolds.{resumed_law}
 use Rattle.resume_laws.proofs.ResumedPages.{text_ascends, text_inside, ModuleParts, modules_parts, found_all, found_begins, Fits, fits_is, place_aligned, module_inside, in_first, in_second, in_one, both_below, loaded_inside, among_loaded, of_module, one_module, approved_is, keeps_text}
 use Rattle.resume_laws.proofs.TakenPages.{Taking, AllBelow, either_one, taken_in_two, length_taken, taken_at, were_free, apart, found_later}
-use Rattle.run_laws.proofs.Lookups.{not_true, not_false, all_found, number_filtered}
+use Rattle.run_laws.proofs.Lookups.{all_found, number_filtered}
 use Rattle.resumption.proofs.ModuleSites.{OfPolicy, of_policy}
+use Rattle.reference.proofs.Runs.{all_free_at}
 
 -- ---- the judgements, one by one
 
@@ -166,7 +168,7 @@ pages_owned rules s k = record {
       ∙ in_first (text_left rules s) (loaded_pages rules s.modules) page (sym (is_left rules s page) ∙ e);
   modules = λ m page p. approved_is s.ram (approved_of rules s) page
       ∙ in_second (text_left rules s) (loaded_pages rules s.modules) page (among_loaded rules s.modules m page p.loaded_is p.inside);
-  no_text = λ m page p. not_true _ (λ t. text_and_module rules s page k (sym (is_left rules s page) ∙ t) (among_loaded rules s.modules m page p.loaded_is p.inside));
+  no_text = λ m page p. false_from_ne_true _ (λ t. text_and_module rules s page k (sym (is_left rules s page) ∙ t) (among_loaded rules s.modules m page p.loaded_is p.inside));
   one_module = λ m n page p q. one_module rules k.pages.text k.pages.approved s.modules m n page k.pages.modules_are k.policy.modules k.modules.begin
       (length_taken Approved (replicate rules.ram_pages Free) k.pages.text (text_left rules s) k.pages.text_is ∙ length-replicate rules.ram_pages Free)
       p.loaded_is q.loaded_is p.inside q.inside;
@@ -207,14 +209,14 @@ load_fits_is rules ms l e =
     let two = first_true (fits rules l.«module» && not (is_loaded ms l.«module».id)) _ e in
     record {
       its = fits_is rules l.«module» (first_true (fits rules l.«module») _ two);
-      other = not_loaded ms l.«module».id (not_false (is_loaded ms l.«module».id) (second_true (fits rules l.«module») _ two));
+      other = not_loaded ms l.«module».id (not-true (is_loaded ms l.«module».id) (second_true (fits rules l.«module») _ two));
       left = most_is l.left (pages_in_rule (slice_get rules.modules l.«module».id)) (second_true (fits rules l.«module» && not (is_loaded ms l.«module».id)) _ e);
     }
 
 load_free : (rules : Rules) (s : Contents) (page : ℕ) → Known rules s → has_number (load_pages rules s.loading) page ≡ true
     → is_approved_in (approved_pages s.ram (approved_of rules s)) page ≡ false
 load_free rules s page k there =
-    not_true _ (λ t. apart Approved (replicate rules.ram_pages Free) k.pages.approved s.protection Held (approved_of rules s) (load_pages rules s.loading) page refl
+    false_from_ne_true _ (λ t. apart Approved (replicate rules.ram_pages Free) k.pages.approved s.protection Held (approved_of rules s) (load_pages rules s.loading) page refl
     (free_below rules (approved_of rules s) (both_below rules.ram_pages (text_left rules s) (loaded_pages rules s.modules) (text_below rules s k) (modules_below rules s k)))
     k.pages.all_are k.pages.load_is (sym (approved_is s.ram (approved_of rules s) page) ∙ t) there)
 
@@ -269,7 +271,7 @@ protection_is rules s page k =
     (subst (λ (n : ℕ). AllBelow n (load_pages rules s.loading)) (sym size) (load_below rules s k)) k.pages.load_is)
     (taken_at Approved free k.pages.approved (approved_of rules s) page (free_below rules (approved_of rules s) (approved_below rules s k)) k.pages.all_are
     ∙ ap (λ (b : Bool). either_one b Approved (protection_at free page)) (sym (approved_is s.ram (approved_of rules s) page))
-    ∙ ap (either_one (is_approved_in (approved_pages s.ram (approved_of rules s)) page) Approved) (all_free rules.ram_pages page))
+    ∙ ap (either_one (is_approved_in (approved_pages s.ram (approved_of rules s)) page) Approved) (all_free_at rules.ram_pages page))
     (λ there. were_free Held k.pages.approved s.protection (load_pages rules s.loading) page k.pages.load_is there)
 
 protections_are : (rules : Rules) (s : Contents) → Known rules s → saved_protections (resumed_state rules s) ≡ s.protection
@@ -346,7 +348,7 @@ digests_of rules s k = record {
   pages = refl;
   each = λ i t at left.
       let one = listed_at (λ (x : TextPage). is_retired rules s.retired x.page || is_there s.ram x) s.text i t k.text at in
-      let kept = not_false (is_retired rules s.retired t.page) (second_true (has_number (page_numbers s.text) t.page) _ left) in
+      let kept = not-true (is_retired rules s.retired t.page) (second_true (has_number (page_numbers s.text) t.page) _ left) in
       (bytes_eq-Decides (page_digest (page_bytes s.ram t.page)) t.digest).0 (found_later (is_retired rules s.retired t.page) (is_there s.ram t) one kept);
   joined = (bytes_eq-Decides (joined_digests (map (λ (t : TextPage). t.digest) s.text)) rules.kernel).0 k.joined;
 }

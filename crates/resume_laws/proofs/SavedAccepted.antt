@@ -2,7 +2,7 @@
 use Rattle.std.proofs.Common.{◌≡◌, ℕ, zero, suc, ◌+◌, ◌-◌, ◌*◌, ◌/◌, ◌%◌, ◌<◌, ◌≤◌, List, [], ◌∷◌, length, map, replicate, refl, sym, ◌∙◌, ap, subst, Bool, true, false, not, ◌&&◌, ◌||◌, arith, slice_get}
 use Rattle.std.specs.Prelude.{Option, Some, None, option_map, is_some, if◌then◌else◌, ◌==◌, nat_lt, nat_le, IsTrue}
 use Rattle.std.specs.List.{list_all}
-use Rattle.std.proofs.lemmas.Bool.{eq-eqb}
+use Rattle.std.proofs.lemmas.Bool.{eq-eqb, and_from}
 use Rattle.std.proofs.lemmas.List.{length-replicate}
 use Rattle.std.proofs.lemmas.Slice.Eq.{bytes_eq-Decides}
 use Rattle.processor.specs.Bytes.{page_size, page_bytes, page_of, ram_base, ram_place}
@@ -31,21 +31,22 @@ use Rattle.resumption.proofs.ModuleSites.{some_pages}
 use Rattle.resume_laws.specs.Keepable.{AscendFrom, IsKeepable}
 use Rattle.resume_laws.specs.Resumed.{KeepsDigests}
 use Rattle.resume_laws.specs.SavedAccepted.{SavedAcceptedLaw}
-use Rattle.resume_laws.proofs.DueProtections.{all_free, by_marks, listed}
+use Rattle.resume_laws.proofs.DueProtections.{by_marks, listed}
 use Rattle.resume_laws.proofs.FormParts.{least_is, less_is}
 use Rattle.resume_laws.proofs.KeepableStarts.{filter_ascends, numbers_ascend}
 use Rattle.resume_laws.proofs.ResumedPages.{of_module, page_inside}
 use Rattle.resume_laws.proofs.SavedResumes.{SameText, contents_are, contents_of, from_owned, held_back, left_is, length_saved, same_truth, to_approved}
 use Rattle.resume_laws.proofs.TakenAgain.{AreOnce, ShareNone, once_both, once_loaded, once_up, takes}
 use Rattle.resume_laws.proofs.TakenPages.{AllBelow, Taking, either_one, length_taken, or_true, taken_at}
-use Rattle.run_laws.proofs.Lookups.{all_found, and_both, both, numbers_bounds, same_number, length_pages}
+use Rattle.run_laws.proofs.Lookups.{all_found, both, numbers_bounds, same_number, length_pages}
 use Rattle.run_laws.proofs.StateLawsHold.{held_free}
+use Rattle.reference.proofs.Runs.{all_free_at}
 
 -- ---- lists
 
 all_by : {A : Type 0} (test : A → Bool) (xs : List A) → ((i : ℕ) (x : A) → slice_get xs i ≡ Some x → test x ≡ true) → list_all test xs ≡ true
 all_by test [] each = refl
-all_by test (x ∷ xs) each = and_both (test x) (list_all test xs) (each 0 x refl) (all_by test xs (λ i y at. each (suc i) y at))
+all_by test (x ∷ xs) each = and_from (test x) (list_all test xs) (each 0 x refl) (all_by test xs (λ i y at. each (suc i) y at))
 
 -- ---- the first judgement
 
@@ -59,7 +60,7 @@ all_bound : (rules : Rules) (clock : Clock) (h : ℕ) (harts : List Hart) → ((
 unfolding saved_harts
 all_bound rules clock h [] sound = refl
 all_bound rules clock h (hart ∷ harts) sound =
-    and_both (is_bound rules hart.entry) _ (bound_by rules hart.mode hart.entry (sound 0 hart refl).entry)
+    and_from (is_bound rules hart.entry) _ (bound_by rules hart.mode hart.entry (sound 0 hart refl).entry)
     (all_bound rules clock (h + 1) harts (λ i x at. sound (suc i) x at))
 
 -- the last page of a module lies in RAM, so all of them do
@@ -69,7 +70,7 @@ room_by place n pages whole some inside = omega (arith, whole, some, inside)
 last_in : (first n : ℕ) → 1 ≤ n → has_number (numbers_from first n) (first + (n - 1)) ≡ true
 last_in first n some =
     in_numbers first n (first + (n - 1))
-    ∙ and_both (nat_le first (first + (n - 1))) _ (least_is first (first + (n - 1)) (omega arith)) (less_is (first + (n - 1) - first) n (omega (arith, some)))
+    ∙ and_from (nat_le first (first + (n - 1))) _ (least_is first (first + (n - 1)) (omega arith)) (less_is (first + (n - 1) - first) n (omega (arith, some)))
 
 rule_pages : (rules : Rules) (id : ℕ) (x : Option ModuleRule) → IsTrue (rules_within rules) → id < length rules.modules → slice_get rules.modules id ≡ x → 1 ≤ pages_in_rule x
 rule_pages rules id None within known at = absurd (past rules.modules id known at)
@@ -83,8 +84,8 @@ rule_pages rules id (Some rule) within known at = (some_pages rules id rule with
 fit_by : (rules : Rules) (m : SavedModule) → m.id < length rules.modules → ram_base ≤ m.gpa
     → ram_place m.gpa + page_size * pages_in_rule (slice_get rules.modules m.id) ≤ page_size * rules.ram_pages → fits rules m ≡ true
 fit_by rules m known base inside =
-    and_both (nat_lt m.id (length rules.modules) && nat_le ram_base m.gpa) _
-    (and_both (nat_lt m.id (length rules.modules)) (nat_le ram_base m.gpa) (less_is m.id (length rules.modules) known) (least_is ram_base m.gpa base))
+    and_from (nat_lt m.id (length rules.modules) && nat_le ram_base m.gpa) _
+    (and_from (nat_lt m.id (length rules.modules)) (nat_le ram_base m.gpa) (less_is m.id (length rules.modules) known) (least_is ram_base m.gpa base))
     (least_is (ram_place m.gpa + page_size * pages_in_rule (slice_get rules.modules m.id)) (page_size * rules.ram_pages) inside)
 
 loaded_fits : (r : State) (i : ℕ) (m : SavedModule) → IsSound r → slice_get r.loaded i ≡ Some m → fits r.rules m ≡ true
@@ -109,8 +110,8 @@ none_loaded (m ∷ ms) id e = by m (m.id == id) (find_module ms id) (is_loaded m
 load_fits_by : (r : State) (x : Option Loading) → IsSoundLoad r.rules r.approved r.loaded r.held x → load_fits r.rules r.loaded (option_map saved_load x) ≡ true
 load_fits_by r None k = refl
 load_fits_by r (Some load) k =
-    and_both (fits r.rules load.about && not (is_loaded r.loaded load.about.id)) _
-    (and_both (fits r.rules load.about) (not (is_loaded r.loaded load.about.id)) (fit_by r.rules load.about k.known k.base k.inside) (ap not (none_loaded r.loaded load.about.id k.other)))
+    and_from (fits r.rules load.about && not (is_loaded r.loaded load.about.id)) _
+    (and_from (fits r.rules load.about) (not (is_loaded r.loaded load.about.id)) (fit_by r.rules load.about k.known k.base k.inside) (ap not (none_loaded r.loaded load.about.id k.other)))
     (least_is load.left (pages_in_rule (slice_get r.rules.modules load.about.id)) k.left)
 
 abbrev pub snapped : State → ℕ → List TextPage → PortState → List ℕ → Contents
@@ -124,7 +125,7 @@ of_policy r events text port disk sound =
     let b : (length (saved_protections r) == r.rules.ram_pages) ≡ true = eq-eqb _ _ (length_pages (protection_in r.approved r.held) 0 r.rules.ram_pages) in
     let c = all_bound r.rules r.devices.clock 0 r.harts sound.harts in
     let d : list_all (fits r.rules) r.loaded ≡ true = all_by (fits r.rules) r.loaded (λ i m at. loaded_fits r i m sound at) in
-    and_both _ _ (and_both _ _ (and_both _ _ (and_both _ _ a b) c) d) (load_fits_by r r.loading sound.load)
+    and_from _ _ (and_from _ _ (and_from _ _ (and_from _ _ a b) c) d) (load_fits_by r r.loading sound.load)
 
 -- ---- the second: whose pages
 
@@ -192,7 +193,7 @@ one_same Approved = refl
 
 all_same : (ps : List Protection) → are_same ps ps ≡ true
 all_same [] = refl
-all_same (p ∷ ps) = and_both (is_same p p) (are_same ps ps) (one_same p) (all_same ps)
+all_same (p ∷ ps) = and_from (is_same p p) (are_same ps ps) (one_same p) (all_same ps)
 
 -- approved pages are taken first, and those that are held are free then
 record TakenTwice (r : State) (c : Contents) : Type 0 where
@@ -208,11 +209,11 @@ first_taken r c sound a =
     let free : List Protection = replicate n Free in
     let long : length free ≡ n = length-replicate n Free in
     let pages : List ℕ = approved_of r.rules c in
-    let mid = takes Approved free pages a.once (λ page there. ap is_free (all_free n page)) in
+    let mid = takes Approved free pages a.once (λ page there. ap is_free (all_free_at n page)) in
     let at : (page : ℕ) → protection_at mid.0 page ≡ either_one (is_approved_in r.approved page) Approved Free = λ page.
     taken_at Approved free mid.0 pages page (subst (λ (k : ℕ). AllBelow k pages) (sym long) a.below) mid.1
     ∙ ap (λ (b : Bool). either_one b Approved (protection_at free page)) (a.same page)
-    ∙ ap (either_one (is_approved_in r.approved page) Approved) (all_free n page) in
+    ∙ ap (either_one (is_approved_in r.approved page) Approved) (all_free_at n page) in
     record {
       mid = mid.0;
       approved = mid.1;
@@ -265,7 +266,7 @@ is_right r text i t k at =
     or_by (is_retired r.rules r.retired t.page) (is_there r.ram t)
     (λ left.
     let there : has_number r.text t.page ≡ true = subst (λ (pages : List ℕ). has_number pages t.page ≡ true) k.pages (page_in text i t at) in
-    (bytes_eq-Decides (page_digest (page_bytes r.ram t.page)) t.digest).1 (k.each i t at (and_both (has_number r.text t.page) _ there (ap not left))))
+    (bytes_eq-Decides (page_digest (page_bytes r.ram t.page)) t.digest).1 (k.each i t at (and_from (has_number r.text t.page) _ there (ap not left))))
 
 text_there : (r : State) (events : ℕ) (text : List TextPage) (port : PortState) (disk : List ℕ) → KeepsDigests r text → has_text r.rules (snapped r events text port disk) ≡ true
 unfolding has_text

@@ -22,7 +22,7 @@ use Rattle.snapshot_form.proofs.FormLaws.{both_true, first_true, second_true}
 use Rattle.resume_laws.specs.Keepable.{AscendFrom, IsKeepable, IsKeepableJournal}
 use Rattle.resume_laws.specs.Resumed.{KeepsDigests}
 use Rattle.resume_laws.specs.SavedForm.{HasBlock, IsCounted, SavedFormLaw}
-use Rattle.resume_laws.proofs.FormParts.{least_is, most_is, small_word}
+use Rattle.resume_laws.proofs.FormParts.{least_is, small_word}
 use Rattle.resume_laws.proofs.SavedAccepted.{snapped}
 use Rattle.resume_laws.proofs.SavedHarts.{flag_has, harts_have}
 use Rattle.resume_laws.proofs.SavedJournals.{counts_have, notes_have, verdict_has}
@@ -30,6 +30,7 @@ use Rattle.resume_laws.proofs.SavedPages.{loading_has, modules_have, protections
 use Rattle.resume_laws.proofs.SavedResumes.{contents_are, contents_of, length_saved}
 use Rattle.resume_laws.proofs.TakenPages.{AllBelow}
 use Rattle.run_laws.proofs.Lookups.{length_pages}
+use Rattle.sv_types.proofs.PolicyLimits.{few_pages, few_harts}
 
 -- ---- harts and pages are as many as the policy says
 
@@ -52,8 +53,8 @@ within_parts rules within =
     record {
       harts = harts;
       pages = pages;
-      few = most_is rules.ram_pages 262144 (second_true _ (nat_le rules.ram_pages 262144) pages);
-      four = most_is rules.harts 4 (second_true (nat_le 1 rules.harts) (nat_le rules.harts 4) harts);
+      few = few_pages rules within;
+      four = few_harts rules within;
     }
 
 -- ---- the parts

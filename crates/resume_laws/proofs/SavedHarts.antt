@@ -2,7 +2,7 @@
 use Rattle.std.proofs.Common.{◌≡◌, ℕ, zero, suc, ◌+◌, ◌-◌, ◌*◌, ◌%◌, ◌^◌, ◌<◌, ◌≤◌, List, [], ◌∷◌, ◌++◌, length, drop, refl, ◌∙◌, ap, subst, Bool, true, false, not, ◌&&◌, ◌||◌, arith, slice_get}
 use Rattle.std.specs.Prelude.{Option, Some, None, option_map, ◌==◌, nat_le, IsTrue}
 use Rattle.std.specs.List.{list_all}
-use Rattle.std.proofs.lemmas.Bool.{eq-eqb, ne_eqb}
+use Rattle.std.proofs.lemmas.Bool.{eq-eqb, ne_eqb, or_right}
 use Rattle.std.proofs.lemmas.List.{length-drop}
 use Rattle.processor.specs.Bits.{flag as bit_of}
 use Rattle.processor.specs.Bytes.{page_size, ram_base}
@@ -10,7 +10,7 @@ use Rattle.processor.specs.Registers.{legal_status, legal_interrupts, legal_tvec
 use Rattle.processor.specs.declared.mode.Mode.{Mode}
 use Rattle.processor.specs.declared.mode.Mode.TheVariants.{Kernel, User}
 use Rattle.sv_types.specs.Clock.{Clock}
-use Rattle.sv_types.specs.Policies.{Rules, rules_within, numbers_within, lists_within, init_within, modules_count_within, modules_within, entries_count_within, entries_within, exports_count_within, exports_within, bound_within}
+use Rattle.sv_types.specs.Policies.{Rules, rules_within}
 use Rattle.reference.specs.Soundness.{IsSoundEntry, IsSoundHart}
 use Rattle.reference.specs.States.{Hart, Binding, binding_at, binding_of}
 use Rattle.saved_machine.specs.SavedStates.{gpa_at, saved_hart, saved_harts}
@@ -20,8 +20,9 @@ use Rattle.snapshot_form.specs.HartForms.{aligned, begins_with_0, flag, hart, le
 use Rattle.snapshot_form.specs.Typed.{are_registers, are_words, is_typed_hart, supervisor_numbers}
 use Rattle.snapshot_form.proofs.FormLaws.{both_true, first_true, second_true}
 use Rattle.resume_laws.specs.Keepable.{AreKeepable, IsKeepableHart, IsReservable}
-use Rattle.resume_laws.proofs.FormParts.{least_is, less_is, most_is, small_word}
+use Rattle.resume_laws.proofs.FormParts.{least_is, less_is, small_word}
 use Rattle.std.proofs.lemmas.Bool.{eqb-true}
+use Rattle.sv_types.proofs.PolicyLimits.{few_entries}
 
 -- ---- numbers
 
@@ -56,20 +57,6 @@ flag_has false = refl
 
 -- ---- mode and entry
 
-few_entries : (rules : Rules) → IsTrue (rules_within rules) → length rules.entries ≤ 64
-few_entries rules within =
-    let lists : lists_within rules ≡ true =
-    second_true (numbers_within rules) (lists_within rules)
-    (first_true (numbers_within rules && lists_within rules) (init_within rules.ram_pages rules.init)
-    (first_true (numbers_within rules && lists_within rules && init_within rules.ram_pages rules.init) (modules_count_within (length rules.modules))
-    (first_true (numbers_within rules && lists_within rules && init_within rules.ram_pages rules.init && modules_count_within (length rules.modules)) (modules_within (length rules.exports) rules.modules) within))) in
-    let count : entries_count_within (length rules.entries) ≡ true =
-    first_true (entries_count_within (length rules.entries)) (entries_within rules.entries)
-    (first_true (entries_count_within (length rules.entries) && entries_within rules.entries) (exports_count_within (length rules.exports))
-    (first_true (entries_count_within (length rules.entries) && entries_within rules.entries && exports_count_within (length rules.exports)) (exports_within rules.exports)
-    (first_true (entries_count_within (length rules.entries) && entries_within rules.entries && exports_count_within (length rules.exports) && exports_within rules.exports) (bound_within rules) lists))) in
-    most_is (length rules.entries) 64 (second_true (nat_le 1 (length rules.entries)) (nat_le (length rules.entries) 64) count)
-
 bound_inside : (xs ys : List ℕ) (i : ℕ) (b : Binding) → binding_of (slice_get xs i) (slice_get ys i) ≡ Some b → i < length xs
 bound_inside [] ys i b e = cc
 bound_inside (x ∷ xs) ys zero b e = omega arith
@@ -99,10 +86,6 @@ side_has rules false Kernel (Some i) within k still = let none : Some i ≡ None
 side_has rules false User entry within k still = let kernel : User ≡ Kernel = (still refl).0 in cc
 
 -- ---- the reservation
-
-or_right : (a b : Bool) → b ≡ true → (a || b) ≡ true
-or_right true b e = refl
-or_right false b e = e
 
 reservation_has : (pages : ℕ) (x : Option ℕ) → pages ≤ 262144 → IsReservable (page_size * pages) x → (reservation pages).has (option_map gpa_at x) ≡ true
 unfolding reservation

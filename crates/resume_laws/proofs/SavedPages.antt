@@ -6,7 +6,7 @@ use Rattle.processor.specs.Bytes.{page_size, ram_base, ram_place}
 use Rattle.processor.specs.declared.mode.Mode.{Mode}
 use Rattle.processor.specs.declared.mode.Mode.TheVariants.{Kernel}
 use Rattle.sv_types.specs.Clock.{Clock}
-use Rattle.sv_types.specs.Policies.{Rules, ModuleRule, rules_within, numbers_within, lists_within, init_within, modules_count_within, modules_within}
+use Rattle.sv_types.specs.Policies.{Rules, ModuleRule, rules_within, modules_count_within}
 use Rattle.sv_types.specs.declared.protection.Protection.{Protection}
 use Rattle.sv_types.specs.declared.protection.Protection.TheVariants.{Free, Held, Approved}
 use Rattle.sv_types.specs.declared.saved.SavedModule.{SavedModule}
@@ -22,12 +22,13 @@ use Rattle.snapshot_form.specs.declared.whole.TextPage.{TextPage}
 use Rattle.snapshot_form.proofs.FormLaws.{both_true, first_true, second_true}
 use Rattle.resumption.specs.Judgements.{page_numbers}
 use Rattle.resumption.proofs.ModuleSites.{some_pages}
-use Rattle.run_laws.proofs.Lookups.{all_found, same_number}
+use Rattle.run_laws.proofs.Lookups.{all_found}
 use Rattle.resume_laws.specs.Keepable.{AreAligned, AscendFrom, IsKeepableLoad, MayGoOn}
-use Rattle.resume_laws.proofs.FormParts.{last_of, least_is, less_is, most_is, small_word}
+use Rattle.resume_laws.proofs.FormParts.{last_of, least_is, less_is, small_word}
 use Rattle.resume_laws.proofs.SavedHarts.{aligned_has, word_at, words_behind}
-use Rattle.resume_laws.proofs.TakenPages.{AllBelow, tail_below}
+use Rattle.resume_laws.proofs.TakenPages.{AllBelow, tail_below, head_below}
 use Rattle.std.proofs.lemmas.Bool.{eqb-true}
+use Rattle.sv_types.proofs.PolicyLimits.{few_modules}
 
 -- ---- protections
 
@@ -55,9 +56,6 @@ behind (Some last) = last + 1
 above_is : (last : Option ℕ) (n : ℕ) → behind last ≤ n → is_above last n ≡ true
 above_is None n e = refl
 above_is (Some last) n e = less_is last n (omega (arith, e))
-
-head_below : (end n : ℕ) (ns : List ℕ) → AllBelow end (n ∷ ns) → n < end
-head_below end n ns below = below n (ap (λ (b : Bool). b || has_number ns n) (same_number n))
 
 -- no more of them than there are numbers
 ascending_few : (first end : ℕ) (ns : List ℕ) → AscendFrom first ns → AllBelow end ns → first ≤ end → first + length ns ≤ end
@@ -143,12 +141,6 @@ modules_each before (m ∷ ms) last at up good va typed =
     (module_has (is_above (last_id before)) m (ap (λ (x : Option ℕ). is_above x m.id) at ∙ above_is last m.id up.0) (good 0 m refl) va.0 (first_true (are_words (module_numbers m)) _ typed))
     (modules_each (before ++ m ∷ []) ms (Some m.id) (ap (option_map (λ (x : SavedModule). x.id)) (last_of before m)) up.1 (λ i x e. good (suc i) x e) va.1
     (second_true (are_words (module_numbers m)) _ typed))
-
-few_modules : (rules : Rules) → IsTrue (rules_within rules) → length rules.modules ≤ 64
-few_modules rules within =
-    most_is (length rules.modules) 64
-    (second_true (numbers_within rules && lists_within rules && init_within rules.ram_pages rules.init) (modules_count_within (length rules.modules))
-    (first_true (numbers_within rules && lists_within rules && init_within rules.ram_pages rules.init && modules_count_within (length rules.modules)) (modules_within (length rules.exports) rules.modules) within))
 
 length_ids : (ms : List SavedModule) → length (ids_of ms) ≡ length ms
 length_ids [] = refl

@@ -1,12 +1,11 @@
 -- What was saved of a state leads back to it.
 use Rattle.std.proofs.Common.{◌≡◌, ℕ, zero, suc, ◌+◌, ◌-◌, ◌*◌, ◌^◌, ◌<◌, ◌≤◌, inl, inr, List, [], ◌∷◌, ◌++◌, length, map, drop, replicate, refl, sym, ◌∙◌, ap, subst, Bool, true, false, not, ◌&&◌, arith}
-use Rattle.std.specs.Prelude.{Option, Some, None, option_map, is_some, if◌then◌else◌, ◌==◌, slice_index, nat_le, IsTrue}
+use Rattle.std.specs.Prelude.{Option, Some, None, option_map, is_some, if◌then◌else◌, ◌==◌, slice_index}
 use Rattle.std.proofs.lemmas.List.{append-nil}
 use Rattle.processor.specs.Bits.{flag}
 use Rattle.processor.specs.Bytes.{page_bytes, ram_place}
 use Rattle.sv_types.specs.ApprovedPages.{approved_bytes, approved_pages}
 use Rattle.sv_types.specs.Clock.{Clock, latest, timer_of}
-use Rattle.sv_types.specs.Policies.{Rules, rules_within, format_within, harts_within, ram_pages_within, lists_within, init_within, modules_count_within, modules_within}
 use Rattle.sv_types.specs.declared.port.PortState.{PortState}
 use Rattle.sv_types.specs.declared.protection.Protection.{Protection}
 use Rattle.reference.specs.Origins.{IsOwned, is_kernel_text, ownership}
@@ -17,16 +16,14 @@ use Rattle.saved_machine.specs.declared.harts.SavedHart.{SavedHart}
 use Rattle.snapshot_form.specs.Snapshots.{Contents, contents}
 use Rattle.snapshot_form.specs.declared.whole.Snapshot.{Snapshot}
 use Rattle.snapshot_form.specs.declared.whole.TextPage.{TextPage}
-use Rattle.snapshot_form.proofs.FormLaws.{second_true}
 use Rattle.resumption.specs.Judgements.{page_numbers, is_retired, text_left, loaded_pages, load_pages, approved_of}
 use Rattle.resumption.specs.ResumedStates.{resumed_hart, resumed_load, resumed_state, timers_of}
 use Rattle.resume_laws.specs.Continues.{Alike}
 use Rattle.resume_laws.specs.Keepable.{IsKeepable, IsKeepableClock}
 use Rattle.resume_laws.specs.SavedResumes.{SavedResumesLaw}
-use Rattle.resume_laws.proofs.FormParts.{most_is}
 use Rattle.resume_laws.proofs.ResumedPages.{in_first, in_second, in_one, among_loaded, of_module}
 use Rattle.run_laws.proofs.Lookups.{all_found, approved_alone, number_filtered}
-use Rattle.run_laws.proofs.StartsSound.{harts_of_seven}
+use Rattle.sv_types.proofs.PolicyLimits.{few_harts}
 
 -- ---- harts
 
@@ -211,14 +208,8 @@ pub contents_are : (r : State) (s : Snapshot) → IsSaved r s.«machine»
 contents_are r s k =
     rw (k.harts, k.ram, k.modules, k.retired, k.loading, k.console, k.time, k.counts, k.notes, k.verdict) refl
 
-few_within : (rules : Rules) → IsTrue (rules_within rules) → rules.harts ≤ 4
-few_within rules within =
-    let harts : harts_within rules.harts ≡ true = harts_of_seven (format_within rules.format) (harts_within rules.harts) (ram_pages_within rules.ram_pages) (lists_within rules)
-    (init_within rules.ram_pages rules.init) (modules_count_within (length rules.modules)) (modules_within (length rules.exports) rules.modules) within in
-    most_is rules.harts 4 (second_true (nat_le 1 rules.harts) (nat_le rules.harts 4) harts)
-
 pub saved_resumes_law : SavedResumesLaw
 saved_resumes_law r s sound keepable saved digests =
     subst (λ (c : Contents). Alike r.journal.printed r (resumed_state r.rules c)) (sym (contents_are r s saved))
     (state_back r s.events s.text.items s.«machine».protection.items s.«machine».port s.«machine».disk.items sound keepable
-    (subst (λ (n : ℕ). n ≤ 4) (sym sound.number) (few_within r.rules sound.within)) digests.pages saved.disk)
+    (subst (λ (n : ℕ). n ≤ 4) (sym sound.number) (few_harts r.rules sound.within)) digests.pages saved.disk)

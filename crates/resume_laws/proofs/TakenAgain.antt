@@ -1,7 +1,7 @@
 -- Pages that are free and stand once in a list are taken one after the other.
-use Rattle.std.proofs.Common.{◌≡◌, ℕ, zero, suc, ◌+◌, ◌<◌, inl, inr, List, [], ◌∷◌, ◌++◌, slice_set, refl, ◌∙◌, ap, subst, Bool, true, false, ◌||◌, arith, slice_get}
+use Rattle.std.proofs.Common.{◌≡◌, ℕ, suc, ◌+◌, ◌<◌, inl, inr, List, [], ◌∷◌, ◌++◌, slice_set, refl, ◌∙◌, ap, subst, Bool, true, false, ◌||◌, arith, slice_get}
 use Rattle.std.specs.Prelude.{Some, None, if◌then◌else◌, ◌==◌}
-use Rattle.std.proofs.lemmas.Bool.{ne_eqb}
+use Rattle.std.proofs.lemmas.Bool.{ne_eqb, false_from_ne_true}
 use Rattle.sv_types.specs.Policies.{Rules}
 use Rattle.sv_types.specs.declared.protection.Protection.{Protection}
 use Rattle.sv_types.specs.declared.saved.SavedModule.{SavedModule}
@@ -10,7 +10,7 @@ use Rattle.reference.specs.Protections.{is_free, protection_at}
 use Rattle.reference.specs.States.{has_number, module_pages}
 use Rattle.resumption.specs.Judgements.{loaded_pages, taken}
 use Rattle.resumption.proofs.TakenSpans.{set_beside}
-use Rattle.run_laws.proofs.Lookups.{both, not_true, same_number}
+use Rattle.run_laws.proofs.Lookups.{both, same_number, above_at}
 use Rattle.resume_laws.specs.Keepable.{AscendFrom}
 use Rattle.resume_laws.proofs.KeepableStarts.{numbers_ascend}
 use Rattle.resume_laws.proofs.ResumedPages.{in_one, of_module}
@@ -33,7 +33,7 @@ once_up first [] up = tt
 once_up first (page ∷ pages) up = (not_below (page + 1) page pages up.1 (omega arith), once_up (page + 1) pages up.1)
 
 not_in_both : (xs ys : List ℕ) (page : ℕ) → has_number xs page ≡ false → (has_number ys page ≡ true → ⊥) → has_number (xs ++ ys) page ≡ false
-not_in_both xs ys page none other = not_true (has_number (xs ++ ys) page) (λ there. elim (in_one xs ys page there) [
+not_in_both xs ys page none other = false_from_ne_true (has_number (xs ++ ys) page) (λ there. elim (in_one xs ys page there) [
   | inl here ↦ both (has_number xs page) here none
   | inr behind ↦ other behind
 ])
@@ -58,17 +58,12 @@ abbrev pub ShareNone : Rules → List SavedModule → Type 0
 ShareNone rules ms = (i j page : ℕ) (m n : SavedModule) → slice_get ms i ≡ Some m → slice_get ms j ≡ Some n → has_number (module_pages rules m) page ≡ true
     → has_number (module_pages rules n) page ≡ true → m.id ≡ n.id
 
-above_at : (id i : ℕ) (ms : List SavedModule) (m : SavedModule) → AllAbove id ms → slice_get ms i ≡ Some m → id < m.id
-above_at id i [] m all at = cc
-above_at id zero (x ∷ ms) m all at = let same : x ≡ m = cc in subst (λ (k : SavedModule). id < k.id) same all.0
-above_at id (suc i) (x ∷ ms) m all at = above_at id i ms m all.1 at
-
 apart_from : (rules : Rules) (m : SavedModule) (ms : List SavedModule) (page : ℕ) → AllAbove m.id ms → ShareNone rules (m ∷ ms)
     → has_number (module_pages rules m) page ≡ true → has_number (loaded_pages rules ms) page ≡ true → ⊥
 apart_from rules m ms page above none here there =
     let k = of_module rules ms page there in
     let same : m.id ≡ k.about.id = none 0 (suc k.place) page m k.about refl k.at here k.inside in
-    let less : m.id < k.about.id = above_at m.id k.place ms k.about above k.at in omega (arith, same, less)
+    let less : m.id < k.about.id = above_at m.id ms k.place k.about above k.at in omega (arith, same, less)
 
 pub once_loaded : (rules : Rules) (ms : List SavedModule) → Ascends ms → ShareNone rules ms → AreOnce (loaded_pages rules ms)
 once_loaded rules [] up none = tt

@@ -1,7 +1,7 @@
 -- Pages that were taken one after the other: which protection they have, and that each was free.
 use Rattle.std.proofs.Common.{◌≡◌, ℕ, zero, suc, ◌<◌, List, [], ◌∷◌, ◌++◌, length, refl, sym, ◌∙◌, ap, subst, Bool, true, false, ◌||◌, arith, slice_set}
 use Rattle.std.specs.Prelude.{Some, None, if◌then◌else◌, ◌==◌}
-use Rattle.std.proofs.lemmas.Bool.{eqb-true}
+use Rattle.std.proofs.lemmas.Bool.{eqb-true, eqb-false}
 use Rattle.std.proofs.lemmas.List.{length-set}
 use Rattle.sv_types.specs.declared.protection.Protection.{Protection}
 use Rattle.reference.specs.Protections.{is_free, protection_at}
@@ -16,9 +16,6 @@ set_here : (guard : List Protection) (page : ℕ) (p : Protection) → page < le
 set_here [] page p inside = absurd (omega (arith, inside))
 set_here (x ∷ guard) zero p inside = refl
 set_here (x ∷ guard) (suc page) p inside = set_here guard page p (omega (arith, inside))
-
-not_same : (a b : ℕ) → (a == b) ≡ false → a ≡ b → ⊥
-not_same a b apart same = both (a == b) (ap (λ (n : ℕ). n == b) same ∙ same_number b) apart
 
 -- ---- a step
 
@@ -45,7 +42,7 @@ pub or_true : (b : Bool) → (b || true) ≡ true
 or_true true = refl
 or_true false = refl
 
-head_below : (n page : ℕ) (pages : List ℕ) → AllBelow n (page ∷ pages) → page < n
+pub head_below : (n page : ℕ) (pages : List ℕ) → AllBelow n (page ∷ pages) → page < n
 head_below n page pages all = all page (ap (λ (b : Bool). b || has_number pages page) (same_number page))
 
 pub tail_below : (n page : ℕ) (pages : List ℕ) → AllBelow n (page ∷ pages) → AllBelow n pages
@@ -64,7 +61,7 @@ at_by p guard page q true true at inside = refl
 at_by p guard page q true false at inside =
     subst (λ (k : ℕ). protection_at (slice_set guard page p) k ≡ p) (eqb-true page q at) (set_here guard page p inside)
 at_by p guard page q false true at inside = refl
-at_by p guard page q false false at inside = set_beside guard page q p (not_same page q at)
+at_by p guard page q false false at inside = set_beside guard page q p (eqb-false page q at)
 
 -- those that were taken have the protection, and all others theirs
 pub taken_at : (p : Protection) (guard after : List Protection) (pages : List ℕ) (q : ℕ) → AllBelow (length guard) pages → Taking p guard pages after
@@ -83,7 +80,7 @@ taken_it p guard after pages q all e there = taken_at p guard after pages q all 
 free_by : (p : Protection) (guard : List Protection) (page q : ℕ) (first : Bool) → (page == q) ≡ first → is_free (protection_at guard page) ≡ true
     → (first ≡ false → is_free (protection_at (slice_set guard page p) q) ≡ true) → is_free (protection_at guard q) ≡ true
 free_by p guard page q true at free rest = subst (λ (k : ℕ). is_free (protection_at guard k) ≡ true) (eqb-true page q at) free
-free_by p guard page q false at free rest = ap is_free (sym (set_beside guard page q p (not_same page q at))) ∙ rest refl
+free_by p guard page q false at free rest = ap is_free (sym (set_beside guard page q p (eqb-false page q at))) ∙ rest refl
 
 pub found_later : (first rest : Bool) → (first || rest) ≡ true → first ≡ false → rest ≡ true
 found_later true rest e off = cc

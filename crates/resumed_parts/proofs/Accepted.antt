@@ -30,6 +30,7 @@ use Rattle.resumed_parts.specs.Counting.{IsWithin}
 use Rattle.resumed_parts.specs.Seating.{CanAllSit}
 use Rattle.resumed_parts.proofs.Seated.{all_sit, bound_rules}
 use Rattle.resumption.proofs.ModuleSites.{of_policy}
+use Rattle.sv_types.proofs.PolicyLimits.{few_modules}
 
 -- ---- loaded modules
 
@@ -54,9 +55,6 @@ ascends_by rules low (m ∷ ms) few fit ascends from least =
 from_none : (ms : List SavedModule) → BeginFrom 0 ms
 from_none [] = tt
 from_none (m ∷ ms) = omega arith
-
-few_modules : (rules : Rules) → IsTrue (rules_within rules) → length rules.modules ≤ most_modules
-few_modules rules within = grind (arith, nat_tests)
 
 -- ---- the load
 

@@ -2,7 +2,7 @@
 use Rattle.std.proofs.Common.{◌≡◌, ℕ, zero, suc, ◌+◌, ◌-◌, ◌*◌, ◌%◌, ◌^◌, ◌<◌, ◌≤◌, List, [], ◌∷◌, ◌++◌, length, drop, get_or, refl, sym, ◌∙◌, ap, subst, Bool, true, false, not, ◌&&◌, ◌||◌, arith, slice_get}
 use Rattle.std.specs.Prelude.{Option, Some, None, option_map, ◌==◌, nat_le, slice_index, IfSome, IsTrue, if◌then◌else◌}
 use Rattle.std.specs.List.{list_any, list_all}
-use Rattle.std.proofs.lemmas.Bool.{eqb-true, eq-eqb}
+use Rattle.std.proofs.lemmas.Bool.{eqb-true, eq-eqb, not-true}
 use Rattle.std.proofs.lemmas.Bool.Decides.{nat_tests}
 use Rattle.processor.specs.Bits.{flag}
 use Rattle.processor.specs.Bytes.{page_size, ram_base, ram_place}
@@ -32,7 +32,6 @@ use Rattle.resumption.specs.ResumedStates.{resumed_hart}
 use Rattle.resume_laws.proofs.FormParts.{below_is, most_is}
 use Rattle.resume_laws.proofs.TakenPages.{found_later}
 use Rattle.resume_laws.proofs.ResumedHarts.{user_place, some_binding, supervisor_of}
-use Rattle.run_laws.proofs.Lookups.{not_false}
 use Rattle.resumed_start.specs.Resuming.{csrs_resumed, host_resumed}
 use Rattle.resumed_parts.specs.Seating.{CanAllSit, CanSit, IsEntered, IsReservable, MayBeIn, view_in}
 
@@ -51,7 +50,7 @@ reserved_by : (pages : ℕ) (address : Option ℕ) → (reservation pages).has a
 unfolding reservation
 reserved_by pages None h = tt
 reserved_by pages (Some address) h =
-    let other = not_false (address == 0) (first_true (not (address == 0)) _ h) in
+    let other = not-true (address == 0) (first_true (not (address == 0)) _ h) in
     let range = second_true (is_word address) (is_reservable pages address) (second_true (not (address == 0)) _ h) in
     let both = found_later (address == 0) (is_ram_address pages address && address % 8 == 0) range other in
     let inside = first_true (is_ram_address pages address) _ both in
@@ -175,7 +174,7 @@ first_place n before (va ∷ entries) (gpa ∷ bound) zero entry within at =
     let here : va ≡ entry.va = address_is va gpa entry at in
     let apart = (three (bound_fits n va gpa) (not (list_any (λ e. e == va) before)) (all_bound n (before ++ va ∷ []) entries bound) within).0 in (
       ap (λ (b : Bool). if b then Some 0 else option_map suc (place_of_entry entries bound entry.va)) (eq-eqb va entry.va here),
-      subst (λ (k : ℕ). list_any (λ e. e == k) before ≡ false) here (not_false (list_any (λ e. e == va) before) apart),
+      subst (λ (k : ℕ). list_any (λ e. e == k) before ≡ false) here (not-true (list_any (λ e. e == va) before) apart),
     )
   where
     address_is : (va gpa : ℕ) (entry : Binding) → Some (record { va = va; gpa = gpa }) ≡ Some entry → va ≡ entry.va

@@ -1,6 +1,8 @@
 -- The digests of a machine's text behind its boot are those that the run keeps.
 use Rattle.std.proofs.Common.{◌≡◌, ℕ, inl, inr, zero, suc, ◌+◌, ◌*◌, ◌/◌, ◌<◌, ◌≤◌, List, [], ◌∷◌, flat_map, length, map, refl, sym, ◌∙◌, ap, subst, Bool, true, false, ◌||◌, arith, slice_get, length-append}
 use Rattle.std.specs.Prelude.{Some, ◌==◌}
+use Rattle.std.proofs.lemmas.List.{take_at, drop_at}
+use Rattle.std.proofs.lemmas.Option.{same_Some}
 use Rattle.processor.specs.Bytes.{page_bytes, page_size}
 use Rattle.sv_types.specs.ApprovedPages.{approved_pages}
 use Rattle.sv_types.specs.Kernel.{kernel_segments, header_entry, segments_ram, text_pages}
@@ -12,7 +14,7 @@ use Rattle.reference.specs.Start.{IsStart, block_disk, boot_start, start}
 use Rattle.reference.specs.States.{State, Disk, has_number, is_approved_in, protection_in, protection_by}
 use Rattle.machine_model.specs.StandsFor.{protections_of}
 use Rattle.snapshot_form.specs.declared.whole.TextPage.{TextPage}
-use Rattle.processor_laws.proofs.ByteLemmas.{drop_front, take_front, length_part}
+use Rattle.processor_laws.proofs.ByteLemmas.{length_part}
 use Rattle.elf64_load.proofs.LoadedText.{text_in_ram}
 use Rattle.answer_laws.proofs.ProtectionsChange.{at_page}
 use Rattle.resume_laws.specs.Keepable.{AscendFrom}
@@ -46,7 +48,7 @@ digests_behind : (ram pages : List ℕ) → AreWhole ram pages → page_digests 
 digests_behind ram [] whole = refl
 digests_behind ram (page ∷ pages) whole =
     let size = first_whole ram page pages whole in
-    rw (take_front (page_bytes ram page) (flat_map (page_bytes ram) pages) page_size size, drop_front (page_bytes ram page) (flat_map (page_bytes ram) pages) page_size size)
+    rw (take_at (page_bytes ram page) (flat_map (page_bytes ram) pages) page_size size, drop_at (page_bytes ram page) (flat_map (page_bytes ram) pages) page_size size)
     (ap (◌∷◌ (digest_at ram page)) (digests_behind ram pages (rest_whole ram page pages whole)))
 
 size_behind : (ram pages : List ℕ) → AreWhole ram pages → length (flat_map (page_bytes ram) pages) ≡ page_size * length pages
@@ -78,12 +80,9 @@ digests_back : (ram pages : List ℕ) → map (λ (t : TextPage). t.digest) (map
 digests_back ram [] = refl
 digests_back ram (page ∷ pages) = ap (◌∷◌ (digest_at ram page)) (digests_back ram pages)
 
-some_page : (a b : TextPage) → Some a ≡ Some b → a ≡ b
-some_page a b e = cc
-
 digest_is : (ram pages : List ℕ) (i : ℕ) (t : TextPage) → slice_get (map (digest_in ram) pages) i ≡ Some t → digest_at ram t.page ≡ t.digest
 digest_is ram [] i t at = cc
-digest_is ram (page ∷ pages) zero t at = subst (λ (x : TextPage). digest_at ram x.page ≡ x.digest) (some_page (digest_in ram page) t at) refl
+digest_is ram (page ∷ pages) zero t at = subst (λ (x : TextPage). digest_at ram x.page ≡ x.digest) (same_Some (digest_in ram page) t at) refl
 digest_is ram (page ∷ pages) (suc i) t at = digest_is ram pages i t at
 
 -- ---- a start with its text approved

@@ -14,8 +14,9 @@ use Rattle.saved_machine.specs.declared.harts.SavedHart.{SavedHart}
 use Rattle.snapshot_form.specs.Snapshots.{Contents}
 use Rattle.resumption.specs.Judgements.{fits, is_bound, is_of_policy, load_fits}
 use Rattle.resumption.specs.ModuleSites.{LieIn}
-use Rattle.relocated_fields.proofs.RulesWithin.{rule_within, sites_aligned, site_parts}
+use Rattle.relocated_fields.proofs.RulesWithin.{sites_aligned, site_parts}
 use Rattle.snapshot_form.proofs.FormLaws.{first_true, second_true}
+use Rattle.sv_types.proofs.PolicyLimits.{rule_within}
 
 abbrev IsInside : ℕ → Site → Type 0
 IsInside bytes site = site.offset < bytes

@@ -7,17 +7,12 @@ use Rattle.std.proofs.lemmas.Bool.Decides.{nat_tests}
 use Rattle.std.proofs.lemmas.List.{drop_all, drop_more}
 use Rattle.sv_types.specs.declared.protection.Protection.{Protection}
 use Rattle.resumption.specs.Judgements.{are_same, is_same}
+use Rattle.sv_types.proofs.TruthValues.{and_swap}
 
 -- ---- by their lengths and pairs
 
 abbrev pub same_pair : Protection × Protection → Bool
 same_pair x = is_same x.0 x.1
-
-order : (long here rest : Bool) → (here && (long && rest)) ≡ (long && (here && rest))
-order true true rest = refl
-order true false rest = refl
-order false true rest = refl
-order false false rest = refl
 
 one_more : (a b : ℕ) → (a == b) ≡ (suc a == suc b)
 one_more a b = by (a == b) refl
@@ -32,7 +27,7 @@ by_pairs [] (q ∷ qs) = let apart : (0 == suc (length qs)) ≡ false = grind (a
 by_pairs (p ∷ ps) [] = let apart : (suc (length ps) == 0) ≡ false = grind (arith, nat_tests) in ap (λ (b : Bool). b && true) (sym apart)
 by_pairs (p ∷ ps) (q ∷ qs) =
     ap (λ (b : Bool). is_same p q && b) (by_pairs ps qs)
-    ∙ order (length ps == length qs) (is_same p q) (list_all same_pair (zip ps qs))
+    ∙ and_swap (is_same p q) (length ps == length qs) (list_all same_pair (zip ps qs))
     ∙ ap (λ (long : Bool). long && (is_same p q && list_all same_pair (zip ps qs))) (one_more (length ps) (length qs))
 
 -- ---- pair by pair

@@ -1,6 +1,7 @@
 -- Spans of pages, and the bytes of a page of a list that may end before.
-use Rattle.std.proofs.Common.{◌≡◌, ℕ, zero, suc, ◌+◌, ◌-◌, ◌*◌, ◌<◌, ◌≤◌, ◌⊎◌, inl, inr, List, [], ◌∷◌, take, drop, length, min, refl, sym, ◌∙◌, ap, arith, length-drop}
+use Rattle.std.proofs.Common.{◌≡◌, ℕ, zero, suc, ◌+◌, ◌-◌, ◌*◌, ◌<◌, ◌≤◌, ◌⊎◌, inl, inr, List, [], take, drop, length, min, refl, sym, ◌∙◌, arith, length-drop}
 use Rattle.std.specs.Prelude.{slice_range}
+use Rattle.std.proofs.lemmas.List.{take_all, drop_all}
 use Rattle.processor.specs.Bytes.{page_size, page_bytes, part}
 
 -- ---- bytes of a page
@@ -13,14 +14,8 @@ either_way (suc a) (suc b) = elim (either_way a b) [
   | inr more ↦ inr (omega (arith, more))
 ]
 
-take_short : (xs : List ℕ) (k : ℕ) → length xs ≤ k → take k xs ≡ xs
-take_short [] zero e = refl
-take_short [] (suc k) e = refl
-take_short (x ∷ xs) zero e = absurd (omega (arith, e))
-take_short (x ∷ xs) (suc k) e = ap (λ (rest : List ℕ). x ∷ rest) (take_short xs k (omega (arith, e)))
-
 take_same : (xs : List ℕ) (j k : ℕ) → length xs ≤ j → length xs ≤ k → take j xs ≡ take k xs
-take_same xs j k e f = take_short xs j e ∙ sym (take_short xs k f)
+take_same xs j k e f = take_all j xs e ∙ sym (take_all k xs f)
 
 clipped_by : (xs : List ℕ) (at n : ℕ) → (at + n ≤ length xs) ⊎ (length xs < at + n) → at ≤ length xs
     → take (min (length xs) (at + n) - min (length xs) at) (drop (min (length xs) at) xs) ≡ part xs at n
@@ -33,16 +28,10 @@ clipped_by xs at n (inr short) inside =
     let left : length (drop at xs) ≡ length xs - at = length-drop at xs in
     rw start (take_same (drop at xs) (min (length xs) (at + n) - at) n (omega (arith, left, short)) (omega (arith, left, short)))
 
-drop_long : (xs : List ℕ) (k : ℕ) → length xs ≤ k → drop k xs ≡ []
-drop_long [] zero e = refl
-drop_long [] (suc k) e = refl
-drop_long (x ∷ xs) zero e = absurd (omega (arith, e))
-drop_long (x ∷ xs) (suc k) e = drop_long xs k (omega (arith, e))
-
 no_bytes : (xs : List ℕ) (at n j : ℕ) → length xs ≤ at → take j (drop (length xs) xs) ≡ part xs at n
 no_bytes xs at n j past =
-    let one : drop (length xs) xs ≡ [] = drop_long xs (length xs) (omega arith) in
-    let two : drop at xs ≡ [] = drop_long xs at past in
+    let one : drop (length xs) xs ≡ [] = drop_all (length xs) xs (omega arith) in
+    let two : drop at xs ≡ [] = drop_all at xs past in
     rw (one, two) (take_same [] j n (omega arith) (omega arith))
 
 -- the bytes from a place on, of which the list may have fewer

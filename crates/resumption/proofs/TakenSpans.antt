@@ -1,12 +1,14 @@
 -- Pages that are taken in order: a span of free ones, a page that isn't free, and some behind others.
 use Rattle.std.proofs.Common.{◌≡◌, ℕ, zero, suc, ◌+◌, ◌<◌, ◌≤◌, List, [], ◌∷◌, ◌++◌, length, refl, ◌∙◌, ap, subst, Bool, true, false, not, ◌||◌, arith, slice_set}
 use Rattle.std.specs.Prelude.{Option, Some, None, find, if◌then◌else◌, ◌==◌}
-use Rattle.std.proofs.lemmas.Bool.{eqb-true, eq-eqb}
+use Rattle.std.proofs.lemmas.Bool.{eqb-true, eq-eqb, or_right}
+use Rattle.std.proofs.lemmas.List.{set-set, set_comm}
 use Rattle.sv_types.specs.ApprovedPages.{numbers_from}
 use Rattle.sv_types.specs.declared.protection.Protection.{Protection}
 use Rattle.reference.specs.Protections.{is_free, protection_at, with_pages}
 use Rattle.reference.specs.States.{has_number}
 use Rattle.resumption.specs.Judgements.{taken}
+use Rattle.sv_types.proofs.PageNumbers.{numbers_more}
 
 -- ---- one page set
 
@@ -16,18 +18,6 @@ set_beside (x ∷ guard) zero zero p other = absurd (other refl)
 set_beside (x ∷ guard) zero (suc q) p other = refl
 set_beside (x ∷ guard) (suc page) zero p other = refl
 set_beside (x ∷ guard) (suc page) (suc q) p other = set_beside guard page q p (λ s. other (ap suc s))
-
-set_twice : (guard : List Protection) (page : ℕ) (p q : Protection) → slice_set (slice_set guard page p) page q ≡ slice_set guard page q
-set_twice [] page p q = refl
-set_twice (x ∷ guard) zero p q = refl
-set_twice (x ∷ guard) (suc page) p q = ap (◌∷◌ x) (set_twice guard page p q)
-
-set_apart : (guard : List Protection) (i j : ℕ) (p q : Protection) → (i ≡ j → ⊥) → slice_set (slice_set guard i p) j q ≡ slice_set (slice_set guard j q) i p
-set_apart [] i j p q other = refl
-set_apart (x ∷ guard) zero zero p q other = absurd (other refl)
-set_apart (x ∷ guard) zero (suc j) p q other = refl
-set_apart (x ∷ guard) (suc i) zero p q other = refl
-set_apart (x ∷ guard) (suc i) (suc j) p q other = ap (◌∷◌ x) (set_apart guard i j p q (λ s. other (ap suc s)))
 
 pub set_past : (guard : List Protection) (page : ℕ) (p : Protection) → length guard ≤ page → guard ≡ slice_set guard page p
 set_past [] page p past = refl
@@ -47,7 +37,7 @@ unfolding with_pages
 span_behind guard first zero k p q past = refl
 span_behind guard first (suc count) k p q past =
     ap (λ (g : List Protection). slice_set g (first + count) q) (span_behind guard first count k p q (omega (arith, past)))
-    ∙ set_apart (with_pages guard first count q) k (first + count) p q (λ s. omega (arith, past, s))
+    ∙ set_comm (with_pages guard first count q) k (first + count) p q (λ s. omega (arith, past, s))
 
 -- the later protection counts
 pub span_twice : (guard : List Protection) (first count : ℕ) (p q : Protection) → with_pages (with_pages guard first count p) first count q ≡ with_pages guard first count q
@@ -55,7 +45,7 @@ unfolding with_pages
 span_twice guard first zero p q = refl
 span_twice guard first (suc count) p q =
     ap (λ (g : List Protection). slice_set g (first + count) q) (span_behind (with_pages guard first count p) first count (first + count) p q (omega arith))
-    ∙ set_twice (with_pages (with_pages guard first count p) first count q) (first + count) p q
+    ∙ set-set (with_pages (with_pages guard first count p) first count q) (first + count) p q
     ∙ ap (λ (g : List Protection). slice_set g (first + count) q) (span_twice guard first count p q)
 
 -- ---- some, and others behind them
@@ -74,13 +64,6 @@ taken_behind p guard (page ∷ pages) others = by (is_free (protection_at guard 
     by false rest = refl
 
 -- ---- a span taken
-
-numbers_more : (first count : ℕ) → numbers_from first (suc count) ≡ numbers_from first count ++ (first + count) ∷ []
-numbers_more first zero = let same : first ≡ first + 0 = omega arith in ap (λ (n : ℕ). n ∷ []) same
-numbers_more first (suc count) =
-    let last : first + 1 + count ≡ first + suc count = omega arith in
-    ap (λ (ns : List ℕ). first ∷ ns) (numbers_more (first + 1) count)
-    ∙ ap (λ (n : ℕ). first ∷ (numbers_from (first + 1) count ++ n ∷ [])) last
 
 abbrev AllFree : List Protection → (first count : ℕ) → Type 0
 AllFree guard first count = (i : ℕ) → i < count → is_free (protection_at guard (first + i)) ≡ true
@@ -143,11 +126,7 @@ found_by : (b : Bool) (rest : Option ℕ) (page q : ℕ) (is_there : Bool) (at :
 found_by false rest page q is_there at found here same later =
     let is : page ≡ q = cc in (ap (λ (b : Bool). b || is_there) (same is), here refl is)
 found_by true rest page q is_there at found here same later =
-    let it = later found in (or_there (page == q) is_there it.0, it.1)
-  where
-    or_there : (a b : Bool) → b ≡ true → (a || b) ≡ true
-    or_there true b e = refl
-    or_there false b e = e
+    let it = later found in (or_right (page == q) is_there it.0, it.1)
 
 found_busy : (guard : List Protection) (pages : List ℕ) (q : ℕ) → find (is_busy guard) pages ≡ Some q → (has_number pages q ≡ true) × (is_free (protection_at guard q) ≡ false)
 found_busy guard [] q found = absurd cc

@@ -17,8 +17,9 @@ use Rattle.reference.specs.declared.answers.Beside.TheVariants.{StartsHart, Begi
 use Rattle.reference.specs.declared.answers.Extension.{Extension}
 use Rattle.reference.specs.declared.answers.Reply.{Reply}
 use Rattle.reference.specs.declared.answers.Reply.TheVariants.{Stops}
-use Rattle.run_laws.proofs.Lookups.{none_there, found_id}
+use Rattle.run_laws.proofs.Lookups.{none_there}
 use Rattle.run_laws.proofs.ModulesSound.{IsGoodAddress, address_good}
+use Rattle.reference.proofs.LoadedModules.{found_id}
 
 -- a load may begin, as a rule of the policy says
 pub record MayBegin (r : State) (m : SavedModule) (pages : ℕ) : Type 0 where

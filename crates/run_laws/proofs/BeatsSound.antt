@@ -2,6 +2,7 @@
 use Rattle.std.proofs.Common.{◌≡◌, ℕ, ◌+◌, ◌*◌, ◌/◌, ◌%◌, ◌≤◌, List, [], ◌∷◌, length, refl, sym, subst, Bool, true, false, not, ◌&&◌, arith}
 use Rattle.std.specs.Prelude.{Option, Some, None, if◌then◌else◌, ◌==◌, nat_lt}
 use Rattle.std.proofs.lemmas.Bool.Decides.{nat_tests}
+use Rattle.std.proofs.lemmas.Bool.{not-true}
 use Rattle.processor.specs.Bytes.{part, overwrite, low_bytes, in_ram, page_of, page_size, ram_place}
 use Rattle.processor_laws.proofs.ByteLemmas.{length_low_bytes}
 use Rattle.sv_types.specs.declared.block.BlockStatus.{BlockStatus}
@@ -17,7 +18,7 @@ use Rattle.reference.specs.VirtioRequests.{sector_of}
 use Rattle.reference.specs.VirtioBeats.{VirtioBeat, nothing, broken, with_request, refused, with_written, to_memory, to_disk, put_last, finished, make, make_first, next_count, result_in, accepted, accept, look, go_on, is_live, virtio_beat}
 use Rattle.reference.specs.Disk.{Beaten, disk_beat}
 use Rattle.reference.specs.Soundness.{IsSound, IsSoundBlock, IsSoundDisk, IsSoundVirtio, IsSoundRequest, IsSoundMove, AreSoundMoves, StaysInPage}
-use Rattle.run_laws.proofs.Lookups.{unprotected, unheld, not_false, part_short}
+use Rattle.run_laws.proofs.Lookups.{unprotected, unheld, part_short}
 use Rattle.run_laws.proofs.Sounds.{InFreePage}
 use Rattle.run_laws.proofs.VirtioSound.{sound_last, request_sound}
 
@@ -42,14 +43,14 @@ pub record IsSoundBeat (r : State) (b : Beaten) : Type 0 where
 in_page : (p n size : ℕ) → n ≤ size → p % 4096 + size ≤ 4096 → p + n ≤ 4096 * (p / 4096 + 1)
 in_page p n size short fits = grind arith
 
-room_of : (ram : List ℕ) (gpa n size : ℕ) → n ≤ size → in_ram ram gpa size ≡ true → ram_place gpa + n ≤ length ram
+pub room_of : (ram : List ℕ) (gpa n size : ℕ) → n ≤ size → in_ram ram gpa size ≡ true → ram_place gpa + n ≤ length ram
 room_of ram gpa n size short e = grind (arith, nat_tests)
 
 pub beat_page : (r : State) (gpa : ℕ) (bytes : List ℕ) → IsFreeBeat r gpa bytes → InFreePage r (ram_place gpa) bytes
 beat_page r gpa bytes k = record {
   page = page_of gpa;
-  free = unprotected r (page_of gpa) (not_false (is_protected r (page_of gpa)) k.free);
-  unheld = unheld r (page_of gpa) (not_false (is_protected r (page_of gpa)) k.free);
+  free = unprotected r (page_of gpa) (not-true (is_protected r (page_of gpa)) k.free);
+  unheld = unheld r (page_of gpa) (not-true (is_protected r (page_of gpa)) k.free);
   first = whole_page (ram_place gpa);
   last = in_page (ram_place gpa) (length bytes) k.size k.short k.one_page;
   inside = room_of r.ram gpa (length bytes) k.size k.short k.inside;
@@ -160,16 +161,13 @@ onto_disk r d q gpa place size true k moves =
     record { device = going_sound d q (overwrite d.bytes place (part r.ram (ram_place gpa) size)) k moves; move = tt }
 onto_disk r d q gpa place size false k moves = broken_sound r d OutsideRam k tt
 
-same_size : (n : ℕ) → n ≤ n
-same_size n = omega arith
-
 last_by : (r : State) (d next : VirtioDevice) (gpa : ℕ) (bytes : List ℕ) (inside free : Bool) → IsSoundVirtio d → IsSoundVirtio next → StaysInPage gpa (length bytes)
     → in_ram r.ram gpa (length bytes) ≡ inside → not (is_protected r (page_of gpa)) ≡ free
     → IsSoundVirtioBeat r (if not inside then broken d OutsideRam
     else if free then record { device = next; move = IntoRam gpa bytes }
     else broken d (DeniedAt gpa))
 last_by r d next gpa bytes true true k after stays there free =
-    record { device = after; move = free_beat r gpa (length bytes) bytes stays (same_size (length bytes)) there free }
+    record { device = after; move = free_beat r gpa (length bytes) bytes stays (omega arith) there free }
 last_by r d next gpa bytes true false k after stays there free = broken_sound r d (DeniedAt gpa) k tt
 last_by r d next gpa bytes false free k after stays there may = broken_sound r d OutsideRam k tt
 

@@ -1,15 +1,13 @@
 -- After an entry from user mode: the hart's next turn demotes it, or reads the word that the entry is bound to.
 use Rattle.std.proofs.Common.{◌≡◌, ℕ, zero, suc, ◌-◌, ◌/◌, ◌%◌, ◌^◌, ◌≤◌, ◌⊎◌, inl, inr, List, [], ◌∷◌, ◌++◌, length, refl, sym, ◌∙◌, ap, subst, Bool, true, false, ◌&&◌, ◌||◌, arith, bit_and, slice_get}
 use Rattle.std.specs.Prelude.{Option, Some, None, if◌then◌else◌, is_some, not, ◌==◌, IsTrue}
-use Rattle.std.specs.List.{list_any}
 use Rattle.std.proofs.lemmas.Bool.{eqb-true, eq-eqb}
 use Rattle.std.proofs.lemmas.Bool.Decides.{nat_tests}
-use Rattle.std.proofs.lemmas.Nat.{and_shr, and_mod, and_comm}
-use Rattle.std.specs.Int.Bits.{and_zero_l}
+use Rattle.std.proofs.lemmas.Nat.{and_shr, and_mod}
 use Rattle.sv_types.specs.ApprovedPages.{approved_bytes}
 use Rattle.processor.specs.Bits.{bit, with_bits}
 use Rattle.processor.specs.Bytes.{word, in_ram, ram_base, ram_place, page_of, place_in_page}
-use Rattle.sv_types.specs.Policies.{Rules, rules_within, bound_within, bound_fits, all_bound, numbers_within, lists_within, init_within, modules_count_within, modules_within, entries_count_within, entries_within, exports_count_within, exports_within}
+use Rattle.sv_types.specs.Policies.{Rules, rules_within, bound_fits, all_bound}
 use Rattle.processor.specs.Translation.{Destination, At, PageFault, Unreadable, place, entry_in_ram}
 use Rattle.processor.specs.Traps.{trap_target, deliverable, status_at_trap, supervisor_at_trap, first_interrupt, is_pending}
 use Rattle.processor.specs.declared.cause.Cause.{Cause}
@@ -36,14 +34,11 @@ use Rattle.attempt_laws.proofs.Everywhere.{Keeps, first_stage_keeps}
 use Rattle.run_laws.specs.EntryLaws.{IsAtEntry, Demotes, ReadsBound, DemotesOrReads, AtEntryLaw, IsNoTurnOf, AreNoTurnsOf, StandsAtEntry, EntryLaw}
 use Rattle.run_laws.proofs.OthersRest.{IsWaiting, get_behind, turn_rests}
 use Rattle.run_laws.proofs.StateLawsHold.{reached_sound, modules_law}
-use Rattle.run_laws.proofs.Lookups.{second_of}
+use Rattle.sv_types.proofs.PolicyLimits.{first_bound, bound_rules}
+use Rattle.processor_laws.proofs.Decoding.{mask_none}
+use Rattle.reference.proofs.Runs.{run_on}
 
 -- ---- what a policy says of a bound entry
-
-three : (a b c : Bool) → (a && b && c) ≡ true → (a ≡ true) × (c ≡ true)
-three true true c e = (refl, e)
-three true false c e = cc
-three false b c e = cc
 
 fits_at : (n : ℕ) (before entries bound : List ℕ) (i : ℕ) (entry : Binding) → all_bound n before entries bound ≡ true
     → binding_of (slice_get entries i) (slice_get bound i) ≡ Some entry → bound_fits n entry.va entry.gpa ≡ true
@@ -52,10 +47,10 @@ fits_at n before (va ∷ entries) [] i entry within e = absurd (cc)
 fits_at n before (va ∷ entries) (gpa ∷ bound) zero entry within e =
     let same : record { va = va; gpa = gpa } ≡ entry = cc in
     subst (λ (b : Binding). bound_fits n b.va b.gpa ≡ true) same
-    (three (bound_fits n va gpa) (not (list_any (λ x. x == va) before)) (all_bound n (before ++ va ∷ []) entries bound) within).0
+    (first_bound n before va gpa entries bound within).0
 fits_at n before (va ∷ entries) (gpa ∷ bound) (suc i) entry within e =
     fits_at n (before ++ va ∷ []) entries bound i entry
-    (three (bound_fits n va gpa) (not (list_any (λ x. x == va) before)) (all_bound n (before ++ va ∷ []) entries bound) within).1 e
+    (first_bound n before va gpa entries bound within).1 e
 
 -- the place of a permitted entry, which is bound
 pub record Placed (entries bound : List ℕ) (va : ℕ) : Type 0 where
@@ -79,19 +74,7 @@ placed n before (first ∷ entries) [] va within there = absurd (cc)
 placed n before (first ∷ entries) (gpa ∷ bound) va within there =
     placed_by first gpa entries bound va (first == va) refl there
     (placed n (before ++ first ∷ []) entries bound va
-    (three (bound_fits n first gpa) (not (list_any (λ x. x == first) before)) (all_bound n (before ++ first ∷ []) entries bound) within).1)
-
-fifth_of : (a b c d e : Bool) → (a && b && c && d && e) ≡ true → e ≡ true
-fifth_of true true true true e k = k
-fifth_of true true true false e k = cc
-fifth_of true true false d e k = cc
-fifth_of true false c d e k = cc
-fifth_of false b c d e k = cc
-
-bound_rules : (rules : Rules) → IsTrue (rules_within rules) → bound_within rules ≡ true
-bound_rules rules within =
-    fifth_of (entries_count_within (length rules.entries)) (entries_within rules.entries) (exports_count_within (length rules.exports)) (exports_within rules.exports) (bound_within rules)
-    (second_of (numbers_within rules) (lists_within rules) (init_within rules.ram_pages rules.init) (modules_count_within (length rules.modules)) (modules_within (length rules.exports) rules.modules) within)
+    (first_bound n before first gpa entries bound within).1)
 
 bound_none : (bound : List ℕ) (va : Option ℕ) (i : ℕ) (entry : Binding) → (length bound == 0) ≡ true → binding_of va (slice_get bound i) ≡ Some entry → ⊥
 bound_none [] None i entry none e = cc
@@ -219,7 +202,7 @@ pub runs_on : (r : State) (e : Event) → r.journal.verdict ≡ Running → step
 unfolding step happen_under
 runs_on r e on = ap (λ (v : Verdict). happen_under v r e) on
 
-running : (r : State) (h : ℕ) → r.journal.verdict ≡ Running → step r (Turn h) ≡ turn (count r count_turn) h
+pub running : (r : State) (h : ℕ) → r.journal.verdict ≡ Running → step r (Turn h) ≡ turn (count r count_turn) h
 unfolding happen
 running r h on = runs_on r (Turn h) on
 
@@ -286,12 +269,9 @@ run_waits k at r (e ∷ events) others w = run_waits k at (step r e) events othe
 bit_of_and : (a b : ℕ) → bit_and a b / 2 ^ 1 % 2 ^ 1 ≡ bit_and (a / 2 ^ 1 % 2 ^ 1) (b / 2 ^ 1 % 2 ^ 1)
 bit_of_and a b = ap (λ (n : ℕ). n % 2 ^ 1) (and_shr a b 1) ∙ and_mod (a / 2 ^ 1) (b / 2 ^ 1) 1
 
-and_none : (a : ℕ) → bit_and a 0 ≡ 0
-and_none a = and_comm a 0 ∙ and_zero_l a
-
 masked_twice : (status : ℕ) → bit (bit_and (bit_and status (2 ^ 64 - 1 - 2 ^ 1)) (2 ^ 64 - 1 - 2 ^ 8)) 1 ≡ false
 masked_twice status =
-    let first : bit_and status (2 ^ 64 - 1 - 2 ^ 1) / 2 ^ 1 % 2 ^ 1 ≡ 0 = bit_of_and status (2 ^ 64 - 1 - 2 ^ 1) ∙ and_none (status / 2 ^ 1 % 2 ^ 1) in
+    let first : bit_and status (2 ^ 64 - 1 - 2 ^ 1) / 2 ^ 1 % 2 ^ 1 ≡ 0 = bit_of_and status (2 ^ 64 - 1 - 2 ^ 1) ∙ mask_none (status / 2 ^ 1 % 2 ^ 1) in
     ap (λ (n : ℕ). n == 1) (bit_of_and (bit_and status (2 ^ 64 - 1 - 2 ^ 1)) (2 ^ 64 - 1 - 2 ^ 8) ∙ ap (λ (n : ℕ). bit_and n 1) first)
 
 status_masked : (status : ℕ) → bit (status_at_trap status User) 1 ≡ false
@@ -365,16 +345,12 @@ stands q h was hart interrupt cause tval s rules two permitted w =
       next = λ on. step_at_entry q h w.hart entry s at on (none_delivered w.hart.mode q h w.hart mode masked);
     }
 
-run_after : (r : State) (first more : List Event) → run r (first ++ more) ≡ run (run r first) more
-run_after r [] more = refl
-run_after r (e ∷ first) more = run_after (step r e) first more
-
 pub entry_law : EntryLaw
 entry_law s before between h is_start two enters others =
     let r : State = run s before in
     let q : State = run (step r (Turn h)) between in
     let all : List Event = before ++ (Turn h ∷ between) in
-    let reached : run s all ≡ q = run_after s before (Turn h ∷ between) in
+    let reached : run s all ≡ q = run_on s before (Turn h ∷ between) in
     let sound : IsSound q = subst IsSound reached (reached_sound s all is_start) in
     let rules : q.rules ≡ s.rules = subst (λ (x : State). x.rules ≡ s.rules) reached (modules_law s all is_start).rules in
     let was : r.rules ≡ s.rules = (modules_law s before is_start).rules in

@@ -19,8 +19,9 @@ use Rattle.reference.specs.States.{Hart, Binding, binding_of, binding_at, place_
 use Rattle.reference.specs.Trapping.{hart_at_trap, hart_at_return, entry_at_trap, entry_in}
 use Rattle.reference.specs.Calls.{hart_at, stopped_hart, interrupted, with_software, supervisor_at_boot}
 use Rattle.reference.specs.Soundness.{IsSoundHart, IsSoundEntry}
-use Rattle.run_laws.proofs.Lookups.{and_first, and_second, both, second_of}
+use Rattle.run_laws.proofs.Lookups.{both, second_of}
 use Rattle.run_laws.proofs.Sounds.{AreSound}
+use Rattle.sv_types.proofs.TruthValues.{and_first, and_second}
 
 word_below : (n : ℕ) → n % 2 ^ 64 < 2 ^ 64
 word_below n = omega arith

@@ -1,8 +1,8 @@
 -- What is found among approved pages and loaded modules after a change of their lists.
 use Rattle.attempt_laws.proofs.LoadsKept.{or_first, or_second}
-use Rattle.std.proofs.Common.{◌≡◌, ℕ, zero, suc, ◌+◌, ◌<◌, ◌≤◌, ◌⊎◌, inl, inr, List, [], ◌∷◌, ◌++◌, filter, map, refl, sym, ◌∙◌, ap, subst, Bool, true, false, not, ◌&&◌, ◌||◌, arith, slice_get, length, length-take, take, drop, min}
+use Rattle.std.proofs.Common.{◌≡◌, ℕ, zero, suc, ◌+◌, ◌<◌, ◌≤◌, List, [], ◌∷◌, ◌++◌, filter, map, refl, sym, ◌∙◌, ap, subst, Bool, true, false, not, ◌&&◌, ◌||◌, arith, slice_get, length, length-take, take, drop, min}
 use Rattle.std.specs.Prelude.{Option, Some, None, if◌then◌else◌, is_some, ◌==◌, nat_lt}
-use Rattle.std.proofs.lemmas.Bool.{eqb-true}
+use Rattle.std.proofs.lemmas.Bool.{eqb-true, and_right, false_from_ne_true}
 use Rattle.std.proofs.lemmas.Bool.Decides.{nat_tests}
 use Rattle.processor.specs.Bytes.{page_bytes, part}
 use Rattle.sv_types.specs.ApprovedPages.{ApprovedPage, numbers_from, approved_pages, approved_bytes}
@@ -13,39 +13,14 @@ use Rattle.reference.specs.States.{has_number, without_pages, find_module, with_
 
 -- ---- truth values
 
-pub not_true : (b : Bool) → (b ≡ true → ⊥) → b ≡ false
-not_true true no_such = absurd (no_such refl)
-not_true false no_such = refl
-
 pub both : (b : Bool) → b ≡ true → b ≡ false → ⊥
 both true t f = cc
 both false t f = cc
-
-pub and_both : (a b : Bool) → a ≡ true → b ≡ true → (a && b) ≡ true
-and_both true true s t = refl
-and_both true false s t = t
-and_both false b s t = cc
-
-pub and_first : (a b : Bool) → (a && b) ≡ true → a ≡ true
-and_first true b e = refl
-and_first false b e = e
-
-pub and_second : (a b : Bool) → (a && b) ≡ true → b ≡ true
-and_second true b e = e
-and_second false b e = cc
 
 pub second_of : (a b c d e : Bool) → (a && b && c && d && e) ≡ true → b ≡ true
 second_of true true c d e k = refl
 second_of true false c d e k = cc
 second_of false b c d e k = cc
-
-pub not_false : (b : Bool) → not b ≡ true → b ≡ false
-not_false true e = cc
-not_false false e = refl
-
-pub is_there : (a : Bool) → (a ≡ true) ⊎ (a ≡ false)
-is_there true = inl refl
-is_there false = inr refl
 
 pub same_number : (n : ℕ) → (n == n) ≡ true
 same_number n = grind (arith, nat_tests)
@@ -76,11 +51,7 @@ filtered_by : (f : ℕ → Bool) (x n : ℕ) (xs : List ℕ) (at passes : Bool) 
     → has_number (if passes then x ∷ filter f xs else filter f xs) n ≡ ((at || has_number xs n) && f n)
 filtered_by f x n xs true true at passes rest = let same : x ≡ n = eqb-true x n at in rw at (sym passes ∙ ap f same)
 filtered_by f x n xs true false at passes rest =
-    let same : x ≡ n = eqb-true x n at in let there : f n ≡ false = ap f (sym same) ∙ passes in rw (rest, there) (none_left (has_number xs n))
-  where
-    none_left : (b : Bool) → (b && false) ≡ false
-    none_left true = refl
-    none_left false = refl
+    let same : x ≡ n = eqb-true x n at in let there : f n ≡ false = ap f (sym same) ∙ passes in rw (rest, there) (and_right (has_number xs n) false refl)
 filtered_by f x n xs false true at passes rest = rw at rest
 filtered_by f x n xs false false at passes rest = rest
 
@@ -152,16 +123,6 @@ approved_without (entry ∷ approved) pages page =
 
 -- ---- modules
 
--- a module that was found has the id that was asked for
-found_by : (m n : SavedModule) (id : ℕ) (b : Bool) (rest : Option SavedModule) → (n.id == id) ≡ b → (rest ≡ Some m → m.id ≡ id) → (if b then Some n else rest) ≡ Some m → m.id ≡ id
-found_by m n id true rest at more e = let same : n ≡ m = cc in ap (λ (x : SavedModule). x.id) (sym same) ∙ eqb-true n.id id at
-found_by m n id false rest at more e = more e
-
-pub found_id : (modules : List SavedModule) (id : ℕ) (m : SavedModule) → find_module modules id ≡ Some m → m.id ≡ id
-unfolding find_module
-found_id [] id m e = cc
-found_id (n ∷ modules) id m e = found_by m n id (n.id == id) (find_module modules id) refl (found_id modules id m) e
-
 two_ids : (m first : SavedModule) (id : ℕ) (a b : Bool) (rest : Option SavedModule) → (m.id == id) ≡ a → (first.id == id) ≡ b → ((first.id == m.id) ≡ true → ⊥)
     → (if b then Some first else (if a then Some m else rest)) ≡ (if a then Some m else (if b then Some first else rest))
 two_ids m first id true true rest a b other =
@@ -203,7 +164,7 @@ gone_by m gone id rest old true false out at e = e
 gone_by m gone id rest old false true out at e =
     let same : m.id ≡ id = eqb-true m.id id at in
     let there : (gone == id) ≡ false =
-    not_true (gone == id) (λ t. both (m.id == gone) (ap (λ (n : ℕ). n == gone) (same ∙ sym (eqb-true gone id t)) ∙ same_number gone) out) in
+    false_from_ne_true (gone == id) (λ t. both (m.id == gone) (ap (λ (n : ℕ). n == gone) (same ∙ sym (eqb-true gone id t)) ∙ same_number gone) out) in
     rw (there, at) refl
 gone_by m gone id rest old false false out at e = rw at e
 
@@ -243,7 +204,7 @@ unfolding with_module find_module
 ascends_with [] m up none = (tt, tt)
 ascends_with (first ∷ modules) m up none =
     let other = not_found first m.id (first.id == m.id) (find_module modules m.id) refl none in
-    ascends_insert (nat_lt m.id first.id) m first modules refl (not_true (first.id == m.id) other.0) up.0 up.1 (ascends_with modules m up.1 other.1)
+    ascends_insert (nat_lt m.id first.id) m first modules refl (false_from_ne_true (first.id == m.id) other.0) up.0 up.1 (ascends_with modules m up.1 other.1)
 
 above_kept : (id : ℕ) (out : Bool) (m : SavedModule) (rest : List SavedModule) → id < m.id → AllAbove id rest → AllAbove id (if not out then m ∷ rest else rest)
 above_kept id true m rest first all = all
@@ -262,7 +223,7 @@ ascends_without [] gone up = tt
 ascends_without (m ∷ modules) gone up =
     ascends_kept (m.id == gone) m (without_module modules gone) (above_without m.id modules gone up.0) (ascends_without modules gone up.1)
 
-above_at : (id : ℕ) (modules : List SavedModule) (i : ℕ) (m : SavedModule) → AllAbove id modules → slice_get modules i ≡ Some m → id < m.id
+pub above_at : (id : ℕ) (modules : List SavedModule) (i : ℕ) (m : SavedModule) → AllAbove id modules → slice_get modules i ≡ Some m → id < m.id
 above_at id [] i m all e = cc
 above_at id (n ∷ modules) zero m all e = let same : n ≡ m = cc in subst (λ (k : SavedModule). id < k.id) same all.0
 above_at id (n ∷ modules) (suc i) m all e = above_at id modules i m all.1 e

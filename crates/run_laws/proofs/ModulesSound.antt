@@ -4,7 +4,7 @@ use Rattle.attempt_laws.proofs.LoadsKept.{or_first, or_second}
 use Rattle.std.proofs.Common.{◌≡◌, ℕ, suc, ◌+◌, ◌*◌, ◌/◌, ◌%◌, ◌<◌, ◌≤◌, ◌⊎◌, inl, inr, List, [], ◌∷◌, ◌++◌, length, refl, sym, ◌∙◌, ap, subst, Bool, true, false, not, ◌&&◌, arith, slice_get}
 use Rattle.std.specs.Prelude.{Option, Some, None, if◌then◌else◌, is_some, ◌==◌, nat_le}
 use Rattle.std.specs.List.{list_any}
-use Rattle.std.proofs.lemmas.Bool.{eqb-true}
+use Rattle.std.proofs.lemmas.Bool.{eqb-true, false_from_ne_true, and_from, not-true, cases_Bool}
 use Rattle.std.proofs.lemmas.Bool.Decides.{nat_tests}
 use Rattle.std.proofs.lemmas.Option.{slice_get_within}
 use Rattle.processor.specs.Bytes.{page_bytes, page_size, page_of, ram_base, ram_place, in_ram}
@@ -19,8 +19,9 @@ use Rattle.reference.specs.Calls.{facts_of}
 use Rattle.reference.specs.ModuleCalls.{good_address}
 use Rattle.reference.specs.Origins.{OwnsPages, IsOwned, IsPageOf, IsMeasured, ownership, is_kernel_text, is_init}
 use Rattle.reference.specs.Soundness.{IsSound, IsSoundLoad, HoldsModule, KeepsText}
-use Rattle.run_laws.proofs.Lookups.{unprotected, not_true, both, and_both, and_first, and_second, not_false, is_there, same_number, numbers_bounds, number_filtered, approved_front, approved_without, found_with, found_without, ascends_with, ascends_without}
+use Rattle.run_laws.proofs.Lookups.{unprotected, both, same_number, numbers_bounds, number_filtered, approved_front, approved_without, found_with, found_without, ascends_with, ascends_without}
 use Rattle.run_laws.proofs.Sounds.{Goes, text_stays}
+use Rattle.sv_types.proofs.TruthValues.{and_first, and_second}
 
 -- ---- a load begins, and goes on
 
@@ -66,7 +67,7 @@ pub address_good : (r : State) (gpa va pages : ℕ) → length r.ram ≡ page_si
 unfolding good_address
 address_good r gpa va pages size e =
     let a = and_first (gpa % page_size == 0 && va % page_size == 0 && in_ram r.ram gpa (page_size * pages)) (not (list_any (is_protected r) (numbers_from (page_of gpa) pages))) e in
-    let free = not_false (list_any (is_protected r) (numbers_from (page_of gpa) pages))
+    let free = not-true (list_any (is_protected r) (numbers_from (page_of gpa) pages))
     (and_second (gpa % page_size == 0 && va % page_size == 0 && in_ram r.ram gpa (page_size * pages)) (not (list_any (is_protected r) (numbers_from (page_of gpa) pages))) e) in
     let both_aligned = and_first (gpa % page_size == 0 && va % page_size == 0) (in_ram r.ram gpa (page_size * pages)) a in
     let room : (nat_le ram_base gpa && nat_le (ram_place gpa + page_size * pages) (page_size * r.rules.ram_pages)) ≡ true =
@@ -170,7 +171,7 @@ new_there r m other = found_with r.loaded m m.id other ∙ ap (λ (b : Bool). if
 
 ids_differ : (modules : List SavedModule) (m n : SavedModule) → find_module modules m.id ≡ None → find_module modules n.id ≡ Some n → (m.id == n.id) ≡ false
 ids_differ modules m n other e =
-    not_true (m.id == n.id) (λ t. let there : find_module modules n.id ≡ None = subst (λ (id : ℕ). find_module modules id ≡ None) (eqb-true m.id n.id t) other in cc)
+    false_from_ne_true (m.id == n.id) (λ t. let there : find_module modules n.id ≡ None = subst (λ (id : ℕ). find_module modules id ≡ None) (eqb-true m.id n.id t) other in cc)
 
 old_there : (r : State) (m n : SavedModule) → find_module r.loaded m.id ≡ None → find_module r.loaded n.id ≡ Some n → find_module (with_module r.loaded m) n.id ≡ Some n
 old_there r m n other e =
@@ -178,7 +179,7 @@ old_there r m n other e =
 
 -- the pages that were approved still are
 stays_approved : (r : State) (m : SavedModule) (page : ℕ) → is_approved_in r.approved page ≡ true → is_approved_in (approves r m).approved page ≡ true
-stays_approved r m page e = elim (is_there (has_number (module_pages r.rules m) page)) [
+stays_approved r m page e = elim (cases_Bool (has_number (module_pages r.rules m) page)) [
   | inl there ↦ ap is_some (front_case r m page true there)
   | inr gone ↦ ap is_some (front_case r m page false gone) ∙ e
 ]
@@ -203,7 +204,7 @@ owned_again r m page other (inr of) = inr (of.0, again r m of.0 page other of.1)
 
 approves_pages : (r : State) (m : SavedModule) → IsSound r → CanApprove r m → OwnsPages (ownership (approves r m))
 approves_pages r m s can = record {
-  owned = λ page e. elim (is_there (has_number (module_pages r.rules m) page)) [
+  owned = λ page e. elim (cases_Bool (has_number (module_pages r.rules m) page)) [
     | inl there ↦ inr (m, record { loaded_is = new_there r m can.other; inside = there })
     | inr gone ↦ owned_again r m page can.other (s.pages.owned page (sym (ap is_some (front_case r m page false gone)) ∙ e))
   ];
@@ -213,7 +214,7 @@ approves_pages r m s can = record {
     | inr old ↦ stays_approved r m page (s.pages.modules n page old)
   ];
   no_text = λ n page p. elim (new_or_old_page r m n page can.other p) [
-    | inl new ↦ not_true (is_kernel_text (ownership r) page) (λ t. both (is_approved_in r.approved page) (s.pages.text page t) (can.free page new.1))
+    | inl new ↦ false_from_ne_true (is_kernel_text (ownership r) page) (λ t. both (is_approved_in r.approved page) (s.pages.text page t) (can.free page new.1))
     | inr old ↦ s.pages.no_text n page old
   ];
   one_module = λ n k page p q. elim (new_or_old_page r m n page can.other p) [
@@ -226,7 +227,7 @@ approves_pages r m s can = record {
       | inr other ↦ s.pages.one_module n k page old other
     ]
   ];
-  inside = λ page e. elim (is_there (has_number (module_pages r.rules m) page)) [
+  inside = λ page e. elim (cases_Bool (has_number (module_pages r.rules m) page)) [
     | inl there ↦ page_inside (ram_place m.gpa) (pages_in_rule (slice_get r.rules.modules m.id)) r.rules.ram_pages page can.inside
         (numbers_bounds (page_of m.gpa) (pages_in_rule (slice_get r.rules.modules m.id)) page there).1
     | inr gone ↦ s.pages.inside page (sym (ap is_some (front_case r m page false gone)) ∙ e)
@@ -239,7 +240,7 @@ approves_pages r m s can = record {
 
 approves_text : (r : State) (m : SavedModule) → IsSound r → KeepsText (approves r m).approved r.ram
 approves_text r m s = record {
-  same = λ page bytes e. elim (is_there (has_number (module_pages r.rules m) page)) [
+  same = λ page bytes e. elim (cases_Bool (has_number (module_pages r.rules m) page)) [
     | inl there ↦ let now : Some (page_bytes r.ram page) ≡ Some bytes = sym (front_case r m page true there) ∙ e in cc
     | inr gone ↦ s.text.same page bytes (sym (front_case r m page false gone) ∙ e)
   ];
@@ -271,7 +272,7 @@ goes_approve r m s can = record {
     text = refl;
     was = λ page e. e;
     bytes = λ page e. front_case r m page false
-        (not_true (has_number (module_pages r.rules m) page) (λ t. both (is_approved_in r.approved page) (s.pages.text page e) (can.free page t)));
+        (false_from_ne_true (has_number (module_pages r.rules m) page) (λ t. both (is_approved_in r.approved page) (s.pages.text page e) (can.free page t)));
   };
 }
 
@@ -317,7 +318,7 @@ still_page r m n page p = record { loaded_is = (still_loaded r.loaded m.id n p.l
 other_pages : (r : State) (m n : SavedModule) (page : ℕ) → IsSound r → find_module r.loaded m.id ≡ Some m → IsPageOf r.rules (without_module r.loaded m.id) n page
     → has_number (module_pages r.rules m) page ≡ false
 other_pages r m n page s found p =
-    not_true (has_number (module_pages r.rules m) page) (λ t.
+    false_from_ne_true (has_number (module_pages r.rules m) page) (λ t.
     let same : m.id ≡ n.id = s.pages.one_module m n page (record { loaded_is = found; inside = t }) (still_page r m n page p) in
     both (m.id == n.id) (subst (λ (id : ℕ). (m.id == id) ≡ true) same (same_number m.id)) (still_loaded r.loaded m.id n p.loaded_is).0)
 
@@ -325,7 +326,7 @@ other_pages r m n page s found p =
 text_pages_stay : (r : State) (m : SavedModule) (page : ℕ) → IsSound r → find_module r.loaded m.id ≡ Some m → is_kernel_text (ownership r) page ≡ true
     → has_number (module_pages r.rules m) page ≡ false
 text_pages_stay r m page s found e =
-    not_true (has_number (module_pages r.rules m) page) (λ t. both (is_kernel_text (ownership r) page) e (s.pages.no_text m page (record { loaded_is = found; inside = t })))
+    false_from_ne_true (has_number (module_pages r.rules m) page) (λ t. both (is_kernel_text (ownership r) page) e (s.pages.no_text m page (record { loaded_is = found; inside = t })))
 
 owned_still : (r : State) (m : SavedModule) (page : ℕ) → IsSound r → find_module r.loaded m.id ≡ Some m → has_number (module_pages r.rules m) page ≡ false
     → IsOwned (ownership r) page → IsOwned (ownership (unloads r m)) page
@@ -334,7 +335,7 @@ owned_still r m page s found gone (inr of) = inr (
   of.0,
   record {
     loaded_is = found_without r.loaded m.id of.0.id ∙ ap (λ (b : Bool). if b then None else find_module r.loaded of.0.id)
-        (not_true (m.id == of.0.id) (λ t. both (has_number (module_pages r.rules m) page)
+        (false_from_ne_true (m.id == of.0.id) (λ t. both (has_number (module_pages r.rules m) page)
         (subst (λ (k : SavedModule). has_number (module_pages r.rules k) page ≡ true) (sym (same_module r m of.0 (eqb-true m.id of.0.id t) found of.1.loaded_is)) of.1.inside) gone))
         ∙ of.1.loaded_is;
     inside = of.1.inside;
@@ -374,7 +375,7 @@ less_load rules approved fewer loaded left held (Some load) pages modules k = re
 
 fewer_pages : (approved : List ApprovedPage) (pages : List ℕ) (page : ℕ) → is_approved_in approved page ≡ false → is_approved_in (without_pages approved pages) page ≡ false
 fewer_pages approved pages page e =
-    not_true (is_approved_in (without_pages approved pages) page) (λ t. both (is_approved_in approved page) (kept_approved approved pages page t).1 e)
+    false_from_ne_true (is_approved_in (without_pages approved pages) page) (λ t. both (is_approved_in approved page) (kept_approved approved pages page t).1 e)
 
 fewer_modules : (modules : List SavedModule) (gone id : ℕ) → find_module modules id ≡ None → find_module (without_module modules gone) id ≡ None
 fewer_modules modules gone id e = found_without modules gone id ∙ none_by (gone == id) (find_module modules id) e
@@ -416,20 +417,20 @@ retires r span = record r { approved = without_pages r.approved (init_text r spa
 pub text_before : (r : State) (span : Span) (page : ℕ) → r.retired ≡ false → has_number (init_text r span) page ≡ true → is_kernel_text (ownership r) page ≡ true
 text_before r span page before e =
     let k : (has_number (span_pages span) page && has_number r.text page) ≡ true = sym (number_filtered (has_number r.text) (span_pages span) page) ∙ e in
-    rw before (and_both (has_number r.text page) true (and_second (has_number (span_pages span) page) (has_number r.text page) k) refl)
+    rw before (and_from (has_number r.text page) true (and_second (has_number (span_pages span) page) (has_number r.text page) k) refl)
 
 -- and what is left of the kernel's text is no init page
 text_behind : (r : State) (span : Span) (page : ℕ) → r.rules.init ≡ Some span → is_kernel_text (ownership (retires r span)) page ≡ true
     → (has_number r.text page ≡ true) × (has_number (init_text r span) page ≡ false)
 text_behind r span page init e =
-    let out : is_init r.rules.init page ≡ false = not_false (is_init r.rules.init page) (and_second (has_number r.text page) (not (is_init r.rules.init page)) e) in
+    let out : is_init r.rules.init page ≡ false = not-true (is_init r.rules.init page) (and_second (has_number r.text page) (not (is_init r.rules.init page)) e) in
     let none : has_number (span_pages span) page ≡ false = ap (λ (x : Option Span). is_init x page) (sym init) ∙ out in (
       and_first (has_number r.text page) (not (is_init r.rules.init page)) e,
       number_filtered (has_number r.text) (span_pages span) page ∙ ap (λ (b : Bool). b && has_number r.text page) none,
     )
 
 was_text : (r : State) (span : Span) (page : ℕ) → r.rules.init ≡ Some span → r.retired ≡ false → is_kernel_text (ownership (retires r span)) page ≡ true → is_kernel_text (ownership r) page ≡ true
-was_text r span page init before e = rw before (and_both (has_number r.text page) true (text_behind r span page init e).0 refl)
+was_text r span page init before e = rw before (and_from (has_number r.text page) true (text_behind r span page init e).0 refl)
 
 -- a page of the kernel's that doesn't go stays the kernel's
 text_after : (r : State) (span : Span) (page : ℕ) → r.rules.init ≡ Some span → is_kernel_text (ownership r) page ≡ true → has_number (init_text r span) page ≡ false
@@ -438,13 +439,13 @@ text_after r span page init e gone =
     let text : has_number r.text page ≡ true = and_first (has_number r.text page) (not (r.retired && is_init r.rules.init page)) e in
     let none : (has_number (span_pages span) page && has_number r.text page) ≡ false = sym (number_filtered (has_number r.text) (span_pages span) page) ∙ gone in
     let out : is_init r.rules.init page ≡ false =
-    not_true (is_init r.rules.init page) (λ t. both (has_number (span_pages span) page && has_number r.text page)
-    (and_both (has_number (span_pages span) page) (has_number r.text page) (ap (λ (x : Option Span). is_init x page) (sym init) ∙ t) text) none) in
-    and_both (has_number r.text page) (not (is_init r.rules.init page)) text (ap not out)
+    false_from_ne_true (is_init r.rules.init page) (λ t. both (has_number (span_pages span) page && has_number r.text page)
+    (and_from (has_number (span_pages span) page) (has_number r.text page) (ap (λ (x : Option Span). is_init x page) (sym init) ∙ t) text) none) in
+    and_from (has_number r.text page) (not (is_init r.rules.init page)) text (ap not out)
 
 no_init : (r : State) (span : Span) (n : SavedModule) (page : ℕ) → IsSound r → r.retired ≡ false → IsPageOf r.rules r.loaded n page → has_number (init_text r span) page ≡ false
 no_init r span n page s before p =
-    not_true (has_number (init_text r span) page) (λ t. both (is_kernel_text (ownership r) page) (text_before r span page before t) (s.pages.no_text n page p))
+    false_from_ne_true (has_number (init_text r span) page) (λ t. both (is_kernel_text (ownership r) page) (text_before r span page before t) (s.pages.no_text n page p))
 
 owned_after : (r : State) (span : Span) (page : ℕ) → r.rules.init ≡ Some span → has_number (init_text r span) page ≡ false → IsOwned (ownership r) page → IsOwned (ownership (retires r span)) page
 owned_after r span page init gone (inl text) = inl (text_after r span page init text gone)
@@ -455,7 +456,7 @@ retires_pages r span s init before = record {
   owned = λ page e. let k = kept_approved r.approved (init_text r span) page e in owned_after r span page init k.0 (s.pages.owned page k.1);
   text = λ page e. ap is_some (bytes_left r.approved (init_text r span) page (text_behind r span page init e).1) ∙ s.pages.text page (was_text r span page init before e);
   modules = λ n page p. ap is_some (bytes_left r.approved (init_text r span) page (no_init r span n page s before p)) ∙ s.pages.modules n page p;
-  no_text = λ n page p. not_true (is_kernel_text (ownership (retires r span)) page)
+  no_text = λ n page p. false_from_ne_true (is_kernel_text (ownership (retires r span)) page)
       (λ t. both (is_kernel_text (ownership r) page) (was_text r span page init before t) (s.pages.no_text n page p));
   one_module = s.pages.one_module;
   inside = λ page e. s.pages.inside page (kept_approved r.approved (init_text r span) page e).1;

@@ -1,7 +1,7 @@
 -- What a turn of one hart leaves of another that is started: its mode, its pc, its entry and its interrupts' bit.
 use Rattle.std.proofs.Common.{◌≡◌, ℕ, zero, suc, ◌+◌, List, [], ◌∷◌, map, length, refl, sym, ◌∙◌, ap, subst, Bool, true, false, slice_get, slice_set}
 use Rattle.std.specs.Prelude.{Option, Some, None, option_map, if◌then◌else◌, ◌==◌}
-use Rattle.std.proofs.lemmas.Bool.{eq-eqb}
+use Rattle.std.proofs.lemmas.Bool.{eqb-false}
 use Rattle.processor.specs.Bytes.{page_of, ram_place}
 use Rattle.processor.specs.Causes.{cause_number}
 use Rattle.processor.specs.Effects.{effect_of}
@@ -33,6 +33,7 @@ use Rattle.reference.specs.Turn.{place_of_pc, leads_into, outside, leave_entry, 
 use Rattle.attempt_laws.specs.Agree.{IsNotLoading}
 use Rattle.run_laws.proofs.AnswersMay.{MayBeside, answer_may}
 use Rattle.run_laws.proofs.Lookups.{both}
+use Rattle.sv_types.proofs.SetElements.{set_other}
 
 -- a started hart, as another one was
 pub record LooksLike (at hart : Hart) : Type 0 where
@@ -69,11 +70,7 @@ then_rests z r mid next s t w = t (s w)
 -- ---- lists of harts
 
 pub get_beside : (harts : List Hart) (h k : ℕ) (x y : Hart) → (h ≡ k → ⊥) → slice_get harts k ≡ Some y → slice_get (slice_set harts h x) k ≡ Some y
-get_beside [] h k x y other e = absurd (cc)
-get_beside (a ∷ harts) zero zero x y other e = absurd (other refl)
-get_beside (a ∷ harts) zero (suc k) x y other e = e
-get_beside (a ∷ harts) (suc h) zero x y other e = e
-get_beside (a ∷ harts) (suc h) (suc k) x y other e = get_beside harts h k x y (λ s. other (ap suc s)) e
+get_beside harts h k x y other e = set_other harts h k x (λ same. other (sym same)) ∙ e
 
 pub get_behind : (f : Hart → Hart) (harts : List Hart) (k : ℕ) (y : Hart) → slice_get harts k ≡ Some y → slice_get (map f harts) k ≡ Some (f y)
 get_behind f [] k y e = absurd (cc)
@@ -91,9 +88,6 @@ get_sent named first [] k y e = absurd (cc)
 get_sent named first (a ∷ harts) zero y e = (named first, ap (option_map (sent (named first))) e)
 get_sent named first (a ∷ harts) (suc k) y e = get_sent named (first + 1) harts k y e
 
-apart : (h k : ℕ) → (h == k) ≡ false → h ≡ k → ⊥
-apart h k other same = both (h == k) (eq-eqb h k same) other
-
 looks_sent : (at : Hart) (b : Bool) (hart : Hart) → LooksLike at hart → LooksLike at (sent b hart)
 looks_sent at true hart l = record { started = l.started; mode = l.mode; pc = l.pc; entry = l.entry; status = l.status }
 looks_sent at false hart l = l
@@ -109,7 +103,7 @@ nobody z r next harts loading w = record {
 }
 
 set_there : (z : Watched) (harts : List Hart) (x y : Hart) → slice_get harts z.watched ≡ Some y → slice_get (slice_set harts z.mover x) z.watched ≡ Some y
-set_there z harts x y e = get_beside harts z.mover z.watched x y (apart z.mover z.watched z.other) e
+set_there z harts x y e = get_beside harts z.mover z.watched x y (eqb-false z.mover z.watched z.other) e
 
 sets : (z : Watched) (r next : State) (x : Hart) → next.harts ≡ slice_set r.harts z.mover x → next.loading ≡ r.loading → Leaves z r next
 sets z r next x harts loading w = record {

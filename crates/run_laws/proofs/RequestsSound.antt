@@ -36,9 +36,10 @@ use Rattle.attempt_laws.proofs.Everywhere.{Keeps, first_stage_keeps}
 use Rattle.attempt_laws.proofs.Under.{moved}
 use Rattle.attempt_laws.proofs.LoadsKept.{in_page}
 use Rattle.run_laws.proofs.VirtioSound.{virtio_stored}
-use Rattle.run_laws.proofs.Lookups.{unprotected, unheld, and_second}
+use Rattle.run_laws.proofs.Lookups.{unprotected, unheld}
 use Rattle.run_laws.proofs.HartsSound.{goes_behind, trap_sound, return_sound, csr_sound}
 use Rattle.run_laws.proofs.Sounds.{Goes, InFreePage, goes_set, goes_beside, goes_bytes, goes_on, choose_goes}
+use Rattle.sv_types.proofs.TruthValues.{and_second}
 
 -- ---- traps
 
@@ -228,7 +229,7 @@ target_free r hart address width whole = choose_free r hart address width (addre
 page_end : (width p : ℕ) → IsWidth width → p % width ≡ 0 → p + width ≤ 4096 * (p / 4096 + 1)
 page_end width p whole aligned = let inside = in_page width p whole aligned in omega (arith, inside)
 
-room_of : (ram : List ℕ) (gpa width : ℕ) → in_ram ram gpa width ≡ true → ram_place gpa + width ≤ length ram
+pub room_of : (ram : List ℕ) (gpa width : ℕ) → in_ram ram gpa width ≡ true → ram_place gpa + width ≤ length ram
 room_of ram gpa width e = grind (arith, nat_tests)
 
 -- a value's bytes lie in that page

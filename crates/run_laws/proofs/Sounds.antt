@@ -2,6 +2,7 @@
 -- written into a free page.
 use Rattle.std.proofs.Common.{sym, ◌≡◌, ℕ, zero, suc, ◌+◌, ◌*◌, ◌/◌, ◌%◌, ◌<◌, ◌≤◌, ◌⊎◌, inl, inr, List, [], ◌∷◌, length, map, refl, ◌∙◌, ap, subst, Bool, true, false, slice_get, slice_set, arith}
 use Rattle.std.specs.Prelude.{Option, Some, None, option_map, if◌then◌else◌}
+use Rattle.std.proofs.lemmas.Bool.{false_from_ne_true}
 use Rattle.processor.specs.Bytes.{overwrite, part, page_size, ram_place, page_of}
 use Rattle.sv_types.specs.Policies.{Rules, ModuleRule}
 use Rattle.sv_types.specs.ApprovedPages.{ApprovedPage, approved_bytes}
@@ -13,9 +14,10 @@ use Rattle.reference.specs.Loads.{is_good, module_text}
 use Rattle.reference.specs.Origins.{TextStays, Ownership, ownership, IsMeasured}
 use Rattle.machine_model.specs.StandsFor.{load_kept}
 use Rattle.reference.specs.Soundness.{IsSound, IsSoundHart, IsSoundDisk, IsSoundLoad}
-use Rattle.run_laws.proofs.Lookups.{not_true, both}
+use Rattle.run_laws.proofs.Lookups.{both}
 use Rattle.attempt_laws.proofs.LoadsKept.{elsewhere, rule_kept}
 use Rattle.attempt_laws.proofs.Stays.{KeepsLoad, length_set, length_map}
+use Rattle.sv_types.proofs.SetElements.{set_or_there}
 
 -- what a step keeps: soundness, and the kernel's text
 pub record Goes (r next : State) : Type 0 where
@@ -70,15 +72,8 @@ pub goes_harts : (r : State) (harts : List Hart) (d : Devices) (j : Journal) →
     → Goes r (record r { harts = harts; devices = d; journal = j })
 goes_harts r harts d j s sound same disk = record { sound = sound_harts r harts d j s sound same disk; text = text_stays (ownership r) }
 
-get_set : (harts : List Hart) (h k : ℕ) (y z : Hart) → slice_get (slice_set harts h y) k ≡ Some z → (y ≡ z) ⊎ (slice_get harts k ≡ Some z)
-get_set [] h k y z e = inr e
-get_set (x ∷ harts) zero zero y z e = inl (cc)
-get_set (x ∷ harts) zero (suc k) y z e = inr e
-get_set (x ∷ harts) (suc h) zero y z e = inr e
-get_set (x ∷ harts) (suc h) (suc k) y z e = get_set harts h k y z e
-
 pub are_set : (rules : Rules) (harts : List Hart) (h : ℕ) (next : Hart) → AreSound rules harts → IsSoundHart rules next → AreSound rules (slice_set harts h next)
-are_set rules harts h next all sound k hart e = elim (get_set harts h k next hart e) [
+are_set rules harts h next all sound k hart e = elim (set_or_there harts h k next hart e) [
   | inl same ↦ subst (IsSoundHart rules) same sound
   | inr there ↦ all k hart there
 ]
@@ -141,7 +136,7 @@ measured_kept r place bytes m s free found =
     let old : IsMeasured r.rules r.ram m = s.modules m found in
     let n : ℕ = pages_in_rule (slice_get r.rules.modules m.id) in
     let other : has_number (module_pages r.rules m) free.page ≡ false =
-    not_true (has_number (module_pages r.rules m) free.page)
+    false_from_ne_true (has_number (module_pages r.rules m) free.page)
     (λ there. both (is_approved_in r.approved free.page) (s.pages.modules m free.page (record { loaded_is = found; inside = there })) free.free) in
     record {
       good = good_kept r.rules r.ram (overwrite r.ram place bytes) m (slice_get r.rules.modules m.id)

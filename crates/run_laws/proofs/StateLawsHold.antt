@@ -1,6 +1,7 @@
 -- The laws of bytes and of modules.
 use Rattle.std.proofs.Common.{◌≡◌, ℕ, ◌+◌, ◌-◌, ◌*◌, ◌/◌, ◌%◌, ◌<◌, ◌≤◌, inl, inr, List, [], length, refl, sym, ◌∙◌, ap, subst, arith, true, false, slice_get}
 use Rattle.std.specs.Prelude.{Option, Some, None, is_some}
+use Rattle.std.proofs.lemmas.Bool.{false_from_ne_true}
 use Rattle.sv_types.specs.Boot.{flat_ram_pages}
 use Rattle.processor.specs.Bytes.{padded, part, page_bytes, page_size, ram_base, ram_place}
 use Rattle.sv_types.specs.Kernel.{header_entry, kernel_segments, segments_ram, text_pages}
@@ -14,7 +15,7 @@ use Rattle.reference.specs.Run.{run}
 use Rattle.reference.specs.Start.{IsStart, StartsFlat, StartsBy, flat_rules, flat_start, image_start, boot_start, virtio_start, block_disk, virtio_disk}
 use Rattle.reference.specs.Soundness.{IsSound, IsSoundDisk, IsSoundLoad, HoldsModule}
 use Rattle.run_laws.specs.StateLaws.{BytesLaw, SoundLaw, IsText, IsModulePage, HasOrigin, HoldsLoad, HasOrigins, ModulesLaw}
-use Rattle.run_laws.proofs.Lookups.{not_true, both, all_found, numbers_bounds}
+use Rattle.run_laws.proofs.Lookups.{both, all_found, numbers_bounds}
 use Rattle.run_laws.proofs.ModulesSound.{same_module}
 use Rattle.run_laws.proofs.Sounds.{Goes}
 use Rattle.run_laws.proofs.StartsSound.{start_sound, block_quiet, virtio_quiet, flat_can, image_can}
@@ -123,9 +124,9 @@ has_origins s r sound goes = record {
   origin = λ page e. origin_of s r page sound goes (goes.sound.pages.owned page e);
   held = held_by r r.loading goes.sound.load;
   text_and_module = λ m page p. goes.sound.pages.no_text m page p;
-  text_and_held = λ page e. not_true (is_kernel_text (ownership r) page)
+  text_and_held = λ page e. false_from_ne_true (is_kernel_text (ownership r) page)
       (λ t. both (is_approved_in r.approved page) (goes.sound.pages.text page t) (held_free r r.loading page goes.sound.load e));
-  module_and_held = λ m page p. not_true (has_number r.held page)
+  module_and_held = λ m page p. false_from_ne_true (has_number r.held page)
       (λ t. both (is_approved_in r.approved page) (goes.sound.pages.modules m page p) (held_free r r.loading page goes.sound.load t));
   two_modules = λ m n page p q. same_module r m n (goes.sound.pages.one_module m n page p q) p.loaded_is q.loaded_is;
   ascends = goes.sound.ascends;

@@ -3,17 +3,16 @@ use Rattle.std.proofs.Common.{◌≡◌, ℕ, zero, suc, ◌+◌, ◌^◌, ◌<�
 use Rattle.std.specs.Prelude.{◌&&◌, nat_lt}
 use Rattle.std.specs.Int.{w64, to_le_bytes, from_le_bytes}
 use Rattle.std.proofs.lemmas.Bool.{eqb-true, ltb-true, ltb-false, le-ltb, lt-ltb, eq-eqb, cases_lt}
-use Rattle.std.proofs.lemmas.List.{take_at, drop_at, take-append-drop, length-append, length-take, get_or-drop, get_or-take, get_or_past, get_or-append-add}
+use Rattle.std.proofs.lemmas.List.{take_at, drop_at, take-append-drop, length-append, length-take, get_or-take, get_or_past, get_or-append-add}
 use Rattle.std.proofs.lemmas.Nat.{le_bytes_8, from_le_bytes-to_le_bytes_8}
 use Rattle.snapshot_form.specs.declared.refusal.SnapRefusal.{SnapRefusal}
 use Rattle.snapshot_form.specs.declared.refusal.SnapRefusal.TheVariants.{OtherLength, OutOfRange}
 use Rattle.snapshot_form.specs.FormLaw.{IsBytes, IsForm}
 use Rattle.snapshot_form.specs.Forms.{◌>>=◌, Form, spell_number, number_at, is_word, number, byte_at, byte, bytes_at, plain, nothing, judged, within, paired, and_then, ◌⨾◌, renamed, made, always, spell_all, has_all, put_first, all_taken, listed, counted, measured}
+pub use Rattle.sv_types.proofs.TruthValues.{and_first as first_true, and_second as second_true}
+pub use Rattle.std.proofs.lemmas.Bool.{and_from as both_true}
 
 -- ---- bytes
-
-IsBytes-drop : (n : ℕ) (bytes : List ℕ) → IsBytes bytes → IsBytes (drop n bytes)
-IsBytes-drop n bytes h i = rw get_or-drop (h (n + i))
 
 IsBytes-take : (n : ℕ) (bytes : List ℕ) → IsBytes bytes → IsBytes (take n bytes)
 IsBytes-take n bytes h i =
@@ -48,17 +47,6 @@ passed false d x y e = absurd cc
 pub not_short : {A : Type 0} (b : Bool) (d : SnapRefusal) (x y : A) → cond b (Err d) (Ok x) ≡ Ok y → (b ≡ false) × (x ≡ y)
 not_short true d x y e = absurd cc
 not_short false d x y e = (refl, cc)
-
-pub both_true : (a b : Bool) → a ≡ true → b ≡ true → (a && b) ≡ true
-both_true a b p q = rw (p, q) refl
-
-pub first_true : (a b : Bool) → (a && b) ≡ true → a ≡ true
-first_true true b e = refl
-first_true false b e = absurd cc
-
-pub second_true : (a b : Bool) → (a && b) ≡ true → b ≡ true
-second_true true b e = e
-second_true false b e = absurd cc
 
 -- ---- numbers and bytes
 

@@ -1,6 +1,7 @@
 -- A machine determines the state that it stands for.
 use Rattle.std.proofs.Common.{◌≡◌, ℕ, ◌+◌, ◌-◌, ◌*◌, ◌/◌, ◌<◌, inl, inr, List, [], ◌∷◌, map, drop, length, refl, sym, ◌∙◌, ap, subst, Bool, true, false, ◌==◌, not, arith, slice_get}
 use Rattle.std.specs.Prelude.{Option, Some, None, option_map, is_some}
+use Rattle.std.proofs.lemmas.Bool.{cases_Bool, false_from_ne_true}
 use Rattle.sv_types.specs.ApprovedPages.{approved_bytes}
 use Rattle.processor.specs.Bits.{flag}
 use Rattle.processor.specs.Bytes.{page_bytes}
@@ -14,11 +15,11 @@ use Rattle.reference.specs.Soundness.{IsSound, IsSoundLoad}
 use Rattle.reference.specs.States.{State, Hart, Loading, has_number, is_approved_in, module_pages, protection_in, protection_by}
 use Rattle.machine_model.specs.Machine.{Machine, HostHart, HostLoad}
 use Rattle.machine_model.specs.StandsFor.{Unseen, IsRightFor, machine_of, host_hart, host_harts, load_kept, load_kept_by, protections_of}
-use Rattle.attempt_laws.proofs.Under.{same_mode}
-use Rattle.run_laws.proofs.Lookups.{is_there, not_true, both, none_there}
+use Rattle.run_laws.proofs.Lookups.{both, none_there}
 use Rattle.standing_laws.specs.Laws.{AreSame, DeterminesLaw}
 use Rattle.standing_laws.proofs.Standings.{listed}
 use Rattle.standing_laws.proofs.Loads.{approved_is}
+use Rattle.machine_model.proofs.Sides.{same_mode}
 
 -- ---- harts
 
@@ -116,11 +117,11 @@ bytes_in r page sound e = bytes_by (approved_bytes r.approved page) (page_bytes 
 
 approved_same : (r s : State) (page : ℕ) → IsSound r → IsSound s → protections_of r ≡ protections_of s → r.rules ≡ s.rules → r.ram ≡ s.ram
     → approved_bytes r.approved page ≡ approved_bytes s.approved page
-approved_same r s page first second lists rules ram = elim (is_there (is_approved_in r.approved page)) [
+approved_same r s page first second lists rules ram = elim (cases_Bool (is_approved_in r.approved page)) [
   | inl yes_it_is ↦ bytes_in r page first yes_it_is ∙ ap (λ (x : List ℕ). Some (page_bytes x page)) ram
       ∙ sym (bytes_in s page second (approved_too r s page first lists rules yes_it_is))
   | inr not_it ↦ none_there (approved_bytes r.approved page) not_it ∙ sym (none_there (approved_bytes s.approved page)
-      (not_true (is_approved_in s.approved page) (λ e. both (is_approved_in r.approved page) (approved_too s r page second (sym lists) (sym rules) e) not_it)))
+      (false_from_ne_true (is_approved_in s.approved page) (λ e. both (is_approved_in r.approved page) (approved_too s r page second (sym lists) (sym rules) e) not_it)))
 ]
 
 -- ---- the kernel's text
@@ -139,9 +140,9 @@ text_too r s page first second lists rules loaded e =
 
 text_same : (r s : State) (page : ℕ) → IsSound r → IsSound s → protections_of r ≡ protections_of s → r.rules ≡ s.rules → r.loaded ≡ s.loaded
     → is_kernel_text (ownership r) page ≡ is_kernel_text (ownership s) page
-text_same r s page first second lists rules loaded = elim (is_there (is_kernel_text (ownership r) page)) [
+text_same r s page first second lists rules loaded = elim (cases_Bool (is_kernel_text (ownership r) page)) [
   | inl text ↦ text ∙ sym (text_too r s page first second lists rules loaded text)
-  | inr other ↦ other ∙ sym (not_true (is_kernel_text (ownership s) page)
+  | inr other ↦ other ∙ sym (false_from_ne_true (is_kernel_text (ownership s) page)
       (λ e. both (is_kernel_text (ownership r) page) (text_too s r page second first (sym lists) (sym rules) (sym loaded) e) other))
 ]
 

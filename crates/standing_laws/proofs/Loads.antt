@@ -1,7 +1,7 @@
 -- The pages of modules that are loaded or under way, in a machine that stands for a state.
 use Rattle.std.proofs.Common.{◌≡◌, ℕ, zero, suc, ◌+◌, ◌*◌, ◌/◌, ◌%◌, ◌<◌, ◌≤◌, inl, inr, List, [], ◌∷◌, ◌++◌, length, refl, sym, ◌∙◌, ap, subst, Bool, true, false, ◌&&◌, arith, slice_get}
 use Rattle.std.specs.Prelude.{Some, None, Option, option_map, IfSome, nat_le}
-use Rattle.std.proofs.lemmas.Bool.{leb-true}
+use Rattle.std.proofs.lemmas.Bool.{leb-true, cases_Bool}
 use Rattle.sv_types.specs.ApprovedPages.{numbers_from}
 use Rattle.processor.specs.Bytes.{page_of, ram_place}
 use Rattle.sv_types.specs.Policies.{Rules, ModuleRule, each_within, rules_within, numbers_within, lists_within, init_within, modules_count_within, module_within, modules_within, module_pages_within, sites_count_within, sites_of, sites_within}
@@ -12,16 +12,18 @@ use Rattle.reference.specs.Soundness.{IsSound, IsSoundLoad, HoldsModule}
 use Rattle.machine_model.specs.Machine.{Machine}
 use Rattle.machine_model.specs.StandsFor.{Unseen, machine_of, protections_of, load_kept, load_kept_by}
 use Rattle.attempt_laws.proofs.LoadsKept.{elsewhere}
-use Rattle.run_laws.proofs.Lookups.{is_there, and_first, and_second, found_id, length_pages}
+use Rattle.run_laws.proofs.Lookups.{length_pages}
 use Rattle.page_guard.specs.Guarded.{IsInRam, AllAre}
 use Rattle.module_gate.specs.Gates.{module_span, AreApproved}
 use Rattle.standing_laws.specs.Laws.{LoadedLaw, HoldsItsPages, LoadingLaw}
 use Rattle.standing_laws.proofs.Standings.{listed}
+use Rattle.sv_types.proofs.TruthValues.{and_first, and_second}
+use Rattle.reference.proofs.LoadedModules.{found_id}
 
 -- ---- spans
 
 in_span : (first n i : ℕ) → i < n → has_number (numbers_from first n) (first + i) ≡ true
-in_span first n i below = elim (is_there (has_number (numbers_from first n) (first + i))) [
+in_span first n i below = elim (cases_Bool (has_number (numbers_from first n) (first + i))) [
   | inl there ↦ there
   | inr gone ↦ elim (elsewhere first n (first + i) gone) [ inl before ↦ absurd (omega arith) | inr behind ↦ absurd (omega arith) ]
 ]

@@ -1,11 +1,10 @@
 -- Harts, pages and views of a machine that stands for a state.
-use Rattle.std.proofs.Common.{◌≡◌, ℕ, zero, suc, ◌+◌, ◌*◌, ◌/◌, ◌^◌, ◌<◌, ◌≤◌, List, [], ◌∷◌, length, refl, sym, ◌∙◌, ap, subst, Bool, true, false, ◌&&◌, arith, slice_get}
-use Rattle.std.specs.Prelude.{Option, Some, None, option_map, nat_le, slice_index_or}
-use Rattle.std.proofs.lemmas.Bool.{leb-true}
+use Rattle.std.proofs.Common.{◌≡◌, ℕ, zero, suc, ◌+◌, ◌*◌, ◌<◌, ◌≤◌, List, [], ◌∷◌, length, refl, sym, ◌∙◌, ap, subst, true, arith, slice_get}
+use Rattle.std.specs.Prelude.{Option, Some, None, option_map, slice_index_or}
 use Rattle.std.proofs.lemmas.Option.{slice_get_within}
 use Rattle.processor.specs.Bytes.{page_of}
 use Rattle.processor.specs.HypervisorRegisters.{HypervisorRegisters}
-use Rattle.sv_types.specs.Policies.{Rules, rules_within, numbers_within, harts_within, format_within, ram_pages_within, lists_within, init_within, modules_count_within, modules_within, entries_count_within, entries_within, exports_count_within, exports_within, bound_within}
+use Rattle.sv_types.specs.Policies.{Rules, rules_within}
 use Rattle.processor.specs.SecondStage.{WalksApart}
 use Rattle.processor.specs.Roots.{IsSv39x4}
 use Rattle.sv_types.specs.Views.{OfKernel, OfUser, OfEntry, with_ram, view_hgatp}
@@ -20,9 +19,10 @@ use Rattle.machine_model.specs.Machine.{Machine, HostHart}
 use Rattle.machine_model.specs.StandsFor.{Unseen, IsRightFor, machine_of, host_hart, host_harts, hregs_in, bound_pages, protections_of}
 use Rattle.attempt_laws.proofs.Under.{bound_page}
 use Rattle.answer_laws.proofs.ViewsMeet.{get_numbers, views_meet}
-use Rattle.run_laws.proofs.Lookups.{and_second, length_pages}
+use Rattle.run_laws.proofs.Lookups.{length_pages}
 use Rattle.hart.specs.Conditions.{KeepsMode}
 use Rattle.standing_laws.specs.Laws.{MayAttempt, HartsLaw, HartInLaw, NoEntryLaw, IsInOrder, OrderLaw}
+use Rattle.sv_types.proofs.PolicyLimits.{few_entries, few_harts}
 
 -- ---- harts
 
@@ -51,25 +51,6 @@ keeps_mode Kernel entry = record { exceptions = λ user. cc; interrupts = λ use
 keeps_mode User entry = record { exceptions = λ user. refl; interrupts = λ user. refl; returns = refl }
 
 -- ---- entries that are bound
-
-most_entries : (n : ℕ) → (nat_le 1 n && nat_le n 64) ≡ true → n ≤ 64
-most_entries n e = leb-true n 64 (and_second (nat_le 1 n) (nat_le n 64) e)
-
-few_entries : (r : Rules) → rules_within r ≡ true → length r.entries ≤ 64
-few_entries r e = most_entries (length r.entries)
-    (first_of (entries_count_within (length r.entries)) (entries_within r.entries) (exports_count_within (length r.exports)) (exports_within r.exports)
-    (bound_within r)
-    (second_of (numbers_within r) (lists_within r) (init_within r.ram_pages r.init) (modules_count_within (length r.modules))
-    (modules_within (length r.exports) r.modules) e))
-  where
-    first_of : (a b c d e : Bool) → (a && b && c && d && e) ≡ true → a ≡ true
-    first_of true b c d e k = refl
-    first_of false b c d e k = cc
-
-    second_of : (a b c d e : Bool) → (a && b && c && d && e) ≡ true → b ≡ true
-    second_of true true c d e k = refl
-    second_of true false c d e k = cc
-    second_of false b c d e k = cc
 
 binds : (va gpa : Option ℕ) (entry : Binding) → binding_of va gpa ≡ Some entry → (x : ℕ) × ((va ≡ Some x) × (gpa ≡ Some entry.gpa))
 binds None gpa entry e = absurd (cc)
@@ -163,24 +144,6 @@ length_hosts t [] [] size = refl
 length_hosts t [] (y ∷ harts) size = cc
 length_hosts t (x ∷ exits) [] size = refl
 length_hosts t (x ∷ exits) (y ∷ harts) size = ap suc (length_hosts t exits harts (cc))
-
-most_harts : (n : ℕ) → (nat_le 1 n && nat_le n 4) ≡ true → n ≤ 4
-most_harts n e = leb-true n 4 (and_second (nat_le 1 n) (nat_le n 4) e)
-
-few_harts : (r : Rules) → rules_within r ≡ true → r.harts ≤ 4
-few_harts r e =
-    let numbers : numbers_within r ≡ true = first_of (numbers_within r) (lists_within r) (init_within r.ram_pages r.init)
-    (modules_count_within (length r.modules)) (modules_within (length r.exports) r.modules) e in
-    most_harts r.harts (middle_of (format_within r.format) (harts_within r.harts) (ram_pages_within r.ram_pages) numbers)
-  where
-    first_of : (a b c d e : Bool) → (a && b && c && d && e) ≡ true → a ≡ true
-    first_of true b c d e k = refl
-    first_of false b c d e k = cc
-
-    middle_of : (a b c : Bool) → (a && b && c) ≡ true → b ≡ true
-    middle_of true true c k = refl
-    middle_of true false c k = cc
-    middle_of false b c k = cc
 
 -- the list has each page's protection
 pub listed : (r : State) (page : ℕ) → page < r.rules.ram_pages → slice_get (protections_of r) page ≡ Some (protection_in r.approved r.held page)

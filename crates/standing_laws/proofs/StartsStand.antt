@@ -23,6 +23,7 @@ use Rattle.run_laws.proofs.Lookups.{approved_alone}
 use Rattle.run_laws.proofs.StartsSound.{CanStart, start_sound, block_quiet, virtio_quiet, flat_can, image_can}
 use Rattle.answer_laws.proofs.ProtectionsChange.{each_changed, span_changed, views_from}
 use Rattle.standing_laws.specs.Starts.{IsGuarded, FlatStartLaw, ImageStartLaw, VirtioStartLaw, machine_at_boot, flat_machine, image_machine, host_at_boot, hosts_at_boot, flat_protections, image_protections}
+use Rattle.sv_types.proofs.PageNumbers.{numbers_length}
 
 -- ---- harts
 
@@ -51,12 +52,8 @@ boot_same : (tables : List ℕ) (rules : Rules) (ram text : List ℕ) (entry : �
 unfolding machine_at_boot machine_of start
 boot_same tables rules ram text entry disk = rw (boot_hosts (length tables) rules.harts entry) refl
 
-numbers_count : (first n : ℕ) → length (numbers_from first n) ≡ n
-numbers_count first zero = refl
-numbers_count first (suc n) = ap suc (numbers_count (first + 1) n)
-
 all_pages : (r : State) → length (protections_of r) ≡ r.rules.ram_pages
-all_pages r = length-map (numbers_from 0 r.rules.ram_pages) (protection_in r.approved r.held) ∙ numbers_count 0 r.rules.ram_pages
+all_pages r = length-map (numbers_from 0 r.rules.ram_pages) (protection_in r.approved r.held) ∙ numbers_length 0 r.rules.ram_pages
 
 boot_views : (tables : List ℕ) (r : State) → AreViews tables (length (protections_of r)) (bound_pages r.rules) (protection_at (protections_of r)) → AreViews tables r.rules.ram_pages (bound_pages r.rules) (protection_in r.approved r.held)
 boot_views tables r views = views_from tables r (subst (λ (n : ℕ). AreViews tables n (bound_pages r.rules) (protection_at (protections_of r))) (all_pages r) views)

@@ -3,10 +3,10 @@ use Rattle.std.proofs.Common.{◌≡◌, ℕ, List, [], ◌∷◌, refl, sym, ap
 use Rattle.std.specs.Prelude.{find, bit_and, ◌==◌, ◌&&◌, Some, if◌then◌else◌, Option}
 use Rattle.std.specs.List.{list_all}
 use Rattle.std.specs.Option.{option_map}
-use Rattle.std.proofs.lemmas.Bool.{eqb-true}
+use Rattle.std.proofs.lemmas.Bool.{eqb-true, and_parts}
 use Rattle.processor.specs.declared.instruction.Instr.{Instr}
 use Rattle.processor.specs.Instructions.{Row, has_row, rows, instruction_of, instruction_in, plain}
-use Rattle.processor_laws.proofs.Decoding.{found, both}
+use Rattle.processor_laws.proofs.Decoding.{found}
 use Rattle.machine_model.specs.Served.{is_sret, is_sret_word}
 
 abbrev sret_row : ℕ → Row → Bool
@@ -15,7 +15,7 @@ sret_row w row = if is_sret (Some (row.form w)) then (row.mask == 0xFFFFFFFF && 
 here : (w : ℕ) (row : Row) (b : Bool) → is_sret (Some (row.form w)) ≡ b → sret_row w row ≡ true → has_row w row ≡ true → b ≡ true → (bit_and w 0xFFFFFFFF == 0x10200073) ≡ true
 here w row true e ok fits so =
     let parts : (row.mask == 0xFFFFFFFF && row.match == 0x10200073) ≡ true = subst (λ (b : Bool). (if b then (row.mask == 0xFFFFFFFF && row.match == 0x10200073) else true) ≡ true) e ok in
-    let each = both (row.mask == 0xFFFFFFFF) (row.match == 0x10200073) parts in
+    let each = and_parts (row.mask == 0xFFFFFFFF) (row.match == 0x10200073) parts in
     let m : row.mask ≡ 0xFFFFFFFF = eqb-true row.mask 0xFFFFFFFF each.0 in
     let v : row.match ≡ 0x10200073 = eqb-true row.match 0x10200073 each.1 in
     subst (λ (n : ℕ). (bit_and w 0xFFFFFFFF == n) ≡ true) v (subst (λ (n : ℕ). (bit_and w n == row.match) ≡ true) m fits)
@@ -32,7 +32,7 @@ among : (w : ℕ) (rs : List Row) → list_all (sret_row w) rs ≡ true → is_s
 unfolding is_sret
 among w [] all is = cc
 among w (row ∷ rs) all is =
-    let each = both (sret_row w row) (list_all (sret_row w) rs) all in
+    let each = and_parts (sret_row w row) (list_all (sret_row w) rs) all in
     step w row (has_row w row) (find (has_row w) rs) refl each.0 (among w rs each.1) is
 
 all_rows : (w : ℕ) → list_all (sret_row w) rows ≡ true

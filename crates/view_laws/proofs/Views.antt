@@ -15,7 +15,7 @@ use Rattle.sv_types.specs.declared.protection.Protection.{Protection}
 use Rattle.processor_laws.proofs.ByteLemmas.{lt_or_le}
 use Rattle.processor_laws.proofs.RegionLemmas.{word_in_ram}
 use Rattle.processor_laws.proofs.Walks.{Agree, first_stage_agrees}
-use Rattle.processor_laws.proofs.GuestViews.{and_false}
+use Rattle.processor_laws.proofs.GuestViews.{and_false, and_true}
 
 -- 8 aligned bytes from p on are in n pages exactly where p's page is one of them
 pub whole_entry : (p n : ℕ) → p % 8 ≡ 0 → nat_le (p + 8) (4096 * n) ≡ nat_lt (p / 4096) n
@@ -23,10 +23,6 @@ whole_entry p n h = grind (arith, nat_tests)
 
 place_aligned : (a : ℕ) → a % 8 ≡ 0 → ram_place a % 8 ≡ 0
 place_aligned a h = grind arith
-
-and_true : (b : Bool) → (b && true) ≡ b
-and_true true = refl
-and_true false = refl
 
 -- what is read where a gpa leads, as a choice
 read_choice : (r : Region) (b : Bool) (at : ℕ) → entry_there r (if b then Some at else None) ≡ (if b then Some (host_word r at 8) else None)

@@ -1,8 +1,9 @@
 use Rattle.std.proofs.Common.{map, sym, ◌∙◌}
 use Rattle.sv_types.specs.declared.image_fault.ImageFault.{ImageFault}
 use Rattle.sv_types.specs.Kernel.{image_check, header_checks, file_checks, table_checks}
-use Rattle.elf64_load.proofs.FirstRefusals.{passed, refused, image_passed, image_refused}
+use Rattle.elf64_load.proofs.FirstRefusals.{refused, image_passed, image_refused}
 use Rattle.elf64_load.proofs.checks.header_refusal.Goals as goal
+use Rattle.sv_types.proofs.FileChecks.{passed}
 
 pub returns-in-Some-clause-first : goal.returns-in-Some-clause-first
 unfolding header_checks

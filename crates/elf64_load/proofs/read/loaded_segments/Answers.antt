@@ -1,7 +1,8 @@
 use Rattle.sv_types.specs.Kernel.{segment_checks}
-use Rattle.elf64_load.proofs.FirstRefusals.{each_passed, segment_passed}
+use Rattle.elf64_load.proofs.FirstRefusals.{each_passed}
 use Rattle.elf64_load.proofs.read.loaded_segments.Goals as goal
 use Rattle.std.proofs.Common.{length}
+use Rattle.sv_types.proofs.FileChecks.{segment_passed}
 
 pub loaded_segment-requires : goal.loaded_segment-requires
 loaded_segment-requires c =

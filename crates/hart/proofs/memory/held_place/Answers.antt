@@ -1,7 +1,8 @@
 use Rattle.std.proofs.Common.{refl, rules}
 use Rattle.hart.specs.Cores.{core_of}
-use Rattle.hart.proofs.Places.{apart_inside, walk_places, bare_place, some_further}
+use Rattle.hart.proofs.Places.{walk_places, bare_place, some_further}
 use Rattle.hart.proofs.memory.held_place.Goals as goal
+use Rattle.processor_laws.proofs.Walks.{apart_inside}
 
 pub returns-then-core-eq0-clause-value : goal.returns-then-core-eq0-clause-value
 returns-then-core-eq0-clause-value c =

@@ -1,9 +1,10 @@
 use Rattle.std.proofs.Common.{refl, rules, arith}
 use Rattle.processor.specs.SecondStage.{WalksApart}
 use Rattle.hart.specs.Cores.{core_of}
-use Rattle.hart.proofs.Places.{apart_inside, walk_places, bare_place, some_further}
+use Rattle.hart.proofs.Places.{walk_places, bare_place, some_further}
 use Rattle.quick_turns.proofs.Reaching.{leads_translated, leads_place, leads_behind}
 use Rattle.quick_turns.proofs.memory.held_place.Goals as goal
+use Rattle.processor_laws.proofs.Walks.{apart_inside}
 
 pub returns-then-core-eq0-clause-value : goal.returns-then-core-eq0-clause-value
 returns-then-core-eq0-clause-value c =

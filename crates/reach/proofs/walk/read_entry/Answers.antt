@@ -1,9 +1,9 @@
 use Rattle.std.proofs.Common.{◌∙◌, sym}
 use Rattle.processor.specs.declared.access.Access.TheVariants as Access
 use Rattle.sv39_walk.proofs.Steps.{entry_place}
-use Rattle.reach.proofs.Levels.{apart_inside}
 use Rattle.reach.proofs.Stages.{second_same}
 use Rattle.reach.proofs.walk.read_entry.Goals as goal
+use Rattle.processor_laws.proofs.Walks.{apart_inside}
 
 pub read-requires : goal.read-requires
 read-requires c =
