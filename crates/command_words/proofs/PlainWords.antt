@@ -7,12 +7,12 @@ use Rattle.clap.specs.Words.{Rule, Shape, Text}
 use Rattle.clap.specs.Lexer.{long_of, short_of}
 use Rattle.clap.specs.Takes.{step_passes, turn_passes, walk_passes}
 use Rattle.clap.specs.Walk.{Names, Walk, idle, positional, value, walked, to_positional, arg_by_index, is_multiple}
-use Rattle.command_words.specs.Commands.{has_dash}
+use Rattle.command_words.specs.Commands.{hyphen, has_dash}
 
 abbrev pub NoDash : Text → Type 0
 NoDash word = has_dash word ≡ false
 
-no_hyphens : (word : Text) → NoDash word → bytes_eq word (45 ∷ 45 ∷ []) ≡ false
+no_hyphens : (word : Text) → NoDash word → bytes_eq word (hyphen ∷ hyphen ∷ []) ≡ false
 no_hyphens [] plain = refl
 no_hyphens (c ∷ rest) plain = rw plain refl
 

@@ -98,10 +98,13 @@ abbrev pub shape_split : List (List ℕ) → Option Split
 shape_split [] = None
 shape_split (name ∷ rest) = named_split name rest
 
+abbrev pub hyphen : ℕ
+hyphen = 45
+
 -- a word begins with a dash
 abbrev pub has_dash : List ℕ → Bool
 has_dash [] = false
-has_dash (first ∷ rest) = first == 45
+has_dash (first ∷ rest) = first == hyphen
 
 -- the words of a command by their names, where no word begins with a dash and a command has words of this shape
 unfoldable pub split_words : List (List ℕ) → Option Split

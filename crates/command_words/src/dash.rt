@@ -3,12 +3,14 @@
 ghost use Rattle.std.specs.Prelude.{◌≡◌};
 ghost use Rattle.command_words.specs.Commands as spec;
 
+const HYPHEN: u8 = b'-';
+
 /// Whether a word begins with a dash.
 pub fn has_dash(word: &str) -> bool
     ensures { result ≡ spec.has_dash word.now }
 {
     match word.as_bytes() {
-        [first, ..] => *first == b'-',
+        [first, ..] => *first == HYPHEN,
         [] => false,
     }
 }

@@ -1,8 +1,8 @@
 // The file of registers.
 
-ghost use Rattle.std.specs.Prelude.{◌≡◌, true};
+ghost use Rattle.std.specs.Prelude.{◌≡◌, ◌^◌, ◌<◌, true};
 ghost use Rattle.std.specs.Result.{result_err};
-ghost use Rattle.processor.specs.HypervisorRegisters.{registers_at_boot, hip_value, aliased, with_alias, is_hypervisor_number, refusal, csr_access, read_virtual, write_virtual, read_answer, after_write};
+ghost use Rattle.processor.specs.HypervisorRegisters.{registers_at_boot, hip_value, at_hypervisor_places, aliased, with_alias, is_hypervisor_number, refusal, csr_access, read_virtual, write_virtual, read_answer, after_write};
 ghost use Rattle.processor.specs.Registers.{legal_satp};
 
 use crate::masks::{
@@ -98,13 +98,22 @@ fn aliased(hideleg: u64, register: u64) -> u64
     (register & (hideleg & VIRTUAL_INTERRUPT_BITS)) >> 1
 }
 
+/// Interrupts of `sie` and `sip` at their places in `hie` and `hip`.
+#[inline(always)]
+pub fn at_hypervisor_places(bits: u64) -> u64
+    requires { bits < 2 ^ 63 }
+    ensures { result ≡ at_hypervisor_places bits }
+{
+    2 * bits
+}
+
 /// The register with the bits that `hideleg` has, of those given, written as the guest writes them.
 #[tactic(auto, unfolding(processor::specs::HypervisorRegisters::with_alias))]
 fn with_alias(hideleg: u64, bits: u64, register: u64, value: u64) -> u64
     ensures { result ≡ with_alias hideleg bits register value }
 {
     let delegated = hideleg & bits;
-    let written = 2 * (value & INTERRUPT_BITS);
+    let written = at_hypervisor_places(value & INTERRUPT_BITS);
     register & !delegated | written & delegated
 }
 

@@ -7,7 +7,7 @@ mod masks;
 #[cfg(test)]
 mod tests;
 
-pub use csrs::Csrs;
+pub use csrs::{Csrs, at_hypervisor_places};
 pub use masks::{
     INTERRUPT_BITS, MISALIGNED, MXR_PLACE, SATP_BITS, SIE, SIE_PLACE, SOFTWARE_INTERRUPT, SPIE,
     SPIE_PLACE, SPP, SPP_PLACE, STATUS_BITS, SUM_PLACE, TIME_ENABLE, TVEC_RESERVED,

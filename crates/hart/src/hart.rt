@@ -6,6 +6,7 @@ ghost use Rattle.processor.specs.Requests.{touches, after_write};
 ghost use Rattle.processor.specs.IntegerRegisters.{register_count};
 
 use csr_file::Csrs;
+use processor::RESERVED_BYTES;
 use rv64_exec::Regs;
 
 /// What an attempt sees and changes of a hart. Its reservation is the host place of the 8 aligned bytes; its mode is that of
@@ -70,6 +71,6 @@ fn touches(reserved: u64, hpa: u64, width: u64) -> bool
     if hpa < reserved {
         reserved - hpa < width
     } else {
-        hpa - reserved < 8 && width > 0
+        hpa - reserved < RESERVED_BYTES && width > 0
     }
 }

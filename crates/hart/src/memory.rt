@@ -16,7 +16,7 @@ use crate::trap::plain_exception;
 use csr_file::{MXR_PLACE, SUM_PLACE};
 use gstage_cache::Cache;
 use host_mem::HostMem;
-use processor::{Access, Cause, Exception, Fault, HRegs, has_bit};
+use processor::{Access, BARE, Cause, Exception, Fault, HRegs, ROOT_MODE_PLACE, has_bit};
 use sv39_walk::{Regime, translate_through};
 
 /// `htinst` of a guest-page fault at an entry of the first stage: a read of 64 bits for its translation.
@@ -186,7 +186,7 @@ fn held_place(
     ensures ram { IfSome result (λ hpa. length mem.now.tables ≤ hpa) }
 {
     let _table_bytes = mem.table_bytes();
-    if core.csrs.vsatp >> 60 == 0 {
+    if core.csrs.vsatp >> ROOT_MODE_PLACE == BARE {
         cache.held_place(mem, regs.hgatp, request.address, request.access)
     } else {
         None

@@ -12,7 +12,7 @@ ghost use Rattle.hart.specs.Conditions.{MayStep};
 use crate::hart::Core;
 use crate::trap::raise;
 use host_mem::HostMem;
-use processor::{AmoOp, Exception, HRegs, INSTRUCTION_BYTES, Outcome, Wrote};
+use processor::{AmoOp, Exception, HRegs, INSTRUCTION_BYTES, Outcome, RESERVED_BYTES, Wrote};
 use rv64_exec::{amo, loaded_value};
 
 /// The hart goes on behind an instruction that is done.
@@ -96,7 +96,7 @@ pub(crate) fn load_reserved(
     match place {
         Ok(hpa) => {
             let word = mem.read(hpa as usize, width);
-            core.reservation = Some(hpa - hpa % 8);
+            core.reservation = Some(hpa - hpa % RESERVED_BYTES);
             retire_with(core, rd, loaded_value(true, width, word), None)
         }
         Err(exception) => raise(core, regs, exception),
@@ -148,7 +148,10 @@ fn covers(reservation: Option<u64>, hpa: u64, width: u8) -> bool
     ensures { result ≡ covers reservation hpa width }
 {
     match reservation {
-        Some(reserved) => width <= 8 && reserved <= hpa && hpa - reserved <= 8 - u64::from(width),
+        Some(reserved) => {
+            let width = u64::from(width);
+            width <= RESERVED_BYTES && reserved <= hpa && hpa - reserved <= RESERVED_BYTES - width
+        }
         None => false,
     }
 }

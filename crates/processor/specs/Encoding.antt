@@ -25,7 +25,7 @@ use Rattle.processor.specs.declared.instruction.AmoOp.TheVariants.{Amoswap, Amoa
 use Rattle.processor.specs.declared.instruction.HyperOp.{HyperOp}
 use Rattle.processor.specs.declared.instruction.HyperOp.TheVariants.{HlvB, HlvBu, HlvH, HlvHu, HlvxHu, HlvW, HlvWu, HlvxWu, HlvD, HsvB, HsvH, HsvW, HsvD, HfenceVvma, HfenceGvma}
 use Rattle.processor.specs.IntegerRegisters.{register_count}
-use Rattle.processor.specs.Instructions.{bits}
+use Rattle.processor.specs.Instructions.{bits, ecall_word, ebreak_word, sret_word, wfi_word}
 
 -- ---- fields in range
 
@@ -355,10 +355,10 @@ word_of (Instr.Op op rd rs1 rs2) = r_word 0x33 (op_funct7 op) (op_funct3 op) rd 
 word_of (Instr.Op32 op rd rs1 rs2) = r_word 0x3B (op_32_funct7 op) (op_32_funct3 op) rd rs1 rs2
 word_of Instr.Fence = 0x0000000F
 word_of Instr.FenceI = 0x0000100F
-word_of Instr.Ecall = 0x00000073
-word_of Instr.Ebreak = 0x00100073
-word_of Instr.Sret = 0x10200073
-word_of Instr.Wfi = 0x10500073
+word_of Instr.Ecall = ecall_word
+word_of Instr.Ebreak = ebreak_word
+word_of Instr.Sret = sret_word
+word_of Instr.Wfi = wfi_word
 word_of (Instr.SfenceVma rs1 rs2) = r_word 0x73 0x09 0 0 rs1 rs2
 word_of (Instr.Csr op rd rs1 csr) = i_word 0x73 (csr_funct3 op) rd rs1 csr
 word_of (Instr.Lr rd rs1 width aq rl) = r_word 0x2F (ordered 0x02 aq rl) (width_funct3 width) rd rs1 0

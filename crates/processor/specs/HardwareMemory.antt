@@ -4,6 +4,7 @@
 use Rattle.std.specs.Prelude.{ℕ, ◌+◌, ◌/◌, ◌%◌, Bool, true, ◌==◌, if◌then◌else◌, bit_and, Option, Some, None, Result, Ok, Err}
 use Rattle.processor.specs.Bits.{bit}
 use Rattle.processor.specs.Regions.{Region, host_word, write_host}
+use Rattle.processor.specs.Registers.{sum_place, mxr_place}
 use Rattle.processor.specs.Translation.{Settings}
 use Rattle.processor.specs.SecondStage.{two_stages}
 use Rattle.processor.specs.Effects.{set_register, next_pc, amo_value}
@@ -75,7 +76,7 @@ fault_exception access va htinst (Fault.Guest gpa implicit) =
 -- ---- where an access goes
 
 abbrev pub settings_at : Core → Settings
-settings_at core = record { satp = core.csrs.vsatp; sum = bit core.csrs.vsstatus 18; mxr = bit core.csrs.vsstatus 19 }
+settings_at core = record { satp = core.csrs.vsatp; sum = bit core.csrs.vsstatus sum_place; mxr = bit core.csrs.vsstatus mxr_place }
 
 -- the host place, or the exception
 abbrev pub place_or_exception : Access → (va htinst : ℕ) → Result Place Fault → Result ℕ Exception

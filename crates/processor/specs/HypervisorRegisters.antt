@@ -6,7 +6,7 @@ use Rattle.std.specs.Prelude.{◌≡◌, ℕ, ◌+◌, ◌*◌, ◌/◌, ◌^◌
 use Rattle.std.specs.List.{list_any}
 use Rattle.processor.specs.Bits.{bit, flag, without}
 use Rattle.processor.specs.Causes.{cause_number}
-use Rattle.processor.specs.Registers.{csr_named, legal_status, uxl, legal_interrupts, legal_tvec, legal_counteren, legal_epc, legal_satp}
+use Rattle.processor.specs.Registers.{csr_named, legal_status, uxl, legal_interrupts, legal_tvec, time_place, legal_counteren, legal_epc, legal_satp}
 use Rattle.processor.specs.Traps.{trap_cause, status_at_trap, status_at_return, takes_interrupts, interrupt_number, is_interrupt, first_interrupt}
 use Rattle.processor.specs.declared.csr.Csr.{Csr}
 use Rattle.processor.specs.declared.csr.CsrFault.{CsrFault}
@@ -61,15 +61,21 @@ registers_at_boot = record {
 abbrev pub virtual_number : Interrupt → ℕ
 virtual_number interrupt = interrupt_number interrupt + 1
 
-abbrev pub virtual_interrupt_bits : ℕ
-virtual_interrupt_bits = 2 ^ 2 + 2 ^ 6 + 2 ^ 10
-
 -- the guest's software interrupt is the only one that is stored; the others are lines
 abbrev pub virtual_software_bit : ℕ
 virtual_software_bit = 2 ^ 2
 
+abbrev pub virtual_timer_bit : ℕ
+virtual_timer_bit = 2 ^ 6
+
+abbrev pub virtual_external_bit : ℕ
+virtual_external_bit = 2 ^ 10
+
+abbrev pub virtual_interrupt_bits : ℕ
+virtual_interrupt_bits = virtual_software_bit + virtual_timer_bit + virtual_external_bit
+
 abbrev pub line_bits : Lines → ℕ
-line_bits lines = 2 ^ 6 * flag lines.timer + 2 ^ 10 * flag lines.external
+line_bits lines = virtual_timer_bit * flag lines.timer + virtual_external_bit * flag lines.external
 
 -- hip is hvip ORed with the lines
 unfoldable pub hip_value : ℕ → Lines → ℕ
@@ -121,7 +127,7 @@ is_hypervisor_number number = list_any (λ n. number == n) hypervisor_numbers
 abbrev pub refusal : Mode → ℕ → Bool → Csr → Option CsrFault
 refusal mode scounteren true Csr.Time = Some CsrFault.Illegal
 refusal Kernel scounteren false Csr.Time = None
-refusal User scounteren false Csr.Time = if bit scounteren 1 then None else Some CsrFault.Virtual
+refusal User scounteren false Csr.Time = if bit scounteren time_place then None else Some CsrFault.Virtual
 refusal Kernel scounteren writes csr = None
 refusal User scounteren writes csr = Some CsrFault.Virtual
 

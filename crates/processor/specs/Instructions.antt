@@ -178,6 +178,19 @@ by_funct7_no_rd opcode funct7 funct3 form =
 abbrev pub whole_word : ℕ → (ℕ → Instr) → Row
 whole_word word form = record { mask = 0xFFFFFFFF; match = word; form = form }
 
+-- the words of the instructions that have no fields
+abbrev pub ecall_word : ℕ
+ecall_word = 0x00000073
+
+abbrev pub ebreak_word : ℕ
+ebreak_word = 0x00100073
+
+abbrev pub sret_word : ℕ
+sret_word = 0x10200073
+
+abbrev pub wfi_word : ℕ
+wfi_word = 0x10500073
+
 unfoldable pub rows : List Row
 rows =
     by_opcode 0x37 lui ∷ by_opcode 0x17 auipc ∷ by_opcode 0x6F jal ∷ by_funct3 0x67 0 jalr ∷
@@ -218,8 +231,8 @@ rows =
     by_funct5 0x2F 0x14 2 (amo Amo.Amomax 4) ∷ by_funct5 0x2F 0x14 3 (amo Amo.Amomax 8) ∷
     by_funct5 0x2F 0x18 2 (amo Amo.Amominu 4) ∷ by_funct5 0x2F 0x18 3 (amo Amo.Amominu 8) ∷
     by_funct5 0x2F 0x1C 2 (amo Amo.Amomaxu 4) ∷ by_funct5 0x2F 0x1C 3 (amo Amo.Amomaxu 8) ∷
-    whole_word 0x00000073 (plain Instr.Ecall) ∷ whole_word 0x00100073 (plain Instr.Ebreak) ∷
-    whole_word 0x10200073 (plain Instr.Sret) ∷ whole_word 0x10500073 (plain Instr.Wfi) ∷
+    whole_word ecall_word (plain Instr.Ecall) ∷ whole_word ebreak_word (plain Instr.Ebreak) ∷
+    whole_word sret_word (plain Instr.Sret) ∷ whole_word wfi_word (plain Instr.Wfi) ∷
     by_funct7_no_rd 0x73 0x09 0 sfence ∷ by_funct7_no_rd 0x73 0x11 0 (hyper_store Hyper.HfenceVvma) ∷
     by_funct7_no_rd 0x73 0x31 0 (hyper_store Hyper.HfenceGvma) ∷
     by_funct3 0x73 1 (csr Csr.Csrrw) ∷ by_funct3 0x73 2 (csr Csr.Csrrs) ∷ by_funct3 0x73 3 (csr Csr.Csrrc) ∷

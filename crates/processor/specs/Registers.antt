@@ -54,9 +54,24 @@ csr_named number =
 
 -- ---- the bits that may stand
 
--- SIE, SPIE, SPP, SUM and MXR
+-- the places of SIE, SPIE, SPP, SUM and MXR in a status
+abbrev pub sie_place : ℕ
+sie_place = 1
+
+abbrev pub spie_place : ℕ
+spie_place = 5
+
+abbrev pub spp_place : ℕ
+spp_place = 8
+
+abbrev pub sum_place : ℕ
+sum_place = 18
+
+abbrev pub mxr_place : ℕ
+mxr_place = 19
+
 abbrev pub status_bits : ℕ
-status_bits = 2 ^ 1 + 2 ^ 5 + 2 ^ 8 + 2 ^ 18 + 2 ^ 19
+status_bits = 2 ^ sie_place + 2 ^ spie_place + 2 ^ spp_place + 2 ^ sum_place + 2 ^ mxr_place
 
 abbrev pub legal_status : ℕ → ℕ
 legal_status value = bit_and value status_bits
@@ -66,8 +81,17 @@ abbrev pub uxl : ℕ
 uxl = 2 * 2 ^ 32
 
 -- the software, the timer and the external interrupt
+abbrev pub software_bit : ℕ
+software_bit = 2 ^ 1
+
+abbrev pub timer_bit : ℕ
+timer_bit = 2 ^ 5
+
+abbrev pub external_bit : ℕ
+external_bit = 2 ^ 9
+
 abbrev pub interrupt_bits : ℕ
-interrupt_bits = 2 ^ 1 + 2 ^ 5 + 2 ^ 9
+interrupt_bits = software_bit + timer_bit + external_bit
 
 abbrev pub legal_interrupts : ℕ → ℕ
 legal_interrupts value = bit_and value interrupt_bits
@@ -76,9 +100,12 @@ legal_interrupts value = bit_and value interrupt_bits
 abbrev pub legal_tvec : ℕ → ℕ
 legal_tvec value = bit_and value (2 ^ 64 - 1 - 2 ^ 1)
 
--- TM alone
+-- the place of TM, which alone may stand
+abbrev pub time_place : ℕ
+time_place = 1
+
 abbrev pub legal_counteren : ℕ → ℕ
-legal_counteren value = bit_and value (2 ^ 1)
+legal_counteren value = bit_and value (2 ^ time_place)
 
 -- instructions lie at multiples of 4
 abbrev pub legal_epc : ℕ → ℕ
@@ -100,7 +127,7 @@ legal_satp old value = if is_satp_mode (root_mode value) then bit_and value satp
 abbrev pub is_allowed : Mode → ℕ → Bool → Csr → Bool
 is_allowed mode scounteren true Csr.Time = false
 is_allowed Kernel scounteren false Csr.Time = true
-is_allowed User scounteren false Csr.Time = bit scounteren 1
+is_allowed User scounteren false Csr.Time = bit scounteren time_place
 is_allowed Kernel scounteren writes csr = true
 is_allowed User scounteren writes csr = false
 
@@ -115,7 +142,7 @@ guest_access mode s number writes = allowed_csr mode s.scounteren writes (csr_na
 
 -- the timer's and the external interrupt are the lines'
 abbrev pub sip_value : Supervisor → Lines → ℕ
-sip_value s lines = 2 ^ 1 * flag s.software + 2 ^ 5 * flag lines.timer + 2 ^ 9 * flag lines.external
+sip_value s lines = software_bit * flag s.software + timer_bit * flag lines.timer + external_bit * flag lines.external
 
 unfoldable pub read_csr : Supervisor → Lines → Csr → ℕ
 read_csr s lines Csr.Sstatus = s.sstatus + uxl

@@ -34,20 +34,23 @@ csr_value Csrrwi old operand = operand
 csr_value Csrrsi old operand = bit_or old operand
 csr_value Csrrci old operand = without old operand
 
--- ---- reservations, each by the first of its 8 bytes
+-- ---- reservations, each by the first of its bytes
 
--- the 8 aligned bytes round a place
+abbrev pub reserved_bytes : ℕ
+reserved_bytes = 8
+
+-- the aligned bytes round a place
 abbrev pub reserved_at : ℕ → ℕ
-reserved_at place = place - place % 8
+reserved_at place = place - place % reserved_bytes
 
 -- all the bytes lie in the reservation
 unfoldable pub covers : Option ℕ → ℕ → ℕ → Bool
 covers None place width = false
-covers (Some reserved) place width = nat_le reserved place && nat_le (place + width) (reserved + 8)
+covers (Some reserved) place width = nat_le reserved place && nat_le (place + width) (reserved + reserved_bytes)
 
 -- some of the bytes are of those that are reserved
 unfoldable pub touches : ℕ → ℕ → ℕ → Bool
-touches reserved place width = nat_lt (max reserved place) (min (reserved + 8) (place + width))
+touches reserved place width = nat_lt (max reserved place) (min (reserved + reserved_bytes) (place + width))
 
 -- what a write of these bytes leaves of a reservation
 unfoldable pub after_write : ℕ → ℕ → Option ℕ → Option ℕ

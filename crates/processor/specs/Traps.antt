@@ -5,7 +5,7 @@
 use Rattle.std.specs.Prelude.{ℕ, ◌+◌, ◌*◌, ◌%◌, ◌^◌, Bool, true, false, ◌&&◌, if◌then◌else◌, bit_or, Option, Some, None}
 use Rattle.processor.specs.Bits.{bit, with_bits}
 use Rattle.processor.specs.Causes.{cause_number}
-use Rattle.processor.specs.Registers.{Supervisor, legal_epc, sip_value}
+use Rattle.processor.specs.Registers.{Supervisor, sie_place, spie_place, spp_place, legal_epc, sip_value}
 use Rattle.processor.specs.declared.exit.ExitCause.{ExitCause}
 use Rattle.processor.specs.declared.mode.Mode.{Mode}
 use Rattle.processor.specs.declared.mode.Mode.TheVariants.{Kernel, User}
@@ -46,7 +46,8 @@ trap_cause interrupt cause = if interrupt then bit_or cause (2 ^ 63) else cause
 
 -- SPIE := SIE, SIE := 0, SPP := the mode before
 unfoldable pub status_at_trap : ℕ → Mode → ℕ
-status_at_trap status from = with_bits (with_bits (with_bits status (2 ^ 5) (bit status 1)) (2 ^ 1) false) (2 ^ 8) (is_kernel from)
+status_at_trap status from =
+    with_bits (with_bits (with_bits status (2 ^ spie_place) (bit status sie_place)) (2 ^ sie_place) false) (2 ^ spp_place) (is_kernel from)
 
 unfoldable pub supervisor_at_trap : Supervisor → Mode → ℕ → Bool → ℕ → ℕ → Supervisor
 supervisor_at_trap s from pc interrupt cause tval = record s {
@@ -60,11 +61,12 @@ supervisor_at_trap s from pc interrupt cause tval = record s {
 
 -- SIE := SPIE, SPIE := 1, SPP := user
 unfoldable pub status_at_return : ℕ → ℕ
-status_at_return status = with_bits (with_bits (with_bits status (2 ^ 1) (bit status 5)) (2 ^ 5) true) (2 ^ 8) false
+status_at_return status =
+    with_bits (with_bits (with_bits status (2 ^ sie_place) (bit status spie_place)) (2 ^ spie_place) true) (2 ^ spp_place) false
 
 -- SPP
 unfoldable pub mode_at_return : ℕ → Mode
-mode_at_return status = if bit status 8 then Kernel else User
+mode_at_return status = if bit status spp_place then Kernel else User
 
 unfoldable pub supervisor_at_return : Supervisor → Supervisor
 supervisor_at_return s = record s { sstatus = status_at_return s.sstatus }
@@ -85,7 +87,7 @@ is_pending s lines interrupt = bit (sip_value s lines) (interrupt_number interru
 
 -- kernel mode takes interrupts where SIE is set, user mode always
 abbrev pub takes_interrupts : Mode → ℕ → Bool
-takes_interrupts Kernel status = bit status 1
+takes_interrupts Kernel status = bit status sie_place
 takes_interrupts User status = true
 
 unfoldable pub deliverable : Mode → Supervisor → Lines → Option Interrupt

@@ -141,6 +141,18 @@ pub enum HyperOp {
 /// The bytes of an instruction. Unprivileged manual, "Base Instruction-Length Encoding".
 pub const INSTRUCTION_BYTES: u64 = 4;
 
+/// The word of `ecall`. Unprivileged manual, "RV32/64G Instruction Set Listings".
+pub const ECALL: u32 = 0x0000_0073;
+
+/// The word of `ebreak`.
+pub const EBREAK: u32 = 0x0010_0073;
+
+/// The word of `sret`. Privileged manual, "RISC-V Privileged Instruction Set Listings".
+pub const SRET: u32 = 0x1020_0073;
+
+/// The word of `wfi`.
+pub const WFI: u32 = 0x1050_0073;
+
 /// An instruction. Immediates are sign-extended, register numbers are below 32, widths are 4 or 8 bytes. A shift
 /// by an immediate has `imm` 0, and the other computations have `shamt` 0. A register access with an immediate keeps
 /// it in `rs1`. In `Hyper` a field that the row fixes is 0.

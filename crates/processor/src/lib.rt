@@ -29,12 +29,12 @@ pub use effect::Effect;
 pub use exit::{Exit, ExitCause};
 pub use hregs::HRegs;
 pub use instruction::{
-    AmoOp, BranchOp, CsrOp, HyperOp, INSTRUCTION_BYTES, Instr, LoadOp, Op32Op, OpImm32Op, OpImmOp,
-    OpOp, StoreOp,
+    AmoOp, BranchOp, CsrOp, EBREAK, ECALL, HyperOp, INSTRUCTION_BYTES, Instr, LoadOp, Op32Op,
+    OpImm32Op, OpImmOp, OpOp, SRET, StoreOp, WFI,
 };
 pub use interrupt::Interrupt;
 pub use lines::Lines;
-pub use memory::{PAGE_BYTES, PAGE_SIZE, RAM_BASE, is_in_ram, page_of, ram_place};
+pub use memory::{PAGE_BYTES, PAGE_SIZE, RAM_BASE, RESERVED_BYTES, is_in_ram, page_of, ram_place};
 pub use mode::Mode;
 pub use outcome::{Exception, Outcome, Wrote};
 pub use pte_bits::PteBits;

@@ -12,6 +12,9 @@ pub const PAGE_BYTES: u64 = 4096;
 /// The bytes of a page, as a length of what lies in memory.
 pub const PAGE_SIZE: usize = PAGE_BYTES as usize;
 
+/// The bytes of a reservation, which begins at a multiple of them.
+pub const RESERVED_BYTES: u64 = 8;
+
 /// The place in RAM of a guest-physical address, in bytes from RAM's first; 0 below RAM.
 pub fn ram_place(gpa: u64) -> u64
     ensures { result ≡ ram_place gpa }

@@ -6,7 +6,7 @@ use Rattle.processor.specs.Regions.{Region}
 use Rattle.processor.specs.declared.access.Access.{Access}
 use Rattle.processor.specs.declared.access.Access.TheVariants.{Fetch, Load, Store}
 use Rattle.reach.specs.declared.line.Line.{Line}
-use Rattle.reach.specs.Kept.{no_lines, line_place, AreThere, LineAgrees, ReachAgrees, IsKept, leads_under}
+use Rattle.reach.specs.Kept.{lines_of_reach, no_lines, line_place, AreThere, LineAgrees, ReachAgrees, IsKept, leads_under}
 use Rattle.gstage_cache.proofs.Lines.{set_at}
 
 -- ---- what a line answers
@@ -20,7 +20,7 @@ line_leads r line va agrees there same =
 
 -- ---- one line more
 
-place_inside : (access : Access) (page : ℕ) → line_place access page < 384
+place_inside : (access : Access) (page : ℕ) → line_place access page < lines_of_reach
 place_inside Fetch page = omega arith
 place_inside Load page = omega arith
 place_inside Store page = omega arith
@@ -47,4 +47,4 @@ none_at (suc n) (suc i) = none_at n i
 
 -- lines of which none is held agree with every table
 pub none_agrees : (tables : List ℕ) → ReachAgrees tables no_lines
-none_agrees tables = record { held = λ i line e. let none = none_at 384 i in absurd (cc) }
+none_agrees tables = record { held = λ i line e. let none = none_at lines_of_reach i in absurd (cc) }

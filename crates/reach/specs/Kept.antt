@@ -77,18 +77,27 @@ pub record IsFor (by : Regime) (kind : Access) (number : ℕ) (line : Line) : Ty
 
 -- ---- all lines
 
--- 256 for fetches, and behind them 64 for loads and 64 for stores
+-- those of fetches, and behind them those of loads and those of stores
+abbrev pub fetch_lines : ℕ
+fetch_lines = 256
+
+abbrev pub load_lines : ℕ
+load_lines = 64
+
+abbrev pub store_lines : ℕ
+store_lines = 64
+
 abbrev pub lines_of_reach : ℕ
-lines_of_reach = 384
+lines_of_reach = fetch_lines + load_lines + store_lines
 
 abbrev pub no_lines : List (Option Line)
 no_lines = replicate lines_of_reach None
 
 -- where the line of an access to a page is kept
 abbrev pub line_place : Access → (page : ℕ) → ℕ
-line_place Fetch page = page % 256
-line_place Load page = 256 + page % 64
-line_place Store page = 320 + page % 64
+line_place Fetch page = page % fetch_lines
+line_place Load page = fetch_lines + page % load_lines
+line_place Store page = fetch_lines + load_lines + page % store_lines
 
 abbrev pub line_at : List (Option Line) → ℕ → Option Line
 line_at lines i = slice_index_or lines i None

@@ -6,13 +6,13 @@ ghost use Rattle.processor.specs.SecondStage.{WalksApart};
 ghost use Rattle.processor.specs.CachedWalks.{CacheAgrees, FilledUnder};
 ghost use Rattle.processor.specs.Roots.{IsFirstStageRoot, IsSv39x4};
 ghost use Rattle.reach.specs.declared.line.Line.{Line as Kept};
-ghost use Rattle.reach.specs.Kept.{no_lines, line_at, line_place, leads_under, IsFor, IsKept, AreThere, LineAgrees, ReachAgrees};
+ghost use Rattle.reach.specs.Kept.{lines_of_reach, no_lines, line_at, line_place, leads_under, IsFor, IsKept, AreThere, LineAgrees, ReachAgrees};
 
 use crate::line::Line;
 use crate::walk::read_entries;
 use gstage_cache::Cache;
 use host_mem::HostMem;
-use processor::{Access, PAGE_BYTES};
+use processor::{Access, BARE, PAGE_BYTES, ROOT_MODE_PLACE};
 use std::marker::Model;
 use sv39_walk::{Regime, root_table, translate_through};
 
@@ -24,7 +24,7 @@ const LOAD_LINES: u64 = 64;
 const STORE_LINES: u64 = 64;
 
 /// All lines.
-const LINES: usize = 384;
+const LINES: usize = (FETCH_LINES + LOAD_LINES + STORE_LINES) as usize;
 
 /// Translations through both stages under Sv39 that were made. Contracts see the lines, each held or empty.
 #[derive(Drop)]
@@ -51,7 +51,7 @@ impl Model for Reach {
 #[inline(always)]
 fn line_place(access: Access, page: u64) -> usize
     ensures value { result ≡ line_place access page }
-    ensures inside { result < 384 }
+    ensures inside { result < lines_of_reach }
 {
     let place = match access {
         Access::Fetch => page % FETCH_LINES,
@@ -181,7 +181,7 @@ impl Reach {
         ensures cached { CacheAgrees mem.now.tables cache.new }
         ensures filled { FilledUnder mem.now.tables regime.now.hgatp cache.old cache.new }
     {
-        if regime.vsatp >> 60 == 0 {
+        if regime.vsatp >> ROOT_MODE_PLACE == BARE {
             return;
         }
         let root = root_table(regime.vsatp);

@@ -2,7 +2,7 @@
 -- This project's own. It knows no machine: a beat is told RAM and which pages may be written.
 use Rattle.std.specs.Prelude.{ℕ, ◌+◌, ◌*◌, ◌%◌, ◌^◌, Bool, true, false, not, ◌&&◌, List, length, ◌==◌, if◌then◌else◌, nat_le, nat_lt, Option, Some, None, option_map}
 use Rattle.processor.specs.Bytes.{part, overwrite, in_ram, ram_place, page_of}
-use Rattle.sv_types.specs.BlockNumbers.{command_of, status_number}
+use Rattle.sv_types.specs.BlockNumbers.{sector_offset, address_offset, count_offset, command_offset, status_offset, command_of, status_number}
 use Rattle.sv_types.specs.declared.block.BlockCommand.{BlockCommand}
 use Rattle.sv_types.specs.declared.block.BlockState.{BlockState}
 use Rattle.sv_types.specs.declared.block.BlockStatus.{BlockStatus}
@@ -16,11 +16,11 @@ pub data BlockRegister : Type 0 where
 
 -- their offsets, and their widths in bytes
 abbrev pub block_offset : BlockRegister → ℕ
-block_offset Sector = 0x00
-block_offset Address = 0x08
-block_offset Count = 0x10
-block_offset Command = 0x14
-block_offset Status = 0x18
+block_offset Sector = sector_offset
+block_offset Address = address_offset
+block_offset Count = count_offset
+block_offset Command = command_offset
+block_offset Status = status_offset
 
 abbrev pub block_width : BlockRegister → ℕ
 block_width Sector = 8

@@ -9,7 +9,7 @@ use Rattle.processor.specs.Effects.{register, set_register}
 use Rattle.sv_types.specs.ApprovedPages.{numbers_from}
 use Rattle.sv_types.specs.Policies.{Rules}
 use Rattle.processor.specs.Registers.{Supervisor}
-use Rattle.sv_types.specs.SbiCodes.{code_word}
+use Rattle.sv_types.specs.SbiCodes.{code_word, implementation_number}
 use Rattle.processor.specs.IntegerRegisters as abi
 use Rattle.sv_types.specs.declared.saved.SavedModule.{SavedModule}
 use Rattle.sv_types.specs.declared.sbi.SbiCode.{SbiCode}
@@ -117,11 +117,18 @@ extension_of number =
     else if number == 0x08534543 then Some Extension.Modules
     else None
 
+-- the version of the SBI, 1.0, and that of this implementation
+abbrev pub sbi_version : ℕ
+sbi_version = 0x01000000
+
+abbrev pub implementation_version : ℕ
+implementation_version = 1
+
 unfoldable pub base_call : Asked → Reply
 base_call ask =
-    if ask.function == 0 then value 0x01000000
-    else if ask.function == 1 then value 0x00534543
-    else if ask.function == 2 then value 1
+    if ask.function == 0 then value sbi_version
+    else if ask.function == 1 then value implementation_number
+    else if ask.function == 2 then value implementation_version
     else if ask.function == 3 then value (if is_some (extension_of ask.a0) then 1 else 0)
     else if nat_le ask.function 6 then value 0
     else refused

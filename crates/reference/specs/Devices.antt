@@ -1,8 +1,9 @@
 -- The devices at guest-physical addresses, the wires that they give a hart, and the events that are no turn.
 -- This project's own.
-use Rattle.std.specs.Prelude.{ℕ, ◌-◌, Bool, not, ◌&&◌, ◌||◌, List, map, length, ◌==◌, if◌then◌else◌, nat_lt, Option, None, option_map}
+use Rattle.std.specs.Prelude.{ℕ, ◌+◌, ◌-◌, Bool, not, ◌&&◌, ◌||◌, List, map, length, ◌==◌, if◌then◌else◌, nat_lt, Option, None, option_map}
 use Rattle.processor.specs.Bytes.{overwrite, ram_place}
 use Rattle.sv_types.specs.Clock.{after_tick, is_due}
+use Rattle.sv_types.specs.DevicePlaces.{device_size, console_base, disk_base}
 use Rattle.sv_types.specs.Console.{after_key, has_room, console_line, loaded, after_load, stored}
 use Rattle.processor.specs.Requests.{after_write}
 use Rattle.processor.specs.declared.lines.Lines.{Lines}
@@ -21,9 +22,9 @@ pub data Port : Type 0 where
 
 unfoldable pub port_at : ℕ → Port
 port_at gpa =
-    if nat_lt gpa 0x10000000 then Nowhere
-    else if nat_lt gpa 0x10001000 then ConsoleAt (gpa - 0x10000000)
-    else if nat_lt gpa 0x10002000 then DiskAt (gpa - 0x10001000)
+    if nat_lt gpa console_base then Nowhere
+    else if nat_lt gpa disk_base then ConsoleAt (gpa - console_base)
+    else if nat_lt gpa (disk_base + device_size) then DiskAt (gpa - disk_base)
     else Nowhere
 
 -- ---- loads: the value, and the devices after it

@@ -59,13 +59,17 @@ in_field SField v = 2 ^ 7 * bits v 0 5 + 2 ^ 25 * bits v 5 12
 abbrev pub from_to : ℤ → ℤ → ℕ → Bool
 from_to low high v = int_le low (signed v) && int_le (signed v) high
 
+-- 32 signed bits, less what the upper part of two is rounded by
+abbrev pub fits_in_parts : ℕ → Bool
+fits_in_parts v = from_to (negsuc 2147485695) (pos 2147481599) v
+
 abbrev pub value_fits : Field → ℕ → Bool
 value_fits DoubleWord v = true
 value_fits BField v = from_to (negsuc 4095) (pos 4094) v && v % 2 == 0
 value_fits JField v = from_to (negsuc 1048575) (pos 1048574) v && v % 2 == 0
-value_fits UField v = from_to (negsuc 2147485695) (pos 2147481599) v
-value_fits IField v = from_to (negsuc 2147485695) (pos 2147481599) v
-value_fits SField v = from_to (negsuc 2147485695) (pos 2147481599) v
+value_fits UField v = fits_in_parts v
+value_fits IField v = fits_in_parts v
+value_fits SField v = fits_in_parts v
 
 -- ---- clearing
 

@@ -5,7 +5,7 @@ use Rattle.std.specs.Prelude.{ℕ, ◌%◌, Bool, true, List, ◌==◌, if◌the
 use Rattle.processor.specs.Bits.{bit}
 use Rattle.processor.specs.Bytes.{word, low_bytes, in_ram, ram_place, page_of}
 use Rattle.processor.specs.Effects.{set_register, next_pc, amo_value}
-use Rattle.processor.specs.Registers.{Supervisor, guest_access, read_csr, write_csr}
+use Rattle.processor.specs.Registers.{Supervisor, sum_place, mxr_place, guest_access, read_csr, write_csr}
 use Rattle.processor.specs.Requests.{loaded_value, csr_value, reserved_at, covers}
 use Rattle.processor.specs.Translation.{Destination, At, PageFault, Unreadable, Settings, place}
 use Rattle.processor.specs.declared.cause.Cause.{Cause}
@@ -51,7 +51,7 @@ source_at ram width PageFault = NoSource Cause.LoadPage
 source_at ram width (Unreadable entry) = NoSource Cause.LoadAccess
 
 abbrev pub settings_of : Supervisor → Settings
-settings_of s = record { satp = s.satp; sum = bit s.sstatus 18; mxr = bit s.sstatus 19 }
+settings_of s = record { satp = s.satp; sum = bit s.sstatus sum_place; mxr = bit s.sstatus mxr_place }
 
 -- an address that is no multiple of the width isn't translated
 unfoldable pub load_source : List ℕ → Settings → Mode → (address width : ℕ) → Source

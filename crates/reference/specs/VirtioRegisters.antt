@@ -2,6 +2,7 @@
 -- block device; the vendor's number is this project's own. A register that only the driver writes reads 0.
 use Rattle.std.specs.Prelude.{ℕ, ◌/◌, ◌%◌, ◌^◌, Bool, not, ◌&&◌, length, ◌==◌, if◌then◌else◌, Option, Some, None, option_map}
 use Rattle.processor.specs.Bits.{flag}
+use Rattle.sv_types.specs.SbiCodes.{implementation_number}
 use Rattle.reference.specs.BlockDisk.{sector_size}
 use Rattle.reference.specs.VirtioDevice.{VirtioDevice, is_selected, most_places}
 use Rattle.sv_types.specs.declared.virtio.VirtioRegister.{VirtioRegister}
@@ -51,7 +52,7 @@ unfoldable pub register_value : VirtioDevice → VirtioRegister → ℕ
 register_value d VirtioRegister.MagicValue = 0x74726976
 register_value d VirtioRegister.Version = 2
 register_value d VirtioRegister.DeviceId = 2
-register_value d VirtioRegister.VendorId = 0x00534543
+register_value d VirtioRegister.VendorId = implementation_number
 register_value d VirtioRegister.DeviceFeatures = flag (d.device_select == 1)
 register_value d VirtioRegister.DeviceFeaturesSelect = 0
 register_value d VirtioRegister.DriverFeatures = 0

@@ -6,7 +6,8 @@ use Rattle.std.proofs.lemmas.Bool.{eqb-true, not-true}
 use Rattle.std.proofs.lemmas.List.{length-map, length-replicate}
 use Rattle.std.proofs.lemmas.Option.{same_Some}
 use Rattle.processor.specs.Bytes.{page_size, ram_base, ram_place}
-use Rattle.processor.specs.Registers.{IsLegalSupervisor, legal_status, legal_interrupts, legal_tvec, legal_counteren, legal_epc, legal_satp}
+use Rattle.processor.specs.Registers.{IsLegalSupervisor, software_bit, legal_status, legal_interrupts, legal_tvec, legal_counteren, legal_epc, legal_satp}
+use Rattle.processor.specs.Requests.{reserved_bytes}
 use Rattle.processor.specs.declared.mode.Mode.{Mode}
 use Rattle.processor.specs.declared.mode.Mode.TheVariants.{Kernel, User}
 use Rattle.sv_types.specs.Clock.{latest}
@@ -94,12 +95,12 @@ first_zero : (regs : List ℕ) → begins_with_0 regs ≡ true → slice_get reg
 first_zero [] e = absurd cc
 first_zero (n ∷ rest) e = ap (λ (k : ℕ). Some k) (eqb-true n 0 e)
 
-place_of_reserved : (pages address : ℕ) → (nat_le ram_base address && nat_lt address (ram_base + page_size * pages)) ≡ true → (address % 8 == 0) ≡ true
-    → (ram_place address % 8 ≡ 0) × (ram_place address < page_size * pages)
+place_of_reserved : (pages address : ℕ) → (nat_le ram_base address && nat_lt address (ram_base + page_size * pages)) ≡ true → (address % reserved_bytes == 0) ≡ true
+    → (ram_place address % reserved_bytes ≡ 0) × (ram_place address < page_size * pages)
 place_of_reserved pages address inside eight =
     let low : ram_base ≤ address = most_is ram_base address (first_true (nat_le ram_base address) _ inside) in
     let high : address < ram_base + page_size * pages = below_is address (ram_base + page_size * pages) (second_true (nat_le ram_base address) _ inside) in
-    let whole : address % 8 ≡ 0 = eqb-true (address % 8) 0 eight in
+    let whole : address % reserved_bytes ≡ 0 = eqb-true (address % reserved_bytes) 0 eight in
     (omega (arith, low, whole), omega (arith, low, high))
 
 reserved_by : (pages : ℕ) (address : Option ℕ) → (reservation pages).has address ≡ true → IsReservable (page_size * pages) (option_map ram_place address)
@@ -108,7 +109,7 @@ reserved_by pages None h = tt
 reserved_by pages (Some address) h =
     let other = not-true (address == 0) (first_true (not (address == 0)) _ h) in
     let range = second_true (is_word address) (is_reservable pages address) (second_true (not (address == 0)) _ h) in
-    let both = found_later (address == 0) (is_ram_address pages address && address % 8 == 0) range other in
+    let both = found_later (address == 0) (is_ram_address pages address && address % reserved_bytes == 0) range other in
     place_of_reserved pages address (first_true (is_ram_address pages address) _ both) (second_true (is_ram_address pages address) _ both)
 
 -- ---- one hart
@@ -118,7 +119,7 @@ record IsResumedHart (rules : Rules) (size : ℕ) (hart : Hart) : Type 0 where
   kept : IsKeepableHart size hart
 
 supervisor_legal : (h : SavedHart) → status.has (h.sstatus, (h.sie, (h.stvec, (h.scounteren, (h.sscratch, (h.sepc, (h.scause, (h.stval, (h.sip, h.satp))))))))) ≡ true
-    → IsLegalSupervisor (resumed_hart h).supervisor × ((h.sip == 0 || h.sip == 2) ≡ true)
+    → IsLegalSupervisor (resumed_hart h).supervisor × ((h.sip == 0 || h.sip == software_bit) ≡ true)
 unfolding status trap_status
 supervisor_legal h on =
     let sie_on = second_true ((legal legal_status).has h.sstatus) _ on in
@@ -142,7 +143,7 @@ supervisor_legal h on =
     )
 
 -- the supervisor's registers of a hart are legal, and of its pending interrupts the software interrupt alone is stored
-pub supervisor_of : (pages : ℕ) (h : SavedHart) → (hart pages).has h ≡ true → IsLegalSupervisor (resumed_hart h).supervisor × ((h.sip == 0 || h.sip == 2) ≡ true)
+pub supervisor_of : (pages : ℕ) (h : SavedHart) → (hart pages).has h ≡ true → IsLegalSupervisor (resumed_hart h).supervisor × ((h.sip == 0 || h.sip == software_bit) ≡ true)
 unfolding hart
 supervisor_of pages h has =
     let parts = second_true (begins_with_0 h.registers) _ has in

@@ -6,7 +6,8 @@ use Rattle.std.proofs.lemmas.Bool.{eq-eqb, ne_eqb, or_right}
 use Rattle.std.proofs.lemmas.List.{length-drop}
 use Rattle.processor.specs.Bits.{flag as bit_of}
 use Rattle.processor.specs.Bytes.{page_size, ram_base}
-use Rattle.processor.specs.Registers.{legal_status, legal_interrupts, legal_tvec, legal_counteren, legal_epc, legal_satp}
+use Rattle.processor.specs.Registers.{software_bit, legal_status, legal_interrupts, legal_tvec, legal_counteren, legal_epc, legal_satp}
+use Rattle.processor.specs.Requests.{reserved_bytes}
 use Rattle.processor.specs.declared.mode.Mode.{Mode}
 use Rattle.processor.specs.declared.mode.Mode.TheVariants.{Kernel, User}
 use Rattle.sv_types.specs.Clock.{Clock}
@@ -93,14 +94,14 @@ reservation_has pages None few k = refl
 reservation_has pages (Some place) few k =
     let gpa : ℕ = ram_base + place in
     let inside : place < page_size * pages = k.1 in
-    let whole : gpa % 8 ≡ 0 = eight place k.0 in
+    let whole : gpa % reserved_bytes ≡ 0 = eight place k.0 in
     both_true (not (gpa == 0)) _ (ap not (ne_eqb gpa 0 (λ e. omega (arith, e))))
     (both_true (is_word gpa) (is_reservable pages gpa) (small_word gpa (omega (arith, inside, few)))
     (or_right (gpa == 0) _ (both_true (is_ram_address pages gpa) _
     (both_true (nat_le ram_base gpa) _ (least_is ram_base gpa (omega arith)) (less_is gpa (ram_base + page_size * pages) (omega (arith, inside))))
-    (eq-eqb (gpa % 8) 0 whole))))
+    (eq-eqb (gpa % reserved_bytes) 0 whole))))
   where
-    eight : (place : ℕ) → place % 8 ≡ 0 → (ram_base + place) % 8 ≡ 0
+    eight : (place : ℕ) → place % reserved_bytes ≡ 0 → (ram_base + place) % reserved_bytes ≡ 0
     eight place e = omega (arith, e)
 
 -- ---- one hart
@@ -120,7 +121,7 @@ registers_have xs typed =
     less : (n : ℕ) → n ≡ 32 → n - 1 ≡ 31
     less n e = omega (arith, e)
 
-sip_has : (b : Bool) → (is_word (2 ^ 1 * bit_of b) && (2 ^ 1 * bit_of b == 0 || 2 ^ 1 * bit_of b == 2)) ≡ true
+sip_has : (b : Bool) → (is_word (software_bit * bit_of b) && (software_bit * bit_of b == 0 || software_bit * bit_of b == software_bit)) ≡ true
 sip_has true = refl
 sip_has false = refl
 
@@ -147,7 +148,7 @@ hart_has rules clock h one within few sound kept typed =
     (both_true ((legal legal_epc).has s.sepc) _ (legal_has legal_epc s.sepc (word_at ns 5 s.sepc words refl) sound.legal.sepc)
     (both_true (is_word s.scause) _ (word_at ns 6 s.scause words refl)
     (both_true (is_word s.stval) _ (word_at ns 7 s.stval words refl)
-    (both_true (is_word x.sip && (x.sip == 0 || x.sip == 2)) _ (sip_has s.software)
+    (both_true (is_word x.sip && (x.sip == 0 || x.sip == software_bit)) _ (sip_has s.software)
     (legal_has (legal_satp 0) s.satp (word_at ns 8 s.satp words refl) sound.legal.satp))))))))))
     (both_true ((reservation rules.ram_pages).has x.reservation) (is_word x.timer) (reservation_has rules.ram_pages one.reservation few kept.reservation)
     (second_true (are_registers one.registers && are_words ns) (is_word x.timer) typed))))))

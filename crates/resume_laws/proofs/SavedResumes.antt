@@ -4,6 +4,7 @@ use Rattle.std.specs.Prelude.{Option, Some, None, option_map, is_some, if◌then
 use Rattle.std.proofs.lemmas.List.{append-nil}
 use Rattle.processor.specs.Bits.{flag}
 use Rattle.processor.specs.Bytes.{page_bytes, ram_place}
+use Rattle.processor.specs.Registers.{software_bit}
 use Rattle.sv_types.specs.ApprovedPages.{approved_bytes, approved_pages}
 use Rattle.sv_types.specs.Clock.{Clock, latest, timer_of}
 use Rattle.sv_types.specs.declared.port.PortState.{PortState}
@@ -34,7 +35,7 @@ reservation_back : (x : Option ℕ) → option_map ram_place (option_map gpa_at 
 reservation_back None = refl
 reservation_back (Some place) = ap (λ (n : ℕ). Some n) (place_back place)
 
-software_back : (software : Bool) → (2 ^ 1 * flag software == 2) ≡ software
+software_back : (software : Bool) → (software_bit * flag software == software_bit) ≡ software
 software_back true = refl
 software_back false = refl
 

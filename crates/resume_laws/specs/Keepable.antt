@@ -1,6 +1,7 @@
 -- What each machine that runs keeps so that a snapshot of it can be written and read, beside its soundness. This project's own.
 use Rattle.std.specs.Prelude.{◌≡◌, ℕ, ◌+◌, ◌*◌, ◌%◌, ◌<◌, ◌≤◌, true, List, [], ◌∷◌, length, min, Option, Some, None, slice_get}
 use Rattle.processor.specs.Bytes.{page_size}
+use Rattle.processor.specs.Requests.{reserved_bytes}
 use Rattle.processor.specs.declared.mode.Mode.TheVariants.{Kernel}
 use Rattle.sv_types.specs.Limits.{most_notes, most_harts}
 use Rattle.sv_types.specs.Clock.{Clock, latest, timer_of}
@@ -26,7 +27,7 @@ ram_size rules = page_size * rules.ram_pages
 -- 8 aligned bytes of RAM
 abbrev pub IsReservable : (size : ℕ) → Option ℕ → Type 0
 IsReservable size None = Unit {0}
-IsReservable size (Some place) = (place % 8 ≡ 0) × (place < size)
+IsReservable size (Some place) = (place % reserved_bytes ≡ 0) × (place < size)
 
 -- register 0 is 0
 pub record IsKeepableHart (size : ℕ) (hart : Hart) : Type 0 where

@@ -2,6 +2,7 @@
 -- has there. This project's own.
 use Rattle.std.specs.Prelude.{ℕ, ◌-◌, List, [], ◌++◌, length, map, replicate, option_map, ◌==◌}
 use Rattle.processor.specs.Bytes.{ram_place}
+use Rattle.processor.specs.Registers.{software_bit}
 use Rattle.sv_types.specs.ApprovedPages.{approved_pages}
 use Rattle.sv_types.specs.Clock.{latest}
 use Rattle.sv_types.specs.Policies.{Rules}
@@ -28,7 +29,7 @@ resumed_hart h = record {
     sepc = h.sepc;
     scause = h.scause;
     stval = h.stval;
-    software = h.sip == 2;
+    software = h.sip == software_bit;
     satp = h.satp;
   };
   reservation = option_map ram_place h.reservation;

@@ -5,7 +5,7 @@ ghost use Rattle.processor.specs.Instructions as table;
 
 use crate::fields::{funct3, funct7, rd, rs2};
 use crate::forms;
-use processor::{CsrOp, HyperOp, Instr};
+use processor::{CsrOp, EBREAK, ECALL, HyperOp, Instr, SRET, WFI};
 
 pub fn system(word: u32) -> Option<Instr>
     requires { table.bits word 0 7 ≡ 0x73 }
@@ -30,10 +30,10 @@ fn privileged(word: u32) -> Option<Instr>
     ensures { result ≡ table.instruction_of word }
 {
     match word {
-        0x0000_0073 => Some(Instr::Ecall),
-        0x0010_0073 => Some(Instr::Ebreak),
-        0x1020_0073 => Some(Instr::Sret),
-        0x1050_0073 => Some(Instr::Wfi),
+        ECALL => Some(Instr::Ecall),
+        EBREAK => Some(Instr::Ebreak),
+        SRET => Some(Instr::Sret),
+        WFI => Some(Instr::Wfi),
         _ => translation_fence(word),
     }
 }
@@ -41,10 +41,10 @@ fn privileged(word: u32) -> Option<Instr>
 fn translation_fence(word: u32) -> Option<Instr>
     requires opcode { table.bits word 0 7 ≡ 0x73 }
     requires funct3 { table.bits word 12 15 ≡ 0 }
-    requires ecall { word ≢ 0x0000_0073 }
-    requires ebreak { word ≢ 0x0010_0073 }
-    requires sret { word ≢ 0x1020_0073 }
-    requires wfi { word ≢ 0x1050_0073 }
+    requires ecall { word ≢ table.ecall_word }
+    requires ebreak { word ≢ table.ebreak_word }
+    requires sret { word ≢ table.sret_word }
+    requires wfi { word ≢ table.wfi_word }
     ensures { result ≡ table.instruction_of word }
 {
     if rd(word) != 0 {

@@ -4,6 +4,7 @@ ghost use Rattle.std.specs.Prelude.{◌≡◌, ◌+◌, ◌-◌, ◌^◌, ◌<�
 ghost use Rattle.processor.specs.Encoding as table;
 
 use crate::codes;
+use processor::{EBREAK, ECALL, SRET, WFI};
 use rv64_decode::{HyperOp, Instr};
 
 /// The word of an instruction whose fields are in range.
@@ -70,10 +71,10 @@ pub fn word(instr: &Instr) -> u32
         ),
         Instr::Fence => 0x0000_000F,
         Instr::FenceI => 0x0000_100F,
-        Instr::Ecall => 0x0000_0073,
-        Instr::Ebreak => 0x0010_0073,
-        Instr::Sret => 0x1020_0073,
-        Instr::Wfi => 0x1050_0073,
+        Instr::Ecall => ECALL,
+        Instr::Ebreak => EBREAK,
+        Instr::Sret => SRET,
+        Instr::Wfi => WFI,
         Instr::SfenceVma { rs1, rs2 } => r_word(0x73, 0x09, 0, 0, rs1, rs2),
         Instr::Csr { op, rd, rs1, csr } => i_word(
             0x73,

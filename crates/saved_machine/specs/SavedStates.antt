@@ -1,8 +1,9 @@
 -- When plain data is a state of the reference machine. This project's own.
-use Rattle.std.specs.Prelude.{◌≡◌, ℕ, ◌+◌, ◌*◌, ◌^◌, List, [], ◌∷◌, map, option_map}
+use Rattle.std.specs.Prelude.{◌≡◌, ℕ, ◌+◌, ◌*◌, List, [], ◌∷◌, map, option_map}
 use Rattle.sv_types.specs.ApprovedPages.{numbers_from}
 use Rattle.processor.specs.Bits.{flag}
 use Rattle.processor.specs.Bytes.{ram_base}
+use Rattle.processor.specs.Registers.{software_bit}
 use Rattle.sv_types.specs.Clock.{Clock, timer_of}
 use Rattle.sv_types.specs.declared.protection.Protection.{Protection}
 use Rattle.sv_types.specs.declared.port.PortState.{PortState}
@@ -33,7 +34,7 @@ saved_hart clock h hart = record {
   sepc = hart.supervisor.sepc;
   scause = hart.supervisor.scause;
   stval = hart.supervisor.stval;
-  sip = 2 ^ 1 * flag hart.supervisor.software;
+  sip = software_bit * flag hart.supervisor.software;
   satp = hart.supervisor.satp;
   reservation = option_map gpa_at hart.reservation;
   entry = hart.entry;

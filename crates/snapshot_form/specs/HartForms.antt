@@ -3,7 +3,9 @@ use Rattle.std.specs.Prelude.{ℕ, ◌+◌, ◌-◌, ◌*◌, ◌%◌, List, [],
 use Rattle.saved_machine.specs.declared.harts.SavedHart.{SavedHart}
 use Rattle.snapshot_form.specs.Forms.{Form, number, within, and_then, ◌⨾◌, made, always, listed}
 use Rattle.processor.specs.Bytes.{page_size, ram_base}
-use Rattle.processor.specs.Registers.{legal_status, legal_interrupts, legal_tvec, legal_counteren, legal_epc, legal_satp}
+use Rattle.processor.specs.IntegerRegisters.{register_count}
+use Rattle.processor.specs.Requests.{reserved_bytes}
+use Rattle.processor.specs.Registers.{software_bit, legal_status, legal_interrupts, legal_tvec, legal_counteren, legal_epc, legal_satp}
 use Rattle.processor.specs.declared.mode.Mode.TheVariants.{Kernel, User}
 use Rattle.processor.specs.declared.mode.Mode.{Mode}
 use Rattle.sv_types.specs.Limits.{most_entries}
@@ -57,7 +59,7 @@ abbrev pub is_ram_address : ℕ → ℕ → Bool
 is_ram_address ram_pages n = nat_le ram_base n && nat_lt n (ram_base + page_size * ram_pages)
 
 abbrev pub is_reservable : ℕ → ℕ → Bool
-is_reservable ram_pages n = n == 0 || (is_ram_address ram_pages n && n % 8 == 0)
+is_reservable ram_pages n = n == 0 || (is_ram_address ram_pages n && n % reserved_bytes == 0)
 
 unfoldable pub reservation : ℕ → Form (Option ℕ)
 reservation ram_pages = made address_of address_number is_nonzero (within (is_reservable ram_pages) number)
@@ -85,7 +87,7 @@ abbrev pub TrapStatus : Type 0
 TrapStatus = ℕ × (ℕ × (ℕ × (ℕ × ℕ)))
 
 unfoldable pub trap_status : Form TrapStatus
-trap_status = legal legal_epc ⨾ (number ⨾ (number ⨾ (within (λ n. n == 0 || n == 2) number ⨾ legal (legal_satp 0))))
+trap_status = legal legal_epc ⨾ (number ⨾ (number ⨾ (within (λ n. n == 0 || n == software_bit) number ⨾ legal (legal_satp 0))))
 
 -- sstatus, sie, stvec, scounteren, sscratch, and those of a trap
 abbrev pub Status : Type 0
@@ -96,7 +98,7 @@ status = legal legal_status ⨾ (legal legal_interrupts ⨾ (legal legal_tvec �
 
 -- x1 to x31
 unfoldable pub registers : Form (List ℕ)
-registers = listed (λ before. number) [] 31
+registers = listed (λ before. number) [] (register_count - 1)
 
 abbrev pub HartParts : Type 0
 HartParts = Side × (ℕ × (List ℕ × (Status × (Option ℕ × ℕ))))

@@ -7,6 +7,7 @@ use Rattle.snapshot_form.specs.HartForms.{flag, is_user, aligned}
 use Rattle.snapshot_form.specs.declared.whole.TextPage.{TextPage}
 use Rattle.processor.specs.Bytes.{page_size}
 use Rattle.sv_types.specs.Limits.{most_module_pages}
+use Rattle.sv_types.specs.Measure.{digest_size}
 use Rattle.sv_types.specs.Policies.{modules_count_within}
 use Rattle.sv_types.specs.declared.saved.SavedModule.{SavedModule}
 use Rattle.sv_types.specs.declared.protection.Protection.TheVariants.{Free, Held, Approved}
@@ -49,7 +50,7 @@ text_page_parts t = (t.page, t.digest)
 unfoldable pub text_page : ℕ → List TextPage → Form TextPage
 text_page ram_pages before =
     made text_page_of text_page_parts always
-    (within (λ n. nat_lt n ram_pages && is_above (last_page before) n) number ⨾ plain 32)
+    (within (λ n. nat_lt n ram_pages && is_above (last_page before) n) number ⨾ plain digest_size)
 
 -- ascending; there are no more than pages of RAM
 unfoldable pub text : ℕ → Form (List TextPage)

@@ -3,6 +3,7 @@
 use Rattle.std.specs.Prelude.{◌≡◌, ℕ, Bool, true, ◌&&◌, List, [], ◌∷◌, length, Option, Some, None, ◌==◌}
 use Rattle.std.specs.List.{list_all}
 use Rattle.processor.specs.IntegerRegisters.{register_count}
+use Rattle.sv_types.specs.Measure.{digest_size}
 use Rattle.sv_types.specs.declared.event.Note.{Note}
 use Rattle.sv_types.specs.declared.event.Note.TheVariants.{Demote, Denied, Load, Unload, Retire}
 use Rattle.sv_types.specs.declared.event.Rule.TheVariants.{Entry, Write}
@@ -34,7 +35,7 @@ is_typed_hart h = are_registers h.registers && are_words (supervisor_numbers h) 
 -- ---- text and modules
 
 abbrev pub is_typed_page : TextPage → Bool
-is_typed_page t = length t.digest == 32
+is_typed_page t = length t.digest == digest_size
 
 abbrev pub module_numbers : SavedModule → List ℕ
 module_numbers m = m.id ∷ m.gpa ∷ m.va ∷ m.data_va ∷ []

@@ -1,9 +1,24 @@
--- The numbers of the block device's commands and statuses, as the guest sees them. This project's own.
+-- The offsets of the block device's registers, and the numbers of its commands and statuses, as the guest sees them. This project's own.
 use Rattle.std.specs.Prelude.{ℕ, List, [], ◌∷◌, ◌==◌, find, Option}
 use Rattle.sv_types.specs.declared.block.BlockCommand.{BlockCommand}
 use Rattle.sv_types.specs.declared.block.BlockCommand.TheVariants.{DiskToMemory, MemoryToDisk}
 use Rattle.sv_types.specs.declared.block.BlockStatus.{BlockStatus}
 use Rattle.sv_types.specs.declared.block.BlockStatus.TheVariants.{Idle, Busy, Done, Denied, OutOfRange}
+
+abbrev pub sector_offset : ℕ
+sector_offset = 0x00
+
+abbrev pub address_offset : ℕ
+address_offset = 0x08
+
+abbrev pub count_offset : ℕ
+count_offset = 0x10
+
+abbrev pub command_offset : ℕ
+command_offset = 0x14
+
+abbrev pub status_offset : ℕ
+status_offset = 0x18
 
 abbrev pub command_number : BlockCommand → ℕ
 command_number DiskToMemory = 1

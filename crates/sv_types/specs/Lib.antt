@@ -8,6 +8,7 @@ pub mod Names
 pub mod Numbers
 pub mod Output
 pub mod Console
+pub mod DevicePlaces
 pub mod Clock
 pub mod Schedule
 pub mod Elf

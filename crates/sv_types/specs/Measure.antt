@@ -5,6 +5,10 @@ use Rattle.std.specs.List.{concat}
 use Rattle.sha2.specs.Sha256.{sha256}
 use Rattle.processor.specs.Bytes.{page_size}
 
+-- the bytes of a digest
+abbrev pub digest_size : ℕ
+digest_size = 32
+
 -- the digest of a page's bytes
 abbrev pub page_digest : List ℕ → List ℕ
 page_digest page = sha256 page

@@ -4,15 +4,23 @@ use Rattle.std.specs.List.{list_all}
 use Rattle.std.specs.Char.{is_ascii_digit}
 use Rattle.std.specs.Result.{result_ok}
 use Rattle.hex.specs.Hex.{decode_sized}
+use Rattle.sv_types.specs.Measure.{digest_size}
+
+-- the code of the digit 0; those of 1 to 9 follow
+abbrev pub digit_zero : ℕ
+digit_zero = 48
 
 -- the number that decimal digits write, onto the digits before them
 abbrev pub decimal_value : ℕ → List ℕ → ℕ
 decimal_value before [] = before
-decimal_value before (digit ∷ digits) = decimal_value (10 * before + (digit - 48)) digits
+decimal_value before (digit ∷ digits) = decimal_value (10 * before + (digit - digit_zero)) digits
 
--- 1 to 20 decimal digits
+abbrev pub most_digits : ℕ
+most_digits = 20
+
+-- decimal digits, one at least
 abbrev pub is_number : List ℕ → Bool
-is_number text = nat_le 1 (length text) && nat_le (length text) 20 && list_all is_ascii_digit text
+is_number text = nat_le 1 (length text) && nat_le (length text) most_digits && list_all is_ascii_digit text
 
 -- a number from low to high, none where the text is no number or another one
 unfoldable pub number_within : ℕ → ℕ → List ℕ → Option ℕ
@@ -20,6 +28,6 @@ number_within low high text =
     if is_number text && nat_le low (decimal_value 0 text) && nat_le (decimal_value 0 text) high
     then Some (decimal_value 0 text) else None
 
--- the 32 bytes of 64 hexadecimal digits of either case
+-- the bytes of a digest, from two hexadecimal digits of either case each
 unfoldable pub digest_of : List ℕ → Option (List ℕ)
-digest_of text = result_ok (decode_sized text 32)
+digest_of text = result_ok (decode_sized text digest_size)

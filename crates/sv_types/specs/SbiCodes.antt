@@ -17,3 +17,7 @@ code_number SbiCode.UnderWay = negsuc 6
 -- as a register holds it
 abbrev pub code_word : SbiCode → ℕ
 code_word code = cast_unsigned w64 (code_number code)
+
+-- SecVisor's number, as an implementation of the SBI and as a maker of devices: the letters SEC, the first one highest
+abbrev pub implementation_number : ℕ
+implementation_number = 0x00534543

@@ -3,6 +3,21 @@
 ghost use Rattle.std.specs.Prelude.{◌≡◌};
 ghost use Rattle.sv_types.specs.BlockNumbers.{command_number, command_of, status_number};
 
+/// The offset of the register of a transfer's first sector.
+pub const BLOCK_SECTOR: u64 = 0x00;
+
+/// The offset of the register of a transfer's address.
+pub const BLOCK_ADDRESS: u64 = 0x08;
+
+/// The offset of the register of a transfer's number of sectors.
+pub const BLOCK_COUNT: u64 = 0x10;
+
+/// The offset of the register that begins a transfer.
+pub const BLOCK_COMMAND: u64 = 0x14;
+
+/// The offset of the register that says how a transfer stands.
+pub const BLOCK_STATUS: u64 = 0x18;
+
 /// What the device is told to do.
 #[derive(Clone, Copy, Debug, PartialEq, Eq, Drop)]
 pub enum BlockCommand {

@@ -10,6 +10,7 @@ mod kernel;
 mod limits;
 mod module;
 mod name;
+mod places;
 mod policy;
 mod port;
 mod protection;
@@ -20,8 +21,11 @@ mod status;
 mod view;
 mod virtio;
 
-pub use block::{BlockCommand, BlockState, BlockStatus};
-pub use digest::Digest;
+pub use block::{
+    BLOCK_ADDRESS, BLOCK_COMMAND, BLOCK_COUNT, BLOCK_SECTOR, BLOCK_STATUS, BlockCommand,
+    BlockState, BlockStatus,
+};
+pub use digest::{DIGEST_BYTES, Digest};
 pub use event::{Counts, Event, Note, Rule, Verdict};
 pub use failed::Failed;
 pub use image_fault::{HeaderFault, ImageFault};
@@ -32,12 +36,13 @@ pub use limits::{
 };
 pub use module::{Bases, Site, Span};
 pub use name::{MOST_NAME_BYTES, Name};
+pub use places::{CONSOLE_BASE, DISK_BASE, DISK_END};
 pub use policy::{Export, ModulePolicy, Policy};
 pub use port::PortState;
 pub use protection::Protection;
 pub use relocation_kind::RelocationKind;
 pub use saved::SavedModule;
-pub use sbi::SbiCode;
+pub use sbi::{IMPLEMENTATION, SbiCode};
 pub use status::Status;
 pub use view::View;
 pub use virtio::{

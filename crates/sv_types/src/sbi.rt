@@ -3,6 +3,9 @@
 ghost use Rattle.std.specs.Prelude.{◌≡◌};
 ghost use Rattle.sv_types.specs.SbiCodes.{code_number, code_word};
 
+/// SecVisor's number, as an implementation of the SBI and as a maker of devices: the letters SEC, the first one highest.
+pub const IMPLEMENTATION: u64 = 0x0053_4543;
+
 /// How a call went. RISC-V SBI, "Binary Encoding"; what the codes of modules mean is this project's own.
 #[derive(Clone, Copy, Debug, PartialEq, Eq, Drop)]
 pub enum SbiCode {
