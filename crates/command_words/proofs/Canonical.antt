@@ -5,6 +5,7 @@ use Rattle.std.specs.List.{list_any}
 use Rattle.std.specs.Option.{is_some, unwrap_or}
 use Rattle.std.specs.Str.{bytes_eq}
 use Rattle.std.proofs.lemmas.Slice.Eq.{bytes_eq-Decides}
+use Rattle.std.proofs.lemmas.Option.{none-some}
 use Rattle.clap.specs.Words.{Text, subcommand_of, takes}
 use Rattle.command_words.specs.declared.command.DiskKind.{DiskKind}
 use Rattle.command_words.specs.Commands.{Split, Flat, Gen, Run, Measure, Convert, split_words, shape_split, flat_split, gen_split, run_split, measure_split, convert_split, has_dash}
@@ -24,9 +25,6 @@ words_of (Run w) = run_name w.kind ∷ w.image ∷ w.policy ∷ w.disk ∷ w.scr
 words_of (Measure w) = codes "measure" ∷ w.out ∷ w.kernel ∷ w.ram ∷ w.harts ∷ w.entries ∷ w.init ∷ w.modules
 words_of (Convert w) = codes "convert" ∷ w.kernel ∷ w.given ∷ w.out ∷ []
 
-none_is_some : {X : Type 0} {x : X} → None ≡ Some x → ⊥
-none_is_some e = true≢false (sym (ap is_some e))
-
 some_is : (x y : Split) → Some x ≡ Some y → x ≡ y
 some_is x y e = ap (λ o. unwrap_or o x) e
 
@@ -34,23 +32,23 @@ some_is x y e = ap (λ o. unwrap_or o x) e
 
 flat_kept : (rest : List Text) (s : Split) → flat_split rest ≡ Some s → codes "flat" ∷ rest ≡ words_of s
 flat_kept (a ∷ b ∷ c ∷ []) s e = ap words_of (some_is _ s e)
-flat_kept _ s e = absurd (none_is_some e)
+flat_kept _ s e = absurd (none-some _ e)
 
 gen_kept : (rest : List Text) (s : Split) → gen_split rest ≡ Some s → codes "gen" ∷ rest ≡ words_of s
 gen_kept (a ∷ []) s e = ap words_of (some_is _ s e)
-gen_kept _ s e = absurd (none_is_some e)
+gen_kept _ s e = absurd (none-some _ e)
 
 run_kept : (kind : DiskKind) (rest : List Text) (s : Split) → run_split kind rest ≡ Some s → run_name kind ∷ rest ≡ words_of s
 run_kept kind (a ∷ b ∷ c ∷ d ∷ f ∷ g ∷ []) s e = ap words_of (some_is _ s e)
-run_kept kind _ s e = absurd (none_is_some e)
+run_kept kind _ s e = absurd (none-some _ e)
 
 measure_kept : (rest : List Text) (s : Split) → measure_split rest ≡ Some s → codes "measure" ∷ rest ≡ words_of s
 measure_kept (a ∷ b ∷ c ∷ d ∷ f ∷ g ∷ modules) s e = ap words_of (some_is _ s e)
-measure_kept _ s e = absurd (none_is_some e)
+measure_kept _ s e = absurd (none-some _ e)
 
 convert_kept : (rest : List Text) (s : Split) → convert_split rest ≡ Some s → codes "convert" ∷ rest ≡ words_of s
 convert_kept (a ∷ b ∷ c ∷ []) s e = ap words_of (some_is _ s e)
-convert_kept _ s e = absurd (none_is_some e)
+convert_kept _ s e = absurd (none-some _ e)
 
 module _ (name : Text) (rest : List Text) (s : Split) where
   -- the name is the one that was tested
@@ -59,7 +57,7 @@ module _ (name : Text) (rest : List Text) (s : Split) where
 
   by_convert : (b : Bool) → bytes_eq name (codes "convert") ≡ b → cond b (convert_split rest) None ≡ Some s → name ∷ rest ≡ words_of s
   by_convert true is e = at_name (codes "convert") is (convert_kept rest s e)
-  by_convert false is e = absurd (none_is_some e)
+  by_convert false is e = absurd (none-some _ e)
 
   -- what stands behind the test of a name
   abbrev behind_measure : Option Split
@@ -99,13 +97,13 @@ module _ (name : Text) (rest : List Text) (s : Split) where
   by_flat false is e = by_gen (bytes_eq name (codes "gen")) refl e
 
 shape_kept : (words : List Text) (s : Split) → shape_split words ≡ Some s → words ≡ words_of s
-shape_kept [] s e = absurd (none_is_some e)
+shape_kept [] s e = absurd (none-some _ e)
 shape_kept (name ∷ rest) s e = by_flat name rest s (bytes_eq name (codes "flat")) refl e
 
 -- no word begins with a dash, and a command has words of this shape
 by_dashes : (words : List Text) (s : Split) → (b : Bool) → list_any has_dash words ≡ b → cond b None (shape_split words) ≡ Some s
     → (list_any has_dash words ≡ false) × (words ≡ words_of s)
-by_dashes words s true dashes e = absurd (none_is_some e)
+by_dashes words s true dashes e = absurd (none-some _ e)
 by_dashes words s false plain e = (plain, shape_kept words s e)
 
 split_kept : (words : List Text) (s : Split) → split_words words ≡ Some s → (list_any has_dash words ≡ false) × (words ≡ words_of s)

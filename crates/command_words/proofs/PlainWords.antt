@@ -1,8 +1,9 @@
 -- Words without a dash go to the positionals, whatever they are.
-use Rattle.std.proofs.Common.{◌≡◌, ◌∙◌, ◌⊎◌, inl, inr, ◌&&◌, ◌||◌, Bool, true, false, cond, true≢false, List, [], ◌∷◌, ◌++◌, Option, Some, None, refl, ap, ap₂, ◌==◌}
+use Rattle.std.proofs.Common.{◌≡◌, ◌∙◌, ◌⊎◌, inl, inr, ◌&&◌, Bool, true, false, cond, List, [], ◌∷◌, ◌++◌, Option, Some, None, refl, ap, ap₂, ◌==◌}
 use Rattle.std.specs.List.{list_any, fold, find}
 use Rattle.std.specs.Option.{option_map_or}
 use Rattle.std.specs.Str.{bytes_eq}
+use Rattle.std.proofs.lemmas.Bool.{or_parts}
 use Rattle.clap.specs.Words.{Rule, Shape, Text}
 use Rattle.clap.specs.Lexer.{long_of, short_of}
 use Rattle.clap.specs.Takes.{step_passes, turn_passes, walk_passes}
@@ -23,10 +24,6 @@ no_long (c ∷ rest) plain = rw plain refl
 no_short : (word : Text) → NoDash word → short_of word ≡ None
 no_short [] plain = refl
 no_short (c ∷ rest) plain = rw plain refl
-
-pub both_false : (a b : Bool) → (a || b) ≡ false → (a ≡ false) × (b ≡ false)
-both_false true b e = absurd (true≢false e)
-both_false false b e = (refl, e)
 
 -- the next word may go to a positional
 pub record IsOn (w : Walk) : Type 0 where
@@ -68,7 +65,7 @@ trails_at false a found here later = later
 find_trails : (p : Rule → Bool) (c : List Rule) → NoneTrails c → trails (find p c) ≡ false
 find_trails p [] none = refl
 find_trails p (a ∷ rest) none =
-    let parts = both_false a.trailing_var_arg (list_any is_trailing_rule rest) none in
+    let parts = or_parts a.trailing_var_arg (list_any is_trailing_rule rest) none in
     trails_at (p a) a (find p rest) parts.0 (find_trails p rest parts.1)
 
 to_positional_on : (c : List Rule) (found : Option Rule) (w : Walk) (word : Text) → IsOn w → trails found ≡ false → IsOn (to_positional c found word w w.held)
@@ -90,7 +87,7 @@ placed_on c w word none on = to_positional_on c (arg_by_index c w.position) w wo
 pub walk_is : (c : List Rule) (w : Walk) (words : List Text) → NoneTrails c → IsOn w → list_any has_dash words ≡ false → fold (walked c []) w words ≡ fold (placed c) w words
 walk_is c w [] none on plain = refl
 walk_is c w (word ∷ rest) none on plain =
-    let parts = both_false (has_dash word) (list_any has_dash rest) plain in
+    let parts = or_parts (has_dash word) (list_any has_dash rest) plain in
     ap (λ v. fold (walked c []) v rest) (placed_is c w word on parts.0) ∙ walk_is c (placed c w word) rest none (placed_on c w word none on) parts.1
 
 -- the words find their positionals
@@ -102,7 +99,7 @@ pub pass_is : (s : Shape) (w : Walk) (words : List Text) → NoneTrails s.rules 
 unfolding walk_passes
 pass_is s w [] none on plain = refl
 pass_is s w (word ∷ rest) none on plain =
-    let parts = both_false (has_dash word) (list_any has_dash rest) plain in
+    let parts = or_parts (has_dash word) (list_any has_dash rest) plain in
     let later : walk_passes s [] (walked s.rules [] w word) rest ≡ placed_pass s (placed s.rules w word) rest =
     ap (λ v. walk_passes s [] v rest) (placed_is s.rules w word on parts.0) ∙ pass_is s (placed s.rules w word) rest none (placed_on s.rules w word none on) parts.1 in
     ap₂ (λ a b. a && b) (turn_is s w word on parts.0) later

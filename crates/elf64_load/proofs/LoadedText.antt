@@ -2,10 +2,11 @@
 use Rattle.std.proofs.Common.{◌≡◌, ℕ, ◌+◌, ◌-◌, ◌*◌, ◌/◌, ◌%◌, ◌<◌, ◌≤◌, inl, inr, Bool, true, false, List, [], ◌∷◌, length, get_or, map, flat_map, filter, Option, Some, None, refl, ap, sym, ◌∙◌, arith, replicate, fold, All}
 use Rattle.std.specs.Prelude.{nat_le, nat_lt, ◌&&◌, ◌||◌, find, is_some, if◌then◌else◌}
 use Rattle.std.specs.List.{list_any}
-use Rattle.std.proofs.lemmas.Bool.{cases_Bool, and_parts, leb-true}
+use Rattle.std.proofs.lemmas.Bool.{cases_Bool, and_parts, leb-true, or_parts}
 use Rattle.std.proofs.lemmas.Bool.Decides.{nat_tests}
 use Rattle.std.proofs.lemmas.List.{length-replicate}
 use Rattle.std.proofs.lemmas.List.Elements.{All-head, All-tail}
+use Rattle.std.proofs.Math.Bool.{or-true}
 use Rattle.processor.specs.Bytes.{padded, page_bytes, page_size, page_of, ram_base, ram_place}
 use Rattle.sv_types.specs.Kernel.{LoadedSegment, with_segment, segments_ram, loaded_segment, kernel_segments, kernel_refusal, loaded_headers, table_count, segment_checks, is_executable, may_clash, text_is_shared, first_page, last_page, is_text_of, filled_part, text_page, text_page_in, text_pages, text_of}
 use Rattle.sv_types.specs.ApprovedPages.{numbers_from}
@@ -36,10 +37,6 @@ text_touches file size page h sound =
     let memory = sound.memory in
     let last : nat_lt (page_size * page) (ram_place h.gpa + h.memory_size) ≡ nat_le page (last_page h) = grind (arith, nat_tests) in
     ap (λ (b : Bool). is_executable h && (nat_le (page_of h.gpa) page && b)) last
-
-or_none : (b c : Bool) → (b || c) ≡ false → (b ≡ false) × (c ≡ false)
-or_none true c h = cc
-or_none false c h = (refl, h)
 
 -- ---- a byte of a page
 
@@ -73,7 +70,7 @@ byte_stays_behind : (file ram : List ℕ) (page j : ℕ) (hs : List ProgramHeade
     → get_or (loaded file ram hs) (page_size * page + j) 0 ≡ get_or ram (page_size * page + j) 0
 byte_stays_behind file ram page j [] inside sound apart = refl
 byte_stays_behind file ram page j (h ∷ hs) inside sound apart =
-    let here = or_none (touches page h) (list_any (touches page) hs) apart in
+    let here = or_parts (touches page h) (list_any (touches page) hs) apart in
     byte_stays_behind file (with_segment ram (loaded_segment file h)) page j hs inside (sound_still file ram h hs sound) here.1
     ∙ byte_stays file ram page j h inside (All-head (Sound file (length ram)) h hs sound) here.0
 
@@ -92,17 +89,13 @@ clear_behind : (h : ProgramHeader) (page : ℕ) (hs : List ProgramHeader) → is
     → list_any (may_clash h) hs ≡ false → list_any (touches page) hs ≡ false
 clear_behind h page [] executable here apart = refl
 clear_behind h page (k ∷ hs) executable here apart =
-    let parts = or_none (may_clash h k) (list_any (may_clash h) hs) apart in
+    let parts = or_parts (may_clash h k) (list_any (may_clash h) hs) apart in
     let clear = other_apart h k page here (clash_parts (is_executable h) (is_executable k) _ executable parts.0) in
     rw clear (clear_behind h page hs executable here parts.1)
 
 both_touch : (h k : ProgramHeader) (page : ℕ) → touches page h ≡ true → touches page k ≡ true
     → (nat_le (first_page h) (last_page k) && nat_le (first_page k) (last_page h)) ≡ true
 both_touch h k page here there = grind (arith, nat_tests)
-
-or_right : (b : Bool) → (b || true) ≡ true
-or_right true = refl
-or_right false = refl
 
 -- and a segment that touches it in front clashes with it
 clash_ahead : (file : List ℕ) (size page : ℕ) (h : ProgramHeader) (hs : List ProgramHeader) (s : LoadedSegment) → All (Sound file size) hs
@@ -112,10 +105,10 @@ clash_ahead file size page h (k ∷ hs) s sound here found = elim (cases_Bool (i
   | inl text ↦
       let parts = and_parts (is_executable k) (touches page k) (sym (text_touches file size page k (All-head (Sound file size) k hs sound)) ∙ text) in
       let both = both_touch h k page here parts.1 in
-      rw (parts.0, both, or_right (is_executable h)) refl
+      rw (parts.0, both, or-true (is_executable h)) refl
   | inr other ↦
       let rest = rw other at found in
-      rw (clash_ahead file size page h hs s (All-tail (Sound file size) k hs sound) here rest) (or_right (may_clash h k))
+      rw (clash_ahead file size page h hs s (All-tail (Sound file size) k hs sound) here rest) (or-true (may_clash h k))
 ]
 
 -- ---- a byte of a page of text
@@ -130,7 +123,7 @@ text_byte : (file ram : List ℕ) (page j : ℕ) (hs : List ProgramHeader) (s : 
 text_byte file ram page j [] s inside sound apart found zeros = cc
 text_byte file ram page j (h ∷ hs) s inside sound apart found zeros =
     let here = All-head (Sound file (length ram)) h hs sound in
-    let parts = or_none (list_any (may_clash h) hs) (text_is_shared hs) apart in
+    let parts = or_parts (list_any (may_clash h) hs) (text_is_shared hs) apart in
     elim (cases_Bool (is_text_of page (loaded_segment file h))) [
       | inl text ↦
           let same : s ≡ loaded_segment file h = let some = rw text at found in cc in

@@ -6,8 +6,8 @@ use Rattle.std.specs.List.Sorted.{IsPermutation, IsNonDecreasingBy}
 use Rattle.std.proofs.lemmas.Bool.Decides.{nat_tests}
 use Rattle.std.proofs.lemmas.List.{take_more, get_or-take}
 use Rattle.std.proofs.lemmas.List.Elements.{All-head, All-tail, All-get_or, All-from_get_or}
-use Rattle.std.proofs.Math.Bool.{or_comm, and_comm}
-use Rattle.std.proofs.lemmas.Bool.{or_cases, lt-ltb, le-ltb}
+use Rattle.std.proofs.Math.Bool.{or_comm, and_comm, or-false}
+use Rattle.std.proofs.lemmas.Bool.{or_cases, lt-ltb, le-ltb, or_left, or_right, and_left}
 use Rattle.std.proofs.lemmas.List.Folds.{list_any-append}
 use Rattle.sv_types.specs.Kernel.{first_page, last_page, is_executable, may_clash, text_is_shared}
 use Rattle.sv_types.specs.declared.kernel.ProgramHeader.{ProgramHeader}
@@ -45,14 +45,6 @@ shared_push (h ∷ hs) k =
     ap (λ (b : Bool). b || text_is_shared (hs ++ k ∷ [])) any
     ∙ ap (λ (b : Bool). (list_any (may_clash h) hs || (may_clash k h || false)) || b) (shared_push hs k)
     ∙ mixed (list_any (may_clash h) hs) (may_clash k h) (text_is_shared hs) (list_any (may_clash k) hs)
-
-or_left : (x y : Bool) → x ≡ true → (x || y) ≡ true
-or_left true y h = refl
-or_left false y h = cc
-
-or_right : (x y : Bool) → y ≡ true → (x || y) ≡ true
-or_right true y h = refl
-or_right false y h = h
 
 -- those in front decide, where they clash
 pub shared_front : (hs ks : List ProgramHeader) → text_is_shared hs ≡ true → text_is_shared (hs ++ ks) ≡ true
@@ -141,10 +133,6 @@ pub shared_now : (done : List ProgramHeader) (end text_end : ℕ) (k : ProgramHe
 shared_now done end text_end k swept memory order =
     shared_push done k ∙ ap (λ (b : Bool). b || list_any (may_clash k) done) swept.apart ∙ clash_seen done end text_end k swept memory order
 
-or_false : (b : Bool) → (b || false) ≡ b
-or_false true = refl
-or_false false = refl
-
 longer : (page end last : ℕ) → (nat_lt page end || nat_le page last) ≡ nat_lt page (max end (last + 1))
 longer page end last = grind (arith, nat_tests)
 
@@ -152,14 +140,14 @@ reaches_push : (done : List ProgramHeader) (k : ProgramHeader) (page end : ℕ) 
     → list_any (reaches page) (done ++ k ∷ []) ≡ nat_lt page (max end (last_page k + 1))
 reaches_push done k page end e =
     list_any-append (reaches page) done (k ∷ []) ∙ ap (λ (b : Bool). b || (reaches page k || false)) e
-    ∙ ap (λ (b : Bool). nat_lt page end || b) (or_false (reaches page k))
+    ∙ ap (λ (b : Bool). nat_lt page end || b) (or-false (reaches page k))
     ∙ longer page end (last_page k)
 
 text_push : (done : List ProgramHeader) (k : ProgramHeader) (page end : ℕ) → list_any (text_reaches page) done ≡ nat_lt page end
     → list_any (text_reaches page) (done ++ k ∷ []) ≡ (nat_lt page end || text_reaches page k)
 text_push done k page end e =
     list_any-append (text_reaches page) done (k ∷ []) ∙ ap (λ (b : Bool). b || (text_reaches page k || false)) e
-    ∙ ap (λ (b : Bool). nat_lt page end || b) (or_false (text_reaches page k))
+    ∙ ap (λ (b : Bool). nat_lt page end || b) (or-false (text_reaches page k))
 
 ends_later : (k : ProgramHeader) → HasMemory k → first_page k ≤ last_page k
 ends_later k memory = grind arith
@@ -182,10 +170,6 @@ swept_text done end text_end k swept memory executable behind apart = record {
   order = omega arith;
 }
 
-and_left : (b c : Bool) → b ≡ false → (b && c) ≡ false
-and_left true c h = cc
-and_left false c h = refl
-
 pub swept_data : (done : List ProgramHeader) (end text_end : ℕ) (k : ProgramHeader) → Swept done end text_end
     → is_executable k ≡ false → text_is_shared (done ++ k ∷ []) ≡ false
     → Swept (done ++ k ∷ []) (max end (last_page k + 1)) text_end
@@ -195,7 +179,7 @@ swept_data done end text_end k swept data_only apart = record {
   text = λ page.
       text_push done k page text_end (swept.text page)
       ∙ ap (λ (b : Bool). nat_lt page text_end || b) (and_left (is_executable k) (nat_le page (last_page k)) data_only)
-      ∙ or_false (nat_lt page text_end);
+      ∙ or-false (nat_lt page text_end);
   order = let e = swept.order in omega arith;
 }
 

@@ -4,7 +4,7 @@ use Rattle.std.proofs.Common.{◌≡◌, ℕ, suc, ◌+◌, ◌*◌, ◌%◌, �
 use Rattle.std.specs.Prelude.{◌&&◌, ◌||◌, ◌==◌, nat_le, nat_lt, if◌then◌else◌, find, slice_get}
 use Rattle.std.specs.List.{position_from}
 use Rattle.std.specs.Str.{bytes_eq}
-use Rattle.std.proofs.lemmas.Bool.{eqb-true, eq-eqb}
+use Rattle.std.proofs.lemmas.Bool.{eqb-true, eq-eqb, or_left, or_right}
 use Rattle.std.proofs.lemmas.Bool.Decides.{nat_tests}
 use Rattle.processor.specs.Effects.{plus}
 use Rattle.sv_types.specs.Policies.{site_size, is_low_part}
@@ -15,6 +15,7 @@ use Rattle.sv_types.specs.declared.relocation_kind.RelocationKind.TheVariants.{W
 use Rattle.elf64_sections.specs.Judged.{◌>>=◌}
 use Rattle.elf64_sections.specs.Sections.{symbol_count, symbol_at, name_at}
 use Rattle.elf64_sections.specs.declared.tables.Symbol.{Symbol}
+use Rattle.elf64_sections.proofs.Steps.{ok_same}
 use Rattle.elf64_reloc.specs.Asking.{asked_of, asked_bytes, place_alignment}
 use Rattle.elf64_reloc.specs.Modules.{Judging, site_at, or_nothing, low_fields, fields_for, fields_with, fields_asked, fields_judged, found_sites, each_judged, call_fields, one_field, judging, is_high_at, relocations_of_object, sites_of}
 use Rattle.elf64_reloc.specs.Objects.{Object}
@@ -158,9 +159,6 @@ record IsSound (total exports : ℕ) (j : Judging) : Type 0 where
   bases : (symbol : ℕ) → IfThere (HasBase exports) (symbol_target j.names symbol)
   highs : (place : ℕ) → IfThere (IsPlaced total) (j.high_at place)
 
-pub ok_same : {A : Type 0} (a b : A) → ◌≡◌ {A = Judged A} (Ok a) (Ok b) → a ≡ b
-ok_same a b e = cc e
-
 next_place : (total place : ℕ) → place + 8 ≤ total → total ≤ 4096 * 1024 → (place + 4) % 2 ^ 64 ≡ place + 4
 next_place total place fits most = omega arith
 
@@ -181,13 +179,6 @@ some_base : (exports : ℕ) (o : Option Target) → IfThere (HasBase exports) o 
 some_base exports None based = omega arith
 some_base exports (Some t) based = based
 
-left_or : (a b : Bool) → a ≡ true → (a || b) ≡ true
-left_or a b x = rw x refl
-
-right_or : (a b : Bool) → b ≡ true → (a || b) ≡ true
-right_or true b x = refl
-right_or false b x = x
-
 low_sites : (total exports : ℕ) (j : Judging) (r : Relocation) (kind : RelocationKind) (high : Option Relocation) (f : Found) → IsSound total exports j → low_fields j r kind high ≡ Ok f
     → is_low_part kind ≡ true → IfThere (IsPlaced total) high → IsPlace total r.place → total ≤ 4096 * 1024 → r.place % site_size kind ≡ 0 → Each (IsSiteOf total exports) (found_sites f)
 low_sites total exports j r kind None f sound is low held at most aligned = absurd (cc is)
@@ -195,7 +186,7 @@ low_sites total exports j r kind (Some high) f sound is low held at most aligned
     let target : Target = or_nothing (symbol_target j.names high.symbol) in
     let based : HasBase exports target = some_base exports (symbol_target j.names high.symbol) (sound.bases high.symbol) in
     subst (λ (x : Found). Each (IsSiteOf total exports) (found_sites x)) (ok_same (one_field (site_at r.place kind target high.addend high.place)) f is)
-    (site_made total exports r.place kind target high.addend high.place most at aligned based held (left_or (is_low_part kind) (high.place == r.place) low), tt)
+    (site_made total exports r.place kind target high.addend high.place most at aligned based held (or_left (is_low_part kind) (high.place == r.place) low), tt)
 
 low_by : (total exports : ℕ) (j : Judging) (r : Relocation) (kind : RelocationKind) (plain : Bool) (high : Option Relocation) (f : Found) → IsSound total exports j
     → (if plain then low_fields j r kind high else Err ObjectFault.NoHighPart) ≡ Ok f → is_low_part kind ≡ true → IfThere (IsPlaced total) high → IsPlace total r.place → total ≤ 4096 * 1024
@@ -210,7 +201,7 @@ field_by total exports j r kind t true f sound low is based at most aligned =
     low_by total exports j r kind (r.addend == 0 && t.base == 0) (j.high_at t.value) f sound is low (sound.highs t.value) at most aligned
 field_by total exports j r kind t false f sound low is based at most aligned =
     subst (λ (x : Found). Each (IsSiteOf total exports) (found_sites x)) (ok_same (one_field (site_at r.place kind t r.addend r.place)) f is)
-    (site_made total exports r.place kind t r.addend r.place most at aligned based at (right_or (is_low_part kind) (r.place == r.place) (eq-eqb r.place r.place refl)), tt)
+    (site_made total exports r.place kind t r.addend r.place most at aligned based at (or_right (is_low_part kind) (r.place == r.place) (eq-eqb r.place r.place refl)), tt)
 
 asked_sites : (total exports : ℕ) (j : Judging) (r : Relocation) (asked : Asked) (t : Target) (f : Found) → IsSound total exports j → fields_for j r asked t ≡ Ok f
     → HasBase exports t → IsPlace total r.place → r.place + asked_bytes asked ≤ total → total ≤ 4096 * 1024 → r.place % place_alignment (Some asked) ≡ 0 → Each (IsSiteOf total exports) (found_sites f)

@@ -5,7 +5,7 @@ use Rattle.std.specs.Prelude.{◌&&◌, ◌||◌, ◌==◌, nat_le, nat_lt, if�
 use Rattle.std.specs.BTreeMap.{insert_entry}
 use Rattle.std.specs.List.{list_all}
 use Rattle.std.specs.Ordering.{nat_cmp, match_ordering}
-use Rattle.std.proofs.lemmas.Bool.{eq-eqb}
+use Rattle.std.proofs.lemmas.Bool.{eq-eqb, or_parts, and_from}
 use Rattle.std.proofs.lemmas.Bool.Decides.{nat_tests}
 use Rattle.std.proofs.lemmas.List.{length-replicate, length-map}
 use Rattle.sv_types.specs.ApprovedPages.{numbers_from}
@@ -16,6 +16,7 @@ use Rattle.sv_types.specs.declared.module.Site.{Site}
 use Rattle.sv_types.specs.declared.policy.Export.{Export}
 use Rattle.elf64_sections.specs.Judged.{◌>>=◌}
 use Rattle.elf64_sections.specs.Sections.{Tables, sections_in_file, sections_among, sections_of, sections_count, sections_place, section_at, tables_of}
+use Rattle.elf64_sections.proofs.Steps.{ok_same}
 use Rattle.elf64_reloc.specs.Layouts.{is_good_alignment, padding, no_ends, placed_sections, text_size}
 use Rattle.elf64_reloc.specs.Modules.{Module, ordered_from, ordered_sites, field_end, some_touch, is_too_large, fields_overlap, module_with, module_of, module_judged, sites_of, text_of, text_from, whole_pages, zeros, pages_of, module_fits}
 use Rattle.elf64_reloc.specs.ModuleViews.{module_view}
@@ -25,7 +26,7 @@ use Rattle.elf64_reloc.specs.declared.fault.ObjectFault.{ObjectFault}
 use Rattle.elf64_reloc.specs.declared.read.ModuleImage.{ModuleImage}
 use Rattle.elf64_reloc.specs.declared.refusal.RelocRefusal.{RelocRefusal}
 use Rattle.elf64_reloc.proofs.TextPlaces.{Each, all_good, text_length, all_inside, all_of_text}
-use Rattle.elf64_reloc.proofs.FieldPlaces.{IsPlace, IsSiteOf, object_sites, ok_same}
+use Rattle.elf64_reloc.proofs.FieldPlaces.{IsPlace, IsSiteOf, object_sites}
 
 -- ---- in the order of their places
 
@@ -93,25 +94,18 @@ end_of_last before site =
     let last : length (before ++ site ∷ []) - 1 ≡ length before = omega (arith, long) in
     ap (λ (n : ℕ). site_end (slice_get (before ++ site ∷ []) n)) last ∙ ap site_end (last_got before site)
 
-neither : (a b : Bool) → (a || b) ≡ false → (a ≡ false) × (b ≡ false)
-neither true b none = absurd (cc none)
-neither false b none = (refl, none)
-
 begins_behind : (place end : ℕ) → nat_lt place end ≡ false → nat_le end place ≡ true
 begins_behind place end test = grind (arith, nat_tests)
-
-two_tests : (a b : Bool) → a ≡ true → b ≡ true → (a && b) ≡ true
-two_tests a b x y = rw (x, y) refl
 
 in_order : (pages exports : ℕ) (before sites : List Site) → Each (λ site. site_within pages exports site ≡ true) sites → some_touch (sites_end before) sites ≡ false
     → each_within (next_site_within pages exports) before sites ≡ true
 in_order pages exports before [] good apart = refl
 in_order pages exports before (site ∷ sites) good apart =
-    let tests = neither (nat_lt site.offset (sites_end before)) (some_touch (field_end site) sites) apart in
+    let tests = or_parts (nat_lt site.offset (sites_end before)) (some_touch (field_end site) sites) apart in
     let behind : is_behind before site ≡ true = begins_behind site.offset (sites_end before) tests.0 in
     let rest : some_touch (sites_end (before ++ site ∷ [])) sites ≡ false = subst (λ (end : ℕ). some_touch end sites ≡ false) (sym (end_of_last before site)) tests.1 in
-    two_tests (next_site_within pages exports before site) (each_within (next_site_within pages exports) (before ++ site ∷ []) sites)
-    (two_tests (site_within pages exports site) (is_behind before site) good.0 behind) (in_order pages exports (before ++ site ∷ []) sites good.1 rest)
+    and_from (next_site_within pages exports before site) (each_within (next_site_within pages exports) (before ++ site ∷ []) sites)
+    (and_from (site_within pages exports site) (is_behind before site) good.0 behind) (in_order pages exports (before ++ site ∷ []) sites good.1 rest)
 
 -- ---- the pages of the text
 
@@ -135,7 +129,7 @@ place_fits : (total pages place : ℕ) → IsPlace total place → total ≤ 409
 place_fits total pages place at most =
     let begins = at.below in
     let below : nat_lt place (4096 * pages) ≡ true = grind (arith, nat_tests) in
-    two_tests (place % 4 == 0) (nat_lt place (4096 * pages)) (eq-eqb (place % 4) 0 at.whole) below
+    and_from (place % 4 == 0) (nat_lt place (4096 * pages)) (eq-eqb (place % 4) 0 at.whole) below
 
 base_fits : (exports base : ℕ) → base < 3 + exports → base_within exports base ≡ true
 base_fits exports base below = grind (arith, nat_tests)
@@ -143,13 +137,13 @@ base_fits exports base below = grind (arith, nat_tests)
 one_fits : (total pages exports : ℕ) (site : Site) → IsSiteOf total exports site → total ≤ 4096 * pages → site_within pages exports site ≡ true
 one_fits total pages exports site of most =
     let anchored : anchor_within pages site.kind site.offset site.anchor ≡ true =
-    two_tests (place_within pages site.anchor) (is_low_part site.kind || site.anchor == site.offset) (place_fits total pages site.anchor of.anchor most) of.own in
+    and_from (place_within pages site.anchor) (is_low_part site.kind || site.anchor == site.offset) (place_fits total pages site.anchor of.anchor most) of.own in
     let placed : (place_within pages site.offset && is_aligned site.kind site.offset) ≡ true =
-    two_tests (place_within pages site.offset) (is_aligned site.kind site.offset) (place_fits total pages site.offset of.place most)
+    and_from (place_within pages site.offset) (is_aligned site.kind site.offset) (place_fits total pages site.offset of.place most)
     (eq-eqb (site.offset % site_size site.kind) 0 of.aligned) in
     let based : (place_within pages site.offset && is_aligned site.kind site.offset && base_within exports site.base) ≡ true =
-    two_tests (place_within pages site.offset && is_aligned site.kind site.offset) (base_within exports site.base) placed (base_fits exports site.base of.base) in
-    two_tests (place_within pages site.offset && is_aligned site.kind site.offset && base_within exports site.base) (anchor_within pages site.kind site.offset site.anchor) based anchored
+    and_from (place_within pages site.offset && is_aligned site.kind site.offset) (base_within exports site.base) placed (base_fits exports site.base of.base) in
+    and_from (place_within pages site.offset && is_aligned site.kind site.offset && base_within exports site.base) (anchor_within pages site.kind site.offset site.anchor) based anchored
 
 all_fit : (total pages exports : ℕ) (sites : List Site) → Each (IsSiteOf total exports) sites → total ≤ 4096 * pages → Each (λ site. site_within pages exports site ≡ true) sites
 all_fit total pages exports [] of most = tt
@@ -173,8 +167,8 @@ fits_in : (total pages exports : ℕ) (sites : List Site) → AreEnough total pa
     → (module_pages_within pages && sites_count_within 0 (length sites) && sites_within pages exports sites) ≡ true
 fits_in total pages exports sites enough fields =
     let sized : (module_pages_within pages && sites_count_within 0 (length sites)) ≡ true =
-    two_tests (module_pages_within pages) (sites_count_within 0 (length sites)) (pages_within pages enough.some enough.most) (count_within (length sites) fields.few) in
-    two_tests (module_pages_within pages && sites_count_within 0 (length sites)) (sites_within pages exports sites) sized
+    and_from (module_pages_within pages) (sites_count_within 0 (length sites)) (pages_within pages enough.some enough.most) (count_within (length sites) fields.few) in
+    and_from (module_pages_within pages && sites_count_within 0 (length sites)) (sites_within pages exports sites) sized
     (in_order pages exports [] sites (all_fit total pages exports sites fields.each enough.all) fields.apart)
 
 fits_by : (text : List ℕ) (total exports : ℕ) (sites : List Site) → length text ≡ total → 0 < total → total ≤ 4096 * 1024 → AreFieldsOf total exports sites
@@ -230,7 +224,7 @@ by_tests exports o sites false true none m sized apart some e short alignments i
 by_tests exports o sites false false true m sized apart some e short alignments is = absurd (cc e)
 by_tests exports o sites false false false m sized apart some e short alignments is =
     let same = ok_same (record { text = text_of o; sites = ordered_sites sites }) m e in
-    let tests = neither (nat_lt (length (ordered_sites sites)) (length sites)) (some_touch 0 (ordered_sites sites)) apart in
+    let tests = or_parts (nat_lt (length (ordered_sites sites)) (length sites)) (some_touch 0 (ordered_sites sites)) apart in
     subst (λ (n : Module). module_fits (length exports) n ≡ true) same
     (object_fits exports o sites short alignments is (not_large (length sites) (text_size o.sections) sized) tests.1 (not_zero (text_size o.sections) some))
 

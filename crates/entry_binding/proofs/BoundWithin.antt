@@ -5,6 +5,7 @@ use Rattle.std.specs.List.{list_all}
 use Rattle.std.specs.Str.{bytes_eq}
 use Rattle.std.proofs.lemmas.Bool.{and_parts}
 use Rattle.std.proofs.lemmas.Bool.Decides.{nat_tests}
+use Rattle.std.specs.Cmp.Derive.{both_true}
 use Rattle.processor.specs.Regions.{most_ram_pages}
 use Rattle.sv_types.specs.Kernel.{LoadedSegment, kernel_refusal, kernel_segments, text_of}
 use Rattle.sv_types.specs.Measure.{measure}
@@ -141,12 +142,9 @@ limits r within =
       modules = one.1;
     }
 
-both : {a b : Bool} → a ≡ true → b ≡ true → (a && b) ≡ true
-both x y = rw (x, y) refl
-
 all_limits : (r : Rules) → format_within r.format ≡ true → HasLimits r → bound_within r ≡ true → rules_within r ≡ true
 all_limits r format has bound =
-    both (both (both (both (both (both format has.harts) has.ram) (both (both (both (both has.count has.entries) has.few_exports) has.exports) bound)) has.init) has.few_modules) has.modules
+    both_true (both_true (both_true (both_true (both_true (both_true format has.harts) has.ram) (both_true (both_true (both_true (both_true has.count has.entries) has.few_exports) has.exports) bound)) has.init) has.few_modules) has.modules
 
 count_of : (n most : ℕ) → entries_count_within most ≡ true → 1 ≤ n → n ≤ most → entries_count_within n ≡ true
 count_of n most within some few = grind (arith, nat_tests)

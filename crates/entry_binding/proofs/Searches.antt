@@ -1,8 +1,10 @@
 -- What a search through a list finds.
-use Rattle.std.proofs.Common.{◌≡◌, Bool, true, false, ◌||◌, List, [], ◌∷◌, Some, All, map, refl, ap, subst, cond}
+use Rattle.std.proofs.Common.{◌≡◌, Bool, true, false, ◌||◌, List, [], ◌∷◌, Some, All, map, refl, subst, cond}
 use Rattle.std.specs.List.{find, list_any}
 use Rattle.std.specs.Prelude.{option_map}
 use Rattle.std.proofs.lemmas.List.Elements.{All-head, All-tail}
+use Rattle.std.proofs.lemmas.Bool.{or_right}
+use Rattle.std.proofs.lemmas.Option.{same_Some}
 
 -- an element of the list that passes a test: a test that it passes finds something
 pub record IsMet {X : Type 0} (P : X → Type 0) (test : X → Bool) (xs : List X) (x : X) : Type 0 where
@@ -10,22 +12,15 @@ pub record IsMet {X : Type 0} (P : X → Type 0) (test : X → Bool) (xs : List 
   pub passes : test x ≡ true
   pub among : (q : X → Bool) → q x ≡ true → list_any q xs ≡ true
 
-or_true : (a b : Bool) → b ≡ true → (a || b) ≡ true
-or_true true b e = refl
-or_true false b e = e
-
 met_first : {X : Type 0} (P : X → Type 0) (test : X → Bool) (y : X) (ys : List X) → P y → test y ≡ true → IsMet P test (y ∷ ys) y
 met_first P test y ys holds passes = record { holds = holds; passes = passes; among = λ q is. rw is refl }
 
 met_later : {X : Type 0} (P : X → Type 0) (test : X → Bool) (y : X) (ys : List X) (x : X) → IsMet P test ys x → IsMet P test (y ∷ ys) x
-met_later P test y ys x met = record { holds = met.holds; passes = met.passes; among = λ q is. or_true (q y) (list_any q ys) (met.among q is) }
-
-some_same : {X : Type 0} (x y : X) → Some x ≡ Some y → x ≡ y
-some_same x y e = cc e
+met_later P test y ys x met = record { holds = met.holds; passes = met.passes; among = λ q is. or_right (q y) (list_any q ys) (met.among q is) }
 
 found_by : {X : Type 0} (P : X → Type 0) (test : X → Bool) (y : X) (ys : List X) (x : X) (b : Bool) → test y ≡ b → cond b (Some y) (find test ys) ≡ Some x → P y
     → (find test ys ≡ Some x → IsMet P test ys x) → IsMet P test (y ∷ ys) x
-found_by P test y ys x true is e here rest = subst (IsMet P test (y ∷ ys)) (some_same y x e) (met_first P test y ys here is)
+found_by P test y ys x true is e here rest = subst (IsMet P test (y ∷ ys)) (same_Some y x e) (met_first P test y ys here is)
 found_by P test y ys x false is e here rest = met_later P test y ys x (rest e)
 
 pub found_met : {X : Type 0} (P : X → Type 0) (test : X → Bool) (xs : List X) (x : X) → All P xs → find test xs ≡ Some x → IsMet P test xs x
@@ -52,7 +47,3 @@ find_map p f (x ∷ xs) = find_map_by p f x xs (p (f x)) (find_map p f xs)
         → cond b (Some (f x)) (find p (map f xs)) ≡ option_map f (cond b (Some x) (find (λ x. p (f x)) xs))
     find_map_by p f x xs true rest = refl
     find_map_by p f x xs false rest = rest
-
-pub list_any_map : {A B : Type 0} (p : B → Bool) (f : A → B) (xs : List A) → list_any p (map f xs) ≡ list_any (λ x. p (f x)) xs
-list_any_map p f [] = refl
-list_any_map p f (x ∷ xs) = ap (λ b. p (f x) || b) (list_any_map p f xs)

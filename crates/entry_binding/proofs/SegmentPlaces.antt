@@ -8,8 +8,9 @@ use Rattle.elf64_load.specs.Images.{segment_of}
 use Rattle.elf64_load.specs.declared.image.Segment.{Segment}
 use Rattle.entry_binding.specs.Binding.{holds, maps, place_by, place_in, place_of}
 use Rattle.entry_binding.specs.InText.{EndInWords}
-use Rattle.entry_binding.proofs.Searches.{IsMet, find_map, found_met, list_any_map}
+use Rattle.entry_binding.proofs.Searches.{IsMet, find_map, found_met}
 use Rattle.entry_binding.proofs.TextPlaces.{held_parts}
+use Rattle.policy_making.proofs.WordLemmas.{list_any_map}
 
 all_any : (ss : List LoadedSegment) → All (λ s. Unit {0}) ss
 all_any [] = All-nil (λ s. Unit {0})

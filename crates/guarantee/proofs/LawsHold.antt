@@ -2,7 +2,7 @@
 use Rattle.std.proofs.Common.{◌≡◌, ℕ, ◌+◌, ◌⊎◌, inl, inr, List, [], ◌∷◌, map, length, refl, sym, ◌∙◌, ap, subst, Bool, true, false, ◌&&◌, not, slice_get}
 use Rattle.std.specs.Prelude.{Option, Some, None, option_map, if◌then◌else◌, is_some, ◌==◌}
 use Rattle.std.proofs.lemmas.Bool.{eqb-true, eq-eqb, cases_Bool}
-use Rattle.std.proofs.lemmas.Option.{slice_get-map}
+use Rattle.std.proofs.lemmas.Option.{none-some, slice_get-map}
 use Rattle.sv_types.specs.ApprovedPages.{approved_bytes}
 use Rattle.processor.specs.Bytes.{low_bytes, page_bytes, page_of, ram_place, in_ram}
 use Rattle.processor.specs.Causes.{cause_number}
@@ -428,9 +428,6 @@ trap_stops : (q : State) (h : ℕ) (hart : Hart) (interrupt : Bool) (cause tval 
 unfolding trap_from
 trap_stops q h hart interrupt cause tval e = rw e refl
 
-none_some : {A : Type 0} (a : A) → None ≡ Some a → ⊥
-none_some a e = cc
-
 guarded_there : (q : State) (hart : Hart) (gpa at address bytes width : ℕ) → at ≡ address → bytes ≡ width → target_of q hart address width ≡ Guarded gpa
     → target_of q hart at bytes ≡ Guarded gpa
 guarded_there q hart gpa at address bytes width same size leads =
@@ -452,7 +449,7 @@ instruction_stops : (q : State) (h : ℕ) (hart : Hart) (w gpa : ℕ) (x : Optio
     → option_map (λ (i : Instr). effect_of i hart.registers hart.pc) x ≡ Some e → Writes e address width → target_of q hart address width ≡ Guarded gpa
     → carry_out_instruction q h hart w x ≡ stopped_by q h (Write hart.pc gpa)
 unfolding carry_out_instruction
-instruction_stops q h hart w gpa None e address width is writes leads = absurd (none_some e is)
+instruction_stops q h hart w gpa None e address width is writes leads = absurd (none-some e is)
 instruction_stops q h hart w gpa (Some i) e address width is writes leads =
     let same : effect_of i hart.registers hart.pc ≡ e = cc in
     effect_stops q h hart w gpa (effect_of i hart.registers hart.pc) address width (subst (λ (x : Effect). Writes x address width) (sym same) writes) leads

@@ -1,7 +1,8 @@
 -- The events of a journal as it grows, and which of them are keys.
-use Rattle.std.proofs.Common.{◌≡◌, ◌≤◌, ◌+◌, ◌-◌, ℕ, zero, suc, Bool, true, false, ◌&&◌, if◌then◌else◌, nat_le, List, [], ◌∷◌, ◌++◌, map, refl, sym, ◌∙◌, ap, append_assoc, arith}
+use Rattle.std.proofs.Common.{◌≡◌, ◌≤◌, ◌+◌, ◌-◌, ℕ, zero, suc, Bool, true, false, if◌then◌else◌, nat_le, List, [], ◌∷◌, ◌++◌, map, refl, sym, ◌∙◌, ap, append_assoc, arith}
 use Rattle.std.proofs.lemmas.List.{map-append}
-use Rattle.std.proofs.lemmas.Bool.{leb-true, le-leb}
+use Rattle.std.proofs.lemmas.Bool.{leb-true, le-leb, and_from}
+use Rattle.std.specs.Cmp.{first_so, second_so}
 use Rattle.sv_types.specs.ApprovedPages.{numbers_from}
 use Rattle.sv_types.specs.Schedule.{Schedule, auto_event, first_events}
 use Rattle.sv_types.specs.declared.event.Event.{Event}
@@ -25,23 +26,12 @@ numbers_join first (suc count) more =
     ∙ ap (λ (rest : List ℕ). first ∷ rest) (numbers_join (first + 1) count more)
     ∙ ap (λ (n : ℕ). first ∷ numbers_from (first + 1) count ++ numbers_from n more) behind
 
-and_first : (a b : Bool) → a && b ≡ true → a ≡ true
-and_first true b is = refl
-and_first false b is = is
-
-and_second : (a b : Bool) → a && b ≡ true → b ≡ true
-and_second true b is = is
-and_second false b is = absurd (cc)
-
-both : (a b : Bool) → a ≡ true → b ≡ true → a && b ≡ true
-both a b one other = ap (λ (x : Bool). x && b) one ∙ other
-
 -- the last number is no lower than the first
 pub placed_le : (first last : ℕ) (keys : List LiveKey) → is_placed first keys last ≡ true → first ≤ last
 placed_le first last [] is = leb-true first last is
 placed_le first last (key ∷ keys) is =
-    let low = leb-true first key.before (and_first (nat_le first key.before) (is_placed key.before keys last) is) in
-    let high = placed_le key.before last keys (and_second (nat_le first key.before) (is_placed key.before keys last) is) in
+    let low = leb-true first key.before (first_so (nat_le first key.before) (is_placed key.before keys last) is) in
+    let high = placed_le key.before last keys (second_so (nat_le first key.before) (is_placed key.before keys last) is) in
     omega arith
 
 -- ---- events of `auto(0, harts)`
@@ -73,26 +63,26 @@ autos_more harts first last le =
 
 pub placed_key : (first last : ℕ) (keys : List LiveKey) (byte : ℕ) → is_placed first keys last ≡ true →
     is_placed first (keys ++ record { before = last; byte = byte } ∷ []) last ≡ true
-placed_key first last [] byte is = both (nat_le first last) (nat_le last last) is (le-leb last last (omega arith))
+placed_key first last [] byte is = and_from (nat_le first last) (nat_le last last) is (le-leb last last (omega arith))
 placed_key first last (key ∷ keys) byte is =
-    both (nat_le first key.before) (is_placed key.before (keys ++ record { before = last; byte = byte } ∷ []) last)
-    (and_first (nat_le first key.before) (is_placed key.before keys last) is)
-    (placed_key key.before last keys byte (and_second (nat_le first key.before) (is_placed key.before keys last) is))
+    and_from (nat_le first key.before) (is_placed key.before (keys ++ record { before = last; byte = byte } ∷ []) last)
+    (first_so (nat_le first key.before) (is_placed key.before keys last) is)
+    (placed_key key.before last keys byte (second_so (nat_le first key.before) (is_placed key.before keys last) is))
 
 pub bytes_key : (keys : List LiveKey) (before byte : ℕ) → are_bytes keys ≡ true → byte ≤ 255 →
     are_bytes (keys ++ record { before = before; byte = byte } ∷ []) ≡ true
-bytes_key [] before byte are few = both (nat_le byte 255) true (le-leb byte 255 few) refl
+bytes_key [] before byte are few = and_from (nat_le byte 255) true (le-leb byte 255 few) refl
 bytes_key (key ∷ keys) before byte are few =
-    both (nat_le key.byte 255) (are_bytes (keys ++ record { before = before; byte = byte } ∷ []))
-    (and_first (nat_le key.byte 255) (are_bytes keys) are)
-    (bytes_key keys before byte (and_second (nat_le key.byte 255) (are_bytes keys) are) few)
+    and_from (nat_le key.byte 255) (are_bytes (keys ++ record { before = before; byte = byte } ∷ []))
+    (first_so (nat_le key.byte 255) (are_bytes keys) are)
+    (bytes_key keys before byte (second_so (nat_le key.byte 255) (are_bytes keys) are) few)
 
 pub placed_auto : (first last : ℕ) (keys : List LiveKey) → is_placed first keys last ≡ true → is_placed first keys (last + 1) ≡ true
 placed_auto first last [] is = let le = leb-true first last is in le-leb first (last + 1) (omega arith)
 placed_auto first last (key ∷ keys) is =
-    both (nat_le first key.before) (is_placed key.before keys (last + 1))
-    (and_first (nat_le first key.before) (is_placed key.before keys last) is)
-    (placed_auto key.before last keys (and_second (nat_le first key.before) (is_placed key.before keys last) is))
+    and_from (nat_le first key.before) (is_placed key.before keys (last + 1))
+    (first_so (nat_le first key.before) (is_placed key.before keys last) is)
+    (placed_auto key.before last keys (second_so (nat_le first key.before) (is_placed key.before keys last) is))
 
 pub events_key : (harts first last : ℕ) (keys : List LiveKey) (byte : ℕ) →
     events_between harts first (keys ++ record { before = last; byte = byte } ∷ []) last ≡ events_between harts first keys last ++ Key byte ∷ []
@@ -110,7 +100,7 @@ events_auto harts first last (key ∷ keys) is =
     let front : List Event = autos_between harts first key.before in
     let rest : List Event = events_between harts key.before keys last in
     ap (λ (es : List Event). front ++ Key key.byte ∷ es)
-    (events_auto harts key.before last keys (and_second (nat_le first key.before) (is_placed key.before keys last) is))
+    (events_auto harts key.before last keys (second_so (nat_le first key.before) (is_placed key.before keys last) is))
     ∙ sym (append_assoc front (Key key.byte ∷ rest) (auto_event harts 0 last ∷ []))
 
 -- ---- which events are keys
@@ -163,8 +153,8 @@ others_between : (harts first : ℕ) (keys : List LiveKey) (last : ℕ) → is_p
     others_among (events_between harts first keys last) ≡ autos_between harts first last
 others_between harts first [] last is = autos_others harts (numbers_from first (last - first))
 others_between harts first (key ∷ keys) last is =
-    let low = leb-true first key.before (and_first (nat_le first key.before) (is_placed key.before keys last) is) in
-    let behind = and_second (nat_le first key.before) (is_placed key.before keys last) is in
+    let low = leb-true first key.before (first_so (nat_le first key.before) (is_placed key.before keys last) is) in
+    let behind = second_so (nat_le first key.before) (is_placed key.before keys last) is in
     others_append (autos_between harts first key.before) (Key key.byte ∷ events_between harts key.before keys last)
     ∙ ap (λ (es : List Event). es ++ others_among (events_between harts key.before keys last)) (autos_others harts (numbers_from first (key.before - first)))
     ∙ ap (λ (es : List Event). autos_between harts first key.before ++ es) (others_between harts key.before keys last behind)

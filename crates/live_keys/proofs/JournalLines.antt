@@ -1,16 +1,17 @@
 -- The text of a journal, read back.
-use Rattle.std.proofs.Common.{◌≡◌, ◌≤◌, ◌<◌, ◌+◌, ◌-◌, ◌*◌, ◌%◌, ◌^◌, ◌==◌, ℕ, zero, suc, Bool, true, false, ◌&&◌, nat_le, if◌then◌else◌, List, [], ◌∷◌, ◌++◌, length, map, flat_map, replicate, drop, Option, Some, None, is_none, unwrap_or, option_map, codes, refl, sym, ◌∙◌, ap, subst, append_assoc, arith, rules, length-append, add-one}
+use Rattle.std.proofs.Common.{◌≡◌, ◌≤◌, ◌<◌, ◌+◌, ◌-◌, ◌*◌, ◌%◌, ◌^◌, ◌==◌, ℕ, zero, suc, Bool, true, false, nat_le, if◌then◌else◌, List, [], ◌∷◌, ◌++◌, length, map, flat_map, replicate, drop, Option, Some, None, is_none, unwrap_or, option_map, codes, refl, sym, ◌∙◌, ap, subst, append_assoc, arith, rules, length-append, add-one}
 use Rattle.std.proofs.Math.ListN.{drop_of_length-le}
 use Rattle.std.specs.Fmt.{decimal}
 use Rattle.std.specs.List.{All, list_all, position_from}
 use Rattle.std.proofs.lemmas.Grind.{flat_map-append}
 use Rattle.std.specs.Char.{is_ascii_digit}
-use Rattle.std.proofs.lemmas.Bool.{leb-true, le-leb}
+use Rattle.std.proofs.lemmas.Bool.{leb-true, le-leb, and_from}
 use Rattle.std.proofs.lemmas.Bool.Decides.{nat_tests}
 use Rattle.std.proofs.lemmas.Fmt.{digits_decimal, digits_value-decimal, decimal_nonempty, length-decimal-le, decimal_by_steps}
 use Rattle.std.proofs.lemmas.List.{append-nil}
 use Rattle.std.proofs.lemmas.List.Splits.{slice_split_at, slice_split_none}
 use Rattle.std.proofs.lemmas.Str.Parse.{IsNumeralModel, numerals_by_fold}
+use Rattle.std.specs.Cmp.{first_so, second_so}
 use Rattle.sv_types.specs.declared.event.Event.{Event}
 use Rattle.sv_types.specs.declared.event.Event.TheVariants.{Key}
 use Rattle.sv_types.specs.Numbers.{decimal_value, is_number, number_within}
@@ -29,22 +30,11 @@ use Rattle.live_keys.specs.JournalText.{key_line, auto_line, auto_lines, journal
 own : IsNumeralModel (λ ds. list_all is_ascii_digit ds ≡ true) (decimal_value 0)
 own = numerals_by_fold _ (search rules) decimal_value (search rules)
 
-and_first : (a b : Bool) → a && b ≡ true → a ≡ true
-and_first true b is = refl
-and_first false b is = is
-
-and_second : (a b : Bool) → a && b ≡ true → b ≡ true
-and_second true b is = is
-and_second false b is = absurd (cc)
-
-both : (a b : Bool) → a ≡ true → b ≡ true → a && b ≡ true
-both a b one other = ap (λ (x : Bool). x && b) one ∙ other
-
 is_number_decimal : (n : ℕ) → n < 2 ^ 64 → is_number (decimal n) ≡ true
 is_number_decimal n small =
     let some : 1 ≤ length (decimal n) = omega (arith, decimal_nonempty n small) in
     let few : length (decimal n) ≤ 20 = length-decimal-le 20 n (omega arith) (omega arith) small in
-    both _ _ (both _ _ (le-leb _ _ some) (le-leb _ _ few)) (digits_decimal own n small)
+    and_from _ _ (and_from _ _ (le-leb _ _ some) (le-leb _ _ few)) (digits_decimal own n small)
 
 if_true : {A : Type 0} (b : Bool) (x y : A) → b ≡ true → (if b then x else y) ≡ x
 if_true true x y is = refl
@@ -56,7 +46,7 @@ number_back low high n small above below =
     let value : decimal_value 0 (decimal n) ≡ n = digits_value-decimal own n small in
     let high_enough : nat_le low (decimal_value 0 (decimal n)) ≡ true = ap (λ (k : ℕ). nat_le low k) value ∙ le-leb low n above in
     let low_enough : nat_le (decimal_value 0 (decimal n)) high ≡ true = ap (λ (k : ℕ). nat_le k high) value ∙ le-leb n high below in
-    if_true _ (Some (decimal_value 0 (decimal n))) None (both _ _ (both _ _ (is_number_decimal n small) high_enough) low_enough) ∙ ap Some value
+    if_true _ (Some (decimal_value 0 (decimal n))) None (and_from _ _ (and_from _ _ (is_number_decimal n small) high_enough) low_enough) ∙ ap Some value
 
 -- ---- no digit is a blank or a line feed
 
@@ -158,10 +148,10 @@ reads harts first [] last is bytes few =
     ∙ ap (λ (es : List Event). autos_between harts first last ++ es) (empty_line harts (first + (last - first)))
     ∙ append-nil (autos_between harts first last)
 reads harts first (key ∷ keys) last is bytes few =
-    let low = leb-true first key.before (and_first (nat_le first key.before) (is_placed key.before keys last) is) in
-    let behind = and_second (nat_le first key.before) (is_placed key.before keys last) is in
+    let low = leb-true first key.before (first_so (nat_le first key.before) (is_placed key.before keys last) is) in
+    let behind = second_so (nat_le first key.before) (is_placed key.before keys last) is in
     let high = placed_le key.before last keys behind in
-    let byte = leb-true key.byte 255 (and_first (nat_le key.byte 255) (are_bytes keys) bytes) in
+    let byte = leb-true key.byte 255 (first_so (nat_le key.byte 255) (are_bytes keys) bytes) in
     let end : first + (key.before - first) ≡ key.before = omega arith in
     let rest : List (List ℕ) = journal_lines key.before keys last ++ [] ∷ [] in
     ap (λ (ls : List (List ℕ)). events_behind harts first ls) (append_assoc (auto_lines (key.before - first)) (key_line key.byte ∷ journal_lines key.before keys last) ([] ∷ []))
@@ -169,7 +159,7 @@ reads harts first (key ∷ keys) last is bytes few =
     ∙ ap (λ (k : ℕ). autos_between harts first key.before ++ events_behind harts k (key_line key.byte ∷ rest)) end
     ∙ ap (λ (es : List Event). autos_between harts first key.before ++ es) (after_key harts key.before key.byte rest byte)
     ∙ ap (λ (es : List Event). autos_between harts first key.before ++ Key key.byte ∷ es)
-    (reads harts key.before keys last behind (and_second (nat_le key.byte 255) (are_bytes keys) bytes) few)
+    (reads harts key.before keys last behind (second_so (nat_le key.byte 255) (are_bytes keys) bytes) few)
 
 -- ---- the lines of a text
 
@@ -193,11 +183,11 @@ journal_without : (first : ℕ) (keys : List LiveKey) (last : ℕ) → is_placed
 journal_without first [] last is bytes few =
     subst (λ (ls : List (List ℕ)). EachWithout ls) (append-nil (auto_lines (last - first))) (autos_without (last - first) [] (omega arith) tt)
 journal_without first (key ∷ keys) last is bytes few =
-    let behind = and_second (nat_le first key.before) (is_placed key.before keys last) is in
+    let behind = second_so (nat_le first key.before) (is_placed key.before keys last) is in
     let high = placed_le key.before last keys behind in
-    let byte = leb-true key.byte 255 (and_first (nat_le key.byte 255) (are_bytes keys) bytes) in
+    let byte = leb-true key.byte 255 (first_so (nat_le key.byte 255) (are_bytes keys) bytes) in
     autos_without (key.before - first) (key_line key.byte ∷ journal_lines key.before keys last) (omega arith)
-    (without_append 10 (codes "key") (32 ∷ decimal key.byte) (refl, (refl, (refl, tt))) (refl, decimal_without 10 key.byte (omega arith) (omega arith)), journal_without key.before keys last behind (and_second (nat_le key.byte 255) (are_bytes keys) bytes) few)
+    (without_append 10 (codes "key") (32 ∷ decimal key.byte) (refl, (refl, (refl, tt))) (refl, decimal_without 10 key.byte (omega arith) (omega arith)), journal_without key.before keys last behind (second_so (nat_le key.byte 255) (are_bytes keys) bytes) few)
 
 pub journal_reads : (harts : ℕ) (keys : List LiveKey) (last : ℕ) → is_placed 0 keys last ≡ true → are_bytes keys ≡ true → last ≤ 2 ^ 32 →
     events_of_text harts (journal_text keys last) ≡ events_between harts 0 keys last
@@ -235,13 +225,13 @@ journal_read : (first : ℕ) (keys : List LiveKey) (last : ℕ) → is_placed fi
     EachRead (journal_lines first keys last ++ [] ∷ [])
 journal_read first [] last is bytes few = autos_read (last - first) ([] ∷ []) (omega arith) (empty_read, tt)
 journal_read first (key ∷ keys) last is bytes few =
-    let behind = and_second (nat_le first key.before) (is_placed key.before keys last) is in
+    let behind = second_so (nat_le first key.before) (is_placed key.before keys last) is in
     let high = placed_le key.before last keys behind in
-    let byte = leb-true key.byte 255 (and_first (nat_le key.byte 255) (are_bytes keys) bytes) in
+    let byte = leb-true key.byte 255 (first_so (nat_le key.byte 255) (are_bytes keys) bytes) in
     let rest : List (List ℕ) = journal_lines key.before keys last ++ [] ∷ [] in
     subst (λ (ls : List (List ℕ)). EachRead ls)
     (sym (append_assoc (auto_lines (key.before - first)) (key_line key.byte ∷ journal_lines key.before keys last) ([] ∷ [])))
-    (autos_read (key.before - first) (key_line key.byte ∷ rest) (omega arith) (key_read key.byte byte, journal_read key.before keys last behind (and_second (nat_le key.byte 255) (are_bytes keys) bytes) few))
+    (autos_read (key.before - first) (key_line key.byte ∷ rest) (omega arith) (key_read key.byte byte, journal_read key.before keys last behind (second_so (nat_le key.byte 255) (are_bytes keys) bytes) few))
 
 pub journal_accepted : (keys : List LiveKey) (last : ℕ) → is_placed 0 keys last ≡ true → are_bytes keys ≡ true → last ≤ 2 ^ 32 → first_refused (journal_text keys last) ≡ None
 unfolding journal_text first_refused
@@ -265,13 +255,13 @@ lines_size : (first : ℕ) (keys : List LiveKey) (last : ℕ) → is_placed firs
     length (text_of (journal_lines first keys last)) ≤ 24 * length keys + 16
 lines_size first [] last is bytes few = autos_size (last - first) (omega arith)
 lines_size first (key ∷ keys) last is bytes few =
-    let behind = and_second (nat_le first key.before) (is_placed key.before keys last) is in
+    let behind = second_so (nat_le first key.before) (is_placed key.before keys last) is in
     let high = placed_le key.before last keys behind in
-    let byte = leb-true key.byte 255 (and_first (nat_le key.byte 255) (are_bytes keys) bytes) in
+    let byte = leb-true key.byte 255 (first_so (nat_le key.byte 255) (are_bytes keys) bytes) in
     let front = autos_size (key.before - first) (omega arith) in
     let digits = length-decimal-le 3 key.byte (omega arith) (omega arith) (omega arith) in
     let line = line_size (codes "key") key.byte 3 digits in
-    let back = lines_size key.before keys last behind (and_second (nat_le key.byte 255) (are_bytes keys) bytes) few in
+    let back = lines_size key.before keys last behind (second_so (nat_le key.byte 255) (are_bytes keys) bytes) few in
     let rest : List (List ℕ) = journal_lines key.before keys last in
     let parts : length (text_of (auto_lines (key.before - first) ++ key_line key.byte ∷ rest))
     ≡ length (text_of (auto_lines (key.before - first)) ++ (ended_line (key_line key.byte) ++ text_of rest)) =

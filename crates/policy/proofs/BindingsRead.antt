@@ -3,12 +3,13 @@ use Rattle.std.proofs.Common.{◌≡◌, ℕ, ◌==◌, Bool, true, false, ◌&&
 use Rattle.std.proofs.lemmas.Bool.{and_parts}
 use Rattle.std.proofs.lemmas.List.{map-append, length-map}
 use Rattle.std.specs.List.{list_any}
+use Rattle.std.specs.Cmp.Derive.{both_true}
 use Rattle.toml.specs.Data.{Data, Items, no_items, item}
 use Rattle.sv_types.specs.Policies.{each_within, entry_within, entries_within, bound_fits, all_bound}
 use Rattle.policy.specs.Values.{limited, address_of, entry_of, items_in, items_length}
 use Rattle.policy.specs.Bindings.{binding, entries_in, bound_in, is_bound, unrepeated_entry, binding_of_two, binding_of_items, binding_of, each_binding}
 use Rattle.policy.specs.declared.binding.Binding.{Binding}
-use Rattle.policy.proofs.Judging.{bind_ok, after, ok_same, limited_ok, both_true}
+use Rattle.policy.proofs.Judging.{bind_ok, after, ok_same, limited_ok}
 use Rattle.policy.proofs.ReadLists.{each_within_read}
 use Rattle.policy_limits.specs.declared.policy_fault.PolicyFault.{PolicyFault}
 

@@ -1,5 +1,5 @@
 -- Steps that may refuse, and limits.
-use Rattle.std.proofs.Common.{◌≡◌, Bool, true, false, ◌&&◌, Ok, Err, if◌then◌else◌, refl, ap}
+use Rattle.std.proofs.Common.{◌≡◌, Bool, true, false, Ok, Err, if◌then◌else◌, refl, ap}
 use Rattle.policy_limits.specs.declared.policy_fault.PolicyFault.{PolicyFault}
 use Rattle.policy.specs.declared.refusal.PolicyRefusal.{PolicyRefusal}
 use Rattle.policy.specs.declared.refusal.PolicyRefusal.TheVariants.{Fault}
@@ -33,9 +33,6 @@ limited_true fits a h = rw h
 pub limited_ok : {A : Type 0} (fits : Bool) (a b : A) → limited fits a ≡ Ok b → (fits ≡ true) × (a ≡ b)
 limited_ok true a b h = (refl, ok_same a b h)
 limited_ok false a b h = cc h
-
-pub both_true : {a b : Bool} → a ≡ true → b ≡ true → (a && b) ≡ true
-both_true x y = rw (x, y) refl
 
 pub if_ok : {A : Type 0} (b : Bool) (a c : A) (e : PolicyFault) → ◌≡◌ {A = Judged A} (if b then Ok a else Err e) (Ok c) → (b ≡ true) × (a ≡ c)
 if_ok true a c e h = (refl, ok_same a c h)

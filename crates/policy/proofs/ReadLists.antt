@@ -1,11 +1,12 @@
 -- What is read from a list is within the limits that its items were judged by.
 use Rattle.std.proofs.Common.{◌≡◌, ℕ, suc, Bool, true, List, [], ◌∷◌, ◌++◌, length, Ok, refl, sym, ◌∙◌, ap}
 use Rattle.std.proofs.lemmas.List.{append_assoc, append-nil}
+use Rattle.std.specs.Cmp.Derive.{both_true}
 use Rattle.toml.specs.Data.{Data, Items, no_items, item}
 use Rattle.sv_types.specs.Policies.{each_within}
 use Rattle.policy.specs.Refusals.{Judged, ◌>>=◌}
 use Rattle.policy.specs.Values.{limited, each_item, items_in, items_length}
-use Rattle.policy.proofs.Judging.{bind_ok, ok_same, limited_ok, both_true}
+use Rattle.policy.proofs.Judging.{bind_ok, ok_same, limited_ok}
 
 module _ {A : Type 0} (judged : List A → Data → Judged A) (fits : List A → A → Bool)
     (one : (before : List A) (d : Data) (a : A) → judged before d ≡ Ok a → fits before a ≡ true) where

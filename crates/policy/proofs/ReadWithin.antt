@@ -1,6 +1,7 @@
 -- What is read from a table is within the limits of policies.
 use Rattle.std.proofs.Common.{◌≡◌, ℕ, nat_le, ◌==◌, ℤ, pos, negsuc, Bool, true, false, not, ◌&&◌, List, [], length, codes, Option, Some, None, Ok, refl, sym, ◌∙◌, ap, subst, if◌then◌else◌}
 use Rattle.std.proofs.lemmas.Bool.{and_parts}
+use Rattle.std.specs.Cmp.Derive.{both_true}
 use Rattle.toml.specs.Data.{Data, Items, no_items, item, Members, get_member}
 use Rattle.processor.specs.Bytes.{ram_base}
 use Rattle.sv_types.specs.Policies.{Rules, ModuleRule, format_within, harts_within, ram_pages_within, entry_within, entries_count_within, entries_within, exports_count_within, export_within, exports_within, all_bound, bound_within, is_exported, span_within, init_within, place_within, is_aligned, base_within, anchor_within, is_behind, next_site_within, sites_within, sites_count_within, sites_of, module_within, modules_within, modules_count_within, is_module, module_pages_within, rules_within}
@@ -14,7 +15,7 @@ use Rattle.policy.specs.Text.{kernel_of, key_name, key_pages, key_measure, key_h
 use Rattle.policy.specs.Bindings.{each_binding, entries_in, bound_in}
 use Rattle.policy.proofs.ReadLists.{each_within_read, limited_read}
 use Rattle.policy.proofs.BindingsRead.{entry_read, bindings_read}
-use Rattle.policy.proofs.Judging.{bind_ok, after, ok_same, limited_ok, both_true, if_ok}
+use Rattle.policy.proofs.Judging.{bind_ok, after, ok_same, limited_ok, if_ok}
 use Rattle.policy_limits.specs.declared.policy_fault.PolicyFault.{PolicyFault}
 
 -- ---- numbers

@@ -6,7 +6,7 @@ use Rattle.std.specs.List.{AllByRecursion}
 use Rattle.std.specs.List.Sorted.{IsStrictlySortedBy}
 use Rattle.std.specs.Ordering.{nat_cmp, is_eq}
 use Rattle.std.specs.Str.{bytes_eq}
-use Rattle.std.proofs.lemmas.Bool.{and_parts}
+use Rattle.std.proofs.lemmas.Bool.{and_parts, and_from}
 use Rattle.std.proofs.lemmas.Bool.Decides.{nat_tests}
 use Rattle.std.proofs.lemmas.Map.Text.{is_eq-slice_cmp}
 use Rattle.sv_types.specs.Policies.{Rules, ModuleRule, rules_within, numbers_within, lists_within, bound_within, init_within, modules_count_within, modules_within, exports_within, export_within, exports_count_within, is_exported, each_within, harts_within, ram_pages_within, entries_count_within, entries_within}
@@ -58,9 +58,6 @@ few_wanted kernel names exports is =
 all_but : (a b c d e : Bool) → a ≡ true → b ≡ true → c ≡ true → d ≡ true → (a && b && c && d && e) ≡ e
 all_but a b c d e p q r s = rw (p, q, r, s) refl
 
-both : (a b : Bool) → a ≡ true → b ≡ true → (a && b) ≡ true
-both a b p q = rw (p, q) refl
-
 pub limits_of_modules : (s : Terms) (digest kernel : List ℕ) (names : List (List ℕ)) (exports : List Export) (modules : List ModuleRule)
     → terms_within s ≡ true → exports_wanted kernel names ≡ Ok exports → length modules ≤ 64
     → rules_within (rules_with s digest exports modules) ≡ modules_within (length exports) modules
@@ -70,10 +67,10 @@ limits_of_modules s digest kernel names exports modules good is few =
     let b = and_parts (harts_within s.harts && ram_pages_within s.ram_pages && entries_count_within (length s.entries)) (entries_within s.entries) a.0 in
     let c = and_parts (harts_within s.harts && ram_pages_within s.ram_pages) (entries_count_within (length s.entries)) b.0 in
     let d = and_parts (harts_within s.harts) (ram_pages_within s.ram_pages) c.0 in
-    let numbers : numbers_within rules ≡ true = both (harts_within s.harts) (ram_pages_within s.ram_pages) d.0 d.1 in
-    let counted = both (entries_count_within (length s.entries)) (entries_within s.entries) c.1 b.1 in
-    let entries = both (entries_count_within (length s.entries) && entries_within s.entries) (exports_count_within (length exports)) counted (few_wanted kernel names exports is) in
-    let each = both (entries_count_within (length s.entries) && entries_within s.entries && exports_count_within (length exports)) (exports_within exports) entries (wanted_within kernel names exports is) in
-    let lists : lists_within rules ≡ true = both (entries_count_within (length s.entries) && entries_within s.entries && exports_count_within (length exports) && exports_within exports) (bound_within rules) each refl in
+    let numbers : numbers_within rules ≡ true = and_from (harts_within s.harts) (ram_pages_within s.ram_pages) d.0 d.1 in
+    let counted = and_from (entries_count_within (length s.entries)) (entries_within s.entries) c.1 b.1 in
+    let entries = and_from (entries_count_within (length s.entries) && entries_within s.entries) (exports_count_within (length exports)) counted (few_wanted kernel names exports is) in
+    let each = and_from (entries_count_within (length s.entries) && entries_within s.entries && exports_count_within (length exports)) (exports_within exports) entries (wanted_within kernel names exports is) in
+    let lists : lists_within rules ≡ true = and_from (entries_count_within (length s.entries) && entries_within s.entries && exports_count_within (length exports) && exports_within exports) (bound_within rules) each refl in
     let count : modules_count_within (length modules) ≡ true = grind (arith, nat_tests) in
     all_but (numbers_within rules) (lists_within rules) (init_within s.ram_pages s.init) (modules_count_within (length modules)) (modules_within (length exports) modules) numbers lists a.1 count

@@ -11,6 +11,7 @@ use Rattle.sv_types.specs.Policies.{Rules, ModuleRule, each_within, is_module, m
 use Rattle.sv_types.specs.declared.policy.Export.{Export}
 use Rattle.sv_types.specs.declared.policy.Policy.{Policy}
 use Rattle.elf64_sections.specs.Judged.{◌>>=◌, each}
+use Rattle.elf64_sections.proofs.Steps.{ok_same}
 use Rattle.elf64_reloc.specs.Modules.{Module, module_judged}
 use Rattle.elf64_reloc.specs.declared.fault.ObjectFault.{ObjectFault}
 use Rattle.elf64_reloc.proofs.ModuleLimits.{module_within}
@@ -24,9 +25,6 @@ use Rattle.policy_making.specs.declared.refusal.MakingRefusal.{MakingRefusal}
 use Rattle.policy_making.proofs.ExportsWithin.{limits_of_modules}
 use Rattle.policy_making.proofs.ModulesWithin.{is_new, is_within, modules_are_within}
 use Rattle.policy_making.proofs.WordLemmas.{list_any_map}
-
-ok_same : {A : Type 0} (a b : A) → ◌≡◌ {A = Judged A} (Ok a) (Ok b) → a ≡ b
-ok_same a b e = cc e
 
 abbrev rule_names : List ModuleRule → List (List ℕ)
 rule_names modules = map (λ (m : ModuleRule). m.name) modules

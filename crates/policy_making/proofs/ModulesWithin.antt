@@ -2,7 +2,7 @@
 use Rattle.std.proofs.Common.{◌≡◌, ℕ, ◌+◌, ◌≤◌, Bool, true, not, ◌&&◌, List, [], ◌∷◌, ◌++◌, length, map, refl, ap, sym, ◌∙◌, subst, arith}
 use Rattle.std.specs.Prelude.{nat_le, sum}
 use Rattle.std.specs.List.{list_all}
-use Rattle.std.proofs.lemmas.Bool.{and_parts}
+use Rattle.std.proofs.lemmas.Bool.{and_parts, and_from}
 use Rattle.std.proofs.lemmas.Bool.Decides.{nat_tests}
 use Rattle.std.proofs.lemmas.List.{map-append}
 use Rattle.std.proofs.lemmas.List.Sums.{sum_by-append, sum_by-cons}
@@ -29,9 +29,6 @@ more_sites before m =
     ap sum (map-append (λ (x : ModuleRule). length x.sites) before (m ∷ [])) ∙ sum_by-append (λ (n : ℕ). n) (counts before) (length m.sites ∷ [])
     ∙ ap (λ (n : ℕ). sites_of before + n) (one ∙ none)
 
-both : (a b : Bool) → a ≡ true → b ≡ true → (a && b) ≡ true
-both a b p q = rw (p, q) refl
-
 one_within : (exports : ℕ) (before : List ModuleRule) (m : ModuleRule) → is_new before m ≡ true → is_within exports m ≡ true → sites_of before + length m.sites ≤ 131072
     → module_within exports before m ≡ true
 one_within exports before m new own few =
@@ -39,10 +36,10 @@ one_within exports before m new own few =
     let b = and_parts (module_pages_within m.pages) (sites_count_within 0 (length m.sites)) a.0 in
     let few_own = (and_parts (nat_le (length m.sites) 65536) (nat_le (0 + length m.sites) 131072) b.1).0 in
     let all : nat_le (sites_of before + length m.sites) 131072 ≡ true = grind (arith, nat_tests) in
-    let counted : sites_count_within (sites_of before) (length m.sites) ≡ true = both (nat_le (length m.sites) 65536) (nat_le (sites_of before + length m.sites) 131072) few_own all in
-    let sized = both (module_pages_within m.pages) (sites_count_within (sites_of before) (length m.sites)) b.0 counted in
-    let fielded = both (module_pages_within m.pages && sites_count_within (sites_of before) (length m.sites)) (sites_within m.pages exports m.sites) sized a.1 in
-    both (module_pages_within m.pages && sites_count_within (sites_of before) (length m.sites) && sites_within m.pages exports m.sites) (not (is_module m.name before)) fielded new
+    let counted : sites_count_within (sites_of before) (length m.sites) ≡ true = and_from (nat_le (length m.sites) 65536) (nat_le (sites_of before + length m.sites) 131072) few_own all in
+    let sized = and_from (module_pages_within m.pages) (sites_count_within (sites_of before) (length m.sites)) b.0 counted in
+    let fielded = and_from (module_pages_within m.pages && sites_count_within (sites_of before) (length m.sites)) (sites_within m.pages exports m.sites) sized a.1 in
+    and_from (module_pages_within m.pages && sites_count_within (sites_of before) (length m.sites) && sites_within m.pages exports m.sites) (not (is_module m.name before)) fielded new
 
 all_within : (exports : ℕ) (before ms : List ModuleRule) → each_within is_new before ms ≡ true → list_all (is_within exports) ms ≡ true → sites_of before + sites_of ms ≤ 131072
     → each_within (module_within exports) before ms ≡ true
@@ -54,7 +51,7 @@ all_within exports before (m ∷ ms) new own few =
     let all : sites_of before + (length m.sites + sites_of ms) ≤ 131072 = subst (λ (n : ℕ). sites_of before + n ≤ 131072) (first_sites m ms) few in
     let here : sites_of before + length m.sites ≤ 131072 = omega (arith, all) in
     let rest : sites_of (before ++ m ∷ []) + sites_of ms ≤ 131072 = subst (λ (n : ℕ). n + sites_of ms ≤ 131072) (sym sites) (omega (arith, all)) in
-    both (module_within exports before m) (each_within (module_within exports) (before ++ m ∷ []) ms) (one_within exports before m name.0 values.0 here)
+    and_from (module_within exports before m) (each_within (module_within exports) (before ++ m ∷ []) ms) (one_within exports before m name.0 values.0 here)
     (all_within exports (before ++ m ∷ []) ms name.1 values.1 rest)
 
 pub modules_are_within : (exports : ℕ) (ms : List ModuleRule) → each_within is_new [] ms ≡ true → list_all (is_within exports) ms ≡ true → sites_of ms ≤ 131072

@@ -11,12 +11,12 @@ use Rattle.processor.specs.Regions.{most_ram_pages}
 use Rattle.sv_types.specs.declared.module.Site.{Site}
 use Rattle.sv_types.specs.declared.policy.Export.{Export}
 use Rattle.elf64_sections.specs.Judged.{◌>>=◌}
+use Rattle.elf64_sections.proofs.Steps.{ok_same}
 use Rattle.elf64_reloc.specs.Layouts.{padding, is_good_alignment, text_size}
 use Rattle.elf64_reloc.specs.Objects.{Object, object_judged}
 use Rattle.elf64_reloc.specs.Modules.{Module, text_of, text_from, whole_pages, zeros, is_too_large, fields_overlap, ordered_sites, module_with, module_of, sites_of, module_judged}
 use Rattle.elf64_reloc.specs.Refusals.{Judged}
 use Rattle.elf64_reloc.specs.declared.fault.ObjectFault.{ObjectFault}
-use Rattle.elf64_reloc.proofs.FieldPlaces.{ok_same}
 
 abbrev IsWhole : List ℕ → Type 0
 IsWhole bytes = length bytes % 4096 ≡ 0

@@ -1,6 +1,6 @@
 -- Bound entries that are printed read back.
 use Rattle.std.proofs.Common.{◌≡◌, ℕ, ◌^◌, ◌<◌, ◌≤◌, ◌==◌, Bool, true, false, not, List, [], ◌∷◌, ◌++◌, length, map, Ok, refl, sym, ◌∙◌, ap, zero, suc, get_or, subst, arith, if◌then◌else◌}
-use Rattle.std.proofs.lemmas.Bool.{and_parts, ne_eqb}
+use Rattle.std.proofs.lemmas.Bool.{and_parts, ne_eqb, not-true}
 use Rattle.std.proofs.lemmas.Bool.Decides.{nat_tests}
 use Rattle.std.proofs.lemmas.List.{append_assoc, append-nil, map-append}
 use Rattle.std.proofs.lemmas.List.Elements.{All-head, All-tail}
@@ -19,10 +19,6 @@ use Rattle.policy.proofs.BindingsRead.{bound_among}
 fits_address : (ram_pages va gpa : ℕ) → bound_fits ram_pages va gpa ≡ true → ram_pages ≤ most_ram_pages → gpa < 2 ^ 64
 fits_address ram_pages va gpa fits few = grind (arith, nat_tests)
 
-not_met : (b : Bool) → not b ≡ true → b ≡ false
-not_met true h = cc h
-not_met false h = refl
-
 binding_back : (ram_pages : ℕ) (before : List Binding) (va gpa : ℕ) → ram_pages ≤ most_ram_pages → IsAddress va → entry_within va ≡ true →
     bound_fits ram_pages va gpa ≡ true → is_bound va before ≡ false → binding_of ram_pages before (binding_data (binding va gpa)) ≡ Ok (binding va gpa)
 unfolding binding_data binding_of_two
@@ -39,7 +35,7 @@ bindings_back ram_pages before met (va ∷ entries) (gpa ∷ bound) few ranges i
     let more = and_parts (entry_within va) _ instructions in
     let parts = and_parts _ (all_bound ram_pages (entries_in before ++ va ∷ []) entries bound) bounds in
     let here = and_parts (bound_fits ram_pages va gpa) (not (list_any (λ e. e == va) (entries_in before))) parts.0 in
-    let fresh : is_bound va before ≡ false = sym (bound_among va before) ∙ not_met (list_any (λ e. e == va) (entries_in before)) here.1 in
+    let fresh : is_bound va before ≡ false = sym (bound_among va before) ∙ not-true (list_any (λ e. e == va) (entries_in before)) here.1 in
     let one : Binding = binding va gpa in
     let rest = bindings_back ram_pages (before ++ one ∷ []) (met ++ va ∷ []) entries bound few (All-tail IsAddress va entries ranges) more.1
     (subst (λ (ms : List ℕ). all_bound ram_pages ms entries bound ≡ true) (sym (map-append (λ (x : Binding). x.va) before (one ∷ []))) parts.1) in

@@ -1,6 +1,6 @@
 -- A policy within its limits reads back from its printed table.
 use Rattle.std.proofs.Common.{◌≡◌, ℕ, ◌+◌, ◌*◌, ◌/◌, ◌%◌, ◌<◌, ◌≤◌, ◌-◌, nat_le, codes, pos, Bool, true, false, not, List, [], ◌∷◌, length, map, Option, Some, None, Ok, refl, sym, ◌∙◌, ap, arith, if◌then◌else◌, ◌==◌}
-use Rattle.std.proofs.lemmas.Bool.{and_parts, leb-true, le-leb, eqb-true}
+use Rattle.std.proofs.lemmas.Bool.{and_parts, leb-true, le-leb, eqb-true, not-true}
 use Rattle.std.proofs.lemmas.List.{nil_from_length}
 use Rattle.std.proofs.lemmas.Bool.Decides.{nat_tests}
 use Rattle.std.specs.List.{All}
@@ -63,14 +63,10 @@ entries_back : (format ram_pages : ℕ) (entries bound : List ℕ) → ram_pages
 entries_back format ram_pages entries bound few ranges count within bounds =
     rw (entry_count (format == 1) ram_pages entries bound bounds, count) (by_format_back (format == 1) ram_pages entries bound few ranges within bounds)
 
-not_true : (b : Bool) → not b ≡ true → b ≡ false
-not_true true h = cc h
-not_true false h = refl
-
 export_back : (before : List Export) (e : Export) → IsExport e → export_within before e ≡ true → export_of before (export_data e) ≡ Ok e
 unfolding export_data export_of_two
 export_back before e is within =
-    rw (is.name, address_back e.addr is.addr, not_true (is_exported e.name before) within) refl
+    rw (is.name, address_back e.addr is.addr, not-true (is_exported e.name before) within) refl
 
 exports_back : (exports : List Export) → All IsExport exports → exports_count_within (length exports) ≡ true →
     each_within export_within [] exports ≡ true → some_exports_of (exports_data exports) ≡ Ok exports
@@ -147,7 +143,7 @@ module_back exports before m is within =
     let apart = and_parts _ (not (is_module m.name before)) within in
     let sites = and_parts _ (sites_within m.pages exports m.sites) apart.0 in
     let count = and_parts (module_pages_within m.pages) (sites_count_within (sites_of before) (length m.sites)) sites.0 in
-    rw (is.name, count.0, measure_back m.measure is.measure, sites_back m.pages exports (sites_of before) m.sites count.1 sites.1, not_true (is_module m.name before) apart.1) refl
+    rw (is.name, count.0, measure_back m.measure is.measure, sites_back m.pages exports (sites_of before) m.sites count.1 sites.1, not-true (is_module m.name before) apart.1) refl
 
 modules_back : (exports : ℕ) (modules : List ModuleRule) → All IsModule modules → modules_count_within (length modules) ≡ true →
     modules_within exports modules ≡ true → some_modules_of exports (modules_data modules) ≡ Ok modules

@@ -6,7 +6,6 @@ use Rattle.std.proofs.lemmas.Bool.{eqb-true}
 use Rattle.std.proofs.lemmas.Bool.Decides.{nat_tests}
 use Rattle.std.proofs.lemmas.List.{length-map}
 use Rattle.processor.specs.Bytes.{page_of, page_size}
-use Rattle.processor.specs.Regions.{most_ram_pages}
 use Rattle.sv_types.specs.Limits.{most_harts, most_modules, most_notes}
 use Rattle.sv_types.specs.Policies.{Rules, rules_within, all_bound, bound_fits}
 use Rattle.sv_types.specs.declared.saved.SavedModule.{SavedModule}
@@ -109,22 +108,14 @@ known rules s within has none =
       harts = most_is (length s.harts) 4 (second_true (nat_le 1 (length s.harts)) _ parts.few);
     }
 
-pub few_pages : (rules : Rules) → IsTrue (rules_within rules) → rules.ram_pages ≤ most_ram_pages
-few_pages rules within = grind (arith, nat_tests)
-
 -- ---- entries
-
-three : (a b c : Bool) → (a && b && c) ≡ true → c ≡ true
-three true true c e = e
-three true false c e = absurd cc
-three false b c e = absurd cc
 
 each_bound : (n : ℕ) (before entries bound : List ℕ) → all_bound n before entries bound ≡ true → length bound ≤ length entries
 each_bound n before [] [] within = omega arith
 each_bound n before [] (gpa ∷ bound) within = absurd cc
 each_bound n before (va ∷ entries) [] within = absurd cc
 each_bound n before (va ∷ entries) (gpa ∷ bound) within =
-    let rest = each_bound n (before ++ va ∷ []) entries bound (three (bound_fits n va gpa) (not (list_any (λ e. e == va) before)) (all_bound n (before ++ va ∷ []) entries bound) within) in
+    let rest = each_bound n (before ++ va ∷ []) entries bound (second_true (bound_fits n va gpa && not (list_any (λ e. e == va) before)) (all_bound n (before ++ va ∷ []) entries bound) within) in
     omega (arith, rest)
 
 along_by : (rules : Rules) (b : Bool) → IsTrue (if b then length rules.bound == 0 else all_bound rules.ram_pages [] rules.entries rules.bound)

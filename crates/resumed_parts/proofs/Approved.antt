@@ -1,6 +1,6 @@
 -- Pages that are approved some at a time, as the judgement of a snapshot's pages asks.
-use Rattle.std.proofs.Common.{◌≡◌, ℕ, zero, suc, ◌+◌, ◌*◌, ◌/◌, ◌<◌, ◌≤◌, List, [], ◌∷◌, ◌++◌, length, drop, get_or, replicate, refl, sym, ◌∙◌, ap, subst, Bool, true, false, arith, slice_get, slice_set}
-use Rattle.std.specs.Prelude.{Option, Some, None, is_some, if◌then◌else◌}
+use Rattle.std.proofs.Common.{◌≡◌, ℕ, zero, suc, ◌+◌, ◌*◌, ◌/◌, ◌<◌, ◌≤◌, List, [], ◌∷◌, ◌++◌, length, drop, get_or, replicate, refl, sym, ◌∙◌, ap, subst, Bool, true, false, arith, slice_get}
+use Rattle.std.specs.Prelude.{Option, Some, None, is_some}
 use Rattle.std.specs.List.{list_all}
 use Rattle.processor.specs.Bytes.{page_of, page_size}
 use Rattle.sv_types.specs.ApprovedPages.{numbers_from}
@@ -9,7 +9,7 @@ use Rattle.sv_types.specs.declared.module.Span.{Span}
 use Rattle.sv_types.specs.declared.protection.Protection.{Protection}
 use Rattle.sv_types.specs.declared.protection.Protection.TheVariants.{Free, Held, Approved}
 use Rattle.sv_types.specs.declared.saved.SavedModule.{SavedModule}
-use Rattle.reference.specs.Protections.{is_free, protection_at, with_pages}
+use Rattle.reference.specs.Protections.{with_pages}
 use Rattle.reference.specs.States.{module_pages, pages_in_rule}
 use Rattle.page_guard.specs.Guarded.{first_taken, with_span}
 use Rattle.snapshot_form.specs.Snapshots.{Contents}
@@ -17,7 +17,7 @@ use Rattle.snapshot_form.specs.declared.whole.TextPage.{TextPage}
 use Rattle.snapshot_form.proofs.FormLaws.{first_true, second_true}
 use Rattle.resumption.specs.Judgements.{approved_of, fits, guard_due, is_due, is_guarded_right, load_pages, loaded_pages, taken, text_left, then_held}
 use Rattle.resumption.specs.Taking.{left_of}
-use Rattle.resumption.proofs.TakenSpans.{set_past, span_twice, taken_none, taken_span}
+use Rattle.resumption.proofs.TakenSpans.{span_twice, taken_none, taken_span}
 use Rattle.resumption.proofs.TakenLoops.{modules_break, none_behind, some_behind, text_breaks}
 use Rattle.resume_laws.proofs.ResumedPages.{fits_is}
 use Rattle.resume_laws.proofs.DueProtections.{all_same}
@@ -54,16 +54,6 @@ all_at test (x ∷ xs) zero d all within = first_true (test x) _ all
 all_at test (x ∷ xs) (suc i) d all within = all_at test xs i d (second_true (test x) _ all) (omega (arith, within))
 
 -- ---- a page past the end
-
-past_free : (guard : List Protection) (page : ℕ) → length guard ≤ page → is_free (protection_at guard page) ≡ true
-past_free [] page past = refl
-past_free (x ∷ guard) zero past = absurd (omega (arith, past))
-past_free (x ∷ guard) (suc page) past = past_free guard page (omega (arith, past))
-
-pub past_end : (guard : List Protection) (page : ℕ) → length guard ≤ page → Approves guard guard (page ∷ [])
-past_end guard page past =
-    ap (λ (b : Bool). if b then Some (slice_set guard page Approved) else None) (past_free guard page past)
-    ∙ ap Some (sym (set_past guard page Approved past))
 
 -- ---- a span
 

@@ -1,7 +1,6 @@
 -- The parts put together.
-use Rattle.std.proofs.Common.{◌≡◌, ℕ, ◌+◌, ◌*◌, ◌^◌, ◌<◌, List, [], length, replicate, sym, ◌∙◌, ap, subst, arith}
-use Rattle.processor.specs.Bytes.{page_size}
-use Rattle.processor.specs.Regions.{Region, IsRegion}
+use Rattle.std.proofs.Common.{◌≡◌, ℕ, List, [], length, replicate, sym, ◌∙◌, ap, subst}
+use Rattle.processor.specs.Regions.{Region}
 use Rattle.sv_types.specs.Policies.{Rules}
 use Rattle.sv_types.specs.declared.protection.Protection.{Protection}
 use Rattle.sv_types.specs.declared.protection.Protection.TheVariants.{Free, Approved}
@@ -31,10 +30,6 @@ tables_stay before after old new theirs stays =
 -- as many pages are guarded as the policy says
 pub pages_guarded : (rules : Rules) (s : Contents) (guard : List Protection) → Approves (replicate rules.ram_pages Free) guard (approved_of rules s) → length guard ≡ rules.ram_pages
 pages_guarded rules s guard is = length_taken Approved (replicate rules.ram_pages Free) guard (approved_of rules s) is ∙ length_free rules.ram_pages
-
--- RAM and tables have few bytes
-pub room_behind : (r : Region) (guard : Guarded) (tables : ℕ) → IsRegion r → IsTheirs r guard → tables ≡ length r.tables → tables + page_size * length guard.pages < 2 ^ 63
-room_behind r guard tables region theirs same = let small = region.small in let ram = theirs.ram in omega (arith, small, ram, same)
 
 pub sits_in : (n pages : ℕ) (e entries : Permitted) (hs : List SavedHart) → n ≡ pages → e ≡ entries → CanAllSit n e hs → CanAllSit pages entries hs
 sits_in n pages e entries hs size same all =

@@ -1,16 +1,11 @@
 -- A region whose RAM is copied in.
-use Rattle.std.proofs.Common.{◌≡◌, ℕ, zero, suc, ◌+◌, ◌-◌, ◌≤◌, List, ◌++◌, length, replicate, refl, ◌∙◌, ap, arith}
-use Rattle.std.proofs.lemmas.List.{append-nil, drop_all}
+use Rattle.std.proofs.Common.{◌≡◌, ℕ, ◌+◌, ◌-◌, ◌≤◌, List, ◌++◌, length, replicate, refl, ◌∙◌, ap, arith, length-append}
+use Rattle.std.proofs.lemmas.List.{append-nil, drop_all, length-replicate}
 use Rattle.processor.specs.Bytes.{overwrite}
 use Rattle.processor.specs.Regions.{Region, host_bytes}
 
-length_zeros : (n : ℕ) → length (replicate {A = ℕ} n 0) ≡ n
-length_zeros zero = refl
-length_zeros (suc n) = let k = length_zeros n in omega (arith, k)
-
 length_both : (n k : ℕ) → length (replicate {A = ℕ} n 0 ++ replicate {A = ℕ} k 0) ≡ n + k
-length_both zero k = let m = length_zeros k in omega (arith, m)
-length_both (suc n) k = let m = length_both n k in omega (arith, m)
+length_both n k = simp (length-append, length-replicate) (omega arith)
 
 -- RAM has room for the bytes
 pub bytes_fit : (r : Region) (tables n : ℕ) (bytes : List ℕ) → r ≡ record { tables = replicate tables 0; ram = replicate n 0 } → length bytes ≡ n
@@ -20,12 +15,12 @@ bytes_fit r tables n bytes fresh same =
     omega (arith, size, same)
 
 pub tables_sized : (r : Region) (tables n : ℕ) → r ≡ record { tables = replicate tables 0; ram = replicate n 0 } → length r.tables ≡ tables
-tables_sized r tables n fresh = ap (λ (r : Region). length r.tables) fresh ∙ length_zeros tables
+tables_sized r tables n fresh = ap (λ (r : Region). length r.tables) fresh ∙ length-replicate tables 0
 
 over_all : (n : ℕ) (bytes : List ℕ) → length bytes ≡ n → overwrite (replicate n 0) 0 bytes ≡ bytes
 unfolding overwrite
 over_all n bytes same =
-    let size = length_zeros n in
+    let size : length (replicate {A = ℕ} n 0) ≡ n = length-replicate n 0 in
     ap (λ (rest : List ℕ). bytes ++ rest) (drop_all (0 + length bytes) (replicate n 0) (omega (arith, size, same))) ∙ append-nil bytes
 
 -- the bytes are RAM's

@@ -2,7 +2,7 @@
 use Rattle.std.proofs.Common.{◌≡◌, ℕ, zero, suc, ◌+◌, ◌-◌, ◌*◌, ◌%◌, ◌^◌, ◌<◌, ◌≤◌, List, [], ◌∷◌, ◌++◌, length, drop, get_or, refl, sym, ◌∙◌, ap, subst, Bool, true, false, not, ◌&&◌, ◌||◌, arith, slice_get}
 use Rattle.std.specs.Prelude.{Option, Some, None, option_map, ◌==◌, nat_le, slice_index, IfSome, IsTrue, if◌then◌else◌}
 use Rattle.std.specs.List.{list_any, list_all}
-use Rattle.std.proofs.lemmas.Bool.{eqb-true, eq-eqb, not-true}
+use Rattle.std.proofs.lemmas.Bool.{eqb-true, eq-eqb, not-true, or_parts}
 use Rattle.std.proofs.lemmas.Bool.Decides.{nat_tests}
 use Rattle.processor.specs.Bits.{flag}
 use Rattle.processor.specs.Bytes.{page_size, ram_base, ram_place}
@@ -147,14 +147,10 @@ has_entry [] bound va i e = absurd cc
 has_entry (first ∷ entries) [] va i e = absurd cc
 has_entry (first ∷ entries) (gpa ∷ bound) va i e = has_by (place_of_entry entries bound va) i (first == va) (has_number entries va) (has_entry entries bound va) e
 
-parts_false : (a b : Bool) → (a || b) ≡ false → (a ≡ false) × (b ≡ false)
-parts_false true b e = absurd cc
-parts_false false b e = (refl, e)
-
 not_among : (before : List ℕ) (first va : ℕ) → list_any (λ e. e == va) (before ++ first ∷ []) ≡ false → (list_any (λ e. e == va) before ≡ false) × ((first == va) ≡ false)
-not_among [] first va e = (refl, (parts_false (first == va) false e).0)
+not_among [] first va e = (refl, (or_parts (first == va) false e).0)
 not_among (x ∷ before) first va e =
-    let parts = parts_false (x == va) (list_any (λ e. e == va) (before ++ first ∷ [])) e in
+    let parts = or_parts (x == va) (list_any (λ e. e == va) (before ++ first ∷ [])) e in
     let rest = not_among before first va parts.1 in
     (ap (λ (b : Bool). b || list_any (λ e. e == va) before) parts.0 ∙ rest.0, rest.1)
 

@@ -3,6 +3,8 @@ use Rattle.std.proofs.Common.{◌≡◌, ℕ, zero, suc, ◌+◌, ◌-◌, ◌%�
 use Rattle.std.specs.Prelude.{IfSome}
 use Rattle.std.proofs.lemmas.Bool.Decides.{nat_tests}
 use Rattle.std.proofs.lemmas.List.{replicate-append-replicate}
+use Rattle.std.proofs.Math.Nat.{zero-add, suc-add}
+use Rattle.std.proofs.Math.Numerals.{one-add}
 use Rattle.sv_types.specs.declared.event.Event.{Event}
 use Rattle.sv_types.specs.declared.event.Event.TheVariants.{Turn, Beat}
 use Rattle.sv_types.specs.Schedule.{Schedule, Listed, Rounds, Weave, first_events, next_event, after_event, begun_with}
@@ -14,15 +16,6 @@ use Rattle.script.specs.AutoScripts.{events_drawn}
 use Rattle.script.specs.Listed.{said_of_runs}
 use Rattle.script.specs.Runs.{BeginsWith, Draws, SaysRun}
 use Rattle.script.proofs.Runs.{first_of_run, runs_from, said_next}
-
-plus_zero : (n : ℕ) → 0 + n ≡ n
-plus_zero n = omega arith
-
-plus_suc : (n later : ℕ) → suc n + later ≡ suc (n + later)
-plus_suc n later = omega arith
-
-plus_one : (n : ℕ) → 1 + n ≡ suc n
-plus_one n = omega arith
 
 -- ---- one event
 
@@ -37,7 +30,7 @@ once_by : (old new : Schedule) (run : EventRun) (n : ℕ) → n ≡ 1 → Some r
     (later : ℕ) → first_events (n + later) old ≡ replicate n run.event ++ first_events later new
 once_by old new run n one is behind =
     subst (λ (k : ℕ). (later : ℕ) → first_events (k + later) old ≡ replicate k run.event ++ first_events later new) (sym one)
-    (λ later. ap (λ (k : ℕ). first_events k old) (plus_one later) ∙ one_first old new run.event later is behind)
+    (λ later. ap (λ (k : ℕ). first_events k old) (one-add later) ∙ one_first old new run.event later is behind)
 
 pub begins_once : (old new : Schedule) (run : EventRun) → run.count ≡ 1 → Some run.event ≡ next_event old → new ≡ after_event old → BeginsWith old run new
 begins_once old new run one is behind = once_by old new run run.count one is behind
@@ -62,9 +55,6 @@ begins_more n event old mid new begun is behind = λ later.
 
 -- ---- what is drawn
 
-pub none_drawn : (event : Event) (s : Schedule) → Draws 0 event s s
-none_drawn event s = refl
-
 pub draws_more : (n : ℕ) (event : Event) (old mid new : Schedule) → Draws n event old mid → Some event ≡ next_event mid → new ≡ after_event mid → Draws (n + 1) event old new
 draws_more n event old mid new drawn is behind =
     subst (λ (k : ℕ). Draws k event old new) (sym (add-one n)) (mid, (drawn, (is, behind)))
@@ -79,7 +69,7 @@ drawn_again n event old mid new is behind drawn =
     subst (λ (k : ℕ). Draws k event old new) (sym (add-one n)) (draws_behind n event old mid new is behind drawn)
 
 drawn_first : (n : ℕ) (event : Event) (old new : Schedule) → Draws n event old new → Begins n event old new
-drawn_first zero event old new drawn = λ later. ap (λ (k : ℕ). first_events k old) (plus_zero later) ∙ ap (λ (s : Schedule). first_events later s) (sym drawn)
+drawn_first zero event old new drawn = λ later. ap (λ (k : ℕ). first_events k old) (zero-add later) ∙ ap (λ (s : Schedule). first_events later s) (sym drawn)
 drawn_first (suc n) event old new (mid, (drawn, (is, behind))) = begins_more n event old mid new (drawn_first n event old mid drawn) is behind
 
 -- events that are drawn come first
@@ -90,9 +80,9 @@ drawn_begin old new run drawn = drawn_first run.count run.event old new drawn
 
 turns_alone : (n later : ℕ) → first_events (n + later) (Rounds 1 0) ≡ replicate n (Turn 0) ++ first_events later (Rounds 1 0)
 unfolding first_events
-turns_alone zero later = ap (λ (k : ℕ). first_events k (Rounds 1 0)) (plus_zero later)
+turns_alone zero later = ap (λ (k : ℕ). first_events k (Rounds 1 0)) (zero-add later)
 turns_alone (suc n) later =
-    ap (λ (k : ℕ). first_events k (Rounds 1 0)) (plus_suc n later)
+    ap (λ (k : ℕ). first_events k (Rounds 1 0)) (suc-add n later)
     ∙ ap (λ (events : List Event). Turn 0 ∷ events) (turns_alone n later)
 
 -- one hart alone is hart 0
@@ -108,13 +98,13 @@ alone_from s harts hart n one below shown =
 turns_woven : (n later place : ℕ) → n + place ≤ 7 → first_events (n + later) (Weave place) ≡ replicate n (Turn 0) ++ first_events later (Weave (n + place))
 unfolding first_events
 turns_woven zero later place few =
-    ap (λ (k : ℕ). first_events k (Weave place)) (plus_zero later) ∙ ap (λ (p : ℕ). first_events later (Weave p)) (sym (plus_zero place))
+    ap (λ (k : ℕ). first_events k (Weave place)) (zero-add later) ∙ ap (λ (p : ℕ). first_events later (Weave p)) (sym (zero-add place))
 turns_woven (suc n) later place few =
     let same : place % 8 ≡ place = omega arith in
     let other : (place == 7) ≡ false = grind (arith, nat_tests) in
     let behind : (place + 1) % 8 ≡ suc place = omega arith in
     let more : n + suc place ≡ suc n + place = omega arith in
-    ap (λ (k : ℕ). first_events k (Weave place)) (plus_suc n later)
+    ap (λ (k : ℕ). first_events k (Weave place)) (suc-add n later)
     ∙ ap (λ (p : ℕ). (if p == 7 then Beat else Turn 0) ∷ first_events (n + later) (Weave ((place + 1) % 8))) same
     ∙ ap (λ (b : Bool). (if b then Beat else Turn 0) ∷ first_events (n + later) (Weave ((place + 1) % 8))) other
     ∙ ap (λ (p : ℕ). Turn 0 ∷ first_events (n + later) (Weave p)) behind
@@ -134,9 +124,9 @@ woven_from s n later place few shown =
 listed_again : (n later : ℕ) (event : Event) (rest : List Event) →
     first_events (n + later) (Listed (replicate n event ++ rest)) ≡ replicate n event ++ first_events later (Listed rest)
 unfolding first_events
-listed_again zero later event rest = ap (λ (k : ℕ). first_events k (Listed rest)) (plus_zero later)
+listed_again zero later event rest = ap (λ (k : ℕ). first_events k (Listed rest)) (zero-add later)
 listed_again (suc n) later event rest =
-    ap (λ (k : ℕ). first_events k (Listed (replicate (suc n) event ++ rest))) (plus_suc n later)
+    ap (λ (k : ℕ). first_events k (Listed (replicate (suc n) event ++ rest))) (suc-add n later)
     ∙ ap (λ (events : List Event). event ∷ events) (listed_again n later event rest)
 
 said_again : (n : ℕ) (event : Event) (autos : Schedule) (more : List Said) →
@@ -167,7 +157,7 @@ drawn_come : (n left : ℕ) (event : Event) (old new : Schedule) (rest : List Sa
     Begins n event (Listed (events_drawn old (replicate left Drawn ++ rest))) (Listed (events_drawn new (replicate (left - n) Drawn ++ rest)))
 drawn_come zero left event old new rest few drawn = λ later.
     let all : left ≡ left - 0 = omega arith in
-    ap (λ (k : ℕ). first_events k (Listed (events_drawn old (replicate left Drawn ++ rest)))) (plus_zero later)
+    ap (λ (k : ℕ). first_events k (Listed (events_drawn old (replicate left Drawn ++ rest)))) (zero-add later)
     ∙ ap (λ (s : Schedule). first_events later (Listed (events_drawn s (replicate left Drawn ++ rest)))) (sym drawn)
     ∙ ap (λ (k : ℕ). first_events later (Listed (events_drawn new (replicate k Drawn ++ rest)))) all
 drawn_come (suc n) left event old new rest few (mid, (drawn, (is, behind))) =
@@ -199,7 +189,7 @@ unfolding first_events
 first_by zero old new event some begins = absurd (omega arith)
 first_by (suc n) old new event some begins =
     begun_is (next_event old) (first_events (n + 0) (after_event old)) (replicate n event ++ first_events 0 new) event
-    (ap (λ (k : ℕ). first_events k old) (sym (plus_suc n 0)) ∙ begins 0)
+    (ap (λ (k : ℕ). first_events k old) (sym (suc-add n 0)) ∙ begins 0)
 
 -- the event of a run is the next one
 pub begins_next : (old new : Schedule) (run : EventRun) → 0 < run.count → BeginsWith old run new → Some run.event ≡ next_event old

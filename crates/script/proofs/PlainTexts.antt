@@ -1,9 +1,11 @@
 -- Texts without lines `auto N` say what they said without these.
-use Rattle.std.proofs.Common.{◌≡◌, ℕ, ◌+◌, Bool, true, false, not, ◌&&◌, ◌==◌, cond, if◌then◌else◌, List, [], ◌∷◌, ◌++◌, map, flat_map, Option, Some, None, is_none, option_map, unwrap_or, codes, refl, sym, ◌∙◌, ap, subst}
+use Rattle.std.proofs.Common.{◌≡◌, ℕ, ◌+◌, Bool, true, false, not, ◌==◌, cond, if◌then◌else◌, List, [], ◌∷◌, ◌++◌, map, flat_map, Option, Some, None, is_none, option_map, unwrap_or, codes, refl, sym, ◌∙◌, ap, subst}
 use Rattle.std.specs.List.{list_all, position_from}
 use Rattle.std.specs.Str.{bytes_eq}
 use Rattle.std.proofs.lemmas.List.{map-append}
 use Rattle.std.proofs.lemmas.Slice.Eq.{bytes_eq-Decides}
+use Rattle.std.specs.Cmp.{first_so, second_so}
+use Rattle.std.proofs.lemmas.Bool.{not-true}
 use Rattle.sv_types.specs.declared.event.Event.{Event}
 use Rattle.sv_types.specs.Schedule.{Schedule, Auto, lines, fields, fields_events, line_events, events_of_line, two_fields_events, repeats, script_events, is_of_no_form, first_of_no_form}
 use Rattle.script.specs.declared.said.Said.{Said}
@@ -72,23 +74,11 @@ abbrev EachIsPlain : List (List ℕ) → Type 0
 EachIsPlain [] = Unit {0}
 EachIsPlain (line ∷ all) = IsPlain line × EachIsPlain all
 
-and_first : (a b : Bool) → a && b ≡ true → a ≡ true
-and_first true b is = refl
-and_first false b is = is
-
-and_second : (a b : Bool) → a && b ≡ true → b ≡ true
-and_second true b is = is
-and_second false b is = absurd (cc)
-
-not_true : (b : Bool) → not b ≡ true → b ≡ false
-not_true true is = absurd (cc)
-not_true false is = refl
-
 each_without : (all : List (List ℕ)) → list_all (λ line. not (is_auto (fields line))) all ≡ true → EachIsPlain all
 each_without [] is = tt
 each_without (line ∷ all) is = (
-  no_line_of_autos line (not_true _ (and_first (not (is_auto (fields line))) (list_all (λ l. not (is_auto (fields l))) all) is)),
-  each_without all (and_second (not (is_auto (fields line))) (list_all (λ l. not (is_auto (fields l))) all) is),
+  no_line_of_autos line (not-true _ (first_so (not (is_auto (fields line))) (list_all (λ l. not (is_auto (fields l))) all) is)),
+  each_without all (second_so (not (is_auto (fields line))) (list_all (λ l. not (is_auto (fields l))) all) is),
 )
 
 found_none : (b : Bool) (k : ℕ) (behind : Option ℕ) → cond b (Some k) behind ≡ None → (b ≡ false) × (behind ≡ None)
