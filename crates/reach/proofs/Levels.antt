@@ -8,8 +8,8 @@ use Rattle.processor.specs.SecondStage.{walk_guest, entry_through, WalksApart}
 use Rattle.processor.specs.declared.access.Access.TheVariants.{Load}
 use Rattle.sv39_walk.specs.Levels.{indices_of}
 use Rattle.sv39_walk.proofs.Steps.{first_at, walk_pointer, walk_ends, entry_found, entry_place}
-use Rattle.reach.specs.declared.line.Entry.{Entry}
-use Rattle.reach.specs.declared.line.Entries.{Entries}
+use Rattle.reach.specs.declared.entries.Entry.{Entry}
+use Rattle.reach.specs.declared.entries.Entries.{Entries}
 use Rattle.reach.specs.Kept.{with_entry, Above, IsThere, IsPlace, EndsAt}
 use Rattle.processor_laws.proofs.Walks.{apart_inside}
 

@@ -1,3 +1,4 @@
 pub mod Levels
 pub mod Stages
 pub mod Holding
+pub mod Tagged

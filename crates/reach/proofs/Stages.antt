@@ -12,7 +12,8 @@ use Rattle.sv39_walk.specs.Levels.{indices_of}
 use Rattle.sv39_walk.specs.Regimes.{settings_of}
 use Rattle.sv39_walk.specs.declared.first_stage.Regime.{Regime}
 use Rattle.gstage_cache.proofs.Walks.{IsReadable, moved, leads_in_region, region_readable, page_moves, answer_near, answer_is}
-use Rattle.reach.specs.declared.line.Entries.{Entries}
+use Rattle.reach.specs.declared.entries.Entries.{Entries}
+use Rattle.reach.specs.declared.line.Line.{Line}
 use Rattle.reach.specs.Kept.{AreThere, ArePlaces, EndsAt, LineAgrees, host_of, leads_under}
 use Rattle.sv39_walk.proofs.Steps.{mapped_test}
 
@@ -117,18 +118,18 @@ page_led r other regime access va b hpa entries apart paged leads ends there tab
     (leaf_page ends.below ends.entry b va ends.few page)
     ∙ ap (λ (n : ℕ). Some (hpa - hpa % 4096 + n)) (leaf_place ends.below ends.entry b ends.few))
 
-pub line_agrees : (r : Region) (regime : Regime) (access : Access) (va hpa : ℕ) (entries : Entries) → WalksApart r regime.hgatp → (IsBare regime.vsatp → ⊥)
-    → leads_under r regime access va ≡ Some hpa → EndsAt r.tables regime.hgatp (root_of regime.vsatp) va entries → AreThere r entries
-    → ArePlaces r.tables regime.hgatp entries
-    → LineAgrees r.tables (record { regime = regime; access = access; page = va / 4096; host = hpa - hpa % 4096; entries = entries })
-line_agrees r regime access va hpa entries apart paged leads ends there places = record {
+pub line_agrees : (r : Region) (line : Line) (va hpa : ℕ) → WalksApart r line.regime.hgatp → (IsBare line.regime.vsatp → ⊥)
+    → leads_under r line.regime line.access va ≡ Some hpa → EndsAt r.tables line.regime.hgatp (root_of line.regime.vsatp) va line.entries → AreThere r line.entries
+    → ArePlaces r.tables line.regime.hgatp line.entries → line.page ≡ va / 4096 → line.host ≡ hpa - hpa % 4096 → LineAgrees r.tables line
+line_agrees r line va hpa apart paged leads ends there places number host = record {
   places = places;
   leads = λ other tables there_too place small.
-      let b : ℕ = 4096 * (va / 4096) + place in
+      let b : ℕ = 4096 * line.page + place in
       let page : b / 4096 ≡ va / 4096 = omega arith in
       let inside : b % 4096 ≡ place = omega arith in
-      page_led r other regime access va b hpa entries apart paged leads ends there tables there_too page
-      ∙ ap (λ (n : ℕ). Some (hpa - hpa % 4096 + n)) inside;
+      page_led r other line.regime line.access va b hpa line.entries apart paged leads ends there tables there_too page
+      ∙ ap (λ (n : ℕ). Some (hpa - hpa % 4096 + n)) inside
+      ∙ ap (λ (n : ℕ). Some (n + place)) (sym host);
 }
 
 after_fits : (r : Region) (hgatp hpa : ℕ) (access : Access) (d : Destination) → host_of (after_first_stage r hgatp access d) ≡ Some hpa → hpa < 2 ^ 64

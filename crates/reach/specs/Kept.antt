@@ -11,8 +11,8 @@ use Rattle.processor.specs.declared.translation.Fault.{Fault}
 use Rattle.sv39_walk.specs.Levels.{indices_of}
 use Rattle.sv39_walk.specs.Regimes.{settings_of}
 use Rattle.sv39_walk.specs.declared.first_stage.Regime.{Regime}
-use Rattle.reach.specs.declared.line.Entry.{Entry}
-use Rattle.reach.specs.declared.line.Entries.{Entries}
+use Rattle.reach.specs.declared.entries.Entry.{Entry}
+use Rattle.reach.specs.declared.entries.Entries.{Entries}
 use Rattle.reach.specs.declared.line.Line.{Line}
 
 -- ---- entries that were read

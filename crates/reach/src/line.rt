@@ -1,108 +1,22 @@
 // A translation that is kept.
 
-ghost use Rattle.std.specs.Prelude.{◌≡◌, ◌<◌, true};
-ghost use Rattle.processor.specs.Regions.{IsHostPlace};
-ghost use Rattle.processor.specs.SecondStage.{WalksApart};
-ghost use Rattle.reach.specs.Kept.{with_entry, IsThere, AreThere, ArePlaces, IsFor};
+ghost use Rattle.std.specs.Prelude.{◌≡◌};
+ghost use Rattle.reach.specs.Tags.{tag_of};
 
-use host_mem::HostMem;
+use crate::entries::Entries;
 use processor::Access;
 use sv39_walk::Regime;
 
-/// An entry of a table that a walk read: its host place, and the word that stood there.
-#[derive(Clone, Copy, Debug, PartialEq, Eq, Drop)]
-pub struct Entry {
-    pub at: u64,
-    pub word: u64,
-}
-
-impl Entry {
-    // Whether the word that was read still stands there.
-    #[inline(always)]
-    fn is_there(self, mem: &HostMem) -> bool
-        requires { IsHostPlace mem.now self.at 8 }
-        ensures yes { result ≡ true → IsThere mem.now self }
-        ensures no { IsThere mem.now self → result ≡ true }
-    {
-        mem.read(self.at as usize, 8) == self.word
-    }
-}
-
-/// The entries that a walk of the first stage read, of the root first. Where it ended sooner, its last one stands for those
-/// that it didn't come to.
-#[derive(Clone, Copy, Debug, PartialEq, Eq, Drop)]
-pub struct Entries {
-    pub root: Entry,
-    pub middle: Entry,
-    pub last: Entry,
-}
-
-impl Entries {
-    // Those of no walk.
-    pub(crate) fn none() -> Entries {
-        let none = Entry { at: 0, word: 0 };
-        Entries {
-            root: none,
-            middle: none,
-            last: none,
-        }
-    }
-
-    // With the entry of the level that has so many below it, which stands for these too.
-    pub(crate) fn with_entry(self, below: u32, seen: Entry) -> Entries
-        requires { below < 3 }
-        ensures { result ≡ with_entry below self seen }
-    {
-        match below {
-            0 => Entries {
-                root: self.root,
-                middle: self.middle,
-                last: seen,
-            },
-            1 => Entries {
-                root: self.root,
-                middle: seen,
-                last: seen,
-            },
-            _ => Entries {
-                root: seen,
-                middle: seen,
-                last: seen,
-            },
-        }
-    }
-
-    // Whether all words that were read still stand there.
-    #[inline(always)]
-    pub(crate) fn are_there(&self, mem: &HostMem, hgatp: u64) -> bool
-        requires apart { WalksApart mem.now hgatp }
-        requires places { ArePlaces mem.now.tables hgatp self.now }
-        ensures yes { result ≡ true → AreThere mem.now self.now }
-        ensures no { AreThere mem.now self.now → result ≡ true }
-    {
-        let _table_bytes = mem.table_bytes();
-        self.last.is_there(mem) && self.middle.is_there(mem) && self.root.is_there(mem)
-    }
-}
-
 /// Where accesses of one kind to a page of virtual addresses are led: by what the translation went, the page's number, the
-/// host place of its first byte, and the entries that the first stage read.
-#[derive(Clone, Copy, Debug, PartialEq, Eq, Drop)]
+/// host place of its first byte, and the entries that the first stage read. Its tag is the number of all by which it is
+/// found beside the roots.
+#[derive(Clone, Copy, Debug, Drop)]
 pub struct Line {
+    pub tag: u64,
     pub regime: Regime,
     pub access: Access,
     pub page: u64,
     pub host: u64,
     pub entries: Entries,
-}
-
-impl Line {
-    // Whether it is one of such accesses to a page.
-    #[inline(always)]
-    pub(crate) fn is_for(&self, regime: &Regime, access: Access, page: u64) -> bool
-        ensures yes { result ≡ true → IsFor regime.now access page self.now }
-        ensures no { IsFor regime.now access page self.now → result ≡ true }
-    {
-        self.page == page && self.access == access && self.regime == *regime
-    }
+    ghost tagged: { tag ≡ tag_of regime access page },
 }

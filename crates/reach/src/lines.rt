@@ -9,6 +9,7 @@ ghost use Rattle.reach.specs.declared.line.Line.{Line as Kept};
 ghost use Rattle.reach.specs.Kept.{lines_of_reach, no_lines, line_at, line_place, leads_under, IsFor, IsKept, AreThere, LineAgrees, ReachAgrees};
 
 use crate::line::Line;
+use crate::tag::{is_for, tag};
 use crate::walk::read_entries;
 use gstage_cache::Cache;
 use host_mem::HostMem;
@@ -95,6 +96,7 @@ impl Reach {
     // The line of such accesses to a page, if it is held.
     #[inline(always)]
     fn line(&self, regime: &Regime, access: Access, page: u64) -> Option<Line>
+        requires { page < 2 ^ 52 }
         ensures held { IfSome result (λ line. line_at self.now (line_place access page) ≡ Some line) }
         ensures tags { IfSome result (λ line. IsFor regime.now access page line) }
         ensures kept { (line : Kept) → line_at self.now (line_place access page) ≡ Some line → IsFor regime.now access page line → result ≡ Some line }
@@ -102,7 +104,7 @@ impl Reach {
         let held = self.lines[line_place(access, page)];
         match held {
             Some(line) => {
-                if line.is_for(regime, access, page) {
+                if is_for(&line, regime, access, page) {
                     Some(line)
                 } else {
                     None
@@ -186,10 +188,12 @@ impl Reach {
         }
         let root = root_table(regime.vsatp);
         if let Some(entries) = read_entries(cache, mem, regime.hgatp, root, va) {
+            let page = va / PAGE_BYTES;
             self.keep(Line {
+                tag: tag(regime, access, page),
                 regime: *regime,
                 access,
-                page: va / PAGE_BYTES,
+                page,
                 host: hpa - hpa % PAGE_BYTES,
                 entries,
             });

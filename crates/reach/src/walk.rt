@@ -9,7 +9,7 @@ ghost use Rattle.processor.specs.declared.access.Access.TheVariants as Access;
 ghost use Rattle.sv39_walk.specs.Levels.{IsTable};
 ghost use Rattle.reach.specs.Kept.{IsThere, AreThere, ArePlaces, EndsAt};
 
-use crate::line::{Entries, Entry};
+use crate::entries::{Entries, Entry};
 use gstage_cache::Cache;
 use host_mem::HostMem;
 use processor::{Access, PteBits};

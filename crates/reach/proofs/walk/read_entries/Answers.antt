@@ -1,6 +1,6 @@
 use Rattle.std.proofs.Common.{◌≡◌, ◌+◌, ◌-◌, ◌*◌, ◌%◌, ◌<◌, ◌∙◌, suc, sym, subst, arith}
 use Rattle.gstage_cache.specs.Fills.{filled_further}
-use Rattle.reach.specs.declared.line.Entries.{Entries}
+use Rattle.reach.specs.declared.entries.Entries.{Entries}
 use Rattle.reach.specs.Kept.{Above, IsThere, IsPlace, EndsAt}
 use Rattle.reach.proofs.Levels.{GoOn, with_more, with_all, goes_on, ends_there}
 use Rattle.reach.proofs.walk.read_entries.Goals as goal

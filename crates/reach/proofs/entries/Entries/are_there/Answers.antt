@@ -1,5 +1,5 @@
 use Rattle.reach.proofs.Levels.{entry_here}
-use Rattle.reach.proofs.line.Entries.are_there.Goals as goal
+use Rattle.reach.proofs.entries.Entries.are_there.Goals as goal
 
 pub is_there-requires : goal.is_there-requires
 is_there-requires c =
