@@ -20,6 +20,7 @@ use Rattle.console_run.specs.Console.{Flushed}
 use Rattle.console_run.proofs.Standing.{stands_away, cleared_none}
 use Rattle.console_run.proofs.ConsoleLemmas.{reaches_more, stands_next}
 use Rattle.machine.proofs.Repeated.{counts_within}
+use Rattle.machine.specs.Limits.{most_counts}
 use Rattle.machine.specs.Repeats.{Makes}
 use Rattle.live_drive.specs.declared.live_run.LiveRun.{LiveRun}
 use Rattle.live_drive.specs.LiveRuns.{harts_of, events_made, IsUnderWay, MayStep, count_of}
@@ -159,7 +160,7 @@ may_step l way room autos =
     let few = way.few in
     record {
       state = way.state;
-      counts = counts_within (count_of l.journal) 9223372036854775806 l.machine.journal.counts (omega arith) way.counts;
+      counts = counts_within (count_of l.journal) (most_counts - 1) l.machine.journal.counts (omega arith) way.counts;
       room = room;
     }
 
