@@ -11,14 +11,12 @@ use crate::masks::mask_exists;
 use hart_answers::{Asked, Seat};
 use page_guard::Entries;
 use reference::{Answer, Beside, Extension, Reply};
-use sv_types::SbiCode;
+use sv_types::{IMPLEMENTATION, SbiCode};
 
 /// SBI 1.0.
 const SPECIFICATION: u64 = 0x0100_0000;
 
-/// The number of this implementation of SBI.
-const IMPLEMENTATION: u64 = 0x0053_4543;
-
+/// The version of this implementation.
 const VERSION: u64 = 1;
 
 // The functions of the base extension. From the vendor to the machine they tell who made it, which is nobody.

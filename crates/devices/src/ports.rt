@@ -3,12 +3,7 @@ ghost use Rattle.std.specs.Prelude.{◌≡◌};
 ghost use Rattle.reference.specs.Devices.{port_at};
 ghost use Rattle.devices.specs.Bus.{port_named};
 
-/// Where the console's registers begin, and then those of the block device; each has 4 KiB.
-const CONSOLE_BASE: u64 = 0x1000_0000;
-
-const DISK_BASE: u64 = 0x1000_1000;
-
-const DISK_END: u64 = 0x1000_2000;
+use sv_types::{CONSOLE_BASE, DISK_BASE, DISK_END};
 
 /// A device and an offset in its registers.
 #[derive(Clone, Copy, Debug, PartialEq, Eq, Drop)]

@@ -3,6 +3,7 @@
 -- RISC-V Unprivileged manual, "Integer Register-Immediate Instructions"; RISC-V ELF psABI, "Integer Register
 -- Convention".
 use Rattle.std.specs.Prelude.{ℕ, ◌+◌, ◌*◌, ◌/◌, ℤ, pos, neg_ℤ, ◌-ℤ◌, List, [], ◌∷◌}
+use Rattle.processor.specs.Bytes.{page_size}
 use Rattle.processor.specs.IntegerRegisters.{x0, t0, t1, t2, t3, t4, s0, s1, a0, a7}
 use Rattle.processor.specs.Registers.{csr_number}
 use Rattle.processor.specs.declared.csr.Csr.{Csr}
@@ -14,7 +15,8 @@ use Rattle.processor.specs.declared.instruction.OpImmOp.TheVariants.{Addi}
 use Rattle.processor.specs.declared.instruction.OpImm32Op.TheVariants.{Addiw}
 use Rattle.processor.specs.declared.instruction.OpOp.TheVariants.{Add}
 use Rattle.processor.specs.declared.instruction.CsrOp.TheVariants.{Csrrw}
-use Rattle.sv_types.specs.BlockNumbers.{command_number}
+use Rattle.sv_types.specs.BlockNumbers.{address_offset, count_offset, command_offset, command_number}
+use Rattle.sv_types.specs.DevicePlaces.{disk_base}
 use Rattle.sv_types.specs.declared.block.BlockCommand.TheVariants.{DiskToMemory}
 
 -- the most calls of the user
@@ -61,19 +63,6 @@ lower n = pos n -ℤ upper n
 abbrev pub trap_place : ℕ
 trap_place = 0x100
 
--- the block device, and where its registers lie from there
-abbrev pub disk : ℕ
-disk = 0x10001000
-
-abbrev pub disk_gpa : ℕ
-disk_gpa = 8
-
-abbrev pub disk_count : ℕ
-disk_count = 16
-
-abbrev pub disk_command : ℕ
-disk_command = 20
-
 -- the numbers of the calls that print a byte and that shut down, and the byte
 abbrev pub print_call : ℕ
 print_call = 1
@@ -90,18 +79,18 @@ letter_k = 75
 unfoldable pub setup : (calls : ℕ) → List Instr
 setup calls =
     Instr.Auipc t0 (pos 0) ∷ addi t0 t0 (pos trap_place) ∷ csrw Stvec t0
-    ∷ Instr.Auipc s1 (pos 0x1000) ∷ addi s1 s1 (minus 12)
+    ∷ Instr.Auipc s1 (pos page_size) ∷ addi s1 s1 (minus 12)
     ∷ Instr.Lui s0 (upper calls) ∷ addiw s0 s0 (lower calls)
-    ∷ Instr.Lui t2 (pos disk) ∷ addi t3 t0 (minus 768) ∷ sd t3 (pos disk_gpa) t2
-    ∷ addi t4 x0 (pos 2) ∷ sw t4 (pos disk_count) t2
-    ∷ addi t4 x0 (pos (command_number DiskToMemory)) ∷ sw t4 (pos disk_command) t2
+    ∷ Instr.Lui t2 (pos disk_base) ∷ addi t3 t0 (minus 768) ∷ sd t3 (pos address_offset) t2
+    ∷ addi t4 x0 (pos 2) ∷ sw t4 (pos count_offset) t2
+    ∷ addi t4 x0 (pos (command_number DiskToMemory)) ∷ sw t4 (pos command_offset) t2
     ∷ csrw Sepc s1 ∷ Instr.Sret ∷ []
 
 -- the trap vector: the number of calls left is stored a page behind the user's loop and counted down. While some are
 -- left the user's loop is entered again; at the end K is printed, and the machine shut down
 unfoldable pub trap_handler : List Instr
 trap_handler =
-    Instr.Lui t1 (pos 0x1000) ∷ Instr.Op Add t1 t1 s1 ∷ sd s0 (pos 0) t1
+    Instr.Lui t1 (pos page_size) ∷ Instr.Op Add t1 t1 s1 ∷ sd s0 (pos 0) t1
     ∷ addi s0 s0 (minus 1) ∷ Instr.Branch Beq s0 x0 (pos 12)
     ∷ csrw Sepc s1 ∷ Instr.Sret
     ∷ addi a0 x0 (pos letter_k) ∷ addi a7 x0 (pos print_call) ∷ Instr.Ecall

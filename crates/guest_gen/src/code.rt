@@ -6,20 +6,14 @@ ghost use Rattle.processor.specs.Encoding.{fits, is_immediate};
 ghost use Rattle.guest_gen.specs.GuestCode as spec;
 
 use processor::{
-    A0, A7, BranchOp, Csr, CsrOp, OpImm32Op, OpImmOp, OpOp, S0, S1, StoreOp, T0, T1, T2, T3, T4, X0,
+    A0, A7, BranchOp, Csr, CsrOp, OpImm32Op, OpImmOp, OpOp, PAGE_BYTES, S0, S1, StoreOp, T0, T1,
+    T2, T3, T4, X0,
 };
 use rv64_encode::Instr;
-use sv_types::BlockCommand;
+use sv_types::{BLOCK_ADDRESS, BLOCK_COMMAND, BLOCK_COUNT, BlockCommand, DISK_BASE};
 
-/// The block device.
-const DISK: i64 = 0x1000_1000;
-
-/// Where its registers lie from there.
-const DISK_GPA: i64 = 8;
-
-const DISK_COUNT: i64 = 16;
-
-const DISK_COMMAND: i64 = 20;
+/// A page, as an immediate.
+const PAGE: i64 = PAGE_BYTES as i64;
 
 /// The call that prints a byte.
 const PRINT_CALL: i64 = 1;
@@ -124,23 +118,23 @@ pub fn setup(calls: u64) -> [Instr; 16]
         Instr::Auipc { rd: T0, imm: 0 },
         addi(T0, T0, TRAP_PLACE as i64),
         csrw(Csr::Stvec, T0),
-        Instr::Auipc {
-            rd: S1,
-            imm: 0x1000,
-        },
+        Instr::Auipc { rd: S1, imm: PAGE },
         addi(S1, S1, -12),
         Instr::Lui {
             rd: S0,
             imm: upper(calls),
         },
         addiw(S0, S0, lower(calls)),
-        Instr::Lui { rd: T2, imm: DISK },
+        Instr::Lui {
+            rd: T2,
+            imm: DISK_BASE as i64,
+        },
         addi(T3, T0, -768),
-        sd(T3, DISK_GPA, T2),
+        sd(T3, BLOCK_ADDRESS as i64, T2),
         addi(T4, X0, 2),
-        sw(T4, DISK_COUNT, T2),
+        sw(T4, BLOCK_COUNT as i64, T2),
         addi(T4, X0, i64::from(BlockCommand::DiskToMemory.number())),
-        sw(T4, DISK_COMMAND, T2),
+        sw(T4, BLOCK_COMMAND as i64, T2),
         csrw(Csr::Sepc, S1),
         Instr::Sret,
     ]
@@ -153,10 +147,7 @@ pub fn trap_handler() -> [Instr; 12]
     ensures fits { IsTrue (list_all fits result) }
 {
     [
-        Instr::Lui {
-            rd: T1,
-            imm: 0x1000,
-        },
+        Instr::Lui { rd: T1, imm: PAGE },
         Instr::Op {
             op: OpOp::Add,
             rd: T1,

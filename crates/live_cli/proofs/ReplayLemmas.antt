@@ -1,5 +1,5 @@
 -- From what `live` did to what `run` is due.
-use Rattle.std.proofs.Common.{◌≡◌, ◌≤◌, ◌+◌, ◌^◌, ℕ, zero, suc, List, [], ◌∷◌, ◌++◌, length, Bool, true, false, ◌&&◌, ◌||◌, nat_le, IsTrue, refl, sym, ◌∙◌, ap, subst, arith, Option, Some, None, Result, Ok, Err, if◌then◌else◌, take_all, length-append}
+use Rattle.std.proofs.Common.{◌≡◌, ◌≤◌, ◌+◌, ℕ, zero, suc, List, [], ◌∷◌, ◌++◌, length, Bool, true, false, ◌&&◌, ◌||◌, nat_le, IsTrue, refl, sym, ◌∙◌, ap, subst, arith, Option, Some, None, Result, Ok, Err, if◌then◌else◌, take_all, length-append}
 use Rattle.std.proofs.lemmas.Bool.{leb-true, ne_eqb}
 use Rattle.std.specs.Char.{is_ascii_digit}
 use Rattle.std.specs.Fmt.{decimal}
@@ -338,10 +338,10 @@ number_dash low high n word is =
     let it = within_by (is_number word) (nat_le low (decimal_value 0 word)) (nat_le (decimal_value 0 word) high) (decimal_value 0 word) n is in
     digit_dash word (and_second (nat_le 1 (length word) && nat_le (length word) 20) (list_all is_ascii_digit word) it.number_is)
 
-number_of_run : (events : ℕ) → events ≤ 2 ^ 32 → number_within 0 most_events (decimal events) ≡ Some events
+number_of_run : (events : ℕ) → events ≤ most_events → number_within 0 most_events (decimal events) ≡ Some events
 number_of_run events few = number_back 0 most_events events (omega arith) (omega arith) few
 
-no_dash : (line : LiveLine) (words : LiveWords) (script : List ℕ) (events : ℕ) (save : List ℕ) → LineGood line words → NamesScript script → has_dash save ≡ false → events ≤ 2 ^ 32 →
+no_dash : (line : LiveLine) (words : LiveWords) (script : List ℕ) (events : ℕ) (save : List ℕ) → LineGood line words → NamesScript script → has_dash save ≡ false → events ≤ most_events →
     list_any has_dash (run_line line script events save) ≡ false
 no_dash line words script events save good names saves few =
     or_both (has_dash line.image) _ good.image
@@ -365,7 +365,7 @@ unfolding split_words
 split_as line script events save none =
     ap (λ (b : Bool). if b then None else shape_split (run_line line script events save)) none
 
-pub run_judged_as : (line : LiveLine) (words : LiveWords) (script : List ℕ) (events : ℕ) (save : List ℕ) → LineGood line words → NamesScript script → has_dash save ≡ false → events ≤ 2 ^ 32 →
+pub run_judged_as : (line : LiveLine) (words : LiveWords) (script : List ℕ) (events : ℕ) (save : List ℕ) → LineGood line words → NamesScript script → has_dash save ≡ false → events ≤ most_events →
     judged (run_line line script events save) ≡ Ok (Run (again_run line script events (unless_none save)))
 unfolding judged run_words
 run_judged_as line words script events save good names saves few =
@@ -376,7 +376,7 @@ run_judged_as line words script events save good names saves few =
 
 -- what `run` is due by its words is due by its plan
 pub words_due : (line : LiveLine) (words : LiveWords) (script : List ℕ) (events : ℕ) (save : List ℕ) (held : List ℕ → Option (List ℕ)) → LineGood line words → NamesScript script → has_dash save ≡ false →
-    events ≤ 2 ^ 32 → due_in held (plan_of (judged (run_line line script events save))) ≡ due_in held (run_plan (again_run line script events (unless_none save)))
+    events ≤ most_events → due_in held (plan_of (judged (run_line line script events save))) ≡ due_in held (run_plan (again_run line script events (unless_none save)))
 unfolding plan_of command_plan
 words_due line words script events save held good names saves few =
     ap (λ (asked : Result Command Refusal). due_in held (plan_of asked)) (run_judged_as line words script events save good names saves few)
@@ -401,7 +401,7 @@ first_few (suc n) script = begun_few n (next_event script) (first_events n (afte
 
 -- with every key the events of a live run are at most 2^32
 pub journal_few : (journal left asked : List Event) (bytes keys : List ℕ) (count : ℕ) (script : Schedule) → others_among journal ++ left ≡ asked → first_events count script ≡ asked → count ≤ most_live_events →
-    keys_among journal ≡ keys → StartsWith bytes keys → length bytes ≤ most_keys → length journal ≤ 2 ^ 32
+    keys_among journal ≡ keys → StartsWith bytes keys → length bytes ≤ most_keys → length journal ≤ most_events
 journal_few journal left asked bytes keys count script others drawn few keys_are front most =
     let all : length journal ≡ length (keys_among journal) + length (others_among journal) = events_among journal in
     let some : length (others_among journal) + length left ≡ length asked = sym (length-append (others_among journal) left) ∙ ap (λ (es : List Event). length es) others in

@@ -1,5 +1,6 @@
 -- What is made ready of `live`, before anything is written.
-use Rattle.std.specs.Prelude.{◌≡◌, ◌≤◌, ◌^◌, ℕ, List, [], ◌∷◌, IsTrue, Option, Some, None, Result, Ok, Err, IsErrOf}
+use Rattle.std.specs.Prelude.{◌≡◌, ◌≤◌, ℕ, List, [], ◌∷◌, IsTrue, Option, Some, None, Result, Ok, Err, IsErrOf}
+use Rattle.sv_types.specs.Limits.{most_events}
 use Rattle.sv_types.specs.Schedule.{first_events}
 use Rattle.machine_model.specs.Reaches.{IsNew}
 use Rattle.outside.specs.Outside.{FilesState}
@@ -19,7 +20,7 @@ pub record IsLiveFresh (ready : LiveReady) : Type 0 where
   pub autos : ready.live.journal.autos ≡ 0
   pub harts : harts_of ready.live.script ≡ ready.live.machine.rules.harts
   pub console : ready.live.machine.journal.printed ≡ []
-  pub events : ready.live.events ≤ 2 ^ 32
+  pub events : ready.live.events ≤ most_events
   pub line : ready.live.taker.line ≡ ready.source.line
   pub feeder : (ready.source.feeder.line ≡ ready.source.line) × (ready.source.feeder.bytes ≡ [])
 

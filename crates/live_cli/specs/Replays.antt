@@ -1,6 +1,7 @@
 -- That `run` replays what `live` did: what it is due, where the text that `live` saved is its script.
-use Rattle.std.specs.Prelude.{◌≡◌, ◌<◌, ◌≤◌, ◌⊎◌, ◌^◌, ℕ, List, [], ◌∷◌, length, Bool, true, false, IsTrue, Option, Some, None, codes}
+use Rattle.std.specs.Prelude.{◌≡◌, ◌<◌, ◌≤◌, ◌⊎◌, ℕ, List, [], ◌∷◌, length, Bool, true, false, IsTrue, Option, Some, None, codes}
 use Rattle.std.specs.Fmt.{decimal}
+use Rattle.sv_types.specs.Limits.{most_events}
 use Rattle.sv_types.specs.declared.event.Event.{Event}
 use Rattle.sv_types.specs.declared.status.Status.{Status}
 use Rattle.sv_types.specs.Output.{run_status}
@@ -90,8 +91,8 @@ pub record Replays (line : LiveLine) (old new : LiveOutside) (answer : Status) :
   pub bytes : new.sink ≡ after_taking old.sink (output (run start journal))
   pub status : (answer ≡ run_status (run start journal).journal.verdict) ⊎ ((answer ≡ Status.ReadFault) × (old.keys.faults < new.keys.faults))
   pub disk : (machine : Machine) × (new.bench ≡ Some machine) × (disk_bytes machine.devices.disk ≡ disk_bytes (run start journal).devices.disk)
-  pub few : length journal ≤ 2 ^ 32
+  pub few : length journal ≤ most_events
   -- in all files that hold the same parts, and the text under a name of their own, with at least as many events
   pub again : (held : List ℕ → Option (List ℕ)) (script : List ℕ) (events : ℕ) (save : List ℕ) → HoldParts held line parts → held script ≡ Some text →
-      NamesScript script → has_dash save ≡ false → length journal ≤ events → events ≤ 2 ^ 32 →
+      NamesScript script → has_dash save ≡ false → length journal ≤ events → events ≤ most_events →
       due_in held (plan_of (judged (run_line line script events save))) ≡ RunFrom start journal (unless_none save)

@@ -1,6 +1,7 @@
 // The answer to the words of `live`.
 ghost use Rattle.std.specs.Prelude.{◌≡◌, ◌≢◌, ◌<◌, ◌≤◌, ◌-◌, ◌^◌, ◌⊎◌, ◌∷◌, ℕ, [], true, false, List, map, string_bytes, Result, Some, None, IsTrue};
 ghost use Rattle.std.specs.Result.{is_ok};
+ghost use Rattle.sv_types.specs.Limits.{most_events};
 ghost use Rattle.sv_types.specs.Schedule.{first_events};
 ghost use Rattle.reference.specs.States.{State};
 ghost use Rattle.machine_model.specs.Reaches.{IsNew};
@@ -39,7 +40,7 @@ fn report_and_save<F: Files, O: Sink>(
     requires saves { (F.state files.old).save_faults < 2 ^ 64 - 1 }
     requires permitted { MaySaveUnder name.now (F.state files.old) }
     requires way { IsUnderWay live.now }
-    requires autos { live.now.journal.autos ≤ 2 ^ 32 }
+    requires autos { live.now.journal.autos ≤ most_events }
     ensures { (written : Result Answer Ending) × Writes (run_status live.now.machine.journal.verdict) (machine_output live.now.machine) (O.state out.old) (O.state out.new) written
         × SavesScript (harts_of live.now.script) (events_made live.now) name.now (F.state files.old) (F.state files.new) written result }
 {
@@ -80,7 +81,7 @@ fn report<F: Files, O: Sink>(
     requires saves { (F.state files.old).save_faults < 2 ^ 64 - 1 }
     requires permitted { MaySaveUnder name.now (F.state files.old) }
     requires way { IsUnderWay live.now }
-    requires autos { live.now.journal.autos ≤ 2 ^ 32 }
+    requires autos { live.now.journal.autos ≤ most_events }
     ensures { Reports live.now end name.now (F.state files.old) (F.state files.new) (O.state out.old) (O.state out.new) result }
 {
     if end.write_failed {

@@ -2,6 +2,7 @@
 use Rattle.std.proofs.Common.{◌≡◌, ◌≤◌, ◌<◌, ◌+◌, ◌-◌, ◌^◌, ℕ, IsTrue, OnOk, OnErr, IsErr, Result, Ok, Err, true, false, List, [], ◌∷◌, ◌++◌, length, drop, sym, ◌∙◌, ap, subst, arith, length-append}
 use Rattle.std.proofs.lemmas.List.{length-drop}
 use Rattle.std.specs.Result.{is_err}
+use Rattle.sv_types.specs.Limits.{most_events, most_printed}
 use Rattle.sv_types.specs.declared.event.Event.{Event}
 use Rattle.sv_types.specs.declared.event.Counts.{Counts}
 use Rattle.sv_types.specs.Schedule.{Schedule, after_event, auto_event}
@@ -20,6 +21,7 @@ use Rattle.console_run.specs.Console.{Flushed}
 use Rattle.console_run.proofs.Standing.{stands_away, cleared_none}
 use Rattle.console_run.proofs.ConsoleLemmas.{reaches_more, stands_next}
 use Rattle.machine.proofs.Repeated.{counts_within}
+use Rattle.machine.specs.Limits.{most_counts}
 use Rattle.machine.specs.Repeats.{Makes}
 use Rattle.live_drive.specs.declared.live_run.LiveRun.{LiveRun}
 use Rattle.live_drive.specs.LiveRuns.{harts_of, events_made, IsUnderWay, MayStep, count_of}
@@ -153,13 +155,13 @@ err_both (Err e) P Q S f p q = f p q
 
 -- ---- a live run between two events
 
-pub may_step : (l : LiveRun) → IsUnderWay l → length l.machine.journal.printed < 4096 → l.journal.autos ≤ 2 ^ 32 → MayStep l.machine
+pub may_step : (l : LiveRun) → IsUnderWay l → length l.machine.journal.printed < most_printed → l.journal.autos ≤ most_events → MayStep l.machine
 may_step l way room autos =
     let keys : length (key_bytes l.journal) ≡ length l.taker.bytes = ap (λ (bytes : List ℕ). length bytes) way.keys in
     let few = way.few in
     record {
       state = way.state;
-      counts = counts_within (count_of l.journal) 9223372036854775806 l.machine.journal.counts (omega arith) way.counts;
+      counts = counts_within (count_of l.journal) (most_counts - 1) l.machine.journal.counts (omega arith) way.counts;
       room = room;
     }
 

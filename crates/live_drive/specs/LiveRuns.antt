@@ -1,6 +1,6 @@
 -- A live run between two events: what it has made so far, and what holds of it.
-use Rattle.std.specs.Prelude.{◌≡◌, ◌<◌, ◌≤◌, ◌+◌, ◌-◌, ◌^◌, ℕ, List, length}
-use Rattle.sv_types.specs.Limits.{most_printed}
+use Rattle.std.specs.Prelude.{◌≡◌, ◌<◌, ◌≤◌, ◌+◌, ◌-◌, ℕ, List, length}
+use Rattle.sv_types.specs.Limits.{most_printed, most_events}
 use Rattle.sv_types.specs.declared.event.Event.{Event}
 use Rattle.sv_types.specs.Schedule.{Schedule, Listed, Rounds, Weave, Auto, random_at}
 use Rattle.reference.specs.Counting.{CountsAtMost}
@@ -53,5 +53,5 @@ pub record MayGoOn (l : LiveRun) : Type 0 where
 
 -- no more events of the script were made than are asked for, and these aren't too many
 pub record MakesFew (l : LiveRun) : Type 0 where
-  pub events : l.events ≤ 2 ^ 32
+  pub events : l.events ≤ most_events
   pub autos : l.journal.autos ≤ l.events

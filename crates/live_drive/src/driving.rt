@@ -1,6 +1,6 @@
 // The machine's loop. It runs on one thread; what another does is known only by the line.
-ghost use Rattle.std.specs.Prelude.{◌≡◌, ◌≢◌, ◌<◌, ◌≤◌, ◌+◌, ◌-◌, ◌^◌, ◌⊎◌, [], length, OnOk, OnErr};
-ghost use Rattle.sv_types.specs.Limits.{most_printed};
+ghost use Rattle.std.specs.Prelude.{◌≡◌, ◌≢◌, ◌<◌, ◌≤◌, ◌+◌, ◌-◌, ◌⊎◌, [], length, OnOk, OnErr};
+ghost use Rattle.sv_types.specs.Limits.{most_printed, most_events};
 ghost use Rattle.sv_types.specs.declared.event.Verdict.TheVariants.{Running};
 ghost use Rattle.live_keys.specs.Line.{TookAllOf};
 ghost use Rattle.live_drive.specs.LiveRuns.{harts_of, IsUnderWay, MakesFew, MayGoOn};
@@ -46,7 +46,7 @@ fn make_round<R: Wait, O: Sink, P: Pace>(
 ) -> Result<(), Failed>
     requires sink { MayWrite (O.state out.old) }
     requires on { MayGoOn live.old }
-    requires autos { live.old.journal.autos < 2 ^ 32 }
+    requires autos { live.old.journal.autos < most_events }
     requires line { live.old.taker.line ≡ line.now }
     ensures on { OnOk result (WentOn live.old live.new (O.state out.old) (O.state out.new)) }
     ensures broke { OnErr result (BrokeOff live.old live.new (O.state out.old) (O.state out.new)) }

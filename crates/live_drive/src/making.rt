@@ -1,6 +1,6 @@
 // Events that are made at once, each with its place in the journal, and the console.
-ghost use Rattle.std.specs.Prelude.{◌≡◌, ◌≢◌, ◌<◌, ◌≤◌, ◌+◌, ◌-◌, ◌^◌, ◌++◌, ◌∷◌, ℕ, List, [], length, vec_len, OnOk, OnErr};
-ghost use Rattle.sv_types.specs.Limits.{most_printed};
+ghost use Rattle.std.specs.Prelude.{◌≡◌, ◌≢◌, ◌<◌, ◌≤◌, ◌+◌, ◌-◌, ◌++◌, ◌∷◌, ℕ, List, [], length, vec_len, OnOk, OnErr};
+ghost use Rattle.sv_types.specs.Limits.{most_printed, most_events};
 ghost use Rattle.sv_types.specs.declared.event.Event.{Event as Made};
 ghost use Rattle.sv_types.specs.declared.event.Verdict.TheVariants.{Running};
 ghost use Rattle.reference.specs.Counting.{CountsAtMost};
@@ -82,7 +82,7 @@ pub fn make_keys<R: Wait, O: Sink>(
 ) -> Result<(), Failed>
     requires sink { MayWrite (O.state out.old) }
     requires on { MayGoOn live.old }
-    requires autos { live.old.journal.autos ≤ 2 ^ 32 }
+    requires autos { live.old.journal.autos ≤ most_events }
     requires line { live.old.taker.line ≡ line.now }
     ensures on { OnOk result (WentOn live.old live.new (O.state out.old) (O.state out.new)) }
     ensures broke { OnErr result (BrokeOff live.old live.new (O.state out.old) (O.state out.new)) }
@@ -107,7 +107,7 @@ pub fn make_keys<R: Wait, O: Sink>(
 pub fn make_auto<O: Sink>(live: &mut LiveRun, out: &mut O) -> Result<(), Failed>
     requires sink { MayWrite (O.state out.old) }
     requires on { MayGoOn live.old }
-    requires autos { live.old.journal.autos < 2 ^ 32 }
+    requires autos { live.old.journal.autos < most_events }
     ensures on { OnOk result (WentOn live.old live.new (O.state out.old) (O.state out.new)) }
     ensures broke { OnErr result (BrokeOff live.old live.new (O.state out.old) (O.state out.new)) }
     ensures way { IsUnderWay live.new }

@@ -36,6 +36,7 @@ use Rattle.machine.proofs.Rows.{Rowed, one_step, row_printed, row_verdict, rowed
 use Rattle.machine.proofs.Stepped.{Bounded}
 use Rattle.machine.proofs.Turns.{carried, exit_served, turn_served}
 use Rattle.machine.specs.Attempts.{hart_in}
+use Rattle.machine.specs.Limits.{most_counts}
 use Rattle.machine.specs.Machines.{HaveAddresses}
 use Rattle.machine.specs.Repeats.{IsQuiet, Repeats}
 use Rattle.machine.specs.Rows.{AnswersLeaving, EndsRow, MayRow, after_row, call_answer, counted_leaving, counted_row}
@@ -247,15 +248,15 @@ row_within Calls n = omega arith
 row_within Returns n = omega arith
 
 -- the counts behind the row's own turns
-pub behind_counts : (left : Leaving) (n most : ℕ) (m mid : Machine) (h : ℕ) → Begins m h → EndsRow left n m h mid → most ≤ 9223372036854775807 → with_leaving left n ≤ most
-    → CountsAtMost (9223372036854775807 - most) m.journal.counts → CountsAtMost 9223372036854775807 mid.journal.counts
+pub behind_counts : (left : Leaving) (n most : ℕ) (m mid : Machine) (h : ℕ) → Begins m h → EndsRow left n m h mid → most ≤ most_counts → with_leaving left n ≤ most
+    → CountsAtMost (most_counts - most) m.journal.counts → CountsAtMost most_counts mid.journal.counts
 behind_counts left n most m mid h begins ends few within counts =
     let row = first_rowed left n m mid h begins ends in
-    subst (λ (x : Machine). CountsAtMost 9223372036854775807 x.journal.counts) (sym ends.same)
-    (counts_within (9223372036854775807 - most + n) 9223372036854775807 (counted_row n m.journal).counts
-    (let own = row_within left n in omega (arith, own, few, within)) (row.counts (9223372036854775807 - most) counts))
+    subst (λ (x : Machine). CountsAtMost most_counts x.journal.counts) (sym ends.same)
+    (counts_within (most_counts - most + n) most_counts (counted_row n m.journal).counts
+    (let own = row_within left n in omega (arith, own, few, within)) (row.counts (most_counts - most) counts))
 
-pub may_count : (m : Machine) → CountsAtMost 9223372036854775807 m.journal.counts → MayCount m.journal.counts
+pub may_count : (m : Machine) → CountsAtMost most_counts m.journal.counts → MayCount m.journal.counts
 may_count m counts = record {
   retired = omega (arith, counts.retired);
   traps = omega (arith, counts.traps);

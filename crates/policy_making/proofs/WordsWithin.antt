@@ -10,7 +10,7 @@ use Rattle.sv_types.specs.Numbers.{number_within}
 use Rattle.sv_types.specs.Policies.{each_within, entry_within, entries_count_within, entries_within, span_within}
 use Rattle.sv_types.specs.declared.module.Span.{Span}
 use Rattle.text_numbers.specs.Addresses.{address_of}
-use Rattle.policy_making.specs.WordRanges.{parts, is_entry, are_entries, address_or_zero, entries_of, span_from, span_of_numbers, span_of_two, span_of}
+use Rattle.policy_making.specs.WordRanges.{parts, is_entry, are_entries, address_or_zero, entries_of, span_from, colon, span_of_numbers, span_of_two, span_of}
 
 -- ---- entries
 
@@ -52,4 +52,4 @@ unfolding span_of_two
 two_good ram_pages address count span is = span_good ram_pages (address_of address) (number_within 1 ram_pages count) span is
 
 pub span_of_within : (ram_pages : ℕ) (word : List ℕ) (span : Span) → span_of ram_pages word ≡ Some span → span_within ram_pages span ≡ true
-span_of_within ram_pages word span is = two_good ram_pages (before_first (λ c. c == 58) word) (after_first (λ c. c == 58) word) span is
+span_of_within ram_pages word span is = two_good ram_pages (before_first (λ c. c == colon) word) (after_first (λ c. c == colon) word) span is

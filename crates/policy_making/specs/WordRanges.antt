@@ -12,9 +12,12 @@ use Rattle.text_numbers.specs.Addresses.{address_of}
 
 -- ---- permitted entries
 
+abbrev pub comma : ℕ
+comma = 44
+
 -- what stands between commas
 abbrev pub parts : List ℕ → List (List ℕ)
-parts word = slice_split (λ c. c == 44) word
+parts word = slice_split (λ c. c == comma) word
 
 -- an address that is a multiple of 4
 abbrev pub is_entry : List ℕ → Bool
@@ -49,9 +52,12 @@ span_of_numbers ram_pages (Some address) (Some count) = span_at ram_pages addres
 unfoldable pub span_of_two : (ram_pages : ℕ) → (address count : List ℕ) → Option Span
 span_of_two ram_pages address count = span_of_numbers ram_pages (address_of address) (number_within 1 ram_pages count)
 
+abbrev pub colon : ℕ
+colon = 58
+
 -- an address, a colon and a number of pages
 abbrev pub span_of : (ram_pages : ℕ) → List ℕ → Option Span
-span_of ram_pages word = span_of_two ram_pages (before_first (λ c. c == 58) word) (after_first (λ c. c == 58) word)
+span_of ram_pages word = span_of_two ram_pages (before_first (λ c. c == colon) word) (after_first (λ c. c == colon) word)
 
 -- ---- modules
 

@@ -2,6 +2,7 @@
 use Rattle.std.specs.Prelude.{◌≡◌, ◌^◌, ◌<◌, ℕ, true, List, length}
 use Rattle.std.specs.List.{All}
 use Rattle.hex.specs.Hex.{IsBytes}
+use Rattle.sv_types.specs.Measure.{digest_size}
 use Rattle.sv_types.specs.Policies.{Rules, ModuleRule}
 use Rattle.sv_types.specs.declared.policy.Export.{Export}
 use Rattle.policy.specs.Values.{name_within}
@@ -10,7 +11,7 @@ abbrev pub IsAddress : ℕ → Type 0
 IsAddress address = address < 2 ^ 64
 
 abbrev pub IsDigest : List ℕ → Type 0
-IsDigest bytes = (length bytes ≡ 32) × IsBytes bytes
+IsDigest bytes = (length bytes ≡ digest_size) × IsBytes bytes
 
 pub record IsExport (export : Export) : Type 0 where
   pub name : name_within export.name ≡ true

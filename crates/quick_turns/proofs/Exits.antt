@@ -6,7 +6,7 @@ use Rattle.processor.specs.Causes.{cause_number}
 use Rattle.processor.specs.Effects.{effect_of}
 use Rattle.processor.specs.Hardware.{Core, exit_of, guest_trap, leave, plain_exception, raise, with_region}
 use Rattle.processor.specs.HardwareAttempt.{after_effect, after_instruction, after_sret, after_word, call_cause, virtual_instruction}
-use Rattle.processor.specs.Instructions.{instruction_of, rows}
+use Rattle.processor.specs.Instructions.{ecall_word, sret_word, instruction_of, rows}
 use Rattle.processor.specs.Regions.{Region}
 use Rattle.processor.specs.declared.cause.Cause.{Cause}
 use Rattle.processor.specs.declared.instruction.Instr.{Instr}
@@ -38,40 +38,40 @@ raised core e test = ap (λ (b : Bool). if b then guest_trap core false (cause_n
 
 -- ---- ECALL
 
-call_word : instruction_of 0x73 ≡ Some Instr.Ecall
+call_word : instruction_of ecall_word ≡ Some Instr.Ecall
 unfolding instruction_of rows
 call_word = refl
 
-called : (r : Region) (core : Core) (lines : Lines) → after_instruction r core lines 0x73 (Some Instr.Ecall) ≡ with_region r (raise core (plain_exception (call_cause core.hregs.mode) 0))
+called : (r : Region) (core : Core) (lines : Lines) → after_instruction r core lines ecall_word (Some Instr.Ecall) ≡ with_region r (raise core (plain_exception (call_cause core.hregs.mode) 0))
 unfolding after_instruction after_effect effect_of
 called r core lines = refl
 
 pub call_leaves : (r : Region) (core : Core) (lines : Lines) → core.hregs.mode ≡ User → core.hregs.hedeleg ≡ 0
-    → after_word r core lines 0x73 ≡ with_region r (leave core (call_exit core.pc))
+    → after_word r core lines ecall_word ≡ with_region r (leave core (call_exit core.pc))
 unfolding after_word
 call_leaves r core lines user none =
-    ap (after_instruction r core lines 0x73) call_word
+    ap (after_instruction r core lines ecall_word) call_word
     ∙ called r core lines
     ∙ ap (λ (mode : Mode). with_region r (raise core (plain_exception (call_cause mode) 0))) user
-    ∙ ap (with_region r) (raised core (plain_exception Cause.UserCall 0) (ap (λ (n : ℕ). bit n 8) none))
+    ∙ ap (with_region r) (raised core (plain_exception Cause.UserCall 0) (ap (λ (n : ℕ). bit n (cause_number Cause.UserCall)) none))
 
 -- ---- SRET
 
-return_word : instruction_of 0x10200073 ≡ Some Instr.Sret
+return_word : instruction_of sret_word ≡ Some Instr.Sret
 unfolding instruction_of rows
 return_word = refl
 
-returned : (r : Region) (core : Core) (lines : Lines) → after_instruction r core lines 0x10200073 (Some Instr.Sret) ≡ with_region r (after_sret core 0x10200073 core.hregs.mode)
+returned : (r : Region) (core : Core) (lines : Lines) → after_instruction r core lines sret_word (Some Instr.Sret) ≡ with_region r (after_sret core sret_word core.hregs.mode)
 unfolding after_instruction after_effect effect_of
 returned r core lines = refl
 
-pub return_leaves : (r : Region) (core : Core) (lines : Lines) → core.hregs.vtsr ≡ true → bit core.hregs.hedeleg 22 ≡ false
-    → after_word r core lines 0x10200073 ≡ with_region r (leave core (return_exit core.pc))
+pub return_leaves : (r : Region) (core : Core) (lines : Lines) → core.hregs.vtsr ≡ true → bit core.hregs.hedeleg (cause_number Cause.Virtual) ≡ false
+    → after_word r core lines sret_word ≡ with_region r (leave core (return_exit core.pc))
 unfolding after_word
 return_leaves r core lines vtsr test =
-    ap (after_instruction r core lines 0x10200073) return_word
+    ap (after_instruction r core lines sret_word) return_word
     ∙ returned r core lines
-    ∙ ap (with_region r) (sret_raises core 0x10200073 core.hregs.mode vtsr ∙ raised core (virtual_instruction 0x10200073) test)
+    ∙ ap (with_region r) (sret_raises core sret_word core.hregs.mode vtsr ∙ raised core (virtual_instruction sret_word) test)
 
 -- ---- the core that the exit leaves
 
@@ -80,7 +80,7 @@ noted : (core next : Kept) (regs : HRegs) (exit : Exit) → next ≡ record core
 unfolding leave
 noted core next regs exit same = ap (λ (k : Kept). core_of k regs) same
 
-pub calls : (r : Region) (core next : Kept) (regs : HRegs) (lines : Lines) (w : ℕ) → w ≡ 0x73 → regs.mode ≡ User → regs.hedeleg ≡ 0
+pub calls : (r : Region) (core next : Kept) (regs : HRegs) (lines : Lines) (w : ℕ) → w ≡ ecall_word → regs.mode ≡ User → regs.hedeleg ≡ 0
     → next ≡ record core { csrs = registers_at_exit core.csrs (call_exit core.pc) }
     → LeavesBy Calls (after_word r (core_of core regs) lines w) r (core_of core regs) (core_of next regs)
 calls r core next regs lines w is user none same = (
@@ -91,8 +91,8 @@ calls r core next regs lines w is user none same = (
   },
 )
 
-pub returns : (r : Region) (core next : Kept) (regs : HRegs) (lines : Lines) (w stval : ℕ) → w ≡ 0x10200073 → stval ≡ 0x10200073 → regs.mode ≡ Kernel → regs.vtsr ≡ true
-    → bit regs.hedeleg 22 ≡ false → next ≡ record core { csrs = registers_at_exit core.csrs (exit_of (plain_exception Cause.Virtual stval) core.pc) }
+pub returns : (r : Region) (core next : Kept) (regs : HRegs) (lines : Lines) (w stval : ℕ) → w ≡ sret_word → stval ≡ sret_word → regs.mode ≡ Kernel → regs.vtsr ≡ true
+    → bit regs.hedeleg (cause_number Cause.Virtual) ≡ false → next ≡ record core { csrs = registers_at_exit core.csrs (exit_of (plain_exception Cause.Virtual stval) core.pc) }
     → LeavesBy Returns (after_word r (core_of core regs) lines w) r (core_of core regs) (core_of next regs)
 returns r core next regs lines w stval is value kernel vtsr test same = (
   kernel,

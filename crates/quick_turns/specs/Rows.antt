@@ -2,6 +2,7 @@
 use Rattle.std.specs.Prelude.{◌≡◌, ℕ, zero, suc, None}
 use Rattle.processor.specs.Hardware.{Core, Attempted, exit_of, leave, plain_exception, with_region}
 use Rattle.processor.specs.HardwareAttempt.{attempt, virtual_instruction}
+use Rattle.processor.specs.Instructions.{sret_word}
 use Rattle.processor.specs.Regions.{Region}
 use Rattle.processor.specs.declared.cause.Cause.{Cause}
 use Rattle.processor.specs.declared.exit.Exit.{Exit}
@@ -41,7 +42,7 @@ abbrev pub call_exit : ℕ → Exit
 call_exit pc = exit_of (plain_exception Cause.UserCall 0) pc
 
 abbrev pub return_exit : ℕ → Exit
-return_exit pc = exit_of (virtual_instruction 0x10200073) pc
+return_exit pc = exit_of (virtual_instruction sret_word) pc
 
 -- what became of it: it wasn't made, or its attempt left the guest
 abbrev pub LeavesBy : Leaving → Attempted → Region → (core next : Core) → Type 0

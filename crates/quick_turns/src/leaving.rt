@@ -15,14 +15,7 @@ ghost use Rattle.quick_turns.specs.Rows.{LeavesBy};
 use crate::window::Window;
 use hart::Core;
 use host_mem::HostMem;
-use processor::{Cause, HRegs, Mode, PAGE_BYTES, has_bit};
-
-/// The word of ECALL.
-const ECALL: u32 = 0x0000_0073;
-/// The word of SRET.
-const SRET: u32 = 0x1020_0073;
-/// The bit of `hedeleg` for instructions that the hypervisor carries out.
-const VIRTUAL_INSTRUCTION: u8 = 22;
+use processor::{Cause, ECALL, HRegs, Mode, PAGE_BYTES, SRET, has_bit};
 
 /// How a hart left the guest in the turn behind a row.
 #[derive(Clone, Copy, Drop)]
@@ -79,7 +72,7 @@ fn leave_by(core: &mut Core, regs: &HRegs, word: u32) -> Leaving
             Leaving::Calls
         }
         Mode::Kernel => {
-            if word != SRET || has_bit(regs.hedeleg, VIRTUAL_INSTRUCTION) {
+            if word != SRET || has_bit(regs.hedeleg, Cause::Virtual.number() as u8) {
                 return Leaving::Stays;
             }
             note_exit(core, Cause::Virtual, u64::from(SRET));

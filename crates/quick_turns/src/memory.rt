@@ -12,7 +12,7 @@ ghost use Rattle.reach.specs.Kept.{ReachAgrees};
 use gstage_cache::Cache;
 use hart::{Core, regime};
 use host_mem::HostMem;
-use processor::{Access, HRegs};
+use processor::{Access, BARE, HRegs, ROOT_MODE_PLACE};
 use reach::Reach;
 
 /// An access to so many bytes at a virtual address.
@@ -66,7 +66,7 @@ fn held_place(
     ensures ram { IfSome result (λ hpa. length mem.now.tables ≤ hpa) }
 {
     let _table_bytes = mem.table_bytes();
-    if core.csrs.vsatp >> 60 == 0 {
+    if core.csrs.vsatp >> ROOT_MODE_PLACE == BARE {
         cache.held_place(mem, regs.hgatp, reference.address, reference.access)
     } else {
         reach.held_place(

@@ -13,7 +13,7 @@ use crate::memory::{Reference, place};
 use gstage_cache::Cache;
 use hart::Core;
 use host_mem::HostMem;
-use processor::{Access, HRegs, PAGE_BYTES};
+use processor::{Access, BARE, HRegs, PAGE_BYTES, ROOT_MODE_PLACE};
 use reach::Reach;
 
 /// A page of virtual addresses, and the host place of its first byte, from where its instructions are fetched.
@@ -41,7 +41,7 @@ impl Window {
         ensures bare { IsBare core.now.csrs.vsatp → result ≡ self }
         ensures paged { (IsBare core.now.csrs.vsatp → ⊥) → result ≡ record { page = 18446744073709551615; host = 0 } }
     {
-        if core.csrs.vsatp >> 60 == 0 {
+        if core.csrs.vsatp >> ROOT_MODE_PLACE == BARE {
             self
         } else {
             Window::none()

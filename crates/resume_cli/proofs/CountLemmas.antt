@@ -2,6 +2,7 @@
 use Rattle.std.proofs.Common.{◌≡◌, ℕ, ◌^◌, ◌≤◌, true, arith}
 use Rattle.std.specs.Prelude.{nat_le}
 use Rattle.std.proofs.lemmas.Bool.Decides.{nat_tests}
+use Rattle.sv_types.specs.Limits.{most_events}
 use Rattle.sv_types.specs.declared.event.Counts.{Counts}
 use Rattle.reference.specs.Counting.{CountsAtMost}
 use Rattle.snapshot_form.specs.DeviceForms.{devices}
@@ -55,14 +56,14 @@ counts_are events c h =
     }
 
 -- no count of a snapshot is above the most events
-pub counted : (s : Contents) → snapshot.has s ≡ true → CountsAtMost (2 ^ 32) s.counts
+pub counted : (s : Contents) → snapshot.has s ≡ true → CountsAtMost most_events s.counts
 unfolding snapshot header body pages gate devices journal
 counted s h =
     let h0 = whole_header s in
     let b = whole_body s in
     let head = first_true (header.has h0) ((body h0).has b) h in
     let events = first_true (events_made.has h0.events) _ (second_true (beginning.has magic) _ head) in
-    let few = most_is h0.events (2 ^ 32) (second_true (is_word h0.events) (nat_le h0.events (2 ^ 32)) events) in
+    let few = most_is h0.events most_events (second_true (is_word h0.events) (nat_le h0.events most_events) events) in
     let whole = second_true (header.has h0) ((body h0).has b) h in
     let behind = second_true ((harts h0.ram_pages h0.harts).has b.0) _ whole in
     let after_pages = second_true ((pages h0.ram_pages).has b.1.0) _ behind in

@@ -1,6 +1,7 @@
 -- The stages of the plan of `resume`.
-use Rattle.std.proofs.Common.{◌≡◌, ◌^◌, ◌≤◌, ℕ, List, true, refl, sym, ap, subst, inl, inr, Option, Some, None, Result, Ok, Err}
+use Rattle.std.proofs.Common.{◌≡◌, ◌≤◌, ℕ, List, true, refl, sym, ap, subst, inl, inr, Option, Some, None, Result, Ok, Err}
 use Rattle.std.specs.Option.{option_copied}
+use Rattle.sv_types.specs.Limits.{most_events}
 use Rattle.sv_types.specs.Policies.{Rules}
 use Rattle.sv_types.specs.Schedule.{first_events}
 use Rattle.sv_types.specs.declared.event.Event.{Event}
@@ -90,16 +91,16 @@ resumed_stop rules s events save Memory it =
       | Some why ↦ tt
     ]
 
-runnable : (rules : Rules) (s : Contents) (booted : Booted) → snapshot.has s ≡ true → booted.events ≤ 2 ^ 32 → IsMachine rules s (Ok booted.machine) → IsRunnable booted
+runnable : (rules : Rules) (s : Contents) (booted : Booted) → snapshot.has s ≡ true → booted.events ≤ most_events → IsMachine rules s (Ok booted.machine) → IsRunnable booted
 unfolding resumed_state
 runnable rules s booted has few it = record {
   events = few;
   state = record { state = _; stands = it.1.stands };
-  counts = subst (λ (j : Journal). CountsAtMost (2 ^ 32) j.counts) (sym it.2) (counted s has);
+  counts = subst (λ (j : Journal). CountsAtMost most_events j.counts) (sym it.2) (counted s has);
   console = ap (λ (j : Journal). j.printed) it.2;
 }
 
-pub resumed_ready : (rules : Rules) (s : Contents) (events : List Event) (booted : Booted) → snapshot.has s ≡ true → booted.events ≤ 2 ^ 32 → IsMachine rules s (Ok booted.machine) →
+pub resumed_ready : (rules : Rules) (s : Contents) (events : List Event) (booted : Booted) → snapshot.has s ≡ true → booted.events ≤ most_events → IsMachine rules s (Ok booted.machine) →
     first_events booted.events booted.script ≡ events → IsResumed (resumed_due rules s events (option_copied booted.save) (resume_refusal rules s)) (Ok booted)
 resumed_ready rules s events booted has few it left =
     subst (λ (o : Option ResumeRefusal). IsResumed (resumed_due rules s events (option_copied booted.save) o) (Ok booted)) (sym it.0)

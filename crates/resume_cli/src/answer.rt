@@ -1,6 +1,7 @@
 // The answer to the words of `resume`.
 ghost use Rattle.std.specs.Prelude.{◌≡◌, ◌<◌, ◌≤◌, ◌-◌, ◌^◌, ◌⊎◌, ℕ, List, map, string_bytes, false, IsTrue, None};
 ghost use Rattle.std.specs.Result.{is_ok};
+ghost use Rattle.sv_types.specs.Limits.{most_events};
 ghost use Rattle.outside.specs.Outside.{MayWrite};
 ghost use Rattle.secvisor_cli.specs.Answers.{outside, Headline, Performs};
 ghost use Rattle.secvisor_cli.specs.Reading.{MayFollow, IsNamed, SavesUnder};
@@ -92,7 +93,7 @@ fn answer_resume<R: Threads + Sync, F: Files, O: Sink>(
     bench: &mut Bench,
 ) -> Result<Status, Trouble>
     requires permitted { MayFollow (words_plan (resume_value resume.now)) (F.state files.old) }
-    requires events { resume.now.events ≤ 2 ^ 32 }
+    requires events { resume.now.events ≤ most_events }
     requires sink { MayWrite (O.state out.old) }
     requires reads { (F.state files.old).read_faults < 2 ^ 64 - 1 }
     requires saves { (F.state files.old).save_faults < 2 ^ 64 - 1 }

@@ -1,5 +1,6 @@
 // What is ready of `resume`.
 ghost use Rattle.std.specs.Prelude.{◌≡◌, ◌<◌, ◌≤◌, ◌-◌, ◌^◌, true, IsTrue};
+ghost use Rattle.sv_types.specs.Limits.{most_events};
 ghost use Rattle.sv_types.specs.Policies.{rules_of, rules_within};
 ghost use Rattle.secvisor_cli.specs.Reading.{MayFollow};
 ghost use Rattle.resumption.specs.Judgements.{resume_refusal};
@@ -29,7 +30,7 @@ pub fn prepare_resume<'a, R: Threads + Sync, F: Files>(
 ) -> Result<Booted<'a>, Stop>
     requires permitted { MayFollow (words_plan (resume_value asked.now)) (F.state files.old) }
     requires reads { (F.state files.old).read_faults < 2 ^ 64 - 1 }
-    requires events { asked.now.events ≤ 2 ^ 32 }
+    requires events { asked.now.events ≤ most_events }
     ensures { Resumes (words_plan (resume_value asked.now)) (F.state files.old) (F.state files.new) result }
 {
     let snapshot = read_snapshot(alloc, asked.saved, files)?;
@@ -49,7 +50,7 @@ fn go_on<'a, R: Threads + Sync>(
 ) -> Result<Booted<'a>, Stop>
     requires within { IsTrue (rules_within (rules_of policy)) }
     requires form { form.snapshot.has (form.contents snapshot) ≡ true }
-    requires events { asked.now.events ≤ 2 ^ 32 }
+    requires events { asked.now.events ≤ most_events }
     ensures { IsResumed (resumed_due (rules_of policy) (form.contents snapshot)
         (events_behind snapshot.events (resume_value asked.now).events script) (resume_value asked.now).save
         (resume_refusal (rules_of policy) (form.contents snapshot))) result }

@@ -7,8 +7,9 @@ use Rattle.std.proofs.lemmas.Bool.Decides.{nat_tests}
 use Rattle.processor.specs.Bits.{flag}
 use Rattle.processor.specs.Bytes.{page_size, ram_base, ram_place}
 use Rattle.processor.specs.GuestView.{with_guest}
-use Rattle.processor.specs.HypervisorRegisters.{HypervisorRegisters, IsLegal, registers_at_boot, virtual_software_bit}
-use Rattle.processor.specs.Registers.{IsLegalSupervisor}
+use Rattle.processor.specs.HypervisorRegisters.{HypervisorRegisters, IsLegal, registers_at_boot, at_hypervisor_places, virtual_software_bit}
+use Rattle.processor.specs.Registers.{IsLegalSupervisor, software_bit}
+use Rattle.processor.specs.Requests.{reserved_bytes}
 use Rattle.processor.specs.declared.mode.Mode.{Mode}
 use Rattle.processor.specs.declared.mode.Mode.TheVariants.{Kernel, User}
 use Rattle.sv_types.specs.Policies.{Rules, rules_within, bound_within, bound_fits, all_bound}
@@ -38,10 +39,10 @@ use Rattle.resumed_parts.specs.Seating.{CanAllSit, CanSit, IsEntered, IsReservab
 -- ---- values of a hart
 
 -- the software interrupt stands two places above the flag
-software_by : (sip : ℕ) (b : Bool) → (sip == 0) ≡ b → (sip == 0 || sip == 2) ≡ true → 2 * sip ≡ virtual_software_bit * flag (sip == 2)
+software_by : (sip : ℕ) (b : Bool) → (sip == 0) ≡ b → (sip == 0 || sip == software_bit) ≡ true → at_hypervisor_places sip ≡ virtual_software_bit * flag (sip == software_bit)
 software_by sip true at range = let none : sip ≡ 0 = eqb-true sip 0 at in rw none refl
 software_by sip false at range =
-    let two : sip ≡ 2 = eqb-true sip 2 (found_later (sip == 0) (sip == 2) range at) in rw two refl
+    let set : sip ≡ software_bit = eqb-true sip software_bit (found_later (sip == 0) (sip == software_bit) range at) in rw set refl
 
 abbrev InRam : (size : ℕ) → ℕ → Type 0
 InRam size address = (ram_base ≤ address) × (ram_place address < size)
@@ -52,7 +53,7 @@ reserved_by pages None h = tt
 reserved_by pages (Some address) h =
     let other = not-true (address == 0) (first_true (not (address == 0)) _ h) in
     let range = second_true (is_word address) (is_reservable pages address) (second_true (not (address == 0)) _ h) in
-    let both = found_later (address == 0) (is_ram_address pages address && address % 8 == 0) range other in
+    let both = found_later (address == 0) (is_ram_address pages address && address % reserved_bytes == 0) range other in
     let inside = first_true (is_ram_address pages address) _ both in
     let low : ram_base ≤ address = most_is ram_base address (first_true (nat_le ram_base address) _ inside) in
     let high : address < ram_base + page_size * pages = below_is address (ram_base + page_size * pages) (second_true (nat_le ram_base address) _ inside) in
@@ -77,7 +78,7 @@ pub record HartRanges (pages : ℕ) (h : SavedHart) : Type 0 where
   pub reservation : IfSome h.reservation (InRam (page_size * pages))
   pub user : h.mode ≡ User → h.entry ≡ None
 
-csrs_legal : (h : SavedHart) → IsLegalSupervisor (resumed_hart h).supervisor → (h.sip == 0 || h.sip == 2) ≡ true → IsLegal (csrs_resumed h)
+csrs_legal : (h : SavedHart) → IsLegalSupervisor (resumed_hart h).supervisor → (h.sip == 0 || h.sip == software_bit) ≡ true → IsLegal (csrs_resumed h)
 csrs_legal h supervisor sip =
     let shown : IsLegal (with_guest registers_at_boot (resumed_hart h).supervisor) = shown_is_legal registers_at_boot (resumed_hart h).supervisor boot_is_legal supervisor in
     subst (λ (n : ℕ). IsLegal (record (csrs_resumed h) { hvip = n })) (sym (software_by h.sip (h.sip == 0) refl sip)) shown

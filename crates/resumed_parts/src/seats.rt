@@ -10,7 +10,7 @@ ghost use Rattle.hart_answers.specs.Hosts.{host_at, hosts_of};
 ghost use Rattle.resumed_start.specs.Resuming.{csrs_resumed, host_resumed};
 ghost use Rattle.resumed_parts.specs.Seating.{CanAllSit, CanSit, IsEntered, IsReservable, MayBeIn, view_in};
 
-use csr_file::Csrs;
+use csr_file::{Csrs, at_hypervisor_places};
 use hart::{Core, Hart};
 use hart_answers::Seat;
 use page_guard::{Entries, Guard, Side};
@@ -73,8 +73,8 @@ fn csrs_of(saved: &SavedHart) -> Csrs
         vstval: saved.stval,
         vsatp: saved.satp,
         scounteren: saved.scounteren,
-        hie: 2 * saved.sie,
-        hvip: 2 * saved.sip,
+        hie: at_hypervisor_places(saved.sie),
+        hvip: at_hypervisor_places(saved.sip),
         sepc: 0,
         scause: 0,
         stval: 0,

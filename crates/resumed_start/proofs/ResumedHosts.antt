@@ -3,7 +3,8 @@ use Rattle.std.proofs.Common.{◌≡◌, ℕ, zero, suc, ◌*◌, List, [], ◌�
 use Rattle.std.specs.Prelude.{◌==◌}
 use Rattle.std.proofs.lemmas.Bool.{eqb-true}
 use Rattle.processor.specs.Bits.{flag as bit_of}
-use Rattle.processor.specs.HypervisorRegisters.{registers_at_boot, virtual_software_bit}
+use Rattle.processor.specs.HypervisorRegisters.{registers_at_boot, at_hypervisor_places, virtual_software_bit}
+use Rattle.processor.specs.Registers.{software_bit}
 use Rattle.machine_model.specs.Machine.{HostHart}
 use Rattle.machine_model.specs.StandsFor.{host_hart, host_harts}
 use Rattle.saved_machine.specs.declared.harts.SavedHart.{SavedHart}
@@ -16,13 +17,14 @@ use Rattle.resume_laws.proofs.ResumedHarts.{supervisor_of}
 
 -- ---- the software interrupt
 
-hvip_by : (n : ℕ) (none some : Bool) → (n == 0) ≡ none → (n == 2) ≡ some → (none || some) ≡ true → 2 * n ≡ virtual_software_bit * bit_of (n == 2)
-hvip_by n true some z t e = subst (λ (k : ℕ). 2 * k ≡ virtual_software_bit * bit_of (k == 2)) (sym (eqb-true n 0 z)) refl
-hvip_by n false true z t e = subst (λ (k : ℕ). 2 * k ≡ virtual_software_bit * bit_of (k == 2)) (sym (eqb-true n 2 t)) refl
+hvip_by : (n : ℕ) (none some : Bool) → (n == 0) ≡ none → (n == software_bit) ≡ some → (none || some) ≡ true
+    → at_hypervisor_places n ≡ virtual_software_bit * bit_of (n == software_bit)
+hvip_by n true some z t e = subst (λ (k : ℕ). at_hypervisor_places k ≡ virtual_software_bit * bit_of (k == software_bit)) (sym (eqb-true n 0 z)) refl
+hvip_by n false true z t e = subst (λ (k : ℕ). at_hypervisor_places k ≡ virtual_software_bit * bit_of (k == software_bit)) (sym (eqb-true n software_bit t)) refl
 hvip_by n false false z t e = absurd cc
 
-hvip_is : (n : ℕ) → (n == 0 || n == 2) ≡ true → 2 * n ≡ virtual_software_bit * bit_of (n == 2)
-hvip_is n e = hvip_by n (n == 0) (n == 2) refl refl e
+hvip_is : (n : ℕ) → (n == 0 || n == software_bit) ≡ true → at_hypervisor_places n ≡ virtual_software_bit * bit_of (n == software_bit)
+hvip_is n e = hvip_by n (n == 0) (n == software_bit) refl refl e
 
 -- ---- one hart
 

@@ -1,5 +1,5 @@
 -- From what is ready to what is answered, and from the answer with its trouble to the status.
-use Rattle.std.proofs.Common.{◌≡◌, ◌≢◌, ℕ, ◌^◌, ◌≤◌, ◌<◌, List, [], ◌∷◌, string_bytes, true, false, IsTrue, refl, sym, ◌∙◌, ap, subst, arith, inl, inr, ◌⊎◌, Option, Some, None, Result, Ok, Err, IsErrOf, if◌then◌else◌}
+use Rattle.std.proofs.Common.{◌≡◌, ◌≢◌, ℕ, ◌≤◌, ◌<◌, List, [], ◌∷◌, string_bytes, true, false, IsTrue, refl, sym, ◌∙◌, ap, subst, arith, inl, inr, ◌⊎◌, Option, Some, None, Result, Ok, Err, IsErrOf, if◌then◌else◌}
 use Rattle.std.specs.Option.{option_copied}
 use Rattle.std.specs.Result.{is_ok}
 use Rattle.std.specs.Str.{bytes_eq}
@@ -71,7 +71,7 @@ runs_fresh : (ready : Booted) → IsFresh ready → IsRunnable ready
 runs_fresh ready fresh = record {
   events = fresh.events;
   state = fresh.state;
-  counts = counts_within 0 (2 ^ 32) ready.machine.journal.counts (omega arith) fresh.counts;
+  counts = counts_within 0 most_events ready.machine.journal.counts (omega arith) fresh.counts;
   console = fresh.console;
 }
 

@@ -1,7 +1,8 @@
 -- What is made ready of a command, before anything is written.
-use Rattle.std.specs.Prelude.{◌≡◌, ◌≤◌, ◌^◌, ℕ, List, [], Option, Some, None, Result, Ok, Err, IsErrOf, Vec, map, string_bytes}
+use Rattle.std.specs.Prelude.{◌≡◌, ◌≤◌, ℕ, List, [], Option, Some, None, Result, Ok, Err, IsErrOf, Vec, map, string_bytes}
 use Rattle.std.specs.Option.{option_copied}
 use Rattle.std.specs.declared.alloc.Global.{Global}
+use Rattle.sv_types.specs.Limits.{most_events}
 use Rattle.reference.specs.Counting.{CountsAtMost}
 use Rattle.sv_types.specs.declared.event.Event.{Event}
 use Rattle.reference.specs.States.{State}
@@ -72,16 +73,16 @@ stop_of_binding binding.Memory = Memory
 
 -- a machine that has made no event, and the events that it is to make
 pub record IsFresh (ready : Booted) : Type 0 where
-  pub events : ready.events ≤ 2 ^ 32
+  pub events : ready.events ≤ most_events
   pub state : HasState ready.machine
   pub counts : CountsAtMost 0 ready.machine.journal.counts
   pub console : ready.machine.journal.printed ≡ []
 
 -- a machine of which nothing is printed yet and no count is above the most events, and the events that it is to make
 pub record IsRunnable (ready : Booted) : Type 0 where
-  pub events : ready.events ≤ 2 ^ 32
+  pub events : ready.events ≤ most_events
   pub state : HasState ready.machine
-  pub counts : CountsAtMost (2 ^ 32) ready.machine.journal.counts
+  pub counts : CountsAtMost most_events ready.machine.journal.counts
   pub console : ready.machine.journal.printed ≡ []
 
 -- the events are drawn behind a number, for as many harts as the machine has

@@ -2,6 +2,7 @@
 ghost use Rattle.std.specs.Prelude.{◌≡◌, ◌<◌, ◌≤◌, ◌-◌, ◌^◌, ◌⊎◌, ℕ, List, Option, [], ◌∷◌, map, string_bytes, Ok, IsTrue, OnOk, IsErrOf, false};
 ghost use Rattle.std.specs.Option.{option_copied};
 ghost use Rattle.std.specs.Result.{is_ok};
+ghost use Rattle.sv_types.specs.Limits.{most_events};
 ghost use Rattle.sv_types.specs.Output.{run_status};
 ghost use Rattle.reference.specs.Counting.{CountsAtMost};
 ghost use Rattle.reference.specs.Disk.{disk_bytes};
@@ -253,9 +254,9 @@ fn run_and_save<F: Files, O: Sink>(
 ) -> Result<Status, Trouble>
     requires sink { MayWrite (O.state out.old) }
     requires saves { (F.state files.old).save_faults < 2 ^ 64 - 1 }
-    requires events { events ≤ 2 ^ 32 }
+    requires events { events ≤ most_events }
     requires state { HasState machine.old }
-    requires counts { CountsAtMost (2 ^ 32) machine.old.journal.counts }
+    requires counts { CountsAtMost most_events machine.old.journal.counts }
     requires console { machine.old.journal.printed ≡ [] }
     requires permitted { MaySaveRun machine.old (first_events events script) (option_copied save) (F.state files.old) }
     ensures { (start : State) → IsNew machine.old start → RunsAndSaves start (first_events events script) (option_copied save.entry) machine.new
@@ -275,9 +276,9 @@ fn run_and_report<O: Sink>(
     out: &mut O,
 ) -> Result<Status, Trouble>
     requires sink { MayWrite (O.state out.old) }
-    requires events { events ≤ 2 ^ 32 }
+    requires events { events ≤ most_events }
     requires state { HasState machine.old }
-    requires counts { CountsAtMost (2 ^ 32) machine.old.journal.counts }
+    requires counts { CountsAtMost most_events machine.old.journal.counts }
     requires console { machine.old.journal.printed ≡ [] }
     ensures writes { (start : State) → IsNew machine.old start → let last = run start (first_events events script) in
         Writes (run_status last.journal.verdict) (output last) (O.state out.old) (O.state out.new) result }

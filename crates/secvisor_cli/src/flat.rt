@@ -1,6 +1,7 @@
 // The command `flat`.
 ghost use Rattle.std.specs.Prelude.{◌≡◌, ◌<◌, ◌≤◌, ◌-◌, ◌^◌, ◌%◌, IsTrue, length};
 ghost use Rattle.processor.specs.Bytes.{page_size};
+ghost use Rattle.sv_types.specs.Limits.{most_events};
 ghost use Rattle.sv_types.specs.Boot.{most_flat_bytes};
 ghost use Rattle.secvisor_cli.specs.Plans.{flat_plan, flat_events, is_whole_pages, measure_judged};
 ghost use Rattle.secvisor_cli.specs.Reading.{MayFollow};
@@ -31,7 +32,7 @@ pub fn prepare_flat<R: Threads + Sync, F: Files>(
 ) -> Result<Ready<'static>, Stop>
     requires permitted { MayFollow (flat_plan flat.now.file.now flat.now.wanted flat.now.events) (F.state files.old) }
     requires reads { (F.state files.old).read_faults < 2 ^ 64 - 1 }
-    requires events { flat.now.events ≤ 2 ^ 32 }
+    requires events { flat.now.events ≤ most_events }
     ensures { Prepares (flat_plan flat.now.file.now flat.now.wanted flat.now.events) (F.state files.old) (F.state files.new) result }
 {
     let bytes = read_part(alloc, files, Part::Flat, flat.file, MOST_FLAT_BYTES)?;
@@ -60,7 +61,7 @@ fn boot<R: Threads + Sync>(
 ) -> Result<Ready<'static>, Stop>
     requires whole { length pages.now % page_size ≡ 0 }
     requires size { length pages.now ≤ most_flat_bytes }
-    requires events { events ≤ 2 ^ 32 }
+    requires events { events ≤ most_events }
     ensures { IsReady (measure_judged pages.now wanted (flat_events events)) result }
 {
     let machine = Machine::flat(rt, alloc, pages, wanted)?;

@@ -1,6 +1,7 @@
 // The commands `run` and `vrun`.
 ghost use Rattle.std.specs.Prelude.{◌≡◌, ◌<◌, ◌≤◌, ◌-◌, ◌^◌, ◌%◌, ◌==◌, ℕ, List, IfOk, OnOk, IfErr, IsTrue, length, true};
 ghost use Rattle.std.specs.Option.{option_copied};
+ghost use Rattle.sv_types.specs.Limits.{most_events};
 ghost use Rattle.reference.specs.BlockDisk.{sector_size};
 ghost use Rattle.sv_types.specs.Measure.{measure};
 ghost use Rattle.sv_types.specs.Policies.{rules_of, rules_within};
@@ -52,7 +53,7 @@ pub fn prepare_run<'a, R: Threads + Sync, F: Files>(
 ) -> Result<Ready<'a>, Stop>
     requires permitted { MayFollow (run_plan (run_value asked.now)) (F.state files.old) }
     requires reads { (F.state files.old).read_faults < 2 ^ 64 - 1 }
-    requires events { asked.now.events ≤ 2 ^ 32 }
+    requires events { asked.now.events ≤ most_events }
     ensures prepares { Prepares (run_plan (run_value asked.now)) (F.state files.old) (F.state files.new) result }
     ensures draws { (number : ℕ) → source_value asked.now.script ≡ Auto number → IfOk result (DrawsFrom number) }
 {
@@ -72,7 +73,7 @@ fn boot_file<'a, R: Threads + Sync, F: Files>(
 ) -> Result<Ready<'a>, Stop>
     requires permitted { MayFollow (kernel_part (rules_of policy) file.now (boot_plan (run_value asked.now) (rules_of policy) file.now)) (F.state files.old) }
     requires reads { (F.state files.old).read_faults < 2 ^ 64 - 1 }
-    requires events { asked.now.events ≤ 2 ^ 32 }
+    requires events { asked.now.events ≤ most_events }
     requires within { IsTrue (rules_within (rules_of policy)) }
     ensures prepares { Prepares (kernel_part (rules_of policy) file.now (boot_plan (run_value asked.now) (rules_of policy) file.now)) (F.state files.old) (F.state files.new) result }
     ensures draws { (number : ℕ) → source_value asked.now.script ≡ Auto number → IfOk result (DrawsFrom number) }

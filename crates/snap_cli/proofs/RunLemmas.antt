@@ -1,6 +1,7 @@
 -- The run of `snap`: the console's bytes and nothing else.
 use Rattle.std.proofs.Common.{◌≡◌, ℕ, zero, suc, ◌<◌, ◌≤◌, ◌^◌, List, [], ◌∷◌, ◌++◌, length, true, refl, sym, ◌∙◌, ap, subst, arith, append_assoc, Option, Some, None, Result, Ok, Err, OnOk}
 use Rattle.std.proofs.lemmas.List.{append-nil}
+use Rattle.sv_types.specs.Limits.{most_events}
 use Rattle.sv_types.specs.Schedule.{Schedule, first_events, next_event, after_event, begun_with}
 use Rattle.sv_types.specs.declared.event.Counts.{Counts}
 use Rattle.sv_types.specs.declared.event.Event.{Event}
@@ -213,7 +214,7 @@ unfolding first_events
 first_few zero script = omega arith
 first_few (suc n) script = begun_few (next_event script) (first_events n (after_event script)) n (first_few n (after_event script))
 
-pub few_counted : (first m : Machine) (start : State) (n : ℕ) (script : Schedule) → IsNew first start → CountsAtMost 0 first.journal.counts → n ≤ 2 ^ 32 → StandsFor m (run start (first_events n script)) →
+pub few_counted : (first m : Machine) (start : State) (n : ℕ) (script : Schedule) → IsNew first start → CountsAtMost 0 first.journal.counts → n ≤ most_events → StandsFor m (run start (first_events n script)) →
     events_counted m.journal.counts < 2 ^ 64
 few_counted first m start n script is_new none few stands =
     let all = counts_drawn first m start (first_events n script) is_new none stands in

@@ -1,6 +1,7 @@
 // The answer to the words of `snap`.
 ghost use Rattle.std.specs.Prelude.{◌≡◌, ◌≢◌, ◌<◌, ◌≤◌, ◌-◌, ◌^◌, ◌⊎◌, ℕ, List, [], map, string_bytes, false, IsTrue, None};
 ghost use Rattle.std.specs.Result.{is_ok};
+ghost use Rattle.sv_types.specs.Limits.{most_events};
 ghost use Rattle.command_words.specs.declared.command.DiskKind.{DiskKind as Kind};
 ghost use Rattle.reference.specs.Counting.{CountsAtMost};
 ghost use Rattle.reference.specs.Run.{run};
@@ -107,7 +108,7 @@ fn answer_snap<R: Threads + Sync, F: Files, O: Sink>(
     requires permitted { MayFollow (run_plan (run_value snap.now.run)) (F.state files.old) }
     requires snapshot { MaySaveUnder snap.now.out.now (F.state files.old) }
     requires kind { snap.now.run.kind ≡ Kind.Block }
-    requires events { snap.now.run.events ≤ 2 ^ 32 }
+    requires events { snap.now.run.events ≤ most_events }
     requires sink { MayWrite (O.state out.old) }
     requires reads { (F.state files.old).read_faults < 2 ^ 64 - 1 }
     requires saves { (F.state files.old).save_faults < 2 ^ 64 - 1 }
@@ -164,7 +165,7 @@ fn run_and_save<F: Files, O: Sink>(
 ) -> Result<Status, Trouble>
     requires sink { MayWrite (O.state out.old) }
     requires saves { (F.state files.old).save_faults < 2 ^ 64 - 1 }
-    requires events { events ≤ 2 ^ 32 }
+    requires events { events ≤ most_events }
     requires state { HasState machine.old }
     requires counts { CountsAtMost 0 machine.old.journal.counts }
     requires console { machine.old.journal.printed ≡ [] }
@@ -187,7 +188,7 @@ fn run_and_print<O: Sink>(
     out: &mut O,
 ) -> Result<Status, Trouble>
     requires sink { MayWrite (O.state out.old) }
-    requires events { events ≤ 2 ^ 32 }
+    requires events { events ≤ most_events }
     requires state { HasState machine.old }
     requires counts { CountsAtMost 0 machine.old.journal.counts }
     requires console { machine.old.journal.printed ≡ [] }

@@ -10,7 +10,7 @@ use crate::read_error::ReadError;
 use crate::values::{in_range, read_byte, read_number};
 use snapshot_form::{SnapRefusal, TextPage};
 use std::alloc::Global;
-use sv_types::Protection;
+use sv_types::{DIGEST_BYTES, Protection};
 
 /// What pages are, and the kernel's text.
 #[derive(Drop)]
@@ -104,7 +104,7 @@ fn read_text_page<'a>(
 {
     let (page, rest) = read_number(bytes)?;
     in_range(page < u64::from(ram_pages) && is_above(last_page(before), page))?;
-    let Some((digest, rest)) = rest.split_first_chunk::<32>() else {
+    let Some((digest, rest)) = rest.split_first_chunk::<DIGEST_BYTES>() else {
         return Err(SnapRefusal::OtherLength);
     };
     Ok((

@@ -11,6 +11,7 @@ use csr_file::{
     INTERRUPT_BITS, MISALIGNED, SATP_BITS, SOFTWARE_INTERRUPT, STATUS_BITS, TIME_ENABLE,
     TVEC_RESERVED,
 };
+use processor::{BARE, ROOT_MODE_PLACE, SV39};
 use snapshot_form::SnapRefusal;
 
 /// sepc, scause, stval, sip and satp.
@@ -145,8 +146,8 @@ fn read_satp(bytes: &[u8]) -> Result<(u64, &[u8]), SnapRefusal>
 fn is_root(n: u64) -> bool
     ensures { result ≡ (legal_satp 0 n == n) }
 {
-    let mode = n >> 60;
-    if mode == 0 || mode == 8 {
+    let mode = n >> ROOT_MODE_PLACE;
+    if mode == BARE || mode == SV39 {
         n & SATP_BITS == n
     } else {
         n == 0

@@ -1,5 +1,6 @@
 -- What an exit of a hart may be answered. This project's own.
 use Rattle.std.specs.Prelude.{◌≡◌, ◌<◌, true}
+use Rattle.processor.specs.IntegerRegisters.{register_count}
 use Rattle.processor.specs.declared.mode.Mode.{Mode}
 use Rattle.processor.specs.declared.mode.Mode.TheVariants.{Kernel}
 use Rattle.machine_model.specs.declared.exits.ExitAnswer.{ExitAnswer}
@@ -8,5 +9,5 @@ use Rattle.machine_model.specs.declared.exits.ExitAnswer.TheVariants.{Returns, L
 -- only the kernel returns, and a load names a register
 abbrev pub IsPossible : Mode → ExitAnswer → Type 0
 IsPossible mode Returns = mode ≡ Kernel
-IsPossible mode (LoadsDevice rd address width signed gpa) = rd < 32
+IsPossible mode (LoadsDevice rd address width signed gpa) = rd < register_count
 IsPossible mode _ = true ≡ true

@@ -11,10 +11,7 @@ use crate::addresses::{gpa_in_ram, is_implicit};
 use hart::Hart;
 use host_mem::HostMem;
 use machine_model::ExitAnswer;
-use processor::{Cause, Exit, ExitCause, Mode};
-
-/// The word of SRET.
-const SRET: u64 = 0x1020_0073;
+use processor::{Cause, Exit, ExitCause, Mode, SRET};
 
 /// The guest has an exception, with the value that `stval` takes.
 pub(crate) fn raises(cause: Cause, tval: u64) -> ExitAnswer
@@ -84,11 +81,11 @@ pub(crate) fn entry_answer(mem: &HostMem, hart: &Hart, va: u64, exit: &Exit) -> 
 }
 
 // The low 32 bits of a word are those of SRET.
-#[tactic(auto, using(crate::proofs::Sret::sret_word))]
+#[tactic(auto, using(crate::proofs::Sret::sret_tested))]
 fn is_sret(word: u64) -> bool
     ensures { result ≡ is_sret_word word }
 {
-    word & 0xFFFF_FFFF == SRET
+    word & 0xFFFF_FFFF == u64::from(SRET)
 }
 
 /// SRET in kernel mode, which SecVisor carries out, or an instruction that is illegal to the guest.

@@ -9,7 +9,7 @@ ghost use Rattle.virtio_blk.specs.Held.{device_of, state_at_reset};
 
 use crate::Virtio;
 use processor::has_bit;
-use sv_types::{SECTOR_BYTES, VirtioRegister, VirtioState};
+use sv_types::{IMPLEMENTATION, SECTOR_BYTES, VirtioRegister, VirtioState};
 
 /// The most places of the queue.
 const MOST_PLACES: u64 = 64;
@@ -96,7 +96,7 @@ impl Virtio {
         match register {
             VirtioRegister::MagicValue => 0x7472_6976,
             VirtioRegister::Version | VirtioRegister::DeviceId => 2,
-            VirtioRegister::VendorId => 0x0053_4543,
+            VirtioRegister::VendorId => IMPLEMENTATION,
             VirtioRegister::DeviceFeatures => u64::from(self.state.device_select == 1),
             VirtioRegister::QueueSizeMax => { if self.is_selected() { MOST_PLACES } else { 0 } }
             VirtioRegister::QueueReady => u64::from(self.is_selected() && self.state.ready),

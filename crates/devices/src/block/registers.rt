@@ -3,16 +3,7 @@ ghost use Rattle.std.specs.Prelude.{◌≡◌, IfSome, option_map};
 ghost use Rattle.reference.specs.BlockDisk.{block_register};
 ghost use Rattle.devices.specs.BlockRegisters.{register_named, width_of};
 
-/// The offsets of the registers.
-const SECTOR: u64 = 0x00;
-
-const ADDRESS: u64 = 0x08;
-
-const COUNT: u64 = 0x10;
-
-const COMMAND: u64 = 0x14;
-
-const STATUS: u64 = 0x18;
+use sv_types::{BLOCK_ADDRESS, BLOCK_COMMAND, BLOCK_COUNT, BLOCK_SECTOR, BLOCK_STATUS};
 
 /// A register of the device.
 #[derive(Clone, Copy, Debug, PartialEq, Eq, Drop)]
@@ -35,15 +26,15 @@ pub fn register_at(offset: u64, width: u8) -> Option<Register>
     ensures register { option_map register_named result ≡ block_register offset width }
     ensures width { IfSome result (λ r. width ≡ width_of r) }
 {
-    if offset == SECTOR && width == 8 {
+    if offset == BLOCK_SECTOR && width == 8 {
         Some(Register::Sector)
-    } else if offset == ADDRESS && width == 8 {
+    } else if offset == BLOCK_ADDRESS && width == 8 {
         Some(Register::Address)
-    } else if offset == COUNT && width == 4 {
+    } else if offset == BLOCK_COUNT && width == 4 {
         Some(Register::Count)
-    } else if offset == COMMAND && width == 4 {
+    } else if offset == BLOCK_COMMAND && width == 4 {
         Some(Register::Command)
-    } else if offset == STATUS && width == 4 {
+    } else if offset == BLOCK_STATUS && width == 4 {
         Some(Register::Status)
     } else {
         None

@@ -5,6 +5,7 @@ use Rattle.outside.specs.Outside.{SinkState}
 use Rattle.outside.proofs.SinkLemmas.{on_err}
 use Rattle.sv_types.specs.Schedule.{first_events}
 use Rattle.script.specs.declared.event_run.EventRun.{EventRun}
+use Rattle.machine.specs.Limits.{most_counts}
 use Rattle.machine.proofs.Repeated.{counts_within}
 use Rattle.console_run.specs.Console.{is_due, RunBrokeFromStart}
 use Rattle.console_run.specs.Drawing.{count_left, events_left, IsAtHand}
@@ -41,7 +42,7 @@ repeat-made-requires-clause-counts g c =
     let hand : IsAtHand g.S.EventSource.schedule c.events.drawing c.draw.new.self c.in-Some.row = c.in-Some.ensures.row in
     let all : c.in-Some.row.count + c.draw.new.self.undrawn ≡ c.events.drawing.row.count + c.events.drawing.undrawn =
     ap (λ (r : EventRun). r.count + c.draw.new.self.undrawn) hand.row_is ∙ hand.count in
-    counts_within (most_events + (c.args.events - count_left c.events.drawing)) (9223372036854775807 - c.in-Some.row.count) c.events.machine.journal.counts
+    counts_within (most_events + (c.args.events - count_left c.events.drawing)) (most_counts - c.in-Some.row.count) c.events.machine.journal.counts
     (omega (arith, all, c.events.invariant.few, c.requires.events))
     c.events.invariant.counts
 

@@ -1,4 +1,5 @@
-use Rattle.std.proofs.Common.{◌≤◌, ◌^◌, ℕ, List, [], ◌∷◌, ◌++◌, refl, sym, ◌∙◌, ap, subst}
+use Rattle.std.proofs.Common.{◌≤◌, ℕ, List, [], ◌∷◌, ◌++◌, refl, sym, ◌∙◌, ap, subst}
+use Rattle.sv_types.specs.Limits.{most_events}
 use Rattle.outside.proofs.SinkLemmas.{on_err}
 use Rattle.live_drive.specs.LiveRuns.{harts_of}
 use Rattle.live_drive.proofs.DrawnEvents.{drawn_same}
@@ -23,7 +24,7 @@ make_key-requires-clause-sink g c = may_write c.keys.invariant.on c.requires.sin
 
 pub make_key-requires-clause-may : goal.make_key-requires-clause-may
 make_key-requires-clause-may g c =
-    let autos : c.keys.live.journal.autos ≤ 2 ^ 32 = subst (λ (n : ℕ). n ≤ 2 ^ 32) (sym c.keys.invariant.autos) c.requires.autos in
+    let autos : c.keys.live.journal.autos ≤ most_events = subst (λ (n : ℕ). n ≤ most_events) (sym c.keys.invariant.autos) c.requires.autos in
     may_step c.keys.live c.keys.invariant.way c.keys.invariant.room autos
 
 pub make_key-requires-clause-places : goal.make_key-requires-clause-places

@@ -1,4 +1,5 @@
-use Rattle.std.proofs.Common.{◌≡◌, ◌^◌, ℕ, List, subst, arith}
+use Rattle.std.proofs.Common.{◌≡◌, ℕ, List, subst, arith}
+use Rattle.sv_types.specs.Limits.{most_events}
 use Rattle.sv_types.specs.Schedule.{first_events}
 use Rattle.sv_types.specs.declared.status.Status.{Status}
 use Rattle.reference.specs.Run.{run}
@@ -46,4 +47,4 @@ returns-clause-stands g c = λ start new.
     (subst (λ (bytes : List ℕ). g.O.Sink.state c.write_all.new.out ≡ after_taking (g.O.Sink.state c.run.new.out) bytes) c.printed.ensures c.in_ok-write_all.ensures.whole)
 
 pub run-requires-clause-counts : goal.run-requires-clause-counts
-run-requires-clause-counts g c = counts_within 0 (2 ^ 32) c.args.machine.now.journal.counts (omega arith) c.requires.counts
+run-requires-clause-counts g c = counts_within 0 most_events c.args.machine.now.journal.counts (omega arith) c.requires.counts

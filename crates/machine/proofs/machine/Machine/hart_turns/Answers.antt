@@ -2,6 +2,7 @@ use Rattle.std.proofs.Common.{◌+◌, ◌-◌, ℕ, arith, subst, sym}
 use Rattle.reference.specs.Counting.{CountsAtMost}
 use Rattle.sv_types.specs.declared.event.Event.TheVariants.{Turn}
 use Rattle.quick_turns.specs.Ends.{turns_of}
+use Rattle.machine.specs.Limits.{most_counts}
 use Rattle.machine.specs.Repeats.{Repeats}
 use Rattle.machine.proofs.Repeated.{counts_more, counts_within, repeats_more}
 use Rattle.machine.proofs.machine.Machine.hart_turns.Goals as goal
@@ -13,9 +14,9 @@ returns-then-made-most-clause-counts c =
 
 pub make-requires-clause-counts : goal.make-requires-clause-counts
 make-requires-clause-counts c =
-    counts_within (9223372036854775807 - c.args.most + turns_of c.row-row.result) 9223372036854775806 c.row-row.new.self.journal.counts
+    counts_within (most_counts - c.args.most + turns_of c.row-row.result) (most_counts - 1) c.row-row.new.self.journal.counts
     (omega (arith, c.if-made-most.false, c.turns-made.ensures, c.row-row.ensures.most, c.requires.few))
-    (c.row-row.ensures.counts (9223372036854775807 - c.args.most) c.requires.counts)
+    (c.row-row.ensures.counts (most_counts - c.args.most) c.requires.counts)
 
 pub returns-clause-chain : goal.returns-clause-chain
 returns-clause-chain c =

@@ -7,6 +7,7 @@ use Rattle.machine.proofs.Behind.{Begins, behind_bounded, behind_counts, ends_ro
 use Rattle.machine.proofs.Ready.{ready_at}
 use Rattle.machine.proofs.Reservations.{leaving_free}
 use Rattle.machine.proofs.Rows.{Rowed}
+use Rattle.machine.specs.Limits.{most_counts}
 use Rattle.machine.specs.Repeats.{IsQuiet, Repeats}
 use Rattle.machine.specs.Rows.{AreFreeWhere, MayRow}
 use Rattle.machine.proofs.machine.Machine.one_row.Goals as goal
@@ -39,9 +40,9 @@ answer_leaving-requires-clause-counts c =
       addresses = c.self.invariant.addresses;
       bounded = record { attempts = c.self.invariant.attempts; printed = c.self.invariant.printed };
     } in
-    let counts : CountsAtMost (9223372036854775807 - c.args.most) c.self.inside.parts.journal.counts =
-    subst (λ (m : Machine). CountsAtMost (9223372036854775807 - c.args.most) m.journal.counts) (sym c.self.view_is) c.requires.counts in
-    let behind : CountsAtMost 9223372036854775807 c.row-row.new.self.journal.counts =
+    let counts : CountsAtMost (most_counts - c.args.most) c.self.inside.parts.journal.counts =
+    subst (λ (m : Machine). CountsAtMost (most_counts - c.args.most) m.journal.counts) (sym c.self.view_is) c.requires.counts in
+    let behind : CountsAtMost most_counts c.row-row.new.self.journal.counts =
     behind_counts c.row-row.result.left c.row-row.result.made c.args.most c.self.inside.parts c.row-row.new.self c.args.which begins c.row-row.ensures.ends c.requires.few
     c.row-row.ensures.most counts in
     may_count c.row-row.new.self behind
@@ -56,9 +57,9 @@ answer_leaving-requires-clause-turns c =
       addresses = c.self.invariant.addresses;
       bounded = record { attempts = c.self.invariant.attempts; printed = c.self.invariant.printed };
     } in
-    let counts : CountsAtMost (9223372036854775807 - c.args.most) c.self.inside.parts.journal.counts =
-    subst (λ (m : Machine). CountsAtMost (9223372036854775807 - c.args.most) m.journal.counts) (sym c.self.view_is) c.requires.counts in
-    let behind : CountsAtMost 9223372036854775807 c.row-row.new.self.journal.counts =
+    let counts : CountsAtMost (most_counts - c.args.most) c.self.inside.parts.journal.counts =
+    subst (λ (m : Machine). CountsAtMost (most_counts - c.args.most) m.journal.counts) (sym c.self.view_is) c.requires.counts in
+    let behind : CountsAtMost most_counts c.row-row.new.self.journal.counts =
     behind_counts c.row-row.result.left c.row-row.result.made c.args.most c.self.inside.parts c.row-row.new.self c.args.which begins c.row-row.ensures.ends c.requires.few
     c.row-row.ensures.most counts in
     let turns = behind.turns in omega (arith, turns)
@@ -73,9 +74,9 @@ answer_leaving-requires-clause-attempts c =
       addresses = c.self.invariant.addresses;
       bounded = record { attempts = c.self.invariant.attempts; printed = c.self.invariant.printed };
     } in
-    let counts : CountsAtMost (9223372036854775807 - c.args.most) c.self.inside.parts.journal.counts =
-    subst (λ (m : Machine). CountsAtMost (9223372036854775807 - c.args.most) m.journal.counts) (sym c.self.view_is) c.requires.counts in
-    let behind : CountsAtMost 9223372036854775807 c.row-row.new.self.journal.counts =
+    let counts : CountsAtMost (most_counts - c.args.most) c.self.inside.parts.journal.counts =
+    subst (λ (m : Machine). CountsAtMost (most_counts - c.args.most) m.journal.counts) (sym c.self.view_is) c.requires.counts in
+    let behind : CountsAtMost most_counts c.row-row.new.self.journal.counts =
     behind_counts c.row-row.result.left c.row-row.result.made c.args.most c.self.inside.parts c.row-row.new.self c.args.which begins c.row-row.ensures.ends c.requires.few
     c.row-row.ensures.most counts in
     let turns = behind.turns in
@@ -93,12 +94,12 @@ invariant_of-self c =
       addresses = c.self.invariant.addresses;
       bounded = record { attempts = c.self.invariant.attempts; printed = c.self.invariant.printed };
     } in
-    let counts : CountsAtMost (9223372036854775807 - c.args.most) c.self.inside.parts.journal.counts =
-    subst (λ (m : Machine). CountsAtMost (9223372036854775807 - c.args.most) m.journal.counts) (sym c.self.view_is) c.requires.counts in
+    let counts : CountsAtMost (most_counts - c.args.most) c.self.inside.parts.journal.counts =
+    subst (λ (m : Machine). CountsAtMost (most_counts - c.args.most) m.journal.counts) (sym c.self.view_is) c.requires.counts in
     let rowed : Rowed (turns_of c.row-row.result) c.self.inside.parts c.args.which c.answer_leaving.new.self =
     ends_rowed c.row-row.result.left c.row-row.result.made c.self.inside.parts c.row-row.new.self c.answer_leaving.new.self c.args.which begins c.row-row.ensures.ends
     c.answer_leaving.ensures in
-    let after = rowed.counts (9223372036854775807 - c.args.most) counts in
+    let after = rowed.counts (most_counts - c.args.most) counts in
     record {
       state = rowed.state;
       stands = rowed.stands;

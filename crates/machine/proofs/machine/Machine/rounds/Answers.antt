@@ -1,12 +1,13 @@
 use Rattle.std.proofs.Common.{◌+◌, ◌-◌, rules, arith}
+use Rattle.machine.specs.Limits.{most_counts}
 use Rattle.machine.proofs.Repeated.{counts_on, counts_within, repeats_on, repeats_stand}
 use Rattle.machine.proofs.machine.Machine.rounds.Goals as goal
 
 pub round-made-requires-clause-counts : goal.round-made-requires-clause-counts
 round-made-requires-clause-counts c =
-    counts_within (9223372036854775807 - c.args.count + c.events.made) (9223372036854775807 - (c.args.count - c.events.made)) c.events.self.journal.counts
+    counts_within (most_counts - c.args.count + c.events.made) (most_counts - (c.args.count - c.events.made)) c.events.self.journal.counts
     (omega (arith, c.events-test.true, c.requires.few))
-    (c.events.invariant.counts (9223372036854775807 - c.args.count) c.requires.counts)
+    (c.events.invariant.counts (most_counts - c.args.count) c.requires.counts)
 
 pub returns-then-printed-clause-stands : goal.returns-then-printed-clause-stands
 returns-then-printed-clause-stands c =
