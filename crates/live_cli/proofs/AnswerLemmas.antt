@@ -11,13 +11,15 @@ use Rattle.live_keys.specs.Keys.{KeysState}
 use Rattle.secvisor_cli.specs.declared.refusal.Refusal.{Refusal}
 use Rattle.secvisor_cli.specs.declared.ready.Stop.TheVariants.{Refused}
 use Rattle.secvisor_cli.specs.declared.ready.Stop.TheVariants as stop
-use Rattle.secvisor_cli.specs.declared.trouble.Trouble.{Trouble}
-use Rattle.secvisor_cli.specs.declared.trouble.Trouble.TheVariants.{Memory}
+use Rattle.outside.specs.declared.trouble.Trouble.{Trouble}
+use Rattle.outside.specs.declared.trouble.Trouble.TheVariants.{Memory}
 use Rattle.secvisor_cli.specs.Refusals.{refusal_line, refusal_status, takes_memory}
 use Rattle.secvisor_cli.specs.Plans.{Due, Refuse, RunFrom, Make}
 use Rattle.secvisor_cli.specs.Answers.{Writes}
 use Rattle.secvisor_cli.proofs.TopLemmas.{refused_answers}
-use Rattle.live_cli.specs.LiveWords.{LiveWords, live_plan}
+use Rattle.secvisor_cli.specs.Reading.{MayFollow}
+use Rattle.secvisor_cli.proofs.PlanLemmas.{may_follow}
+use Rattle.live_cli.specs.LiveWords.{LiveWords, live_plan, live_judged}
 use Rattle.live_cli.specs.LiveReady.{IsLiveFresh, IsLiveReadyWhere, PreparesLive, out_of, MaySaveUnder}
 use Rattle.live_cli.specs.LiveAnswers.{LiveOutside, live_outside, AnswersLiveReached, RunsLive, PerformsLive}
 use Rattle.live_cli.specs.declared.ready.LiveReady.{LiveReady}
@@ -82,3 +84,8 @@ pub wanting_performs : (words : Result LiveWords Refusal) (f0 f1 : FilesState) (
     PreparesLive (live_plan words) f0 f1 (Err stop.Memory) → PerformsLive words (live_outside f0 sink keys bench) (live_outside f1 sink keys bench) (Err Memory)
 wanting_performs words f0 f1 sink keys bench p =
     record { reached = p.reached; read = f1; follows = p.follows; answers = wanting_where p.reached (out_of words) (live_outside f1 sink keys bench) p.ready }
+
+-- where all names may be asked for and saved under
+pub live_follows : (words : List (List ℕ)) (files : FilesState) → ((asked : List (List ℕ × ℕ)) → IsTrue (files.permits asked)) →
+    ((saves : List (List ℕ × List ℕ)) → IsTrue (files.permits_save saves)) → MayFollow (live_plan (live_judged words)) files
+live_follows words files all saves = may_follow (live_plan (live_judged words)) files all saves

@@ -10,23 +10,24 @@ use Rattle.sv_types.specs.Schedule.{Schedule}
 use Rattle.reference.specs.Report.{output}
 use Rattle.reference.specs.Run.{run}
 use Rattle.reference.specs.States.{State}
-use Rattle.outside.specs.Outside.{FilesState, SinkState, after_taking}
+use Rattle.outside.specs.Outside.{FilesState, after_taking}
 use Rattle.console_run.proofs.Standing.{stands_disk}
 use Rattle.live_keys.specs.Keys.{KeysState}
 use Rattle.live_keys.specs.Placed.{keys_among}
 use Rattle.live_drive.specs.Inputs.{WasRead}
 use Rattle.secvisor_cli.specs.declared.refusal.Refusal.{Refusal}
 use Rattle.secvisor_cli.specs.declared.refusal.Refusal.TheVariants.{NoCommand, OutOfRange, ReadFault, File, Measure, Entry}
-use Rattle.secvisor_cli.specs.declared.trouble.Trouble.{Trouble}
-use Rattle.secvisor_cli.specs.declared.trouble.Trouble.TheVariants.{Write, Memory}
-use Rattle.secvisor_cli.specs.Refusals.{refusal_line, refusal_status}
+use Rattle.outside.specs.declared.trouble.Trouble.{Trouble}
+use Rattle.outside.specs.declared.trouble.Trouble.TheVariants.{Write, Memory}
+use Rattle.secvisor_cli.specs.Refusals.{refusal_status}
 use Rattle.secvisor_cli.specs.CommandLine.{unless_none}
-use Rattle.secvisor_cli.specs.Plans.{Due, Refuse, RunFrom, Make, Saving, Exactly, Plan, run_plan}
+use Rattle.secvisor_cli.specs.Plans.{Due, Refuse, RunFrom, Make, Saving, Plan, run_plan}
 use Rattle.secvisor_cli.specs.Reading.{Follows}
-use Rattle.secvisor_cli.specs.Answers.{outside, Writes, WritesAndSaves, SavedBehind, settled}
-use Rattle.secvisor_cli.proofs.PlanLemmas.{Keeps, HasFault, HasFoundFaults, follows_keeps, read_fault}
-use Rattle.secvisor_cli.proofs.SaveLemmas.{Changes, changes, changes_same}
-use Rattle.secvisor_cli.proofs.TopLemmas.{run_found_faults}
+use Rattle.secvisor_cli.specs.Answers.{outside, Writes, SavedBehind}
+use Rattle.outside.specs.Endings.{settled}
+use Rattle.secvisor_cli.proofs.PlanLemmas.{Keeps, HasFault, HasFoundFaults, follows_keeps}
+use Rattle.secvisor_cli.proofs.SaveLemmas.{changes, exact_saving, ChangesOut, changes_none, writes_faults}
+use Rattle.secvisor_cli.proofs.TopLemmas.{run_found_faults, EffectOut, effect_out, run_no_read_fault, refused_status, refused_fault}
 use Rattle.secvisor_cli.proofs.WordLemmas.{NoReadFault}
 use Rattle.live_cli.specs.LiveAnswers.{LiveOutside, live_outside, IsScriptOf, SavesScript, read_status, after_reading, is_refusal, RunsLive, AnswersLive, AnswersLiveReached, PerformsLive}
 use Rattle.live_cli.specs.LiveReady.{out_of}
@@ -46,9 +47,6 @@ record HasSaved (harts : ℕ) (journal : List Event) (name : List ℕ) (old new 
   pub script : IsScriptOf harts journal text
   pub held : IsTrue old.tells → new.held name ≡ Some text
   pub answer_is : answer ≡ read_status failed status
-
-abbrev exact_saving : (name text : List ℕ) → Saving
-exact_saving name text = record { name = name; content = Exactly text }
 
 saved_ok : (harts : ℕ) (journal : List Event) (name : List ℕ) (old new : FilesState) (status answer : Status) (failed : Bool) (saved : Result Status Trouble) (text : List ℕ) → IsScriptOf harts journal text →
     SavedBehind (Some (exact_saving name text)) old new (Ok status) saved → Ok answer ≡ after_reading failed saved → HasSaved harts journal name old new (Ok status) failed answer
@@ -140,15 +138,9 @@ refusal_unfinished (File fault) = refl
 refusal_unfinished (Measure found wanted) = refl
 refusal_unfinished (Entry entry) = refl
 
--- the status of a refusal that was written
-refused_status : (refusal : Refusal) (old new : LiveOutside) (answer : Status) → WritesAndSaves (Refuse refusal) (outside old.files old.sink old.bench) (outside new.files new.sink new.bench) (Ok answer) →
-    answer ≡ refusal_status refusal
-refused_status refusal old new answer a =
-    (subst (λ (w : Result Status Trouble). Writes (refusal_status refusal) (refusal_line refusal) old.sink new.sink w) (sym a.saves.1) a.writes).status
-
 refused_unended : (refusal : Refusal) (old new : LiveOutside) (answer : Status) → AnswersLive [] (Refuse refusal) old new (Ok answer) → HasEnded answer old.keys new.keys → ⊥
 refused_unended refusal old new answer a (inl is) =
-    let status : answer ≡ refusal_status refusal = refused_status refusal old new answer a.0 in
+    let status : answer ≡ refusal_status refusal = refused_status refusal (outside old.files old.sink old.bench) (outside new.files new.sink new.bench) answer a.0 in
     cc (is, ap is_of_run status, refusal_unfinished refusal)
 refused_unended refusal old new answer a (inr it) =
     let rose = it.1 in
@@ -181,11 +173,6 @@ run_no_refusal Running = refl
 run_no_refusal Shutdown = refl
 run_no_refusal (Stopped rule hart turn) = refl
 
-run_no_read_fault : (verdict : Verdict) → run_status verdict ≢ Status.ReadFault
-run_no_read_fault Running = λ e. cc e
-run_no_read_fault Shutdown = λ e. cc e
-run_no_read_fault (Stopped rule hart turn) = λ e. cc e
-
 run_no_memory : (verdict : Verdict) → run_status verdict ≢ Status.Memory
 run_no_memory Running = λ e. cc e
 run_no_memory Shutdown = λ e. cc e
@@ -202,11 +189,6 @@ run_unrefused start asked name old new (Err Write) r refused = cc refused
 run_unrefused start asked name old new (Err Memory) r refused = cc refused
 
 -- ---- the counts
-
-writes_faults : (due : Status) (bytes : List ℕ) (old new : SinkState) (written : Result Status Trouble) → Writes due bytes old new written → old.faults ≤ new.faults
-writes_faults due bytes old new (Ok status) w = let same : new.faults ≡ old.faults = ap (λ (k : SinkState). k.faults) w.whole in omega arith
-writes_faults due bytes old new (Err Write) w = let rose = w.write refl in omega arith
-writes_faults due bytes old new (Err Memory) w = let same = w.memory refl in omega arith
 
 reached_writes : (name : List ℕ) (reached : Option Due) (old new : LiveOutside) (result : Result Status Trouble) → AnswersLiveReached name reached old new result → old.sink.faults ≤ new.sink.faults
 reached_writes name None old new result a = let same : new.sink.faults ≡ old.sink.faults = ap (λ (o : LiveOutside). o.sink.faults) a.1 in omega arith
@@ -246,17 +228,9 @@ live_keyless words old new result p = reached_keyless (out_of words) p.reached (
 
 -- ---- the files
 
--- what is saved changes no other name
-record ChangesOut (name : List ℕ) (old new : FilesState) : Type 0 where
-  pub text : List ℕ
-  pub changes : Changes (Some (exact_saving name text)) old new
-
-changes_none : (name : List ℕ) (old new : FilesState) → new ≡ old → ChangesOut name old new
-changes_none name old new is = record { text = []; changes = changes_same (Some (exact_saving name [])) old new is }
-
 script_changes : (harts : ℕ) (journal : List Event) (name : List ℕ) (old new : FilesState) (written saved : Result Status Trouble) → SavesScript harts journal name old new written saved → ChangesOut name old new
 script_changes harts journal name old new (Err trouble) saved it = changes_none name old new it.0
-script_changes harts journal name old new (Ok status) saved it = record { text = it.0; changes = changes (Some (exact_saving name it.0)) old new (Ok status) saved it.2 }
+script_changes harts journal name old new (Ok status) saved it = record { bytes = it.0; changes = changes (Some (exact_saving name it.0)) old new (Ok status) saved it.2 }
 
 reached_changes : (name : List ℕ) (reached : Option Due) (old new : LiveOutside) (result : Result Status Trouble) → AnswersLiveReached name reached old new result → ChangesOut name old.files new.files
 reached_changes name None old new result a = changes_none name old.files new.files (ap (λ (o : LiveOutside). o.files) a.1)
@@ -264,25 +238,10 @@ reached_changes name (Some (Refuse refusal)) old new result a = changes_none nam
 reached_changes name (Some (RunFrom start asked save)) old new result a = script_changes start.rules.harts a.journal name old.files new.files a.written a.saved a.saves
 reached_changes name (Some (Make out rules line)) old new result a = absurd a
 
--- what the whole changes of the files
-pub record LiveEffect (name : List ℕ) (old new : FilesState) : Type 0 where
-  pub reads : old.read_faults ≤ new.read_faults
-  pub saves : old.save_faults ≤ new.save_faults
-  pub held : (other : List ℕ) → other ≢ name → new.held other ≡ old.held other
-
-pub live_effect : (words : Result LiveWords Refusal) (old new : LiveOutside) (result : Result Status Trouble) → PerformsLive words old new result → LiveEffect (out_of words) old.files new.files
+pub live_effect : (words : Result LiveWords Refusal) (old new : LiveOutside) (result : Result Status Trouble) → PerformsLive words old new result → EffectOut (out_of words) old.files new.files
 live_effect words old new result p =
-    let k : Keeps old.files p.read = follows_keeps (live_plan words) old.files p.read p.reached p.follows in
-    let c = (reached_changes (out_of words) p.reached (live_outside p.read old.sink old.keys old.bench) new result p.answers).changes in
-    let first = k.reads in
-    let second = c.reads in
-    let kept = k.saves in
-    let more = c.saves in
-    record {
-      reads = omega arith;
-      saves = omega arith;
-      held = λ other never. c.others other (λ under. never (sym under)) ∙ ap (λ (held : List ℕ → Option (List ℕ)). held other) k.held;
-    }
+    effect_out (out_of words) old.files p.read new.files (follows_keeps (live_plan words) old.files p.read p.reached p.follows)
+    (reached_changes (out_of words) p.reached (live_outside p.read old.sink old.keys old.bench) new result p.answers)
 
 -- ---- nothing was saved
 
@@ -349,18 +308,6 @@ live_found_faults (Err refusal) never = never
 abbrev LiveFault : Plan → (old new : LiveOutside) → Type 0
 LiveFault plan old new = HasFault plan old.files new.files ⊎ (old.keys.faults < new.keys.faults)
 
-fault_at : (plan : Plan) (old read new : FilesState) → new.read_faults ≡ read.read_faults → HasFault plan old read → HasFault plan old new
-fault_at plan old read new same (inl missing) = inl missing
-fault_at plan old read new same (inr rose) = inr (omega arith)
-
-refused_fault : (plan : Plan) (refusal : Refusal) (old new : LiveOutside) (read : FilesState) (result : Result Status Trouble) → HasFoundFaults plan → Follows plan old.files read (Some (Refuse refusal)) →
-    WritesAndSaves (Refuse refusal) (outside read old.sink old.bench) (outside new.files new.sink new.bench) result → settled result ≡ Status.ReadFault → HasFault plan old.files new.files
-refused_fault plan refusal old new read (Ok answer) never follows a is =
-    let status : answer ≡ refusal_status refusal = refused_status refusal (live_outside read old.sink old.keys old.bench) new answer a in
-    fault_at plan old.files read new.files (ap (λ (f : FilesState). f.read_faults) a.saves.0) (read_fault plan old.files read (Refuse refusal) never follows (sym status ∙ is))
-refused_fault plan refusal old new read (Err Write) never follows a is = absurd (cc is)
-refused_fault plan refusal old new read (Err Memory) never follows a is = absurd (cc is)
-
 answer_fault : (verdict : Verdict) (old new : KeysState) (answer : Status) → RunAnswer verdict old new answer → answer ≡ Status.ReadFault → old.faults < new.faults
 answer_fault verdict old new answer (inl same) is = absurd (run_no_read_fault verdict (sym same ∙ is))
 answer_fault verdict old new answer (inr it) is = it.1
@@ -376,7 +323,7 @@ reached_fault : (plan : Plan) (name : List ℕ) (reached : Option Due) (old new 
 reached_fault plan name None old new read (Ok answer) never follows a is = absurd (cc a.0)
 reached_fault plan name None old new read (Err Write) never follows a is = absurd (cc is)
 reached_fault plan name None old new read (Err Memory) never follows a is = absurd (cc is)
-reached_fault plan name (Some (Refuse refusal)) old new read result never follows a is = inl (refused_fault plan refusal old new read result never follows a.0 is)
+reached_fault plan name (Some (Refuse refusal)) old new read result never follows a is = inl (refused_fault plan refusal (outside old.files old.sink old.bench) (outside new.files new.sink new.bench) read result never follows a.0 is)
 reached_fault plan name (Some (RunFrom start asked save)) old new read result never follows a is =
     inr (run_fault start asked name (live_outside read old.sink old.keys old.bench) new result a is)
 reached_fault plan name (Some (Make out rules line)) old new read result never follows a is = absurd a

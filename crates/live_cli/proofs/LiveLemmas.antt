@@ -1,6 +1,7 @@
 -- A live run, from what it made to what it owes.
-use Rattle.std.proofs.Common.{◌≡◌, ◌≢◌, ◌≤◌, ◌+◌, ◌-◌, ◌*◌, ℕ, zero, suc, List, [], ◌∷◌, ◌++◌, length, map, Bool, true, false, refl, sym, ◌∙◌, ap, subst, arith, inl, inr, ◌⊎◌, Option, Some, None, Result, Err}
+use Rattle.std.proofs.Common.{◌≡◌, ◌≢◌, ◌≤◌, ◌+◌, ◌-◌, ◌*◌, ℕ, List, [], ◌++◌, length, map, true, false, refl, sym, ◌∙◌, ap, subst, arith, inl, inr, ◌⊎◌, Option, Some, None, Result, Err}
 use Rattle.std.proofs.lemmas.List.{map-append, length-map}
+use Rattle.std.proofs.lemmas.Bool.{cases_Bool}
 use Rattle.sv_types.specs.ApprovedPages.{numbers_from}
 use Rattle.sv_types.specs.Output.{run_status}
 use Rattle.sv_types.specs.Policies.{Rules}
@@ -16,7 +17,7 @@ use Rattle.machine_model.specs.Machine.{Machine}
 use Rattle.machine_model.specs.Reaches.{IsNew}
 use Rattle.machine_model.specs.StandsFor.{StandsFor, machine_of}
 use Rattle.outside.specs.Outside.{FilesState, SinkState, after_taking, TookPrefix}
-use Rattle.outside.proofs.SinkLemmas.{after_taking-nil, prefix_none, prefix_behind, prefix_of_front, prefix_same}
+use Rattle.outside.proofs.SinkLemmas.{after_taking-nil, prefix_behind, prefix_of_front, prefix_same}
 use Rattle.script.specs.AutoScripts.{events_of_text, first_refused}
 use Rattle.script.proofs.FirstEvents.{first_drawn}
 use Rattle.console_run.specs.Console.{HasRun}
@@ -26,17 +27,16 @@ use Rattle.live_keys.specs.Journal.{events_of}
 use Rattle.live_keys.specs.Keys.{KeysState}
 use Rattle.live_keys.specs.Placed.{events_between, keys_among, others_among}
 use Rattle.live_keys.specs.declared.live_key.LiveKey.{LiveKey}
+use Rattle.live_keys.proofs.Events.{numbers_join}
 use Rattle.live_drive.specs.Drives.{GoesOn, Breaks, HasBroken}
 use Rattle.live_drive.specs.Inputs.{HasKeys}
 use Rattle.live_drive.specs.LiveRuns.{harts_of, events_made, IsUnderWay}
 use Rattle.live_drive.specs.declared.live_run.LiveRun.{LiveRun}
 use Rattle.live_drive.specs.declared.threads.LiveEnd.{LiveEnd}
-use Rattle.secvisor_cli.specs.declared.trouble.Trouble.{Trouble}
-use Rattle.secvisor_cli.specs.declared.trouble.Trouble.TheVariants.{Write, Memory}
+use Rattle.outside.specs.declared.trouble.Trouble.{Trouble}
+use Rattle.outside.specs.declared.trouble.Trouble.TheVariants.{Write}
 use Rattle.secvisor_cli.specs.Answers.{Writes}
-use Rattle.secvisor_cli.specs.Plans.{Due, Plan, End, Read, Judge, Found, Faulty, Missing, Longer, Held}
-use Rattle.secvisor_cli.specs.Reading.{Follows, FoundAs}
-use Rattle.secvisor_cli.proofs.EndLemmas.{ran_writes}
+use Rattle.secvisor_cli.proofs.EndLemmas.{ran_writes, broken_writes}
 use Rattle.live_cli.specs.declared.ready.LiveReady.{LiveReady}
 use Rattle.live_cli.specs.LiveReady.{IsLiveFresh}
 use Rattle.live_cli.specs.LiveAnswers.{live_outside, IsScriptOf, SavesScript, StandsBehind, Reports, RunsLive}
@@ -73,18 +73,6 @@ broken_prefix first start events m old new b =
 
 -- ---- the events that are drawn
 
-numbers_join : (first count more : ℕ) → numbers_from first (count + more) ≡ numbers_from first count ++ numbers_from (first + count) more
-numbers_join first zero more =
-    let none : zero + more ≡ more = omega arith in
-    let here : first ≡ first + zero = omega arith in
-    ap (λ (n : ℕ). numbers_from first n) none ∙ ap (λ (n : ℕ). numbers_from n more) here
-numbers_join first (suc count) more =
-    let one : suc count + more ≡ suc (count + more) = omega arith in
-    let behind : first + 1 + count ≡ first + suc count = omega arith in
-    ap (λ (n : ℕ). numbers_from first n) one
-    ∙ ap (λ (rest : List ℕ). first ∷ rest) (numbers_join (first + 1) count more)
-    ∙ ap (λ (n : ℕ). first ∷ numbers_from (first + 1) count ++ numbers_from n more) behind
-
 -- those that are left behind the first ones
 abbrev pub drawn_behind : (harts made all : ℕ) → List Event
 drawn_behind harts made all = map (auto_event harts 0) (numbers_from made (all - made))
@@ -111,33 +99,7 @@ pub rules_are : (m : Machine) (r : State) → StandsFor m r → m.rules ≡ r.ru
 unfolding machine_of
 rules_are m r s = ap (λ (x : Machine). x.rules) s.same
 
--- ---- reading leaves what may be saved
-
-found_permits : (old now : FilesState) (name : List ℕ) (limit : ℕ) (found : Found) → FoundAs old now name limit found → now.permits_save ≡ old.permits_save
-found_permits old now name limit Faulty it = ap (λ (f : FilesState). f.permits_save) it.1
-found_permits old now name limit Missing it = ap (λ (f : FilesState). f.permits_save) it.2
-found_permits old now name limit Longer it = ap (λ (f : FilesState). f.permits_save) it.1
-found_permits old now name limit (Held bytes) it = ap (λ (f : FilesState). f.permits_save) it.2
-
-pub follows_permits : (plan : Plan) (old new : FilesState) (reached : Option Due) → Follows plan old new reached → new.permits_save ≡ old.permits_save
-follows_permits (End due) old new reached follows = ap (λ (f : FilesState). f.permits_save) follows.1
-follows_permits (Read name limit next) old new reached (inl it) = ap (λ (f : FilesState). f.permits_save) it.1
-follows_permits (Read name limit next) old new reached (inr it) =
-    follows_permits (next it.0) it.1 new reached it.3 ∙ found_permits old it.1 name limit it.0 it.2
-follows_permits (Judge next) old new reached (inl it) = ap (λ (f : FilesState). f.permits_save) it.1
-follows_permits (Judge next) old new reached (inr it) = follows_permits next old new reached it
-
--- ---- the report and the script
-
-pub report_wants : (due : Status) (bytes : List ℕ) (sink : SinkState) → Writes due bytes sink sink (Err Memory)
-report_wants due bytes sink = record {
-  status = tt;
-  proper = tt;
-  whole = tt;
-  prefix = prefix_none sink bytes;
-  write = λ e. absurd (cc e);
-  memory = λ _. refl;
-}
+-- ---- the script
 
 pub is_script : (l : LiveRun) (text : List ℕ) → IsUnderWay l → ((harts : ℕ) → events_of_text harts text ≡ events_of harts l.journal) → first_refused text ≡ None →
     length text ≤ 24 * length l.journal.keys.items + 16 → IsScriptOf (harts_of l.script) (events_made l) text
@@ -179,21 +141,10 @@ ran_ends first start events m old mid new written is_new ran writes = record {
 broken_ends : (first : Machine) (start : State) (events : List Event) (m : Machine) (old new : SinkState) → IsNew first start → HasBroken first start events m old new →
     EndsLive start events m old new (Err Write)
 broken_ends first start events m old new is_new b = record {
-  writes = record {
-    status = tt;
-    proper = tt;
-    whole = tt;
-    prefix = broken_prefix first start events m old new b;
-    write = λ _. b.broke.faults;
-    memory = λ e. absurd (cc e);
-  };
+  writes = broken_writes _ _ old new (broken_prefix first start events m old new b) b.broke.faults;
   verdict = stands_verdict m (run start events) b.cleared b.stands;
   bench = broken_stands first start events m old new is_new b;
 }
-
-true_or_false : (b : Bool) → (b ≡ true) ⊎ (b ≡ false)
-true_or_false true = inl refl
-true_or_false false = inr refl
 
 -- what a live run was, from what it was to the machine before it
 pub record DroveLive (live last : LiveRun) (ended : LiveEnd) (old mid : SinkState) : Type 0 where
@@ -222,7 +173,7 @@ runs_live ready last ended start f0 f1 old mid new k0 k1 b0 result fresh is_new 
     let live : LiveRun = ready.live in
     let harts : ℕ = harts_of live.script in
     let ends : EndsLive start (events_made last) last.machine old new r.written =
-    ends_live live last ended start ready.out.now f0 f1 old mid new result (none_made live fresh.keys fresh.autos) is_new drove r (true_or_false ended.write_failed) in
+    ends_live live last ended start ready.out.now f0 f1 old mid new result (none_made live fresh.keys fresh.autos) is_new drove r (cases_Bool ended.write_failed) in
     record {
       journal = events_made last;
       ended = ended;

@@ -6,8 +6,7 @@ use Rattle.outside.specs.Outside.{FilesState}
 use Rattle.secvisor_cli.specs.declared.file_fault.Part.{Part}
 use Rattle.secvisor_cli.specs.Plans.{Due, RunFrom, Plan, Judge, Found, Faulty, Missing, Longer, Held, found_plan, read_part}
 use Rattle.secvisor_cli.specs.Reading.{FoundAs, Follows}
-use Rattle.secvisor_cli.proofs.PlanLemmas.{Keeps}
-use Rattle.secvisor_cli.proofs.DueLemmas.{read_keeps}
+use Rattle.secvisor_cli.proofs.PlanLemmas.{Keeps, keeps_found}
 
 -- the part held bytes that aren't too long, and the plan went on with them
 pub record PartGives (name : List ℕ) (limit : ℕ) (next : List ℕ → Plan) (old read : FilesState) (due : Due) : Type 0 where
@@ -25,7 +24,7 @@ found_gives part name limit next old read start events save Faulty now it rest =
 found_gives part name limit next old read start events save Missing now it rest = absurd (cc rest.0)
 found_gives part name limit next old read start events save Longer now it rest = absurd (cc rest.0)
 found_gives part name limit next old read start events save (Held bytes) now it rest =
-    record { bytes = bytes; few = it.0; held = it.1; now = now; keeps = read_keeps old now name limit (Held bytes) it; rest = rest }
+    record { bytes = bytes; few = it.0; held = it.1; now = now; keeps = keeps_found old now name limit (Held bytes) it; rest = rest }
 
 pub part_gives : (part : Part) (name : List ℕ) (limit : ℕ) (next : List ℕ → Plan) (old read : FilesState) (start : State) (events : List Event) (save : Option (List ℕ)) →
     Follows (read_part part name limit next) old read (Some (RunFrom start events save)) → PartGives name limit next old read (RunFrom start events save)

@@ -1,14 +1,16 @@
 -- From what `live` did to what `run` is due.
-use Rattle.std.proofs.Common.{◌≡◌, ◌≤◌, ◌+◌, ℕ, zero, suc, List, [], ◌∷◌, ◌++◌, length, Bool, true, false, ◌&&◌, ◌||◌, nat_le, IsTrue, refl, sym, ◌∙◌, ap, subst, arith, Option, Some, None, Result, Ok, Err, if◌then◌else◌, take_all, length-append}
-use Rattle.std.proofs.lemmas.Bool.{leb-true, ne_eqb}
+use Rattle.std.proofs.Common.{◌≡◌, ◌≤◌, ◌+◌, ℕ, List, [], ◌∷◌, ◌++◌, length, Bool, true, false, ◌&&◌, ◌||◌, nat_le, IsTrue, refl, sym, ◌∙◌, ap, subst, arith, Option, Some, None, Result, Ok, Err, if◌then◌else◌, take_all, length-append}
+use Rattle.std.proofs.lemmas.Bool.{leb-true, ne_eqb, or_from}
 use Rattle.std.specs.Char.{is_ascii_digit}
 use Rattle.std.specs.Fmt.{decimal}
 use Rattle.std.specs.List.{list_any, list_all}
 use Rattle.std.specs.Str.{bytes_eq}
+use Rattle.std.specs.Cmp.{first_so, second_so}
+use Rattle.std.proofs.lemmas.Option.{same_Some}
 use Rattle.sv_types.specs.Kernel.{header_entry, kernel_refusal}
 use Rattle.sv_types.specs.Numbers.{is_number, decimal_value, number_within}
 use Rattle.sv_types.specs.Policies.{Rules}
-use Rattle.sv_types.specs.Schedule.{Schedule, first_events, next_event, after_event, begun_with}
+use Rattle.sv_types.specs.Schedule.{Schedule, first_events}
 use Rattle.sv_types.specs.declared.event.Event.{Event}
 use Rattle.sv_types.specs.declared.image_fault.ImageFault.{ImageFault}
 use Rattle.sv_types.specs.declared.event.Event.TheVariants.{Turn, Beat, Key, Tick}
@@ -18,7 +20,7 @@ use Rattle.policy.specs.Text.{rules_of_text}
 use Rattle.reference.specs.Start.{boot_start, start as begin}
 use Rattle.reference.specs.States.{State, has_number}
 use Rattle.outside.specs.Outside.{FilesState}
-use Rattle.script.proofs.FirstEvents.{first_listed}
+use Rattle.script.proofs.FirstEvents.{first_listed, first_few}
 use Rattle.script.specs.AutoScripts.{events_of_text, first_refused}
 use Rattle.command_words.specs.Commands.{Split, RunSplit, has_dash, shape_split, split_words}
 use Rattle.live_keys.specs.Line.{StartsWith, most_keys}
@@ -36,7 +38,7 @@ use Rattle.secvisor_cli.proofs.PlanLemmas.{Keeps}
 use Rattle.live_cli.specs.LiveAnswers.{IsScriptOf}
 use Rattle.live_cli.specs.LiveWords.{LiveWords, drawn_run, live_words, live_judged, live_shape, most_live_events}
 use Rattle.secvisor_cli.specs.DueIn.{due_in}
-use Rattle.secvisor_cli.proofs.DueLemmas.{some_same, held_before, due_held}
+use Rattle.secvisor_cli.proofs.DueLemmas.{held_before, due_held}
 use Rattle.live_cli.specs.Replays.{LiveLine, live_line, run_line, NamesScript, Parts, HoldDisk, HoldParts}
 use Rattle.live_cli.proofs.PlanLemmas.{part_gives, judge_gives}
 
@@ -137,7 +139,7 @@ unfolding boot_plan script_part
 behind_image line count rules file old read start asked save follows =
     let d = disk_gives (unless_none line.disk) (λ disk. Judge (End (boot_judged DiskKind.Block rules file disk (first_events count (Schedule.Auto rules.harts 0)) None))) old read start asked save follows in
     let ended = judge_gives (End (boot_judged DiskKind.Block rules file d.bytes (first_events count (Schedule.Auto rules.harts 0)) None)) d.now read (RunFrom start asked save) d.rest in
-    let is : boot_judged DiskKind.Block rules file d.bytes (first_events count (Schedule.Auto rules.harts 0)) None ≡ RunFrom start asked save = sym (some_same _ _ ended.0) in
+    let is : boot_judged DiskKind.Block rules file d.bytes (first_events count (Schedule.Auto rules.harts 0)) None ≡ RunFrom start asked save = sym (same_Some _ _ ended.0) in
     let it = booted rules file d.bytes (first_events count (Schedule.Auto rules.harts 0)) [] None None start asked save is in
     record {
       bytes = d.bytes;
@@ -263,10 +265,6 @@ or_second : (a b : Bool) → a || b ≡ false → b ≡ false
 or_second false b is = is
 or_second true b is = absurd (cc is)
 
-or_both : (a b : Bool) → a ≡ false → b ≡ false → a || b ≡ false
-or_both false b one other = other
-or_both true b one other = absurd (cc one)
-
 -- the words of a live run that are good
 pub record LineGood (line : LiveLine) (words : LiveWords) : Type 0 where
   pub image : has_dash line.image ≡ false
@@ -317,26 +315,18 @@ line_good line words is = line_by line (list_any has_dash (live_line line)) word
 
 -- ---- the words of `run`
 
-and_first : (a b : Bool) → a && b ≡ true → a ≡ true
-and_first true b is = refl
-and_first false b is = absurd (cc is)
-
-and_second : (a b : Bool) → a && b ≡ true → b ≡ true
-and_second true b is = is
-and_second false b is = absurd (cc is)
-
 digit_dash : (word : List ℕ) → list_all is_ascii_digit word ≡ true → has_dash word ≡ false
 digit_dash [] all = refl
 digit_dash (first ∷ rest) all =
-    let digit : nat_le 48 first && nat_le first 57 ≡ true = and_first (is_ascii_digit first) (list_all is_ascii_digit rest) all in
-    let above : 48 ≤ first = leb-true 48 first (and_first (nat_le 48 first) (nat_le first 57) digit) in
+    let digit : nat_le 48 first && nat_le first 57 ≡ true = first_so (is_ascii_digit first) (list_all is_ascii_digit rest) all in
+    let above : 48 ≤ first = leb-true 48 first (first_so (nat_le 48 first) (nat_le first 57) digit) in
     ne_eqb first 45 (λ is. omega arith)
 
 number_dash : (low high n : ℕ) (word : List ℕ) → number_within low high word ≡ Some n → has_dash word ≡ false
 unfolding number_within
 number_dash low high n word is =
     let it = within_by (is_number word) (nat_le low (decimal_value 0 word)) (nat_le (decimal_value 0 word) high) (decimal_value 0 word) n is in
-    digit_dash word (and_second (nat_le 1 (length word) && nat_le (length word) 20) (list_all is_ascii_digit word) it.number_is)
+    digit_dash word (second_so (nat_le 1 (length word) && nat_le (length word) 20) (list_all is_ascii_digit word) it.number_is)
 
 number_of_run : (events : ℕ) → events ≤ most_events → number_within 0 most_events (decimal events) ≡ Some events
 number_of_run events few = number_back 0 most_events events (omega arith) (omega arith) few
@@ -344,12 +334,12 @@ number_of_run events few = number_back 0 most_events events (omega arith) (omega
 no_dash : (line : LiveLine) (words : LiveWords) (script : List ℕ) (events : ℕ) (save : List ℕ) → LineGood line words → NamesScript script → has_dash save ≡ false → events ≤ most_events →
     list_any has_dash (run_line line script events save) ≡ false
 no_dash line words script events save good names saves few =
-    or_both (has_dash line.image) _ good.image
-    (or_both (has_dash line.policy) _ good.policy
-    (or_both (has_dash line.disk) _ good.disk
-    (or_both (has_dash script) _ names.dash
-    (or_both (has_dash (decimal events)) _ (number_dash 0 most_events events (decimal events) (number_of_run events few))
-    (or_both (has_dash save) false saves refl)))))
+    or_from (has_dash line.image) _ good.image
+    (or_from (has_dash line.policy) _ good.policy
+    (or_from (has_dash line.disk) _ good.disk
+    (or_from (has_dash script) _ names.dash
+    (or_from (has_dash (decimal events)) _ (number_dash 0 most_events events (decimal events) (number_of_run events few))
+    (or_from (has_dash save) false saves refl)))))
 
 split_as : (line : LiveLine) (script : List ℕ) (events : ℕ) (save : List ℕ) → list_any has_dash (run_line line script events save) ≡ false →
     split_words (run_line line script events save) ≡ Some (Split.Run (record {
@@ -389,15 +379,6 @@ events_among (Key byte ∷ events) = let rest = events_among events in omega ari
 events_among (Turn hart ∷ events) = let rest = events_among events in omega arith
 events_among (Beat ∷ events) = let rest = events_among events in omega arith
 events_among (Tick ticks ∷ events) = let rest = events_among events in omega arith
-
-begun_few : (n : ℕ) (event : Option Event) (events : List Event) → length events ≤ n → length (begun_with event events) ≤ suc n
-begun_few n None events few = omega arith
-begun_few n (Some event) events few = omega arith
-
-first_few : (n : ℕ) (script : Schedule) → length (first_events n script) ≤ n
-unfolding first_events
-first_few zero script = omega arith
-first_few (suc n) script = begun_few n (next_event script) (first_events n (after_event script)) (first_few n (after_event script))
 
 -- with every key the events of a live run are at most 2^32
 pub journal_few : (journal left asked : List Event) (bytes keys : List ℕ) (count : ℕ) (script : Schedule) → others_among journal ++ left ≡ asked → first_events count script ≡ asked → count ≤ most_live_events →

@@ -19,11 +19,12 @@ use Rattle.live_drive.specs.declared.live_run.LiveRun.{LiveRun}
 use Rattle.live_drive.specs.Inputs.{HasKeys}
 use Rattle.live_drive.specs.LiveRuns.{harts_of, events_made}
 use Rattle.secvisor_cli.specs.declared.refusal.Refusal.{Refusal}
-use Rattle.secvisor_cli.specs.declared.trouble.Trouble.{Trouble}
-use Rattle.secvisor_cli.specs.declared.trouble.Trouble.TheVariants.{Write, Memory}
+use Rattle.outside.specs.declared.trouble.Trouble.{Trouble}
+use Rattle.outside.specs.declared.trouble.Trouble.TheVariants.{Write, Memory}
 use Rattle.secvisor_cli.specs.Plans.{Due, Refuse, RunFrom, Make, Exactly, most_script_bytes}
 use Rattle.secvisor_cli.specs.Reading.{Follows}
-use Rattle.secvisor_cli.specs.Answers.{outside, Writes, SavedBehind, WritesAndSaves, settled}
+use Rattle.secvisor_cli.specs.Answers.{outside, Writes, SavedBehind, WritesAndSaves}
+use Rattle.outside.specs.Endings.{settled}
 use Rattle.live_cli.specs.LiveWords.{LiveWords, live_plan}
 use Rattle.live_cli.specs.LiveReady.{out_of}
 

@@ -14,7 +14,7 @@ use Rattle.live_keys.specs.Placed.{is_placed, are_bytes, autos_between, events_b
 -- ---- numbers
 
 -- numbers from one on, and then those behind them
-numbers_join : (first count more : ℕ) → numbers_from first (count + more) ≡ numbers_from first count ++ numbers_from (first + count) more
+pub numbers_join : (first count more : ℕ) → numbers_from first (count + more) ≡ numbers_from first count ++ numbers_from (first + count) more
 numbers_join first zero more =
     let none : zero + more ≡ more = omega arith in
     let here : first ≡ first + zero = omega arith in

@@ -1,33 +1,23 @@
 -- The pages that a policy within its limits binds its entries to.
-use Rattle.std.proofs.Common.{◌≡◌, ℕ, zero, suc, ◌^◌, ◌<◌, ◌≤◌, IsTrue, List, [], ◌∷◌, ◌++◌, length, refl, arith, get_or}
+use Rattle.std.proofs.Common.{◌≡◌, ℕ, zero, suc, ◌^◌, ◌<◌, ◌≤◌, IsTrue, List, [], ◌∷◌, ◌++◌, length, arith, get_or}
 use Rattle.std.specs.Prelude.{Bool, true, false, ◌&&◌, ◌==◌, not, if◌then◌else◌}
 use Rattle.std.specs.List.{list_any}
-use Rattle.std.proofs.lemmas.Bool.{eqb-true}
+use Rattle.std.proofs.lemmas.Bool.{eqb-true, and_parts}
 use Rattle.std.proofs.lemmas.Bool.Decides.{nat_tests}
-use Rattle.gstage_tables.specs.Layout.{most_bound}
 use Rattle.processor.specs.Bytes.{page_of}
 use Rattle.processor.specs.Regions.{most_ram_pages}
-use Rattle.sv_types.specs.Policies.{Rules, rules_within, bound_within, bound_fits, all_bound}
+use Rattle.sv_types.specs.Policies.{Rules, rules_within, bound_fits, all_bound}
+use Rattle.resumed_parts.proofs.Seated.{bound_rules}
+use Rattle.machine.proofs.ImageStarting.{pages_within}
 
 -- ---- what the limits say
-
-three : (a b c : Bool) → (a && b && c) ≡ true → (a ≡ true) × (c ≡ true)
-three true true c e = (refl, e)
-three true false c e = cc
-three false b c e = cc
 
 -- an entry and its address fit, and so do the others
 first_fits : (n : ℕ) (before : List ℕ) (va gpa : ℕ) (entries bound : List ℕ) → all_bound n before (va ∷ entries) (gpa ∷ bound) ≡ true
     → (bound_fits n va gpa ≡ true) × (all_bound n (before ++ va ∷ []) entries bound ≡ true)
 first_fits n before va gpa entries bound within =
-    three (bound_fits n va gpa) (not (list_any (λ e. e == va) before)) (all_bound n (before ++ va ∷ []) entries bound) within
-
-each_bound : (n : ℕ) (before entries bound : List ℕ) → all_bound n before entries bound ≡ true → length bound ≤ length entries
-each_bound n before [] [] within = omega arith
-each_bound n before [] (gpa ∷ bound) within = cc
-each_bound n before (va ∷ entries) [] within = cc
-each_bound n before (va ∷ entries) (gpa ∷ bound) within =
-    let rest = each_bound n (before ++ va ∷ []) entries bound (first_fits n before va gpa entries bound within).1 in omega (arith, rest)
+    let parts = and_parts (bound_fits n va gpa && not (list_any (λ e. e == va) before)) (all_bound n (before ++ va ∷ []) entries bound) within in
+    ((and_parts (bound_fits n va gpa) (not (list_any (λ e. e == va) before)) parts.0).0, parts.1)
 
 small_page : (n va gpa : ℕ) → bound_fits n va gpa ≡ true → n ≤ most_ram_pages → page_of gpa < 2 ^ 32
 small_page n va gpa fits most = grind (arith, nat_tests)
@@ -41,33 +31,13 @@ page_within n before (va ∷ entries) (gpa ∷ bound) zero d within most below =
 page_within n before (va ∷ entries) (gpa ∷ bound) (suc i) d within most below =
     page_within n (before ++ va ∷ []) entries bound i d (first_fits n before va gpa entries bound within).1 most (omega (arith, below))
 
--- in each format
-along_by : (rules : Rules) (b : Bool) → IsTrue (if b then length rules.bound == 0 else all_bound rules.ram_pages [] rules.entries rules.bound)
-    → length rules.bound ≤ length rules.entries
-along_by rules true none = let empty : length rules.bound ≡ 0 = eqb-true (length rules.bound) 0 none in omega (arith, empty)
-along_by rules false each = each_bound rules.ram_pages [] rules.entries rules.bound each
-
 page_by : (rules : Rules) (i d : ℕ) (b : Bool) → IsTrue (if b then length rules.bound == 0 else all_bound rules.ram_pages [] rules.entries rules.bound)
     → rules.ram_pages ≤ most_ram_pages → i < length rules.bound → page_of (get_or rules.bound i d) < 2 ^ 32
 page_by rules i d true none most below =
     let empty : length rules.bound ≡ 0 = eqb-true (length rules.bound) 0 none in absurd (omega (arith, empty, below))
 page_by rules i d false each most below = page_within rules.ram_pages [] rules.entries rules.bound i d each most below
 
-bound_rules : (rules : Rules) → IsTrue (rules_within rules) → IsTrue (bound_within rules)
-bound_rules rules within = grind (arith, nat_tests)
-
--- no more than entries, of which there are at most 64
-pub bound_along : (rules : Rules) → IsTrue (rules_within rules) → length rules.bound ≤ length rules.entries
-bound_along rules within = along_by rules (rules.format == 1) (bound_rules rules within)
-
-pub bound_few : (rules : Rules) → IsTrue (rules_within rules) → length rules.bound ≤ most_bound
-bound_few rules within =
-    let along = bound_along rules within in
-    let entries : length rules.entries ≤ 64 = grind (arith, nat_tests) in
-    omega (arith, along, entries)
-
 -- the number of each page is one of 32 bits
 pub page_fits : (rules : Rules) (i d : ℕ) → IsTrue (rules_within rules) → i < length rules.bound → page_of (get_or rules.bound i d) < 2 ^ 32
 page_fits rules i d within below =
-    let most : rules.ram_pages ≤ most_ram_pages = grind (arith, nat_tests) in
-    page_by rules i d (rules.format == 1) (bound_rules rules within) most below
+    page_by rules i d (rules.format == 1) (bound_rules rules within) (pages_within rules within) below

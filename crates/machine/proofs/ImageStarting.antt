@@ -1,5 +1,5 @@
 -- A kernel's image before the first event.
-use Rattle.std.proofs.Common.{get_or, ◌==◌, ◌^◌, ◌<◌, inl, inr, ◌≡◌, ℕ, zero, suc, ◌+◌, ◌-◌, ◌%◌, ◌≤◌, true, IsTrue, List, [], ◌∷◌, ◌++◌, length, take, replicate, refl, sym, ◌∙◌, ap, arith, subst}
+use Rattle.std.proofs.Common.{get_or, ◌==◌, ◌^◌, ◌<◌, inl, inr, ◌≡◌, ℕ, suc, ◌-◌, ◌%◌, ◌≤◌, true, IsTrue, List, [], ◌∷◌, length, take, refl, sym, ◌∙◌, ap, arith, subst, length-append, length-take}
 use Rattle.std.specs.Prelude.{Option, Some, None, find, flat_map}
 use Rattle.std.proofs.lemmas.Bool.Decides.{nat_tests}
 use Rattle.std.proofs.lemmas.Bool.{cases_Bool}
@@ -11,10 +11,10 @@ use Rattle.reference.specs.Start.{AreWords, image_start}
 use Rattle.reference.specs.Soundness.{IsSoundDisk}
 use Rattle.reference.specs.States.{Disk, has_number}
 use Rattle.sv_types.specs.ApprovedPages.{numbers_from}
-use Rattle.processor.specs.Bytes.{padded}
 use Rattle.sv_types.specs.Kernel.{LoadedSegment, filled_part, header_entry, is_text_of, segments_ram, text_page, text_page_in, text_of}
 use Rattle.sv_types.specs.Policies.{Rules, rules_within}
 use Rattle.processor.specs.Regions.{Region, most_ram_pages}
+use Rattle.processor_laws.proofs.ByteLemmas.{length_padded}
 use Rattle.sv_types.specs.Views.{with_ram}
 use Rattle.sv_types.specs.declared.protection.Protection.{Protection}
 use Rattle.standing_laws.proofs.StartsStand.{any_start}
@@ -25,33 +25,17 @@ use Rattle.machine.specs.declared.boot.BootRefusal.TheVariants.{Measure, Entry, 
 
 -- ---- the text is of whole pages
 
-length_append : (a b : List ℕ) → length (a ++ b) ≡ length a + length b
-length_append [] b = omega arith
-length_append (x ∷ a) b = let k = length_append a b in omega (arith, k)
-
-length_zeros : (n : ℕ) → length (replicate {A = ℕ} n 0) ≡ n
-length_zeros zero = refl
-length_zeros (suc n) = let k = length_zeros n in omega (arith, k)
-
 short_take : (n : ℕ) (bytes : List ℕ) → length (take n bytes) ≤ n
-short_take zero bytes = omega arith
-short_take (suc n) [] = omega arith
-short_take (suc n) (x ∷ bytes) = let k = short_take n bytes in omega (arith, k)
-
-padded_whole : (bytes : List ℕ) (size : ℕ) → length bytes ≤ size → length (padded bytes size) ≡ size
-padded_whole bytes size short =
-    let both = length_append bytes (replicate (size - length bytes) 0) in
-    let zeros = length_zeros (size - length bytes) in
-    omega (arith, both, zeros)
+short_take n bytes = simp length-take (omega arith)
 
 page_whole : (page : ℕ) (o : Option LoadedSegment) → length (text_page_in page o) % 4096 ≡ 0
 page_whole page None = refl
-page_whole page (Some s) = ap (λ (n : ℕ). n % 4096) (padded_whole (filled_part page s) 4096 (short_take 4096 _))
+page_whole page (Some s) = ap (λ (n : ℕ). n % 4096) (length_padded (filled_part page s) 4096 (short_take 4096 _))
 
 pages_whole : (ss : List LoadedSegment) (pages : List ℕ) → length (flat_map (text_page ss) pages) % 4096 ≡ 0
 pages_whole ss [] = refl
 pages_whole ss (page ∷ pages) =
-    let both = length_append (text_page ss page) (flat_map (text_page ss) pages) in
+    let both = length-append (text_page ss page) (flat_map (text_page ss) pages) in
     let first = page_whole page (find (is_text_of page) ss) in
     let rest = pages_whole ss pages in
     omega (arith, both, first, rest)

@@ -7,8 +7,6 @@ use Rattle.image_loader.specs.Placed.{ArePlaced}
 use Rattle.reference.specs.Calls.{hart_at, stopped_hart}
 use Rattle.reference.specs.Start.{block_disk, flat_rules, flat_start, image_start, start}
 use Rattle.reference.specs.States.{State, Disk, Journal}
-use Rattle.std.specs.Prelude.{None}
-use Rattle.sv_types.specs.Kernel.{header_entry, kernel_refusal, kernel_segments}
 use Rattle.sv_types.specs.Policies.{Rules}
 use Rattle.machine_model.specs.Machine.{Machine}
 use Rattle.machine_model.specs.Reaches.{IsNew}
@@ -47,11 +45,6 @@ new_fit m start have new none =
 
 pub flat_fit : (m : Machine) (pages wanted : List ℕ) → IsNew m (flat_start pages wanted) → m.journal ≡ journal_at_boot → IsFit (unnoted m)
 flat_fit m pages wanted new none = new_fit m (flat_start pages wanted) (flat_addressed pages wanted) new none
-
--- what reading a file gives
-pub is_read : (file : List ℕ) (ram_pages : ℕ) (image : KernelImage) → kernel_refusal file ram_pages ≡ None → image.entry ≡ header_entry file
-    → segments_of image ≡ kernel_segments file → IsRead ram_pages image
-is_read file ram_pages image accepted entry segments = record { file = file; is = record { accepted = accepted; entry = entry; segments = segments } }
 
 -- an image that was read lies in RAM
 pub read_placed : (ram_pages : ℕ) (image : KernelImage) → IsRead ram_pages image → ArePlaced ram_pages (segments_of image)

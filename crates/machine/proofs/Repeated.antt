@@ -3,6 +3,7 @@ use Rattle.std.proofs.Common.{◌≡◌, ℕ, zero, suc, ◌+◌, ◌≤◌, Lis
 use Rattle.std.proofs.lemmas.List.{replicate-append-replicate}
 use Rattle.sv_types.specs.declared.event.Counts.{Counts}
 use Rattle.sv_types.specs.declared.event.Event.{Event}
+use Rattle.sv_types.specs.Boot.{no_counts}
 use Rattle.reference.specs.Counting.{CountsAtMost}
 use Rattle.reference.specs.Run.{run, step}
 use Rattle.reference.specs.States.{State}
@@ -19,7 +20,7 @@ pub counts_are : (m : Machine) (r : State) → StandsFor m r → m.journal.count
 unfolding machine_of
 counts_are m r s = ap (λ (x : Machine). x.journal.counts) s.same
 
-risen : (n : ℕ) (old new : Counts) → RiseByOne old new → CountsAtMost n old → CountsAtMost (n + 1) new
+pub risen : (n : ℕ) (old new : Counts) → RiseByOne old new → CountsAtMost n old → CountsAtMost (n + 1) new
 risen n old new rise most = record {
   turns = omega (arith, rise.turns, most.turns);
   beats = omega (arith, rise.beats, most.beats);
@@ -44,6 +45,26 @@ pub step_counts : (n : ℕ) (m next : Machine) (r : State) (e : Event) → Stand
 step_counts n m next r e s after counts =
     subst (λ (c : Counts). CountsAtMost (n + 1) c) (sym (counts_are next (step r e) after))
     (risen n r.journal.counts (step r e).journal.counts (grows_law r e).counts (subst (λ (c : Counts). CountsAtMost n c) (counts_are m r s) counts))
+
+-- before the first event
+pub none_counted : CountsAtMost 0 no_counts
+none_counted = record {
+  turns = omega arith;
+  beats = omega arith;
+  keys = omega arith;
+  ticks = omega arith;
+  retired = omega arith;
+  traps = omega arith;
+  enters = omega arith;
+  leaves = omega arith;
+  demotes = omega arith;
+  denied = omega arith;
+  dropped = omega arith;
+  loads = omega arith;
+  unloads = omega arith;
+  refused = omega arith;
+  notes = omega arith;
+}
 
 pub counts_within : (n most : ℕ) (c : Counts) → n ≤ most → CountsAtMost n c → CountsAtMost most c
 counts_within n most c le at = record {

@@ -1,9 +1,8 @@
 -- A machine that goes on from a snapshot stands for the state that the snapshot says, and is fit for its next event.
 use Rattle.std.proofs.Common.{◌≡◌, ℕ, ◌*◌, ◌^◌, ◌≤◌, List, [], ◌∷◌, length, map, refl, ◌∙◌, ap, subst, Bool, arith}
 use Rattle.std.specs.Prelude.{Option, Some, None, IsTrue, option_map}
-use Rattle.std.proofs.lemmas.Bool.Decides.{nat_tests}
 use Rattle.processor.specs.Bytes.{page_size}
-use Rattle.processor.specs.Regions.{Region, most_ram_pages}
+use Rattle.processor.specs.Regions.{Region}
 use Rattle.sv_types.specs.Policies.{Rules, rules_within}
 use Rattle.sv_types.specs.Views.{with_ram}
 use Rattle.sv_types.specs.declared.protection.Protection.{Protection}
@@ -21,8 +20,10 @@ use Rattle.resumed_parts.specs.Parts.{AreResumed}
 use Rattle.resumed_parts.specs.declared.parts.ResumedParts.{ResumedParts}
 use Rattle.hart_answers.specs.Hosts.{hosts_of}
 use Rattle.module_answers.specs.Parts.{loading_of}
-use Rattle.machine.proofs.NewFit.{unnoted}
+use Rattle.resumed_start.proofs.SnapHolds.{nothing_printed}
 use Rattle.machine.specs.Machines.{HasAddress, HaveAddresses, IsFit}
+use Rattle.machine.proofs.ImageStarting.{pages_within}
+use Rattle.machine.proofs.NewFit.{unnoted}
 
 -- ---- reservations
 
@@ -38,13 +39,9 @@ rules_are : (rules : Rules) (s : Contents) → (resumed_state rules s).rules ≡
 unfolding resumed_state
 rules_are rules s = refl
 
-none_printed : (rules : Rules) (s : Contents) → (resumed_state rules s).journal.printed ≡ []
-unfolding resumed_state
-none_printed rules s = refl
-
 small_ram : (rules : Rules) → IsTrue (rules_within rules) → page_size * rules.ram_pages ≤ 2 ^ 60
 small_ram rules within =
-    let most : rules.ram_pages ≤ most_ram_pages = grind (arith, nat_tests) in omega (arith, most)
+    let most = pages_within rules within in omega (arith, most)
 
 pub resumed_journal : (tables : List ℕ) (rules : Rules) (s : Contents) → (resumed_machine tables rules s).journal ≡ (resumed_state rules s).journal
 unfolding resumed_machine
@@ -57,7 +54,7 @@ pub resumed_fit : (m : Machine) (rules : Rules) (s : Contents) → IsTrue (rules
 resumed_fit m rules s within resumable new journal =
     let attempts = new.attempts in
     let cleared = new.cleared in
-    let printed : length m.journal.printed ≡ 0 = ap (λ (j : Journal). length j.printed) journal ∙ ap length (none_printed rules s) in
+    let printed : length m.journal.printed ≡ 0 = ap (λ (j : Journal). length j.printed) journal ∙ ap length (nothing_printed rules s) in
     record {
       state = resumed_state rules s;
       stands = new.stands;

@@ -1,11 +1,9 @@
 -- A row of turns is as many events, one after another.
-use Rattle.std.proofs.Common.{◌≡◌, ℕ, zero, suc, ◌+◌, ◌%◌, ◌<◌, ◌≤◌, List, [], ◌∷◌, length, map, refl, sym, ◌∙◌, ap, subst, arith, false, add-one, inl, inr}
+use Rattle.std.proofs.Common.{◌≡◌, ℕ, zero, suc, ◌+◌, ◌%◌, ◌<◌, List, [], ◌∷◌, length, map, refl, sym, ◌∙◌, ap, subst, arith, false, inl, inr}
 use Rattle.std.specs.Prelude.{Option, Some, None, is_some, slice_index_or, slice_set}
 use Rattle.std.proofs.lemmas.Bool.Decides.{eqb_tells}
 use Rattle.processor.specs.HypervisorRegisters.{pending}
 use Rattle.processor.specs.declared.lines.Lines.{Lines}
-use Rattle.processor_laws.proofs.ByteLemmas.{lt_or_le}
-use Rattle.hart_answers.proofs.Hosts.{hosts_length}
 use Rattle.hart_answers.specs.Hosts.{host_at, hosts_of}
 use Rattle.hart_answers.specs.declared.seats.Seat.{Seat}
 use Rattle.machine.proofs.Hosts.{core_put, host_there}
@@ -109,14 +107,6 @@ row_verdict (suc n) j = row_verdict n j
 pub row_printed : (n : ℕ) (j : Journal) → (counted_row n j).printed ≡ j.printed
 row_printed zero j = refl
 row_printed (suc n) j = row_printed n j
-
-pub row_turns : (n : ℕ) (j : Journal) → (counted_row n j).counts.turns ≡ j.counts.turns + n
-row_turns zero j = omega arith
-row_turns (suc n) j = let before = row_turns n j in omega (arith, before)
-
-pub row_retired : (n : ℕ) (j : Journal) → (counted_row n j).counts.retired ≡ j.counts.retired + n
-row_retired zero j = omega arith
-row_retired (suc n) j = let before = row_retired n j in omega (arith, before)
 
 -- ---- one turn more
 
@@ -289,11 +279,6 @@ none_by : (o : Option ℕ) → is_some o ≡ false → o ≡ None
 none_by None e = refl
 none_by (Some x) e = absurd (cc)
 
-nobody_past : (harts : List HostHart) (h : ℕ) → length harts ≤ h → (hart_in harts h).core.reservation ≡ None
-nobody_past [] h past = refl
-nobody_past (x ∷ harts) zero past = absurd (omega arith)
-nobody_past (x ∷ harts) (suc h) past = nobody_past harts h (omega arith)
-
 -- those of the first harts
 abbrev pub FirstFree : List Seat → ℕ → Type 0
 FirstFree seats n = (h : ℕ) → h < n → (hart_in (hosts_of seats) h).core.reservation ≡ None
@@ -308,10 +293,4 @@ one_more_free seats n d below free so_far = λ h under. elim (eqb_tells h n) [
       subst (λ (k : ℕ). (hart_in (hosts_of seats) k).core.reservation ≡ None) (sym same.1)
       (ap (λ (x : HostHart). x.core.reservation) (host_there seats n d below) ∙ none_by (slice_index_or seats n d).hart.core.reservation free)
   | inr other ↦ so_far h (let apart = other.1 in omega (arith, apart))
-]
-
-pub all_free : (seats : List Seat) (n : ℕ) → length seats ≤ n → FirstFree seats n → AreFree (hosts_of seats)
-all_free seats n past first = λ h. elim (lt_or_le h n) [
-  | inl below ↦ first h below
-  | inr behind ↦ nobody_past (hosts_of seats) h (let same = hosts_length seats in omega (arith, same))
 ]

@@ -1,7 +1,7 @@
 -- Harts and caches before the first event, and the pages that are approved then.
 use Rattle.std.proofs.Common.{◌≡◌, ℕ, zero, suc, ◌+◌, ◌-◌, ◌≤◌, Bool, true, false, List, [], ◌∷◌, ◌++◌, length, replicate, refl, sym, ◌∙◌, ap, arith, subst, not, drop}
 use Rattle.std.specs.Prelude.{find, is_some, Option, Some, None, IfSome, slice_get}
-use Rattle.std.proofs.lemmas.List.{drop-replicate, replicate_more}
+use Rattle.std.proofs.lemmas.List.{drop-replicate, replicate_more, length-replicate}
 use Rattle.page_guard.specs.Guarded.{first_taken}
 use Rattle.hart_answers.specs.Hosts.{host_at, hosts_of}
 use Rattle.hart_answers.specs.declared.seats.Seat.{Seat}
@@ -21,6 +21,7 @@ use Rattle.sv_types.specs.Views.{with_ram}
 use Rattle.sv_types.specs.declared.module.Span.{Span}
 use Rattle.sv_types.specs.declared.protection.Protection.{Protection}
 use Rattle.sv_types.specs.declared.protection.Protection.TheVariants.{Free}
+use Rattle.resumed_parts.proofs.Regions.{length_both, tables_sized}
 use Rattle.machine.specs.Attempts.{nothing_kept, IsUsable, AreUsable}
 use Rattle.machine.specs.declared.caches.HartCaches.{HartCaches}
 use Rattle.machine.proofs.Emptied.{nothing_usable}
@@ -31,10 +32,6 @@ use Rattle.reference.proofs.Runs.{all_free_at}
 hosts_more : (seats : List Seat) (next : Seat) → hosts_of (seats ++ next ∷ []) ≡ hosts_of seats ++ host_at next ∷ []
 hosts_more [] next = refl
 hosts_more (x ∷ seats) next = ap (λ (hosts : List HostHart). host_at x ∷ hosts) (hosts_more seats next)
-
-pub length_next : (seats : List Seat) (next : Seat) → length (seats ++ next ∷ []) ≡ length seats + 1
-length_next [] next = refl
-length_next (x ∷ seats) next = let n = length_next seats next in omega (arith, n)
 
 -- one more stopped hart
 pub next_seated : (seats : List Seat) (next : Seat) (harts entry : ℕ) → 1 ≤ harts → hosts_of seats ≡ hosts_at_boot harts entry → host_at next ≡ host_at_boot 0 false
@@ -54,10 +51,6 @@ of_empty zero h own e = absurd (cc)
 of_empty (suc n) zero own e = cc
 of_empty (suc n) (suc h) own e = of_empty n h own e
 
-length_replicated : (n : ℕ) → length (replicate {A = HartCaches} n nothing_kept) ≡ n
-length_replicated zero = refl
-length_replicated (suc n) = let k = length_replicated n in omega (arith, k)
-
 -- empty caches agree with any tables
 pub empty_usable : (tables : List ℕ) (n : ℕ) (caches : List HartCaches) → caches ≡ replicate n nothing_kept → AreUsable tables caches
 empty_usable tables n caches is = subst (λ (caches : List HartCaches). AreUsable tables caches) (sym is) (record {
@@ -66,7 +59,7 @@ empty_usable tables n caches is = subst (λ (caches : List HartCaches). AreUsabl
 
 -- as many as harts
 pub length_empty : (n : ℕ) (caches : List HartCaches) → caches ≡ replicate n nothing_kept → length caches ≡ n
-length_empty n caches is = ap (λ (caches : List HartCaches). length caches) is ∙ length_replicated n
+length_empty n caches is = ap (λ (caches : List HartCaches). length caches) is ∙ length-replicate n nothing_kept
 
 -- ---- modules
 
@@ -78,23 +71,12 @@ none_joined rules modules gate loading = record {
 
 -- ---- plain pages
 
-length_zeros : (n : ℕ) → length (replicate {A = ℕ} n 0) ≡ n
-length_zeros zero = refl
-length_zeros (suc n) = let k = length_zeros n in omega (arith, k)
-
-length_both : (n k : ℕ) → length (replicate {A = ℕ} n 0 ++ replicate {A = ℕ} k 0) ≡ n + k
-length_both zero k = let m = length_zeros k in omega (arith, m)
-length_both (suc n) k = let m = length_both n k in omega (arith, m)
-
 -- RAM has room for the pages
 pub pages_fit : (r : Region) (tables n : ℕ) (pages : List ℕ) → r ≡ record { tables = replicate tables 0; ram = replicate n 0 } → length pages ≤ n
     → tables + length pages ≤ length (host_bytes r)
 pages_fit r tables n pages fresh few =
     let size : length (host_bytes r) ≡ tables + n = ap (λ (r : Region). length (host_bytes r)) fresh ∙ length_both tables n in
     omega arith
-
-pub tables_sized : (r : Region) (tables n : ℕ) → r ≡ record { tables = replicate tables 0; ram = replicate n 0 } → length r.tables ≡ tables
-tables_sized r tables n fresh = ap (λ (r : Region). length r.tables) fresh ∙ length_zeros tables
 
 over_zeros : (n : ℕ) (pages : List ℕ) → overwrite (replicate n 0) 0 pages ≡ padded pages n
 unfolding overwrite

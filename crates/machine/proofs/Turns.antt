@@ -1,6 +1,6 @@
 -- Answers to exits, and turns.
-use Rattle.std.proofs.Common.{◌≡◌, ℕ, zero, suc, ◌<◌, ◌≤◌, Bool, true, false, List, [], ◌∷◌, length, refl, sym, ◌∙◌, ap, subst, arith}
-use Rattle.std.specs.Prelude.{Option, Some, None, slice_get}
+use Rattle.std.proofs.Common.{◌≡◌, ℕ, zero, suc, ◌<◌, Bool, true, false, List, [], ◌∷◌, length, refl, sym, ◌∙◌, ap, subst, arith}
+use Rattle.std.specs.Prelude.{Option, Some, slice_get}
 use Rattle.sv_types.specs.Policies.{Rules}
 use Rattle.sv_types.specs.Views.{AreViews}
 use Rattle.processor.specs.Hardware.{Attempted}
@@ -57,20 +57,11 @@ served_there m h exit below = ap (served_by m h exit) (hart_there m.harts h belo
 
 -- ---- turns
 
-pub past_end : (harts : List HostHart) (h : ℕ) → length harts ≤ h → slice_get harts h ≡ None
-past_end [] h past = refl
-past_end (x ∷ harts) zero past = absurd (omega arith)
-past_end (x ∷ harts) (suc h) past = past_end harts h (omega arith)
-
 served_started : (m after : Machine) (h : ℕ) (b : Bool) → h < length m.harts → (hart_in m.harts h).started ≡ b → HartServed b m h (hart_in m.harts h) after
     → TurnServed m h (slice_get m.harts h) after
 served_started m after h b below e served =
     subst (λ (x : Option HostHart). TurnServed m h x after) (sym (hart_there m.harts h below))
     (subst (λ (b : Bool). HartServed b m h (hart_in m.harts h) after) (sym e) served)
-
--- it is stopped
-pub turn_stopped : (m : Machine) (h : ℕ) → h < length m.harts → (hart_in m.harts h).started ≡ false → TurnServed m h (slice_get m.harts h) m
-turn_stopped m h below e = served_started m m h false below e refl
 
 pub outcome_served : (m after : Machine) (h : ℕ) (host : HostHart) (o : Outcome) → (attempted m h host).outcome ≡ o → Finished o (left_by m h host) h after
     → OutcomeServed o m h host after

@@ -141,7 +141,7 @@ pub(crate) fn bound_pages(alloc: Global, policy: &Policy) -> Result<Vec<u32>, Al
 }
 
 // A region of so many pages of RAM with the image's segments, and room for its tables, where so many entries are bound.
-#[tactic(auto, using(crate::proofs::Starting::tables_sized))]
+#[tactic(auto, using(resumed_parts::proofs::Regions::tables_sized))]
 fn image_region(
     alloc: Global,
     image: &KernelImage,

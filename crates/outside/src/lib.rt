@@ -8,6 +8,7 @@ mod calls;
 mod memory_files;
 mod memory_sink;
 mod real;
+mod trouble;
 mod writing;
 
 pub use memory_files::MemFiles;
@@ -15,6 +16,7 @@ pub use memory_sink::MemSink;
 pub use real::{RealFiles, StdSink};
 use std::alloc::Global;
 pub use sv_types::Failed;
+pub use trouble::{Trouble, settled};
 pub use writing::write_all;
 
 /// Why a file isn't read.

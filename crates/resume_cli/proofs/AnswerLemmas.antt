@@ -17,12 +17,13 @@ use Rattle.secvisor_cli.specs.declared.ready.Booted.{Booted}
 use Rattle.secvisor_cli.specs.declared.ready.Stop.TheVariants.{Refused}
 use Rattle.secvisor_cli.specs.declared.ready.Stop.TheVariants as stop
 use Rattle.secvisor_cli.specs.declared.refusal.Refusal.{Refusal}
-use Rattle.secvisor_cli.specs.declared.trouble.Trouble.{Trouble}
-use Rattle.secvisor_cli.specs.declared.trouble.Trouble.TheVariants.{Memory}
-use Rattle.secvisor_cli.proofs.PlanLemmas.{may_save}
+use Rattle.outside.specs.declared.trouble.Trouble.{Trouble}
+use Rattle.outside.specs.declared.trouble.Trouble.TheVariants.{Memory}
+use Rattle.secvisor_cli.proofs.PlanLemmas.{may_save, may_follow}
+use Rattle.secvisor_cli.proofs.TopLemmas.{refused_writes}
 use Rattle.resume_cli.specs.ResumePlans.{resume_plan, words_plan}
 use Rattle.resume_cli.specs.ResumeReady.{IsResumedWhere, Resumes}
-use Rattle.resume_cli.specs.ResumeWords.{ResumeWords}
+use Rattle.resume_cli.specs.ResumeWords.{ResumeWords, resume_judged}
 
 -- ---- what is ready
 
@@ -69,17 +70,12 @@ ready_performs plan f0 f1 f2 s0 s1 b0 b1 booted result p a =
 
 -- ---- refusals, and want of memory
 
--- a refusal's line was written, and nothing else was done
-refused : (refusal : Refusal) (files : FilesState) (old new : SinkState) (bench : Option Machine) (result : Result Status Trouble) → Writes (refusal_status refusal) (refusal_line refusal) old new result →
-    (IsErrOf result Memory → IsTrue (takes_memory refusal)) → (IsErrOf result Memory → new ≡ old) → WritesAndSaves (Refuse refusal) (outside files old bench) (outside files new bench) result
-refused refusal files old new bench result w wants quiet = record { written = result; writes = w; saves = (refl, refl); wants = wants; quiet = quiet; bench = refl }
-
 refused_where : (reached : Option Due) (given : Refusal) (files : FilesState) (old new : SinkState) (bench : Option Machine) (result : Result Status Trouble) →
     IsResumedWhere reached (Err (Refused given)) → Writes (refusal_status given) (refusal_line given) old new result → (IsErrOf result Memory → IsTrue (takes_memory given)) →
     (IsErrOf result Memory → new ≡ old) → AnswersReached reached (outside files old bench) (outside files new bench) result
 refused_where None given files old new bench result it w wants quiet = absurd (cc it)
 refused_where (Some (Refuse refusal)) given files old new bench result it w wants quiet =
-    subst (λ (r : Refusal). WritesAndSaves (Refuse r) (outside files old bench) (outside files new bench) result) it (refused given files old new bench result w wants quiet)
+    subst (λ (r : Refusal). WritesAndSaves (Refuse r) (outside files old bench) (outside files new bench) result) it (refused_writes given files old new bench result w wants quiet)
 refused_where (Some (RunFrom start events save)) given files old new bench result it w wants quiet = absurd it
 refused_where (Some (Make name rules line)) given files old new bench result it w wants quiet = absurd it
 
@@ -107,7 +103,7 @@ pub words_refused : (words : Result ResumeWords Refusal) (refusal : Refusal) (fi
 unfolding resume_plan
 words_refused words refusal files old new bench result is w wants quiet =
     subst (λ (j : Result ResumeWords Refusal). Performs (resume_plan j) (outside files old bench) (outside files new bench) result) (sym is)
-    (record { reached = Some (Refuse refusal); read = files; follows = (refl, refl); answers = refused refusal files old new bench result w wants quiet })
+    (record { reached = Some (Refuse refusal); read = files; follows = (refl, refl); answers = refused_writes refusal files old new bench result w wants quiet })
 
 -- words that are good
 pub words_may : (words : Result ResumeWords Refusal) (value : ResumeWords) (files : FilesState) → words ≡ Ok value → MayFollow (resume_plan words) files → MayFollow (words_plan value) files
@@ -118,3 +114,8 @@ pub words_performed : (words : Result ResumeWords Refusal) (value : ResumeWords)
     Performs (words_plan value) old new result → Performs (resume_plan words) old new result
 unfolding resume_plan
 words_performed words value old new result is it = subst (λ (j : Result ResumeWords Refusal). Performs (resume_plan j) old new result) (sym is) it
+
+-- where all names may be asked for and saved under
+pub resume_follows : (words : List (List ℕ)) (files : FilesState) → ((asked : List (List ℕ × ℕ)) → IsTrue (files.permits asked)) →
+    ((saves : List (List ℕ × List ℕ)) → IsTrue (files.permits_save saves)) → MayFollow (resume_plan (resume_judged words)) files
+resume_follows words files all saves = may_follow (resume_plan (resume_judged words)) files all saves

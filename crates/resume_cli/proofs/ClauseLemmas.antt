@@ -12,10 +12,11 @@ use Rattle.snapshot_form.specs.declared.refusal.SnapRefusal.{SnapRefusal}
 use Rattle.resumption.specs.Judgements.{resume_refusal}
 use Rattle.resumption.specs.ResumedStates.{resumed_state}
 use Rattle.resumption.specs.declared.refusal.ResumeRefusal.{ResumeRefusal}
-use Rattle.secvisor_cli.specs.Answers.{Outside, outside, Performs, settled}
+use Rattle.secvisor_cli.specs.Answers.{Outside, outside, Performs}
+use Rattle.outside.specs.Endings.{settled}
 use Rattle.secvisor_cli.specs.Plans.{Plan, found_plan, policy_part, status_due}
 use Rattle.secvisor_cli.specs.declared.refusal.Refusal.{Refusal}
-use Rattle.secvisor_cli.specs.declared.trouble.Trouble.{Trouble}
+use Rattle.outside.specs.declared.trouble.Trouble.{Trouble}
 use Rattle.secvisor_cli.proofs.PlanLemmas.{HasFault, HasFoundFaults}
 use Rattle.secvisor_cli.proofs.TopLemmas.{plan_fault, policy_found_faults, refused_same, run_no_read_fault, script_found_faults}
 use Rattle.secvisor_cli.proofs.WordLemmas.{NoReadFault}

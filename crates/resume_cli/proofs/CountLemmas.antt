@@ -1,7 +1,6 @@
 -- The counts of a snapshot are no more than its events.
-use Rattle.std.proofs.Common.{◌≡◌, ℕ, ◌^◌, ◌≤◌, true, arith}
+use Rattle.std.proofs.Common.{◌≡◌, ℕ, ◌^◌, ◌≤◌, true}
 use Rattle.std.specs.Prelude.{nat_le}
-use Rattle.std.proofs.lemmas.Bool.Decides.{nat_tests}
 use Rattle.sv_types.specs.Limits.{most_events}
 use Rattle.sv_types.specs.declared.event.Counts.{Counts}
 use Rattle.reference.specs.Counting.{CountsAtMost}
@@ -12,10 +11,8 @@ use Rattle.snapshot_form.specs.JournalForms.{count, event_counts, hart_counts, r
 use Rattle.snapshot_form.specs.PageForms.{pages, gate}
 use Rattle.snapshot_form.specs.Snapshots.{Contents, beginning, events_made, magic, header, body, whole_header, whole_body, snapshot}
 use Rattle.snapshot_form.proofs.FormLaws.{first_true, second_true}
+use Rattle.resume_laws.proofs.FormParts.{most_is}
 use Rattle.machine.proofs.Repeated.{counts_within}
-
-most_is : (a b : ℕ) → nat_le a b ≡ true → a ≤ b
-most_is a b e = grind (arith, nat_tests)
 
 count_is : (events n : ℕ) → (count events).has n ≡ true → n ≤ events
 unfolding count

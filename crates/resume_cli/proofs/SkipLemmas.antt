@@ -1,49 +1,32 @@
 -- A script behind its first events.
-use Rattle.std.proofs.Common.{◌≡◌, ℕ, zero, suc, ◌+◌, ◌-◌, ◌≤◌, List, [], ◌∷◌, ◌++◌, length, drop, replicate, refl, sym, ◌∙◌, ap, arith, Option, Some, None}
-use Rattle.sv_types.specs.Schedule.{Schedule, next_event, after_event, begun_with, first_events}
+use Rattle.std.proofs.Common.{◌≡◌, ℕ, zero, suc, ◌+◌, ◌-◌, ◌≤◌, List, [], ◌∷◌, ◌++◌, length, drop, replicate, sym, ◌∙◌, ap, arith, None}
+use Rattle.std.proofs.lemmas.List.{drop_all}
+use Rattle.std.proofs.Math.Nat.{zero-add, suc-add}
+use Rattle.sv_types.specs.Schedule.{Schedule, next_event, first_events}
 use Rattle.sv_types.specs.declared.event.Event.{Event}
 use Rattle.script.specs.Runs.{BeginsWith}
 use Rattle.script.specs.declared.event_run.EventRun.{EventRun}
+use Rattle.script.proofs.FirstEvents.{begun_none, first_few}
 use Rattle.resume_cli.specs.ResumePlans.{events_behind}
 
-drop_none : (n : ℕ) → drop {A = Event} n [] ≡ []
-drop_none zero = refl
-drop_none (suc n) = refl
-
-plus_none : (n : ℕ) → 0 + n ≡ n
-plus_none n = omega arith
-
-plus_one : (n m : ℕ) → suc n + m ≡ suc (n + m)
-plus_one n m = omega arith
-
 drop_row : (n rest : ℕ) (event : Event) (events : List Event) → drop (n + rest) (replicate n event ++ events) ≡ drop rest events
-drop_row zero rest event events = ap (λ (k : ℕ). drop k events) (plus_none rest)
+drop_row zero rest event events = ap (λ (k : ℕ). drop k events) (zero-add rest)
 drop_row (suc n) rest event events =
-    ap (λ (k : ℕ). drop k (event ∷ (replicate n event ++ events))) (plus_one n rest) ∙ drop_row n rest event events
-
--- none is left where there is no next one
-begun_none : (next : Option Event) (events : List Event) → next ≡ None → begun_with next events ≡ []
-begun_none None events is = refl
-begun_none (Some event) events is = absurd (cc is)
-
-ended : (n : ℕ) (s : Schedule) → next_event s ≡ None → first_events n s ≡ []
-unfolding first_events
-ended zero s none = refl
-ended (suc n) s none = begun_none (next_event s) (first_events n (after_event s)) none
+    ap (λ (k : ℕ). drop k (event ∷ (replicate n event ++ events))) (suc-add n rest) ∙ drop_row n rest event events
 
 -- nothing is behind a script's end
 pub behind_end : (undrawn made events : ℕ) (old new all : Schedule) → next_event old ≡ None →
     events_behind undrawn (undrawn + events) old ≡ events_behind made (made + events) all → first_events 0 new ≡ events_behind made (made + events) all
 unfolding first_events
 behind_end undrawn made events old new all none same =
-    sym (drop_none undrawn) ∙ ap (λ (es : List Event). drop undrawn es) (sym (ended (undrawn + events) old none)) ∙ same
+    sym (drop_all undrawn [] (omega arith)) ∙ ap (λ (es : List Event). drop undrawn es) (sym (begun_none (undrawn + events) old none)) ∙ same
 
 -- all of them were drawn
 pub behind_all : (undrawn made events : ℕ) (old all : Schedule) → undrawn ≤ 0 →
     events_behind undrawn (undrawn + events) old ≡ events_behind made (made + events) all → first_events events old ≡ events_behind made (made + events) all
 behind_all undrawn made events old all none same =
     let zero_is : 0 ≡ undrawn = omega (arith, none) in
-    ap (λ (n : ℕ). first_events n old) (sym (plus_none events)) ∙ ap (λ (n : ℕ). events_behind n (n + events) old) zero_is ∙ same
+    ap (λ (n : ℕ). first_events n old) (sym (zero-add events)) ∙ ap (λ (n : ℕ). events_behind n (n + events) old) zero_is ∙ same
 
 -- a row of them was drawn
 pub behind_row : (undrawn events : ℕ) (old new : Schedule) (row : EventRun) → row.count ≤ undrawn → BeginsWith old row new →
@@ -58,20 +41,6 @@ behind_row undrawn events old new row few begins =
     ∙ ap (λ (n : ℕ). drop n (first_events (undrawn + events) old)) parts
 
 -- ---- no more events than that many
-
-begun_few : (n : ℕ) (next : Option Event) (events : List Event) → length events ≤ n → length (begun_with next events) ≤ suc n
-begun_few n None events few = omega arith
-begun_few n (Some event) events few = omega (arith, few)
-
-first_few : (n : ℕ) (s : Schedule) → length (first_events n s) ≤ n
-unfolding first_events
-first_few zero s = omega arith
-first_few (suc n) s = begun_few n (next_event s) (first_events n (after_event s)) (first_few n (after_event s))
-
-drop_all : (n : ℕ) (events : List Event) → length events ≤ n → drop n events ≡ []
-drop_all n [] few = drop_none n
-drop_all zero (e ∷ events) few = absurd (omega (arith, few))
-drop_all (suc n) (e ∷ events) few = drop_all n events (omega (arith, few))
 
 -- no event is left where at least as many were made
 pub none_left : (made events : ℕ) (script : Schedule) → events ≤ made → first_events 0 script ≡ events_behind made events script

@@ -1,14 +1,13 @@
 -- The words of the command line.
-use Rattle.std.proofs.Common.{◌≡◌, ◌≢◌, ℕ, List, [], ◌∷◌, length, Bool, true, false, refl, codes, bytes_eq, if◌then◌else◌, Option, Some, None, Result, Err}
+use Rattle.std.proofs.Common.{◌≡◌, ◌≢◌, ℕ, List, [], ◌∷◌, length, refl, codes, bytes_eq, Option, Some, None, Err}
 use Rattle.std.specs.List.{list_any}
 use Rattle.sv_types.specs.Limits.{most_events}
 use Rattle.sv_types.specs.Numbers.{number_within}
 use Rattle.command_words.specs.Commands.{has_dash}
 use Rattle.secvisor_cli.specs.CommandLine.{Source, source_of}
-use Rattle.secvisor_cli.specs.declared.refusal.Refusal.{Refusal}
 use Rattle.secvisor_cli.specs.declared.refusal.Refusal.TheVariants.{NoCommand}
-use Rattle.secvisor_cli.proofs.WordLemmas.{NoReadFault}
-use Rattle.resume_cli.specs.ResumeWords.{ResumeWords, resume_words, resume_split, resume_shape, resume_judged}
+use Rattle.secvisor_cli.proofs.WordLemmas.{NoReadFault, judged_unless, judged_if}
+use Rattle.resume_cli.specs.ResumeWords.{resume_words, resume_split, resume_shape, resume_judged}
 
 -- so many words are of no command
 pub not_resume : (words : List (List ℕ)) → length words ≢ 5 → resume_split words ≡ Err NoCommand
@@ -36,14 +35,6 @@ split_no_read_fault (a ∷ b ∷ c ∷ []) = λ e. cc e
 split_no_read_fault (a ∷ b ∷ c ∷ d ∷ []) = λ e. cc e
 split_no_read_fault (a ∷ b ∷ c ∷ d ∷ e ∷ []) = some_no_read_fault a b e (source_of c) (number_within 0 most_events d)
 split_no_read_fault (a ∷ b ∷ c ∷ d ∷ e ∷ f ∷ rest) = λ e. cc e
-
-judged_unless : (refused : Bool) (words : Result ResumeWords Refusal) → NoReadFault words → NoReadFault (if refused then Err NoCommand else words)
-judged_unless true words never = λ e. cc e
-judged_unless false words never = never
-
-judged_if : (named : Bool) (words : Result ResumeWords Refusal) → NoReadFault words → NoReadFault (if named then words else Err NoCommand)
-judged_if true words never = never
-judged_if false words never = λ e. cc e
 
 shape_no_read_fault : (words : List (List ℕ)) → NoReadFault (resume_shape words)
 shape_no_read_fault [] = λ e. cc e

@@ -4,7 +4,7 @@ use Rattle.std.proofs.lemmas.List.{append-nil, drop_all, length-replicate}
 use Rattle.processor.specs.Bytes.{overwrite}
 use Rattle.processor.specs.Regions.{Region, host_bytes}
 
-length_both : (n k : ℕ) → length (replicate {A = ℕ} n 0 ++ replicate {A = ℕ} k 0) ≡ n + k
+pub length_both : (n k : ℕ) → length (replicate {A = ℕ} n 0 ++ replicate {A = ℕ} k 0) ≡ n + k
 length_both n k = simp (length-append, length-replicate) (omega arith)
 
 -- RAM has room for the bytes

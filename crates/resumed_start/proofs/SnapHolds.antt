@@ -30,7 +30,7 @@ rules_are : (rules : Rules) (file disk : List ℕ) → (boot_start rules file di
 unfolding boot_start start
 rules_are rules file disk = refl
 
-nothing_printed : (rules : Rules) (s : Contents) → (resumed_state rules s).journal.printed ≡ []
+pub nothing_printed : (rules : Rules) (s : Contents) → (resumed_state rules s).journal.printed ≡ []
 unfolding resumed_state
 nothing_printed rules s = refl
 

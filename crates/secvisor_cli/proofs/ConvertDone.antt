@@ -1,5 +1,6 @@
 -- What stands where `convert` is done.
 use Rattle.std.proofs.Common.{◌≡◌, ◌∙◌, ℕ, true, List, Option, Some, None, Ok, Err, refl, sym, ap, subst, inl, inr}
+use Rattle.std.proofs.lemmas.Option.{same_Some}
 use Rattle.sv_types.specs.declared.image_fault.ImageFault.{ImageFault}
 use Rattle.sv_types.specs.declared.status.Status.{Status}
 use Rattle.sv_types.specs.Kernel.{kernel_refusal, kernel_segments}
@@ -26,12 +27,9 @@ DoneAs P files (End due) = status_due due ≡ Status.Done → P due
 DoneAs P files (Read name limit next) = (found : Found) (now : FilesState) → FoundAs files now name limit found → DoneAs P now (next found)
 DoneAs P files (Judge next) = DoneAs P files next
 
-due_same : (a b : Due) → Some a ≡ Some b → a ≡ b
-due_same a b is = cc is
-
 done_at_end : (P : Due → Type 0) (plan : Plan) (old new : FilesState) (due : Due) → DoneAs P old plan → Follows plan old new (Some due) → status_due due ≡ Status.Done → P due
 done_at_end P (End it) old new due all follows is =
-    let same = due_same due it follows.0 in
+    let same = same_Some due it follows.0 in
     subst P (sym same) (all (sym (ap status_due same) ∙ is))
 done_at_end P (Read name limit next) old new due all (inl wanting) is = absurd (cc wanting.0)
 done_at_end P (Read name limit next) old new due all (inr it) is = done_at_end P (next it.0) it.1 new due (all it.0 it.1 it.2) it.3 is

@@ -2,6 +2,7 @@
 use Rattle.std.proofs.Common.{◌≡◌, ◌<◌, ◌≤◌, ◌⊎◌, ℕ, List, length, nat_le, Bool, false, IsTrue, refl, sym, ◌∙◌, ap, subst, arith, inl, inr, Option, Some, None, if◌then◌else◌}
 use Rattle.std.proofs.lemmas.Bool.{le-leb}
 use Rattle.std.proofs.lemmas.Bool.Decides.{nat_tests}
+use Rattle.std.proofs.lemmas.Option.{same_Some}
 use Rattle.sv_types.specs.declared.event.Event.{Event}
 use Rattle.sv_types.specs.declared.status.Status.{Status}
 use Rattle.sv_types.specs.Output.{run_status}
@@ -10,23 +11,14 @@ use Rattle.reference.specs.Run.{run}
 use Rattle.reference.specs.States.{State}
 use Rattle.outside.specs.Outside.{FilesState}
 use Rattle.secvisor_cli.specs.declared.file_fault.Part.{Part}
-use Rattle.secvisor_cli.specs.declared.refusal.Refusal.TheVariants.{NoCommand}
 use Rattle.secvisor_cli.specs.Answers.{Outside, outside, is_answer, MeetsSavesBehind, Meets, MeetsReached}
 use Rattle.secvisor_cli.specs.DueIn.{found_in, due_in, ComesToDue, AreReadWhole, EndsAs, RunEnds}
 use Rattle.secvisor_cli.specs.Plans.{Due, Refuse, RunFrom, Make, Plan, End, Read, Judge, Found, Faulty, Missing, Longer, Held, found_plan, read_part, Saving, policy_saving, saves_due}
 use Rattle.secvisor_cli.specs.Reading.{FoundAs, Follows, Saved, SaveBroke}
 use Rattle.secvisor_cli.specs.Refusals.{refusal_line}
-use Rattle.secvisor_cli.proofs.PlanLemmas.{Keeps, follows_keeps}
-
-pub some_same : (a b : Due) → Some a ≡ Some b → a ≡ b
-some_same a b is = cc is
+use Rattle.secvisor_cli.proofs.PlanLemmas.{Keeps, follows_keeps, keeps_found}
 
 -- ---- one read
-
--- what a read leaves alone
-pub read_keeps : (old now : FilesState) (name : List ℕ) (limit : ℕ) (found : Found) → FoundAs old now name limit found → Keeps old now
-read_keeps old now name limit found it =
-    follows_keeps (Read name limit (λ _. End (Refuse NoCommand))) old now (Some (Refuse NoCommand)) (inr (found, now, it, (refl, refl)))
 
 -- what was found before, where it was found later
 pub held_before : (old now : FilesState) (name : List ℕ) (held : Option (List ℕ)) → Keeps old now → (IsTrue now.tells → now.held name ≡ held) → IsTrue old.tells → old.held name ≡ held
@@ -56,10 +48,10 @@ found_as old now name limit (Held bytes) tells same it = ap (λ (o : Option (Lis
 -- ---- a whole plan
 
 pub comes_to_due : ComesToDue
-comes_to_due (End it) old new due tells same follows = sym (some_same due it follows.0)
+comes_to_due (End it) old new due tells same follows = sym (same_Some due it follows.0)
 comes_to_due (Read name limit next) old new due tells same (inl wanting) = absurd (cc wanting.0)
 comes_to_due (Read name limit next) old new due tells same (inr it) =
-    let k : Keeps old it.1 = read_keeps old it.1 name limit it.0 it.2 in
+    let k : Keeps old it.1 = keeps_found old it.1 name limit it.0 it.2 in
     let first = k.reads in
     let second = (follows_keeps (next it.0) it.1 new (Some due) it.3).reads in
     let unfailed : it.1.read_faults ≡ old.read_faults = omega arith in

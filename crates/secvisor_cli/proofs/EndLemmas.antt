@@ -13,9 +13,9 @@ use Rattle.reference.proofs.Runs.{run_on}
 use Rattle.machine_model.specs.Machine.{Machine}
 use Rattle.machine_model.specs.Reaches.{IsNew}
 use Rattle.outside.specs.Outside.{SinkState, after_taking, TookPrefix, BreaksOff}
-use Rattle.outside.proofs.SinkLemmas.{after_taking-append, prefix_behind, prefix_of_front, prefix_same, breaks_behind}
-use Rattle.secvisor_cli.specs.declared.trouble.Trouble.{Trouble}
-use Rattle.secvisor_cli.specs.declared.trouble.Trouble.TheVariants.{Memory}
+use Rattle.outside.proofs.SinkLemmas.{after_taking-append, prefix_behind, prefix_of_front, prefix_same, breaks_behind, prefix_none}
+use Rattle.outside.specs.declared.trouble.Trouble.{Trouble}
+use Rattle.outside.specs.declared.trouble.Trouble.TheVariants.{Memory, Write}
 use Rattle.console_run.specs.Console.{is_due, HasRun, RunBroke}
 use Rattle.secvisor_cli.specs.Answers.{Writes, RunsTo, is_answer}
 use Rattle.console_run.specs.Standing.{machine_output}
@@ -44,17 +44,22 @@ printed_grows r (e ∷ es) =
     let rest = printed_grows (step r e) es in
     (one.0 ++ rest.0, rest.1 ∙ ap (λ (p : List ℕ). p ++ rest.0) one.1 ∙ append_assoc r.journal.printed one.0 rest.0)
 
--- what was printed after some of the events stands at the front of the output after all
+-- what was printed after some of the events stands at the front of what is printed after all
+pub printed_front : (start : State) (done left events : List Event) → done ++ left ≡ events → (rest : List ℕ) × ((run start done).journal.printed ++ rest ≡ (run start events).journal.printed)
+printed_front start done left events split =
+    let grown = printed_grows (run start done) left in (
+      grown.0,
+      sym grown.1 ∙ ap (λ (s : State). s.journal.printed) (sym (run_on start done left)) ∙ ap (λ (es : List Event). (run start es).journal.printed) split,
+    )
+
+-- and of the output
 output_front : (start : State) (done left events : List Event) → done ++ left ≡ events →
     (rest : List ℕ) × ((run start done).journal.printed ++ rest ≡ output (run start events))
 output_front start done left events split =
-    let here : State = run start done in
     let last : State = run start events in
-    let grown = printed_grows here left in
-    let all : here.journal.printed ++ grown.0 ≡ last.journal.printed =
-    sym grown.1 ∙ ap (λ (s : State). s.journal.printed) (sym (run_on start done left)) ∙ ap (λ (es : List Event). (run start es).journal.printed) split in (
-      grown.0 ++ report last.journal,
-      sym (append_assoc here.journal.printed grown.0 (report last.journal)) ∙ ap (λ (p : List ℕ). p ++ report last.journal) all,
+    let front = printed_front start done left events split in (
+      front.0 ++ report last.journal,
+      sym (append_assoc (run start done).journal.printed front.0 (report last.journal)) ∙ ap (λ (p : List ℕ). p ++ report last.journal) front.1,
     )
 
 -- ---- a run that broke off
@@ -126,6 +131,27 @@ ran_writes first start m events old mid new (Err e) ran w =
       write = λ is. subst (λ (n : ℕ). n < new.faults) (ap (λ (k : SinkState). k.faults) ran.taken) (w.write is);
       memory = λ is. w.memory is ∙ ap (λ (k : SinkState). k.faults) ran.taken;
     }
+
+-- a write that failed, and want of memory before any
+pub broken_writes : (due : Status) (bytes : List ℕ) (old new : SinkState) → TookPrefix old new bytes → old.faults < new.faults → Writes due bytes old new (Err Write)
+broken_writes due bytes old new prefix rose = record {
+  status = tt;
+  proper = tt;
+  whole = tt;
+  prefix = prefix;
+  write = λ _. rose;
+  memory = λ e. absurd (cc e);
+}
+
+pub wanting_writes : (due : Status) (bytes : List ℕ) (sink : SinkState) → Writes due bytes sink sink (Err Memory)
+wanting_writes due bytes sink = record {
+  status = tt;
+  proper = tt;
+  whole = tt;
+  prefix = prefix_none sink bytes;
+  write = λ e. absurd (cc e);
+  memory = λ _. refl;
+}
 
 -- a run's end under another word for want of memory
 pub runs_under : (P Q : Type 0) (start : State) (events : List Event) (m : Machine) (old new : SinkState) → (Q → P) → RunsTo P start events m old new → RunsTo Q start events m old new

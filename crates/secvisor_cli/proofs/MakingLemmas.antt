@@ -153,13 +153,6 @@ pub record GoesOn {A : Type 0} (from to : (A → Plan) → Plan) (old now : File
   pub may : (next : A → Plan) → MayFollow (from next) old → MayFollow (to next) now
   pub faults : now.read_faults ≡ old.read_faults
 
-pub begun : {A : Type 0} (stage : (A → Plan) → Plan) (files : FilesState) → GoesOn stage stage files files
-begun stage files = record { follows = λ next last reached f. f; may = λ next m. m; faults = refl }
-
-pub module_may : (from : (Modules → Plan) → Plan) (name : List ℕ) (names : List (List ℕ)) (before : Modules) (old now : FilesState) → GoesOn from (modules_part (name ∷ names) before) old now →
-    MayStage from old → MayStage (module_part name before) now
-module_may from name names before old now on may = record { next = λ m. modules_part names m may.next; may = on.may may.next may.may }
-
 pub module_more : (from : (Modules → Plan) → Plan) (name : List ℕ) (names : List (List ℕ)) (before after : Modules) (old now new : FilesState) →
     GoesOn from (modules_part (name ∷ names) before) old now → Passes (module_part name before) after now new → GoesOn from (modules_part names after) old new
 module_more from name names before after old now new on pass = record {

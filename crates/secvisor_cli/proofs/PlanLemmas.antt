@@ -1,5 +1,6 @@
 -- Files that are asked fact a plan says, whatever the plan.
 use Rattle.std.proofs.Common.{◌≡◌, ◌≢◌, ℕ, ◌<◌, ◌≤◌, List, [], ◌∷◌, Bool, IsTrue, refl, sym, ◌∙◌, ap, subst, arith, inl, inr, ◌⊎◌, Option, Some, None}
+use Rattle.std.proofs.lemmas.Option.{same_Some}
 use Rattle.sv_types.specs.declared.status.Status.{Status}
 use Rattle.outside.specs.Outside.{FilesState, after_asking}
 use Rattle.secvisor_cli.specs.Plans.{Due, Content, Exactly, PolicyOf, Saving, saves_due, Plan, End, Read, Judge, Found, Faulty, Missing, Longer, Held, status_due}
@@ -24,7 +25,7 @@ keeps_asked old new name limit is =
       saves = ap (λ (f : FilesState). f.save_faults) is;
     }
 
-keeps_found : (old new : FilesState) (name : List ℕ) (limit : ℕ) (found : Found) → FoundAs old new name limit found → Keeps old new
+pub keeps_found : (old new : FilesState) (name : List ℕ) (limit : ℕ) (found : Found) → FoundAs old new name limit found → Keeps old new
 keeps_found old new name limit Faulty it =
     let rose = it.0 in
     record {
@@ -69,6 +70,21 @@ follows_keeps (Read name limit next) old new reached (inr it) =
 follows_keeps (Judge next) old new reached (inl wanting) = keeps_same old new wanting.1
 follows_keeps (Judge next) old new reached (inr it) = follows_keeps next old new reached it
 
+found_permits : (old now : FilesState) (name : List ℕ) (limit : ℕ) (found : Found) → FoundAs old now name limit found → now.permits_save ≡ old.permits_save
+found_permits old now name limit Faulty it = ap (λ (f : FilesState). f.permits_save) it.1
+found_permits old now name limit Missing it = ap (λ (f : FilesState). f.permits_save) it.2
+found_permits old now name limit Longer it = ap (λ (f : FilesState). f.permits_save) it.1
+found_permits old now name limit (Held bytes) it = ap (λ (f : FilesState). f.permits_save) it.2
+
+-- what may be saved stays
+pub follows_permits : (plan : Plan) (old new : FilesState) (reached : Option Due) → Follows plan old new reached → new.permits_save ≡ old.permits_save
+follows_permits (End due) old new reached follows = ap (λ (f : FilesState). f.permits_save) follows.1
+follows_permits (Read name limit next) old new reached (inl it) = ap (λ (f : FilesState). f.permits_save) it.1
+follows_permits (Read name limit next) old new reached (inr it) =
+    follows_permits (next it.0) it.1 new reached it.3 ∙ found_permits old it.1 name limit it.0 it.2
+follows_permits (Judge next) old new reached (inl it) = ap (λ (f : FilesState). f.permits_save) it.1
+follows_permits (Judge next) old new reached (inr it) = follows_permits next old new reached it
+
 -- the plan says read fault only where a read found no file
 abbrev pub HasFoundFaults : Plan → Type 0
 HasFoundFaults (End due) = status_due due ≢ Status.ReadFault
@@ -93,11 +109,8 @@ fault_by name limit next old now new due Longer fact never k more = fault_behind
 fault_by name limit next old now new due (Held bytes) fact never k more =
     fault_behind name limit next old now new (Held bytes) (keeps_found old now name limit (Held bytes) fact) (more (never.1 bytes))
 
-due_same : (a b : Due) → Some a ≡ Some b → a ≡ b
-due_same a b is = cc is
-
 pub read_fault : (plan : Plan) (old new : FilesState) (due : Due) → HasFoundFaults plan → Follows plan old new (Some due) → status_due due ≡ Status.ReadFault → HasFault plan old new
-read_fault (End it) old new due never follows is = absurd (never (ap status_due (sym (due_same due it follows.0)) ∙ is))
+read_fault (End it) old new due never follows is = absurd (never (ap status_due (sym (same_Some due it follows.0)) ∙ is))
 read_fault (Read name limit next) old new due never (inl wanting) is = absurd (cc wanting.0)
 read_fault (Read name limit next) old new due never (inr it) is =
     fault_by name limit next old it.1 new due it.0 it.2 never (follows_keeps (next it.0) it.1 new (Some due) it.3) (λ h. read_fault (next it.0) it.1 new due h it.3 is)
@@ -128,7 +141,7 @@ follow_found plan old now name limit (Held bytes) it may = subst (λ (f : FilesS
 
 pub may_save : (plan : Plan) (old read : FilesState) (due : Due) → MayFollow plan old → Follows plan old read (Some due) → MaySave (saves_due due) read
 may_save (End it) old read due may follows =
-    subst (λ (d : Due). MaySave (saves_due d) read) (sym (due_same due it follows.0))
+    subst (λ (d : Due). MaySave (saves_due d) read) (sym (same_Some due it follows.0))
     (subst (λ (f : FilesState). MaySave (saves_due it) f) (sym follows.1) may)
 may_save (Read name limit next) old read due may (inl wanting) = absurd (cc wanting.0)
 may_save (Read name limit next) old read due may (inr it) =
@@ -138,7 +151,7 @@ may_save (Judge next) old read due may (inr it) = may_save next old read due may
 
 -- what is due at the end is saved under a name of the plan
 pub saves_under : (plan : Plan) (old read : FilesState) (due : Due) (name : List ℕ) → Follows plan old read (Some due) → IsUnder (saves_due due) name → SavesUnder plan name
-saves_under (End it) old read due name follows under = subst (λ (d : Due). IsUnder (saves_due d) name) (due_same due it follows.0) under
+saves_under (End it) old read due name follows under = subst (λ (d : Due). IsUnder (saves_due d) name) (same_Some due it follows.0) under
 saves_under (Read asked limit next) old read due name (inl wanting) under = absurd (cc wanting.0)
 saves_under (Read asked limit next) old read due name (inr it) under = (it.0, saves_under (next it.0) it.1 read due name it.3 under)
 saves_under (Judge next) old read due name (inl wanting) under = absurd (cc wanting.0)

@@ -34,7 +34,7 @@ use Rattle.secvisor_cli.specs.declared.ready.Stop.TheVariants.{Refused, Memory}
 use Rattle.secvisor_cli.specs.Plans.{Due, Refuse, RunFrom, Plan, End, Judge, Found, Faulty, Missing, Longer, Held, found_plan, read_part, measure_judged, pages_judged, is_whole_pages, gen_disk, gen_due, start_with}
 use Rattle.secvisor_cli.specs.Reading.{FoundAs}
 use Rattle.console_run.proofs.Standing.{printed_few}
-use Rattle.machine.proofs.Repeated.{counts_are}
+use Rattle.machine.proofs.Repeated.{counts_are, none_counted}
 use Rattle.secvisor_cli.specs.Ready.{unread, PartRead, stop_of, IsReady, IsReadyWhere, Prepares}
 
 -- ---- any plan
@@ -115,25 +115,6 @@ measured_other pages wanted events other =
     ap (λ b. if b then RunFrom (flat_start pages wanted) events None else Refuse (Measure (measure pages) wanted)) (bytes_eq-other (measure pages) wanted other)
 
 -- a booted machine that has made no event
-none_counted : CountsAtMost 0 no_counts
-none_counted = record {
-  turns = omega arith;
-  beats = omega arith;
-  keys = omega arith;
-  ticks = omega arith;
-  retired = omega arith;
-  traps = omega arith;
-  enters = omega arith;
-  leaves = omega arith;
-  demotes = omega arith;
-  denied = omega arith;
-  dropped = omega arith;
-  loads = omega arith;
-  unloads = omega arith;
-  refused = omega arith;
-  notes = omega arith;
-}
-
 fresh_state : (s : State) (m : Machine) → s.journal.counts ≡ no_counts → s.journal.printed ≡ [] → IsNew m s → CountsAtMost 0 m.journal.counts × (m.journal.printed ≡ [])
 fresh_state s m counts printed new =
     (subst (λ c. CountsAtMost 0 c) (sym (counts_are m s new.stands ∙ counts)) none_counted, printed_few m s new.stands printed)

@@ -1,5 +1,5 @@
 -- What saving changes, and how it answers.
-use Rattle.std.proofs.Common.{◌≡◌, ◌≢◌, ◌≤◌, ◌<◌, ℕ, List, IsTrue, refl, sym, ap, subst, arith, inl, inr, ◌⊎◌, Option, Some, None, Result, Ok, Err, IsErrOf, IfOk, OnOk}
+use Rattle.std.proofs.Common.{◌≡◌, ◌≢◌, ◌≤◌, ◌<◌, ℕ, List, IsTrue, refl, sym, ap, subst, arith, inl, inr, ◌⊎◌, Option, Some, None, Result, Ok, Err, IsErrOf, IfOk, OnOk, []}
 use Rattle.sv_types.specs.declared.event.Event.{Event}
 use Rattle.sv_types.specs.declared.status.Status.{Status}
 use Rattle.sv_types.specs.Output.{run_status}
@@ -9,11 +9,12 @@ use Rattle.reference.specs.Run.{run}
 use Rattle.reference.specs.States.{State}
 use Rattle.machine_model.specs.Machine.{Machine}
 use Rattle.outside.specs.Outside.{FilesState, SinkState, after_saving, after_taking, TookPrefix}
-use Rattle.secvisor_cli.specs.declared.trouble.Trouble.{Trouble}
-use Rattle.secvisor_cli.specs.declared.trouble.Trouble.TheVariants.{Write, Memory}
+use Rattle.outside.specs.declared.trouble.Trouble.{Trouble}
+use Rattle.outside.specs.declared.trouble.Trouble.TheVariants.{Write, Memory}
 use Rattle.secvisor_cli.specs.Plans.{Exactly, Saving, saving}
 use Rattle.secvisor_cli.specs.Reading.{IsUnder, Saved, SaveBroke}
-use Rattle.secvisor_cli.specs.Answers.{Outside, AfterSave, SavedBehind, Writes, RunsTo, RunsAndSaves, MeetsSavesBehind, is_answer, settled}
+use Rattle.secvisor_cli.specs.Answers.{Outside, AfterSave, SavedBehind, Writes, RunsTo, RunsAndSaves, MeetsSavesBehind, is_answer}
+use Rattle.outside.specs.Endings.{settled}
 use Rattle.secvisor_cli.proofs.EndLemmas.{runs_under}
 
 -- ---- what saving leaves alone
@@ -64,6 +65,24 @@ changes (Some s) old new (Ok status) result (inr it) = changes_broke s old new i
 pub unchanged : (asked : Option Saving) (old new : FilesState) → Changes asked old new → ((name : List ℕ) → IsUnder asked name → ⊥) → new ≡ old
 unchanged None old new c never = c.none refl
 unchanged (Some s) old new c never = absurd (never s.name refl)
+
+-- these very bytes, under a name
+abbrev pub exact_saving : (name bytes : List ℕ) → Saving
+exact_saving name bytes = record { name = name; content = Exactly bytes }
+
+-- what is saved changes no other name
+pub record ChangesOut (name : List ℕ) (old new : FilesState) : Type 0 where
+  pub bytes : List ℕ
+  pub changes : Changes (Some (exact_saving name bytes)) old new
+
+pub changes_none : (name : List ℕ) (old new : FilesState) → new ≡ old → ChangesOut name old new
+changes_none name old new is = record { bytes = []; changes = changes_same (Some (exact_saving name [])) old new is }
+
+-- the count of writes no falls
+pub writes_faults : (due : Status) (bytes : List ℕ) (old new : SinkState) (written : Result Status Trouble) → Writes due bytes old new written → old.faults ≤ new.faults
+writes_faults due bytes old new (Ok status) w = let same : new.faults ≡ old.faults = ap (λ (k : SinkState). k.faults) w.whole in omega arith
+writes_faults due bytes old new (Err Write) w = let rose = w.write refl in omega arith
+writes_faults due bytes old new (Err Memory) w = let same = w.memory refl in omega arith
 
 -- ---- one save
 

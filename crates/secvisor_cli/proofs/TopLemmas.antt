@@ -43,19 +43,20 @@ use Rattle.secvisor_cli.specs.declared.ready.Ready.TheVariants.{Run as Boots, Sa
 use Rattle.secvisor_cli.specs.declared.ready.Stop.{Stop}
 use Rattle.secvisor_cli.specs.declared.ready.Stop.TheVariants.{Refused}
 use Rattle.secvisor_cli.specs.declared.ready.Stop.TheVariants as stop
-use Rattle.secvisor_cli.specs.declared.trouble.Trouble.{Trouble}
-use Rattle.secvisor_cli.specs.declared.trouble.Trouble.TheVariants.{Write, Memory}
+use Rattle.outside.specs.declared.trouble.Trouble.{Trouble}
+use Rattle.outside.specs.declared.trouble.Trouble.TheVariants.{Write, Memory}
 use Rattle.secvisor_cli.specs.Refusals.{refusal_line, refusal_status, takes_memory}
 use Rattle.command_words.specs.declared.command.DiskKind.{DiskKind}
 use Rattle.secvisor_cli.specs.CommandLine.{Command, Flat, Generated, Run, RunWords, Source, Rounds, Auto, Text, MakePolicy, PolicyWords, Convert, ConvertWords, judged}
 use Rattle.secvisor_cli.specs.Plans.{Due, Refuse, RunFrom, Make, Exactly, Saving, policy_saving, saves_due, most_image_bytes, most_object_bytes, making_fault, made_judged, made_part, Kernel, digest_part, Modules, no_modules, with_module, module_part, modules_part, making_plan, measure_plan, Plan, End, bytes_due, status_due, found_plan, flat_plan, command_plan, plan_of, measure_judged, pages_judged, is_whole_pages, flat_events, gen_plan, gen_due, gen_disk, policy_judged, policy_part, part_judged, kernel_part, disk_refusal, disk_part, text_part, script_part, image_measure, boot_judged, boot_plan, image_plan, run_plan, start_with, measured, binding_refusal, converted_judged, bound_plan, binding_plan, convert_plan}
 use Rattle.secvisor_cli.specs.Reading.{Follows, MayFollow, MaySave, Saved, SaveBroke, SavesUnder}
 use Rattle.secvisor_cli.specs.Ready.{IsMade, IsReady, IsReadyWhere, IsFresh, IsRunnable, MayCarryOut, MaySaveRun, Prepares}
-use Rattle.secvisor_cli.specs.Answers.{Outside, outside, Writes, SavesAndWrites, WritesAndSaves, Answers, AnswersReached, Performs, MeetsSaves, MeetsSavesBehind, Meets, MeetsReached, Headline, BenchAfter, settled}
+use Rattle.secvisor_cli.specs.Answers.{Outside, outside, Writes, SavesAndWrites, WritesAndSaves, Answers, AnswersReached, Performs, MeetsSaves, MeetsSavesBehind, Meets, MeetsReached, Headline, BenchAfter}
+use Rattle.outside.specs.Endings.{settled}
 use Rattle.secvisor_cli.proofs.WordLemmas.{NoReadFault, words_no_read_fault}
 use Rattle.secvisor_cli.proofs.EndLemmas.{runs_under}
-use Rattle.secvisor_cli.proofs.PlanLemmas.{HasFoundFaults, HasFault, Keeps, follows_keeps, may_save, read_fault, saves_under}
-use Rattle.secvisor_cli.proofs.SaveLemmas.{Changes, Wrote, changes, changes_saved, changes_broke, unchanged, no_memory, wrote, meets_saves, meets_faults}
+use Rattle.secvisor_cli.proofs.PlanLemmas.{HasFoundFaults, HasFault, Keeps, follows_keeps, may_save, read_fault, saves_under, may_follow}
+use Rattle.secvisor_cli.proofs.SaveLemmas.{Changes, Wrote, changes, changes_saved, changes_broke, unchanged, no_memory, wrote, meets_saves, meets_faults, ChangesOut}
 
 -- ---- want of memory
 
@@ -150,13 +151,18 @@ made_answers (Refuse refusal) made f0 f1 old new bench result it s = absurd it
 made_answers (RunFrom start events save) made f0 f1 old new bench result it s = absurd it
 made_answers (Make name rules line) made f0 f1 old new bench result it s = (as_policy name rules line made f0 f1 old new result it s, refl)
 
+-- a refusal's line was written, and nothing else was done
+pub refused_writes : (refusal : Refusal) (files : FilesState) (old new : SinkState) (bench : Option Machine) (result : Result Status Trouble) → Writes (refusal_status refusal) (refusal_line refusal) old new result →
+    (IsErrOf result Memory → IsTrue (takes_memory refusal)) → (IsErrOf result Memory → new ≡ old) → WritesAndSaves (Refuse refusal) (outside files old bench) (outside files new bench) result
+refused_writes refusal files old new bench result w wants quiet = record { written = result; writes = w; saves = (refl, refl); wants = wants; quiet = quiet; bench = refl }
+
 pub refused_answers : (reached : Option Due) (given : Refusal) (files : FilesState) (old new : SinkState) (bench : Option Machine) (result : Result Status Trouble) →
     IsReadyWhere reached (Err (Refused given)) → Writes (refusal_status given) (refusal_line given) old new result → (IsErrOf result Memory → IsTrue (takes_memory given)) →
     (IsErrOf result Memory → new ≡ old) → AnswersReached reached (outside files old bench) (outside files new bench) result
 refused_answers None given files old new bench result it w wants quiet = absurd (cc it)
 refused_answers (Some (Refuse refusal)) given files old new bench result it w wants quiet =
     subst (λ (r : Refusal). Answers (Refuse r) (outside files old bench) (outside files new bench) result) it
-    (record { written = result; writes = w; saves = (refl, refl); wants = wants; quiet = quiet; bench = refl })
+    (refused_writes given files old new bench result w wants quiet)
 refused_answers (Some (RunFrom start events save)) given files old new bench result it w wants quiet = absurd it
 refused_answers (Some (Make name rules line)) given files old new bench result it w wants quiet = absurd it
 
@@ -345,6 +351,25 @@ effect_saved plan old read new due follows c k =
       unsaved = λ never.
           let same : new ≡ read = unchanged (saves_due due) read new c (λ name under. never name (saves_under plan old read due name follows under)) in
           (ap (λ (f : FilesState). f.held) same ∙ k.held, ap (λ (f : FilesState). f.save_faults) same ∙ k.saves);
+    }
+
+-- what a whole changes of the files that saves under one name
+pub record EffectOut (name : List ℕ) (old new : FilesState) : Type 0 where
+  pub reads : old.read_faults ≤ new.read_faults
+  pub saves : old.save_faults ≤ new.save_faults
+  pub held : (other : List ℕ) → other ≢ name → new.held other ≡ old.held other
+
+pub effect_out : (name : List ℕ) (old read new : FilesState) → Keeps old read → ChangesOut name read new → EffectOut name old new
+effect_out name old read new k out =
+    let c = out.changes in
+    let first = k.reads in
+    let second = c.reads in
+    let kept = k.saves in
+    let more = c.saves in
+    record {
+      reads = omega arith;
+      saves = omega arith;
+      held = λ other never. c.others other (λ under. never (sym under)) ∙ ap (λ (held : List ℕ → Option (List ℕ)). held other) k.held;
     }
 
 made_changes : (saving : Saving) (line : List ℕ) (f0 f1 : FilesState) (old new : SinkState) (result : Result Status Trouble) → SavesAndWrites saving line f0 f1 old new result →
@@ -544,6 +569,19 @@ fault_at : (plan : Plan) (old read new : FilesState) → new.read_faults ≡ rea
 fault_at plan old read new same (inl missing) = inl missing
 fault_at plan old read new same (inr rose) = inr (omega arith)
 
+-- the status of a refusal that was written
+pub refused_status : (refusal : Refusal) (old new : Outside) (answer : Status) → WritesAndSaves (Refuse refusal) old new (Ok answer) → answer ≡ refusal_status refusal
+refused_status refusal old new answer a =
+    (subst (λ (w : Result Status Trouble). Writes (refusal_status refusal) (refusal_line refusal) old.sink new.sink w) (sym a.saves.1) a.writes).status
+
+pub refused_fault : (plan : Plan) (refusal : Refusal) (old new : Outside) (read : FilesState) (result : Result Status Trouble) → HasFoundFaults plan → Follows plan old.files read (Some (Refuse refusal)) →
+    WritesAndSaves (Refuse refusal) (outside read old.sink old.bench) new result → settled result ≡ Status.ReadFault → HasFault plan old.files new.files
+refused_fault plan refusal old new read (Ok answer) never follows a is =
+    let status : answer ≡ refusal_status refusal = refused_status refusal (outside read old.sink old.bench) new answer a in
+    fault_at plan old.files read new.files (ap (λ (f : FilesState). f.read_faults) a.saves.0) (read_fault plan old.files read (Refuse refusal) never follows (sym status ∙ is))
+refused_fault plan refusal old new read (Err Write) never follows a is = absurd (cc is)
+refused_fault plan refusal old new read (Err Memory) never follows a is = absurd (cc is)
+
 -- of any plan
 pub plan_fault : (plan : Plan) (old new : Outside) (result : Result Status Trouble) → HasFoundFaults plan → Performs plan old new result → settled result ≡ Status.ReadFault →
     HasFault plan old.files new.files
@@ -556,3 +594,10 @@ plan_fault plan old new result never p is =
 pub performs_fault : (words : List (List ℕ)) (old new : Outside) (result : Result Status Trouble) → Performs (plan_of (judged words)) old new result → settled result ≡ Status.ReadFault →
     HasFault (plan_of (judged words)) old.files new.files
 performs_fault words old new result p is = plan_fault (plan_of (judged words)) old new result (judged_found_faults words) p is
+
+-- ---- the words
+
+-- where all names may be asked for and saved under
+pub words_follow : (words : List (List ℕ)) (files : FilesState) → ((asked : List (List ℕ × ℕ)) → IsTrue (files.permits asked)) →
+    ((saves : List (List ℕ × List ℕ)) → IsTrue (files.permits_save saves)) → MayFollow (plan_of (judged words)) files
+words_follow words files all saves = may_follow (plan_of (judged words)) files all saves

@@ -18,7 +18,7 @@ use Rattle.policy_making.proofs.WordsWithin.{entries_count, entries_good, span_o
 use Rattle.command_words.specs.declared.command.DiskKind.{DiskKind}
 use Rattle.command_words.specs.Commands.{Split, RunSplit, MeasureSplit, flat_split, gen_split, run_split, measure_split, convert_split, split_words}
 use Rattle.secvisor_cli.specs.declared.refusal.Refusal.{Refusal}
-use Rattle.secvisor_cli.specs.declared.refusal.Refusal.TheVariants.{OutOfRange}
+use Rattle.secvisor_cli.specs.declared.refusal.Refusal.TheVariants.{OutOfRange, NoCommand}
 use Rattle.secvisor_cli.specs.declared.refusal.Word.{Word}
 use Rattle.secvisor_cli.specs.Refusals.{refusal_status}
 use Rattle.secvisor_cli.specs.CommandLine.{Command, Source, flat_words, gen_words, source_of, run_words, entries_judged, init_of, terms_with, terms_words, terms_judged, making_words, command_judged, split_judged, judged}
@@ -170,6 +170,15 @@ terms_in_range ram harts entries init terms e =
 abbrev pub NoReadFault : {A : Type 0} → Result A Refusal → Type 0
 NoReadFault (Ok value) = Unit {0}
 NoReadFault (Err refusal) = refusal_status refusal ≢ Status.ReadFault
+
+-- words that are of no command, where they are refused or aren't named so
+pub judged_unless : {A : Type 0} (refused : Bool) (words : Result A Refusal) → NoReadFault words → NoReadFault (if refused then Err NoCommand else words)
+judged_unless true words never = λ e. cc e
+judged_unless false words never = never
+
+pub judged_if : {A : Type 0} (named : Bool) (words : Result A Refusal) → NoReadFault words → NoReadFault (if named then words else Err NoCommand)
+judged_if true words never = never
+judged_if false words never = λ e. cc e
 
 flat_no_read_fault : (file : List ℕ) (wanted : Option (List ℕ)) (events : Option ℕ) → NoReadFault (flat_words file wanted events)
 unfolding flat_words

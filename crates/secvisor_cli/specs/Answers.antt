@@ -11,8 +11,8 @@ use Rattle.reference.specs.Run.{run}
 use Rattle.machine_model.specs.Machine.{Machine}
 use Rattle.machine_model.specs.Reaches.{Reaches}
 use Rattle.outside.specs.Outside.{FilesState, SinkState, after_taking, TookPrefix, BreaksOff}
-use Rattle.secvisor_cli.specs.declared.trouble.Trouble.{Trouble}
-use Rattle.secvisor_cli.specs.declared.trouble.Trouble.TheVariants.{Write, Memory}
+use Rattle.outside.specs.declared.trouble.Trouble.{Trouble}
+use Rattle.outside.specs.declared.trouble.Trouble.TheVariants.{Write, Memory}
 use Rattle.secvisor_cli.specs.Refusals.{refusal_line, takes_memory}
 use Rattle.secvisor_cli.specs.Plans.{Due, Refuse, RunFrom, Make, Saving, saving, policy_saving, Plan, bytes_due, status_due, saves_due}
 use Rattle.console_run.specs.Console.{is_due}
@@ -81,12 +81,6 @@ is_answer Status.ReadFault = true
 is_answer Status.WriteFault = false
 is_answer Status.Memory = false
 is_answer Status.Ended = true
-
--- the status at the end
-abbrev pub settled : Result Status Trouble → Status
-settled (Ok status) = status
-settled (Err Write) = Status.WriteFault
-settled (Err Memory) = Status.Memory
 
 -- within the program: this status and all of these bytes; else a write failed, or memory was wanting
 pub record Writes (due : Status) (bytes : List ℕ) (old new : SinkState) (result : Result Status Trouble) : Type 0 where

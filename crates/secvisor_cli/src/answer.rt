@@ -18,7 +18,7 @@ ghost use Rattle.secvisor_cli.specs.Words.{command_of, IsInRange};
 ghost use Rattle.secvisor_cli.specs.Plans.{Due, Exactly, RunFrom, command_plan, plan_of};
 ghost use Rattle.secvisor_cli.specs.Reading.{MayFollow, IsNamed, SavesUnder};
 ghost use Rattle.secvisor_cli.specs.Ready.{Prepares, IsReady, IsRunnable, MayCarryOut, MaySaveRun};
-ghost use Rattle.secvisor_cli.specs.Answers.{outside, Writes, Answers, SavesAndWrites, Performs, RunsTo, RunsAndSaves, Headline, settled};
+ghost use Rattle.secvisor_cli.specs.Answers.{outside, Writes, Answers, SavesAndWrites, Performs, RunsTo, RunsAndSaves, Headline};
 ghost use Rattle.outside.specs.Outside.{MayWrite};
 
 use crate::converting::prepare_converted;
@@ -30,12 +30,11 @@ use crate::making::prepare_policy;
 use crate::ready::{Booted, Made, Ready, Stop};
 use crate::refusal::Refusal;
 use crate::save::save_disk;
-use crate::trouble::Trouble;
 use crate::words::{Command, read_words};
 use command_words::split;
 use console_run::run;
 use machine::Machine;
-use outside::{Files, Sink, write_all};
+use outside::{Files, Sink, Trouble, settled, write_all};
 use report::{report, status_of};
 use script::Script;
 use std::alloc::Global;
@@ -89,17 +88,6 @@ pub fn secvisor<R: Threads + Sync, F: Files, O: Sink>(
         ((F.state files.new).held ≡ (F.state files.old).held) × ((F.state files.new).save_faults ≡ (F.state files.old).save_faults) }
 {
     settled(answer(rt, alloc, words, files, out, bench))
-}
-
-/// The status that an answer ends with.
-pub fn settled(answer: Result<Status, Trouble>) -> Status
-    ensures { result ≡ settled answer }
-{
-    match answer {
-        Ok(status) => status,
-        Err(Trouble::Write) => Status::WriteFault,
-        Err(Trouble::Memory) => Status::Memory,
-    }
 }
 
 // What the words ask for is made ready and run, or refused.

@@ -15,10 +15,9 @@ mod parts;
 mod ready;
 mod refusal;
 mod save;
-mod trouble;
 mod words;
 
-pub use answer::{Bench, finish, refuse, run_on_bench, secvisor, settled};
+pub use answer::{Bench, finish, refuse, run_on_bench, secvisor};
 pub use command_words::DiskKind;
 pub use file_fault::{FileFault, Part};
 pub use flat::MOST_FLAT_BYTES;
@@ -29,9 +28,9 @@ pub use image_run::{
 pub use judgement::any_has_dash;
 pub use laws::{law_converted, law_due, law_run_ends};
 pub use making::MOST_OBJECT_BYTES;
+pub use outside::{Trouble, settled};
 pub use parts::read_part;
 pub use ready::{Booted, Made, Ready, Stop};
 pub use refusal::{Refusal, Word};
 pub use sv_types::Status;
-pub use trouble::Trouble;
 pub use words::{Run, Source, source_of, unless_none};

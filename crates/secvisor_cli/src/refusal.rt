@@ -4,8 +4,7 @@ ghost use Rattle.outside.specs.Outside.{after_taking, BreaksOff, MayWrite};
 ghost use Rattle.secvisor_cli.specs.Refusals.{refusal_line, refusal_status, takes_memory};
 
 use crate::file_fault::{FileFault, Part};
-use crate::trouble::Trouble;
-use outside::{Sink, write_all};
+use outside::{Sink, Trouble, write_all};
 use std::alloc::{AllocError, Global};
 use sv_types::{Digest, Status};
 use text_numbers::{address_text, digest_text};

@@ -6,9 +6,8 @@ ghost use Rattle.secvisor_cli.specs.Plans.{saving};
 ghost use Rattle.secvisor_cli.specs.Reading.{MaySave};
 ghost use Rattle.secvisor_cli.specs.Answers.{AfterSave};
 
-use crate::trouble::Trouble;
 use machine::Machine;
-use outside::Files;
+use outside::{Files, Trouble};
 
 /// Saves the disk's bytes, where a name for them is given.
 #[tactic(auto, using(crate::proofs::SaveLemmas::saved_exactly, crate::proofs::SaveLemmas::broke_exactly))]

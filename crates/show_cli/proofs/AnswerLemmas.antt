@@ -9,9 +9,9 @@ use Rattle.outside.specs.Outside.{FilesState, SinkState, ReadTells, ReadLeaves}
 use Rattle.snapshot_form.specs.Snapshots.{most_snapshot_bytes, snapshot_read}
 use Rattle.snapshot_form.specs.declared.refusal.SnapRefusal.{SnapRefusal}
 use Rattle.show_cli.specs.Showing.{Due, shown, held_shown}
-use Rattle.show_cli.specs.Answers.{Ends, EndsBehind, ShowsFile, Shows}
-use Rattle.show_cli.specs.declared.answer.Trouble.{Trouble}
-use Rattle.show_cli.specs.declared.answer.Trouble.TheVariants.{Write, Memory}
+use Rattle.show_cli.specs.Answers.{Ends, EndsBehind, ShowsFile, Shows, MayAsk}
+use Rattle.outside.specs.declared.trouble.Trouble.{Trouble}
+use Rattle.outside.specs.declared.trouble.Trouble.TheVariants.{Write, Memory}
 use Rattle.show_cli.specs.declared.refusal.ShowRefusal.TheVariants.{NoCommand, ReadFault, NoSnapshot}
 
 -- ---- what is due for what the name holds
@@ -86,3 +86,8 @@ behind_writes (Err ReadMemory) old new result ends = let same : new.faults ≡ o
 pub writes : (asked : Option (List ℕ)) (files read : FilesState) (old new : SinkState) (result : Result Status Trouble) → Shows asked files read old new result → old.faults ≤ new.faults
 writes None files read old new result shows = ends_writes (Err NoCommand) old new result shows.1.ends
 writes (Some name) files read old new result shows = behind_writes shows.found old new result shows.ends
+
+-- where all names may be asked for
+pub may_ask : (name : Option (List ℕ)) (files : FilesState) → ((asked : List (List ℕ × ℕ)) → IsTrue (files.permits asked)) → MayAsk name files
+may_ask None files all = tt
+may_ask (Some name) files all = all _

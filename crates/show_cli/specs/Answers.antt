@@ -8,8 +8,9 @@ use Rattle.outside.specs.Outside.{FilesState, SinkState, ReadTells, ReadLeaves, 
 use Rattle.snapshot_form.specs.Snapshots.{most_snapshot_bytes}
 use Rattle.snapshot_form.specs.declared.refusal.SnapRefusal.{SnapRefusal}
 use Rattle.show_cli.specs.Showing.{Due, shown, bytes_due, status_due}
-use Rattle.show_cli.specs.declared.answer.Trouble.{Trouble}
-use Rattle.show_cli.specs.declared.answer.Trouble.TheVariants.{Write, Memory}
+use Rattle.outside.specs.declared.trouble.Trouble.{Trouble}
+use Rattle.outside.specs.declared.trouble.Trouble.TheVariants.{Write, Memory}
+use Rattle.outside.specs.Endings.{settled}
 use Rattle.show_cli.specs.declared.refusal.ShowRefusal.{ShowRefusal}
 use Rattle.show_cli.specs.declared.refusal.ShowRefusal.TheVariants.{NoCommand, ReadFault, NoSnapshot}
 
@@ -44,12 +45,6 @@ pub record ShowsFile (name : List ℕ) (files read : FilesState) (old new : Sink
 abbrev pub Shows : Option (List ℕ) → FilesState → FilesState → SinkState → SinkState → Result Status Trouble → Type 0
 Shows None files read old new result = (read ≡ files) × Refuses NoCommand old new result
 Shows (Some name) files read old new result = ShowsFile name files read old new result
-
--- the status at the end
-abbrev pub settled : Result Status Trouble → Status
-settled (Ok status) = status
-settled (Err Write) = Status.WriteFault
-settled (Err Memory) = Status.Memory
 
 -- the same by its status
 pub record Headline (name : Option (List ℕ)) (files read : FilesState) (old new : SinkState) (answer : Status) : Type 0 where

@@ -4,42 +4,16 @@ ghost use Rattle.outside.specs.Outside.{MayWrite};
 ghost use Rattle.snapshot_form.specs.Snapshots.{contents};
 ghost use Rattle.snapshot_text.specs.SnapshotTexts as text;
 ghost use Rattle.show_cli.specs.Showing as spec;
-ghost use Rattle.show_cli.specs.Answers.{Ends, Refuses, ShowsFile, Shows, Headline, Answers, MayAsk, settled};
-ghost use Rattle.show_cli.specs.declared.answer.Trouble.TheVariants.{Write, Memory};
+ghost use Rattle.show_cli.specs.Answers.{Ends, Refuses, ShowsFile, Shows, Headline, Answers, MayAsk};
 
 use crate::refusal::ShowRefusal;
 use crate::words::name_in;
-use outside::{Failed, FileRefusal, Files, Sink, write_all};
+use outside::{FileRefusal, Files, Sink, Trouble, settled, write_all};
 use snapshot_form::{SnapRefusal, Snapshot};
 use snapshot_reader::{MOST_SNAPSHOT_BYTES, ReadError, read};
 use snapshot_text::snapshot_text;
-use std::alloc::{AllocError, Global};
+use std::alloc::Global;
 use sv_types::Status;
-
-/// What ends an answer before its status stands.
-#[derive(Clone, Copy, Debug, PartialEq, Eq, Drop)]
-enum Trouble {
-    /// A write failed.
-    Write,
-    /// Memory was wanting.
-    Memory,
-}
-
-impl From<Failed> for Trouble {
-    ghost from_gives = { λ _ e. e ≡ Write };
-
-    fn from(_: Failed) -> Self {
-        Trouble::Write
-    }
-}
-
-impl From<AllocError> for Trouble {
-    ghost from_gives = { λ _ e. e ≡ Memory };
-
-    fn from(_: AllocError) -> Self {
-        Trouble::Memory
-    }
-}
 
 /// Does all that `show` does: judges the words, reads the snapshot that they name, and writes what it says of the machine, or
 /// the line that says why nothing is shown. It runs nothing and saves nothing.
@@ -68,16 +42,6 @@ pub fn secvisor_show<F: Files, O: Sink>(
     ensures writes { (O.state out.old).faults ≤ (O.state out.new).faults }
 {
     settled(answer(alloc, words, files, out))
-}
-
-fn settled(answer: Result<Status, Trouble>) -> Status
-    ensures { result ≡ settled answer }
-{
-    match answer {
-        Ok(status) => status,
-        Err(Trouble::Write) => Status::WriteFault,
-        Err(Trouble::Memory) => Status::Memory,
-    }
 }
 
 fn answer<F: Files, O: Sink>(

@@ -2,6 +2,7 @@
 use Rattle.std.proofs.Common.{◌≡◌, ◌||◌, ◌++◌, ℕ, List, [], ◌∷◌, Bool, true, false, refl, ◌∙◌, ap, Option, Some, None, Ok, Err, if◌then◌else◌}
 use Rattle.std.specs.List.{list_any}
 use Rattle.std.specs.Str.{bytes_eq}
+use Rattle.std.proofs.lemmas.Bool.{or_parts, or_from}
 use Rattle.sv_types.specs.Kernel.{header_entry, kernel_refusal}
 use Rattle.sv_types.specs.Limits.{most_events}
 use Rattle.sv_types.specs.Numbers.{number_within}
@@ -102,20 +103,12 @@ module _ (held : List ℕ → Option (List ℕ)) (save : Option (List ℕ)) wher
 
 -- ---- the words
 
-or_none : (a b : Bool) → a || b ≡ false → (a ≡ false) × (b ≡ false)
-or_none false b none = (refl, none)
-or_none true b none = absurd (cc none)
-
-or_both : (a b : Bool) → a ≡ false → b ≡ false → a || b ≡ false
-or_both false b one other = other
-or_both true b one other = absurd (cc one)
-
 -- words of which none begins with a dash, with another last one
 last_dash : (words : List (List ℕ)) (one other : List ℕ) → has_dash other ≡ false → list_any has_dash (words ++ one ∷ []) ≡ false → list_any has_dash (words ++ other ∷ []) ≡ false
 last_dash [] one other good none = ap (λ (b : Bool). b || false) good
 last_dash (word ∷ words) one other good none =
-    let parts = or_none (has_dash word) (list_any has_dash (words ++ one ∷ [])) none in
-    or_both (has_dash word) (list_any has_dash (words ++ other ∷ [])) parts.0 (last_dash words one other good parts.1)
+    let parts = or_parts (has_dash word) (list_any has_dash (words ++ one ∷ [])) none in
+    or_from (has_dash word) (list_any has_dash (words ++ other ∷ [])) parts.0 (last_dash words one other good parts.1)
 
 -- `snap` is asked for this run too
 pub record SnapAccepted (held : List ℕ → Option (List ℕ)) (line : SnapLine) (start : State) (events : List Event) : Type 0 where

@@ -1,5 +1,5 @@
 -- From what is ready of `snap` to what is answered.
-use Rattle.std.proofs.Common.{◌≡◌, ℕ, List, [], ◌∷◌, IsTrue, refl, sym, ◌∙◌, ap, subst, inl, inr, Option, Some, None, Result, Ok, Err, IsErrOf}
+use Rattle.std.proofs.Common.{◌≡◌, ℕ, List, [], ◌∷◌, IsTrue, refl, sym, subst, Option, Some, None, Result, Ok, Err, IsErrOf}
 use Rattle.sv_types.specs.Schedule.{first_events}
 use Rattle.sv_types.specs.declared.event.Event.{Event}
 use Rattle.sv_types.specs.declared.status.Status.{Status}
@@ -8,19 +8,21 @@ use Rattle.machine_model.specs.Machine.{Machine}
 use Rattle.machine_model.specs.Reaches.{IsNew}
 use Rattle.outside.specs.Outside.{FilesState, SinkState}
 use Rattle.secvisor_cli.specs.Answers.{Outside, outside, Writes, WritesAndSaves}
-use Rattle.secvisor_cli.specs.Plans.{Due, Refuse, RunFrom, Make, Plan, End, Read, Judge, Found, Faulty, Missing, Longer, Held, run_plan}
-use Rattle.secvisor_cli.specs.Reading.{MayFollow, FoundAs, Follows}
+use Rattle.secvisor_cli.specs.Plans.{Due, Refuse, RunFrom, Make, Plan, run_plan}
+use Rattle.secvisor_cli.specs.Reading.{MayFollow}
 use Rattle.secvisor_cli.specs.Ready.{IsFresh}
 use Rattle.secvisor_cli.specs.Refusals.{refusal_line, refusal_status, takes_memory}
 use Rattle.secvisor_cli.specs.declared.ready.Booted.{Booted}
 use Rattle.secvisor_cli.specs.declared.ready.Stop.TheVariants.{Refused}
 use Rattle.secvisor_cli.specs.declared.ready.Stop.TheVariants as stop
 use Rattle.secvisor_cli.specs.declared.refusal.Refusal.{Refusal}
-use Rattle.secvisor_cli.specs.declared.trouble.Trouble.{Trouble}
-use Rattle.secvisor_cli.specs.declared.trouble.Trouble.TheVariants.{Memory}
+use Rattle.outside.specs.declared.trouble.Trouble.{Trouble}
+use Rattle.outside.specs.declared.trouble.Trouble.TheVariants.{Memory}
+use Rattle.secvisor_cli.proofs.TopLemmas.{refused_writes}
+use Rattle.secvisor_cli.proofs.PlanLemmas.{may_follow}
 use Rattle.snap_cli.specs.SnapAnswers.{RunsSnap, AnswersSnapReached, PerformsRun, PerformsSnap}
 use Rattle.snap_cli.specs.SnapReady.{StartsBlock, IsBootedWhere, Boots, MaySaveUnder}
-use Rattle.snap_cli.specs.SnapWords.{SnapWords, snap_plan, out_of}
+use Rattle.snap_cli.specs.SnapWords.{SnapWords, snap_plan, out_of, snap_judged}
 
 -- ---- what is ready
 
@@ -36,20 +38,6 @@ begins (Some (RunFrom start events save)) booted it = record { fresh = it.2; sta
 
 pub may_under : (name : List ℕ) (f0 f1 : FilesState) → f1.permits_save ≡ f0.permits_save → MaySaveUnder name f0 → MaySaveUnder name f1
 may_under name f0 f1 same may bytes = subst (λ (permits : List (List ℕ × List ℕ) → _). IsTrue (permits ((name, bytes) ∷ []))) (sym same) (may bytes)
-
-found_permits : (old now : FilesState) (name : List ℕ) (limit : ℕ) (found : Found) → FoundAs old now name limit found → now.permits_save ≡ old.permits_save
-found_permits old now name limit Faulty it = ap (λ (f : FilesState). f.permits_save) it.1
-found_permits old now name limit Missing it = ap (λ (f : FilesState). f.permits_save) it.2
-found_permits old now name limit Longer it = ap (λ (f : FilesState). f.permits_save) it.1
-found_permits old now name limit (Held bytes) it = ap (λ (f : FilesState). f.permits_save) it.2
-
--- reading leaves what may be saved
-pub follows_permits : (plan : Plan) (old new : FilesState) (reached : Option Due) → Follows plan old new reached → new.permits_save ≡ old.permits_save
-follows_permits (End due) old new reached follows = ap (λ (f : FilesState). f.permits_save) follows.1
-follows_permits (Read name limit next) old new reached (inl it) = ap (λ (f : FilesState). f.permits_save) it.1
-follows_permits (Read name limit next) old new reached (inr it) = follows_permits (next it.0) it.1 new reached it.3 ∙ found_permits old it.1 name limit it.0 it.2
-follows_permits (Judge next) old new reached (inl it) = ap (λ (f : FilesState). f.permits_save) it.1
-follows_permits (Judge next) old new reached (inr it) = follows_permits next old new reached it
 
 ready_answers : (reached : Option Due) (booted : Booted) (name : List ℕ) (old new : Outside) (result : Result Status Trouble) → IsBootedWhere reached (Ok booted) →
     ((start : State) → IsNew booted.machine start → RunsSnap start (first_events booted.events booted.script) name old new result) → AnswersSnapReached name reached old new result
@@ -67,17 +55,12 @@ ready_performs plan name f0 f1 f2 s0 s1 b0 b1 booted result p a =
 
 -- ---- refusals, and want of memory
 
--- a refusal's line was written, and nothing else was done
-pub refused : (refusal : Refusal) (files : FilesState) (old new : SinkState) (bench : Option Machine) (result : Result Status Trouble) → Writes (refusal_status refusal) (refusal_line refusal) old new result →
-    (IsErrOf result Memory → IsTrue (takes_memory refusal)) → (IsErrOf result Memory → new ≡ old) → WritesAndSaves (Refuse refusal) (outside files old bench) (outside files new bench) result
-refused refusal files old new bench result w wants quiet = record { written = result; writes = w; saves = (refl, refl); wants = wants; quiet = quiet; bench = refl }
-
 refused_where : (reached : Option Due) (given : Refusal) (name : List ℕ) (files : FilesState) (old new : SinkState) (bench : Option Machine) (result : Result Status Trouble) →
     IsBootedWhere reached (Err (Refused given)) → Writes (refusal_status given) (refusal_line given) old new result → (IsErrOf result Memory → IsTrue (takes_memory given)) →
     (IsErrOf result Memory → new ≡ old) → AnswersSnapReached name reached (outside files old bench) (outside files new bench) result
 refused_where None given name files old new bench result it w wants quiet = absurd (cc it)
 refused_where (Some (Refuse refusal)) given name files old new bench result it w wants quiet =
-    subst (λ (r : Refusal). WritesAndSaves (Refuse r) (outside files old bench) (outside files new bench) result) it (refused given files old new bench result w wants quiet)
+    subst (λ (r : Refusal). WritesAndSaves (Refuse r) (outside files old bench) (outside files new bench) result) it (refused_writes given files old new bench result w wants quiet)
 refused_where (Some (RunFrom start events save)) given name files old new bench result it w wants quiet = absurd it
 refused_where (Some (Make out rules line)) given name files old new bench result it w wants quiet = absurd it
 
@@ -107,7 +90,7 @@ pub words_refused : (words : Result SnapWords Refusal) (refusal : Refusal) (file
 unfolding snap_plan
 words_refused words refusal files old new bench result is w wants quiet =
     subst (λ (j : Result SnapWords Refusal). PerformsSnap j (outside files old bench) (outside files new bench) result) (sym is)
-    (record { reached = Some (Refuse refusal); read = files; follows = (refl, refl); answers = refused refusal files old new bench result w wants quiet })
+    (record { reached = Some (Refuse refusal); read = files; follows = (refl, refl); answers = refused_writes refusal files old new bench result w wants quiet })
 
 -- words that are good
 pub words_may : (words : Result SnapWords Refusal) (value : SnapWords) (files : FilesState) → words ≡ Ok value → MayFollow (snap_plan words) files → MayFollow (run_plan value.run) files
@@ -121,3 +104,8 @@ pub words_performed : (words : Result SnapWords Refusal) (value : SnapWords) (ol
     PerformsRun (run_plan value.run) value.out old new result → PerformsSnap words old new result
 unfolding snap_plan
 words_performed words value old new result is it = subst (λ (j : Result SnapWords Refusal). PerformsSnap j old new result) (sym is) it
+
+-- where all names may be asked for and saved under
+pub snap_follows : (words : List (List ℕ)) (files : FilesState) → ((asked : List (List ℕ × ℕ)) → IsTrue (files.permits asked)) →
+    ((saves : List (List ℕ × List ℕ)) → IsTrue (files.permits_save saves)) → MayFollow (snap_plan (snap_judged words)) files
+snap_follows words files all saves = may_follow (snap_plan (snap_judged words)) files all saves

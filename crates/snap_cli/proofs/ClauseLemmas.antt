@@ -1,32 +1,27 @@
 -- From what `snap` performed to each of its clauses.
-use Rattle.std.proofs.Common.{◌≡◌, ◌≢◌, ◌≤◌, ℕ, List, [], false, refl, sym, ◌∙◌, ap, subst, arith, inl, inr, Option, Some, None, Result, Ok, Err}
+use Rattle.std.proofs.Common.{◌≡◌, ◌≢◌, ◌≤◌, ℕ, List, [], false, ◌∙◌, ap, subst, arith, inl, inr, Option, Some, None, Result, Ok, Err}
 use Rattle.std.specs.Result.{is_ok}
 use Rattle.sv_types.specs.declared.event.Event.{Event}
 use Rattle.sv_types.specs.declared.status.Status.{Status}
 use Rattle.reference.specs.Run.{run}
 use Rattle.reference.specs.States.{State}
 use Rattle.outside.specs.Outside.{FilesState, SinkState}
-use Rattle.secvisor_cli.specs.Answers.{Outside, outside, Writes, WritesAndSaves, settled}
-use Rattle.secvisor_cli.specs.Plans.{Due, Refuse, RunFrom, Make, Saving, Exactly, Plan}
+use Rattle.secvisor_cli.specs.Answers.{Outside, outside, Writes}
+use Rattle.outside.specs.Endings.{settled}
+use Rattle.secvisor_cli.specs.Plans.{Due, Refuse, RunFrom, Make, Plan}
 use Rattle.secvisor_cli.specs.Reading.{Follows}
-use Rattle.secvisor_cli.specs.Refusals.{refusal_line, refusal_status}
 use Rattle.secvisor_cli.specs.declared.refusal.Refusal.{Refusal}
-use Rattle.secvisor_cli.specs.declared.trouble.Trouble.{Trouble}
-use Rattle.secvisor_cli.specs.declared.trouble.Trouble.TheVariants.{Write, Memory}
-use Rattle.secvisor_cli.proofs.PlanLemmas.{Keeps, HasFault, HasFoundFaults, follows_keeps, read_fault}
-use Rattle.secvisor_cli.proofs.SaveLemmas.{Changes, changes, changes_same}
-use Rattle.secvisor_cli.proofs.TopLemmas.{run_found_faults}
+use Rattle.outside.specs.declared.trouble.Trouble.{Trouble}
+use Rattle.outside.specs.declared.trouble.Trouble.TheVariants.{Write, Memory}
+use Rattle.secvisor_cli.proofs.PlanLemmas.{HasFault, HasFoundFaults, follows_keeps}
+use Rattle.secvisor_cli.proofs.SaveLemmas.{changes, ChangesOut, changes_none, writes_faults}
+use Rattle.secvisor_cli.proofs.TopLemmas.{run_found_faults, EffectOut, effect_out, refused_fault}
 use Rattle.secvisor_cli.proofs.WordLemmas.{NoReadFault}
 use Rattle.snap_cli.specs.SnapAnswers.{spelled, SavesMade, SavesSnapshot, RunsSnap, AnswersSnapReached, PerformsSnap}
 use Rattle.snap_cli.specs.SnapWords.{SnapWords, snap_judged, snap_plan, out_of}
 use Rattle.snap_cli.proofs.WordLemmas.{snap_no_read_fault}
 
 -- ---- the sink
-
-writes_faults : (due : Status) (bytes : List ℕ) (old new : SinkState) (written : Result Status Trouble) → Writes due bytes old new written → old.faults ≤ new.faults
-writes_faults due bytes old new (Ok status) w = let same : new.faults ≡ old.faults = ap (λ (k : SinkState). k.faults) w.whole in omega arith
-writes_faults due bytes old new (Err Write) w = let rose = w.write refl in omega arith
-writes_faults due bytes old new (Err Memory) w = let same = w.memory refl in omega arith
 
 reached_writes : (name : List ℕ) (reached : Option Due) (old new : Outside) (result : Result Status Trouble) → AnswersSnapReached name reached old new result → old.sink.faults ≤ new.sink.faults
 reached_writes name None old new result a = let same : new.sink.faults ≡ old.sink.faults = ap (λ (o : Outside). o.sink.faults) a.1 in omega arith
@@ -38,17 +33,6 @@ pub snap_writes : (words : Result SnapWords Refusal) (old new : Outside) (result
 snap_writes words old new result p = reached_writes (out_of words) p.reached (outside p.read old.sink old.bench) new result p.answers
 
 -- ---- the files
-
-abbrev exact_saving : (name bytes : List ℕ) → Saving
-exact_saving name bytes = record { name = name; content = Exactly bytes }
-
--- what is saved changes no other name
-pub record ChangesOut (name : List ℕ) (old new : FilesState) : Type 0 where
-  pub bytes : List ℕ
-  pub changes : Changes (Some (exact_saving name bytes)) old new
-
-changes_none : (name : List ℕ) (old new : FilesState) → new ≡ old → ChangesOut name old new
-changes_none name old new is = record { bytes = []; changes = changes_same (Some (exact_saving name [])) old new is }
 
 made_changes : (start : State) (events : List Event) (name : List ℕ) (old new : FilesState) (status : Status) (saved : Result Status Trouble) → SavesMade start events name old new status saved → ChangesOut name old new
 made_changes start events name old new status saved (inl it) = changes_none name old new it.1
@@ -64,25 +48,10 @@ reached_changes name (Some (Refuse refusal)) old new result a = changes_none nam
 reached_changes name (Some (RunFrom start events save)) old new result a = saves_changes start events name old.files new.files a.2.written result a.2.saves
 reached_changes name (Some (Make out rules line)) old new result a = absurd a
 
--- what the whole changes of the files
-pub record SnapEffect (name : List ℕ) (old new : FilesState) : Type 0 where
-  pub reads : old.read_faults ≤ new.read_faults
-  pub saves : old.save_faults ≤ new.save_faults
-  pub held : (other : List ℕ) → other ≢ name → new.held other ≡ old.held other
-
-pub snap_effect : (words : Result SnapWords Refusal) (old new : Outside) (result : Result Status Trouble) → PerformsSnap words old new result → SnapEffect (out_of words) old.files new.files
+pub snap_effect : (words : Result SnapWords Refusal) (old new : Outside) (result : Result Status Trouble) → PerformsSnap words old new result → EffectOut (out_of words) old.files new.files
 snap_effect words old new result p =
-    let k : Keeps old.files p.read = follows_keeps (snap_plan words) old.files p.read p.reached p.follows in
-    let c = (reached_changes (out_of words) p.reached (outside p.read old.sink old.bench) new result p.answers).changes in
-    let first = k.reads in
-    let second = c.reads in
-    let kept = k.saves in
-    let more = c.saves in
-    record {
-      reads = omega arith;
-      saves = omega arith;
-      held = λ other never. c.others other (λ under. never (sym under)) ∙ ap (λ (held : List ℕ → Option (List ℕ)). held other) k.held;
-    }
+    effect_out (out_of words) old.files p.read new.files (follows_keeps (snap_plan words) old.files p.read p.reached p.follows)
+    (reached_changes (out_of words) p.reached (outside p.read old.sink old.bench) new result p.answers)
 
 -- ---- words that are refused
 
@@ -103,23 +72,6 @@ snap_found_faults : (words : Result SnapWords Refusal) → NoReadFault words →
 unfolding snap_plan
 snap_found_faults (Ok words) never = run_found_faults words.run
 snap_found_faults (Err refusal) never = never
-
-fault_at : (plan : Plan) (old read new : FilesState) → new.read_faults ≡ read.read_faults → HasFault plan old read → HasFault plan old new
-fault_at plan old read new same (inl missing) = inl missing
-fault_at plan old read new same (inr rose) = inr (omega arith)
-
--- the status of a refusal that was written
-refused_status : (refusal : Refusal) (old new : Outside) (answer : Status) → WritesAndSaves (Refuse refusal) old new (Ok answer) → answer ≡ refusal_status refusal
-refused_status refusal old new answer a =
-    (subst (λ (w : Result Status Trouble). Writes (refusal_status refusal) (refusal_line refusal) old.sink new.sink w) (sym a.saves.1) a.writes).status
-
-refused_fault : (plan : Plan) (refusal : Refusal) (old new : Outside) (read : FilesState) (result : Result Status Trouble) → HasFoundFaults plan → Follows plan old.files read (Some (Refuse refusal)) →
-    WritesAndSaves (Refuse refusal) (outside read old.sink old.bench) new result → settled result ≡ Status.ReadFault → HasFault plan old.files new.files
-refused_fault plan refusal old new read (Ok answer) never follows a is =
-    let status : answer ≡ refusal_status refusal = refused_status refusal (outside read old.sink old.bench) new answer a in
-    fault_at plan old.files read new.files (ap (λ (f : FilesState). f.read_faults) a.saves.0) (read_fault plan old.files read (Refuse refusal) never follows (sym status ∙ is))
-refused_fault plan refusal old new read (Err Write) never follows a is = absurd (cc is)
-refused_fault plan refusal old new read (Err Memory) never follows a is = absurd (cc is)
 
 made_no_fault : (start : State) (events : List Event) (name : List ℕ) (old new : FilesState) (status answer : Status) → status ≡ Status.Done → SavesMade start events name old new status (Ok answer) →
     answer ≢ Status.ReadFault

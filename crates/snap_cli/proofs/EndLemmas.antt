@@ -5,13 +5,14 @@ use Rattle.sv_types.specs.declared.status.Status.{Status}
 use Rattle.reference.specs.Run.{run}
 use Rattle.reference.specs.States.{State}
 use Rattle.outside.specs.Outside.{FilesState, after_taking}
-use Rattle.secvisor_cli.specs.Answers.{Outside, outside, Writes, settled}
+use Rattle.secvisor_cli.specs.Answers.{Outside, outside, Writes}
+use Rattle.outside.specs.Endings.{settled}
 use Rattle.secvisor_cli.specs.DueIn.{due_in, AreReadWhole}
 use Rattle.secvisor_cli.specs.Plans.{Due, RunFrom, Plan}
 use Rattle.secvisor_cli.specs.Reading.{Follows}
 use Rattle.secvisor_cli.specs.declared.refusal.Refusal.{Refusal}
-use Rattle.secvisor_cli.specs.declared.trouble.Trouble.{Trouble}
-use Rattle.secvisor_cli.specs.declared.trouble.Trouble.TheVariants.{Write, Memory}
+use Rattle.outside.specs.declared.trouble.Trouble.{Trouble}
+use Rattle.outside.specs.declared.trouble.Trouble.TheVariants.{Write, Memory}
 use Rattle.secvisor_cli.proofs.DueLemmas.{comes_to_due, ends_behind}
 use Rattle.secvisor_cli.proofs.PlanLemmas.{Keeps, follows_keeps}
 use Rattle.snap_cli.specs.SnapAnswers.{AnswersSnapReached, PerformsSnap, RunsSnap, SavesMade, SavesSnapshot, SnapHeadline}

@@ -2,6 +2,7 @@
 use Rattle.std.proofs.Common.{◌≡◌, ℕ, List, [], true, false, refl, sym, subst, inl, inr, Option, Some, None, Ok, Err}
 use Rattle.std.specs.Prelude.{if◌then◌else◌}
 use Rattle.std.specs.Str.{bytes_eq}
+use Rattle.std.proofs.lemmas.Option.{same_Some}
 use Rattle.sv_types.specs.Kernel.{header_entry, kernel_refusal}
 use Rattle.sv_types.specs.Policies.{Rules}
 use Rattle.sv_types.specs.Schedule.{Schedule, first_events}
@@ -36,11 +37,8 @@ AllDue P (End due) = P due
 AllDue P (Read name limit next) = (found : Found) → AllDue P (next found)
 AllDue P (Judge next) = AllDue P next
 
-due_same : (a b : Due) → Some a ≡ Some b → a ≡ b
-due_same a b is = cc is
-
 due_at_end : (P : Due → Type 0) (plan : Plan) (old new : FilesState) (due : Due) → AllDue P plan → Follows plan old new (Some due) → P due
-due_at_end P (End it) old new due all follows = subst P (sym (due_same due it follows.0)) all
+due_at_end P (End it) old new due all follows = subst P (sym (same_Some due it follows.0)) all
 due_at_end P (Read name limit next) old new due all (inl wanting) = absurd (cc wanting.0)
 due_at_end P (Read name limit next) old new due all (inr it) = due_at_end P (next it.0) it.1 new due (all it.0) it.3
 due_at_end P (Judge next) old new due all (inl wanting) = absurd (cc wanting.0)

@@ -1,20 +1,20 @@
 -- The run of `snap`: the console's bytes and nothing else.
-use Rattle.std.proofs.Common.{◌≡◌, ℕ, zero, suc, ◌<◌, ◌≤◌, ◌^◌, List, [], ◌∷◌, ◌++◌, length, true, refl, sym, ◌∙◌, ap, subst, arith, append_assoc, Option, Some, None, Result, Ok, Err, OnOk}
+use Rattle.std.proofs.Common.{◌≡◌, ℕ, suc, ◌<◌, ◌≤◌, ◌^◌, List, [], ◌∷◌, ◌++◌, length, true, refl, sym, ◌∙◌, ap, subst, arith, Result, Ok, Err, OnOk}
 use Rattle.std.proofs.lemmas.List.{append-nil}
 use Rattle.sv_types.specs.Limits.{most_events}
-use Rattle.sv_types.specs.Schedule.{Schedule, first_events, next_event, after_event, begun_with}
+use Rattle.sv_types.specs.Schedule.{Schedule, first_events}
 use Rattle.sv_types.specs.declared.event.Counts.{Counts}
 use Rattle.sv_types.specs.declared.event.Event.{Event}
 use Rattle.sv_types.specs.declared.event.Verdict.{Verdict}
 use Rattle.sv_types.specs.declared.event.Verdict.TheVariants.{Running, Shutdown, Stopped}
 use Rattle.sv_types.specs.declared.status.Status.{Status}
-use Rattle.reference.proofs.Runs.{run_on}
 use Rattle.reference.specs.Counting.{CountsAtMost}
 use Rattle.reference.specs.Run.{run, step}
 use Rattle.reference.specs.States.{State}
 use Rattle.machine_model.specs.Machine.{Machine}
 use Rattle.machine_model.specs.Reaches.{IsNew}
 use Rattle.machine_model.specs.StandsFor.{StandsFor, machine_of}
+use Rattle.script.proofs.FirstEvents.{first_few}
 use Rattle.resume_laws.specs.Continues.{drawn_under, drawn}
 use Rattle.snap_laws.proofs.EventsCounted.{counted_law}
 use Rattle.snap_laws.proofs.KindsStay.{kind_law}
@@ -24,49 +24,15 @@ use Rattle.outside.specs.Outside.{SinkState, after_taking, TookPrefix, BreaksOff
 use Rattle.outside.proofs.SinkLemmas.{after_taking-append, after_taking-nil, prefix_behind, prefix_of_front, prefix_same, prefix_whole, prefix_none}
 use Rattle.console_run.specs.Console.{HasRun, RunBroke}
 use Rattle.console_run.specs.Standing.{HasState}
-use Rattle.console_run.proofs.Standing.{prints_behind, stands_new, stands_printed, cleared_none}
+use Rattle.console_run.proofs.Standing.{stands_new, stands_printed, cleared_none}
 use Rattle.secvisor_cli.specs.Answers.{Writes}
-use Rattle.secvisor_cli.specs.declared.trouble.Trouble.{Trouble}
-use Rattle.secvisor_cli.specs.declared.trouble.Trouble.TheVariants.{Write, Memory}
+use Rattle.outside.specs.declared.trouble.Trouble.{Trouble}
+use Rattle.outside.specs.declared.trouble.Trouble.TheVariants.{Write, Memory}
+use Rattle.secvisor_cli.proofs.EndLemmas.{printed_front, broken_writes}
 use Rattle.snap_cli.specs.SnapAnswers.{StandsAfter}
 use Rattle.snap_cli.specs.SnapReady.{StartsBlock}
 
 -- ---- what was written
-
-printed_grows : (r : State) (es : List Event) → (more : List ℕ) × ((run r es).journal.printed ≡ r.journal.printed ++ more)
-printed_grows r [] = ([], sym (append-nil r.journal.printed))
-printed_grows r (e ∷ es) =
-    let one = prints_behind r e in
-    let rest = printed_grows (step r e) es in
-    (one.0 ++ rest.0, rest.1 ∙ ap (λ (p : List ℕ). p ++ rest.0) one.1 ∙ append_assoc r.journal.printed one.0 rest.0)
-
--- what was printed after some of the events stands at the front of what is printed after all
-printed_front : (start : State) (done left events : List Event) → done ++ left ≡ events → (rest : List ℕ) × ((run start done).journal.printed ++ rest ≡ (run start events).journal.printed)
-printed_front start done left events split =
-    let grown = printed_grows (run start done) left in (
-      grown.0,
-      sym grown.1 ∙ ap (λ (s : State). s.journal.printed) (sym (run_on start done left)) ∙ ap (λ (es : List Event). (run start es).journal.printed) split,
-    )
-
-broken_writes : (due : Status) (bytes : List ℕ) (old new : SinkState) → TookPrefix old new bytes → old.faults < new.faults → Writes due bytes old new (Err Write)
-broken_writes due bytes old new prefix rose = record {
-  status = tt;
-  proper = tt;
-  whole = tt;
-  prefix = prefix;
-  write = λ _. rose;
-  memory = λ e. absurd (cc e);
-}
-
-pub wanting_writes : (due : Status) (bytes : List ℕ) (sink : SinkState) → Writes due bytes sink sink (Err Memory)
-wanting_writes due bytes sink = record {
-  status = tt;
-  proper = tt;
-  whole = tt;
-  prefix = prefix_none sink bytes;
-  write = λ e. absurd (cc e);
-  memory = λ _. refl;
-}
 
 -- the console's bytes that were left behind the run were written, or their write failed
 pub ran_writes : (first : Machine) (start : State) (events : List Event) (m : Machine) (old mid new : SinkState) → HasRun first start events m old mid → new ≡ after_taking mid m.journal.printed →
@@ -204,15 +170,6 @@ pub drawn_few : (s : State) (events : List Event) → drawn s events ≤ length 
 unfolding drawn
 drawn_few s [] = omega arith
 drawn_few s (e ∷ events) = drawn_few_by s.journal.verdict (drawn (step s e) events) (length events) (drawn_few (step s e) events)
-
-begun_few : (first : Option Event) (events : List Event) (n : ℕ) → length events ≤ n → length (begun_with first events) ≤ suc n
-begun_few None events n few = omega arith
-begun_few (Some e) events n few = omega (arith, few)
-
-pub first_few : (n : ℕ) (script : Schedule) → length (first_events n script) ≤ n
-unfolding first_events
-first_few zero script = omega arith
-first_few (suc n) script = begun_few (next_event script) (first_events n (after_event script)) n (first_few n (after_event script))
 
 pub few_counted : (first m : Machine) (start : State) (n : ℕ) (script : Schedule) → IsNew first start → CountsAtMost 0 first.journal.counts → n ≤ most_events → StandsFor m (run start (first_events n script)) →
     events_counted m.journal.counts < 2 ^ 64

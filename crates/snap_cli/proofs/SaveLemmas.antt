@@ -22,12 +22,13 @@ use Rattle.snap_laws.specs.DiskKinds.{is_block_disk}
 use Rattle.outside.specs.Outside.{FilesState, SinkState}
 use Rattle.console_run.specs.Standing.{HasState}
 use Rattle.secvisor_cli.specs.Answers.{Writes}
-use Rattle.secvisor_cli.specs.declared.trouble.Trouble.{Trouble}
-use Rattle.secvisor_cli.specs.declared.trouble.Trouble.TheVariants.{Memory}
+use Rattle.outside.specs.declared.trouble.Trouble.{Trouble}
+use Rattle.outside.specs.declared.trouble.Trouble.TheVariants.{Memory}
 use Rattle.secvisor_cli.proofs.SaveLemmas.{saved_ok, saved_err}
+use Rattle.secvisor_cli.proofs.EndLemmas.{wanting_writes}
 use Rattle.snap_cli.specs.SnapAnswers.{IsSnapshotOf, spelled, SavesMade, StandsAfter, SnapsTo}
 use Rattle.snap_cli.specs.Spelling.{IsMachineSnapshot, SpellsMachine, SavesMachine}
-use Rattle.snap_cli.proofs.RunLemmas.{stands_all, counts_drawn, wanting_writes, new_stands}
+use Rattle.snap_cli.proofs.RunLemmas.{stands_all, counts_drawn, new_stands}
 
 -- ---- the port
 

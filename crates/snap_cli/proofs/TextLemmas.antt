@@ -1,24 +1,19 @@
 -- The pages of a state that was saved.
 use Rattle.std.proofs.Common.{◌≡◌, ℕ, zero, suc, ◌+◌, ◌*◌, ◌≤◌, List, length, refl, sym, ◌∙◌, ap, subst, arith}
-use Rattle.std.specs.Prelude.{IsTrue}
-use Rattle.std.proofs.lemmas.Bool.Decides.{nat_tests}
 use Rattle.std.proofs.lemmas.List.{length-map}
 use Rattle.processor.specs.Bytes.{page_size}
 use Rattle.processor.specs.Regions.{most_ram_pages}
 use Rattle.sv_types.specs.ApprovedPages.{numbers_from}
-use Rattle.sv_types.specs.Policies.{Rules, rules_within}
 use Rattle.sv_types.specs.declared.protection.Protection.{Protection}
 use Rattle.reference.specs.Soundness.{IsSound}
 use Rattle.reference.specs.States.{State, protection}
 use Rattle.saved_machine.specs.SavedStates.{IsSaved}
 use Rattle.saved_machine.specs.declared.whole.Saved.{Saved}
+use Rattle.machine.proofs.ImageStarting.{pages_within}
 
 numbers_count : (first n : ℕ) → length (numbers_from first n) ≡ n
 numbers_count first zero = refl
 numbers_count first (suc n) = let rest = numbers_count (first + 1) n in omega (arith, rest)
-
-pages_within : (rules : Rules) → IsTrue (rules_within rules) → rules.ram_pages ≤ most_ram_pages
-pages_within rules within = grind (arith, nat_tests)
 
 pages_saved : (r : State) (s : Saved) → IsSaved r s → length s.protection.items ≡ r.rules.ram_pages
 pages_saved r s saved =

@@ -1,14 +1,13 @@
 -- The words of the command line.
-use Rattle.std.proofs.Common.{◌≡◌, ◌≢◌, ℕ, List, [], ◌∷◌, length, Bool, true, false, refl, codes, bytes_eq, if◌then◌else◌, Option, Some, None, Result, Err}
+use Rattle.std.proofs.Common.{◌≡◌, ◌≢◌, ℕ, List, [], ◌∷◌, length, refl, codes, bytes_eq, Option, Some, None, Err}
 use Rattle.std.specs.List.{list_any}
 use Rattle.sv_types.specs.Limits.{most_events}
 use Rattle.sv_types.specs.Numbers.{number_within}
 use Rattle.command_words.specs.Commands.{has_dash}
 use Rattle.secvisor_cli.specs.CommandLine.{Source, source_of}
-use Rattle.secvisor_cli.specs.declared.refusal.Refusal.{Refusal}
 use Rattle.secvisor_cli.specs.declared.refusal.Refusal.TheVariants.{NoCommand}
-use Rattle.secvisor_cli.proofs.WordLemmas.{NoReadFault}
-use Rattle.snap_cli.specs.SnapWords.{SnapWords, snap_words, snap_split, snap_shape, snap_judged}
+use Rattle.secvisor_cli.proofs.WordLemmas.{NoReadFault, judged_unless, judged_if}
+use Rattle.snap_cli.specs.SnapWords.{snap_words, snap_split, snap_shape, snap_judged}
 
 -- so many words are of no command
 pub not_snap : (words : List (List ℕ)) → length words ≢ 6 → snap_split words ≡ Err NoCommand
@@ -38,14 +37,6 @@ split_no_read_fault (a ∷ b ∷ c ∷ d ∷ []) = λ e. cc e
 split_no_read_fault (a ∷ b ∷ c ∷ d ∷ e ∷ []) = λ e. cc e
 split_no_read_fault (a ∷ b ∷ c ∷ d ∷ e ∷ f ∷ []) = some_no_read_fault a b c f (source_of d) (number_within 0 most_events e)
 split_no_read_fault (a ∷ b ∷ c ∷ d ∷ e ∷ f ∷ g ∷ rest) = λ e. cc e
-
-judged_unless : (refused : Bool) (words : Result SnapWords Refusal) → NoReadFault words → NoReadFault (if refused then Err NoCommand else words)
-judged_unless true words never = λ e. cc e
-judged_unless false words never = never
-
-judged_if : (named : Bool) (words : Result SnapWords Refusal) → NoReadFault words → NoReadFault (if named then words else Err NoCommand)
-judged_if true words never = never
-judged_if false words never = λ e. cc e
 
 shape_no_read_fault : (words : List (List ℕ)) → NoReadFault (snap_shape words)
 shape_no_read_fault [] = λ e. cc e

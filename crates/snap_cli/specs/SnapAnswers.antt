@@ -15,12 +15,13 @@ use Rattle.resume_laws.specs.Continues.{drawn}
 use Rattle.resumed_start.specs.TextPages.{digested_text}
 use Rattle.outside.specs.Outside.{FilesState, SinkState, after_taking, TookPrefix}
 use Rattle.console_run.specs.Standing.{Stands}
-use Rattle.secvisor_cli.specs.Answers.{Outside, outside, Writes, SavedBehind, WritesAndSaves, settled}
+use Rattle.secvisor_cli.specs.Answers.{Outside, outside, Writes, SavedBehind, WritesAndSaves}
+use Rattle.outside.specs.Endings.{settled}
 use Rattle.secvisor_cli.specs.Plans.{Due, Refuse, RunFrom, Make, Saving, Exactly, Plan}
 use Rattle.secvisor_cli.specs.Reading.{Follows}
 use Rattle.secvisor_cli.specs.declared.refusal.Refusal.{Refusal}
-use Rattle.secvisor_cli.specs.declared.trouble.Trouble.{Trouble}
-use Rattle.secvisor_cli.specs.declared.trouble.Trouble.TheVariants.{Memory}
+use Rattle.outside.specs.declared.trouble.Trouble.{Trouble}
+use Rattle.outside.specs.declared.trouble.Trouble.TheVariants.{Memory}
 use Rattle.snap_cli.specs.SnapWords.{SnapWords, out_of, snap_plan}
 
 -- ---- the snapshot

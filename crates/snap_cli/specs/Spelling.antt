@@ -11,8 +11,8 @@ use Rattle.snapshot_form.specs.declared.whole.TextPage.{TextPage}
 use Rattle.snap_laws.specs.EventCounts.{events_counted}
 use Rattle.outside.specs.Outside.{FilesState}
 use Rattle.secvisor_cli.specs.Answers.{AfterSave}
-use Rattle.secvisor_cli.specs.declared.trouble.Trouble.{Trouble}
-use Rattle.secvisor_cli.specs.declared.trouble.Trouble.TheVariants.{Memory}
+use Rattle.outside.specs.declared.trouble.Trouble.{Trouble}
+use Rattle.outside.specs.declared.trouble.Trouble.TheVariants.{Memory}
 use Rattle.snap_cli.specs.SnapAnswers.{spelled}
 
 -- a snapshot of what a machine is now, with this text

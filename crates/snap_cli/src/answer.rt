@@ -10,7 +10,7 @@ ghost use Rattle.machine_model.specs.Reaches.{IsNew};
 ghost use Rattle.sv_types.specs.Schedule.{first_events};
 ghost use Rattle.console_run.specs.Standing.{HasState};
 ghost use Rattle.outside.specs.Outside.{MayWrite};
-ghost use Rattle.secvisor_cli.specs.Answers.{outside, Writes, settled};
+ghost use Rattle.secvisor_cli.specs.Answers.{outside, Writes};
 ghost use Rattle.secvisor_cli.specs.Plans.{run_plan};
 ghost use Rattle.secvisor_cli.specs.Reading.{MayFollow, IsNamed};
 ghost use Rattle.secvisor_cli.specs.Ready.{IsFresh};

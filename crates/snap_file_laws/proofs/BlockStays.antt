@@ -1,5 +1,5 @@
 -- What holds of the block device and its disk after a store, and after a beat.
-use Rattle.std.proofs.Common.{◌≡◌, ◌≢◌, ℕ, ◌+◌, ◌*◌, ◌%◌, ◌^◌, ◌<◌, ◌≤◌, List, length, length-take, Bool, true, false, not, arith, refl, subst, sym, ◌∙◌, lit<}
+use Rattle.std.proofs.Common.{◌≡◌, ◌≢◌, ℕ, ◌+◌, ◌*◌, ◌%◌, ◌^◌, ◌<◌, ◌≤◌, List, length, Bool, true, false, not, arith, refl, subst, sym, ◌∙◌, lit<}
 use Rattle.std.specs.Prelude.{Option, Some, None, option_map, if◌then◌else◌, ◌==◌, ◌&&◌, nat_lt, nat_le}
 use Rattle.std.proofs.Math.Nat.{mod-lt}
 use Rattle.std.proofs.lemmas.Bool.{eqb-true, eqb-false, leb-true}
@@ -11,6 +11,7 @@ use Rattle.sv_types.specs.declared.block.BlockState.{BlockState}
 use Rattle.sv_types.specs.declared.block.BlockStatus.{BlockStatus}
 use Rattle.reference.specs.BlockDisk.{BlockRegister, Sector, Address, Count, Command, Status, block_offset, block_width, is_register, block_register, is_busy, is_under_way, can_begin, block_told, block_ended, block_stored, unless_busy, block_store, BlockBeat, block_after_beat, block_beat}
 use Rattle.reference.specs.States.{BlockDevice}
+use Rattle.run_laws.proofs.Lookups.{part_short}
 use Rattle.snapshot_form.proofs.FormLaws.{first_true, second_true}
 use Rattle.snap_file_laws.specs.BlockRuns.{IsOnDisk, Transfers, HoldsBlock, HoldsDevice}
 
@@ -143,14 +144,11 @@ after_beat sector gpa count done n command holds = further sector gpa count done
 without_transfer : (b : BlockState) (n : ℕ) → HoldsBlock n b → (status : BlockStatus) → Transfers status (block_ended b status) n → HoldsBlock n (block_ended b status)
 without_transfer b n holds status none = record { sector = holds.sector; gpa = holds.gpa; count = holds.count; transfer = none }
 
-taken_few : (ram : List ℕ) (at n : ℕ) → length (part ram at n) ≤ n
-taken_few ram at n = simp length-take (omega arith)
-
 moved_size : (bytes ram : List ℕ) (sector gpa count done at n : ℕ) → length bytes ≡ n → HoldsBlock n (block_by sector gpa count (BlockStatus.Busy BlockCommand.MemoryToDisk done))
     → length (overwrite bytes (512 * sector + 64 * done) (part ram at 64)) ≡ n
 moved_size bytes ram sector gpa count done at n size holds =
     let on = holds.transfer in
-    let few = taken_few ram at 64 in
+    let few = part_short ram at 64 in
     length_overwrite bytes (part ram at 64) (512 * sector + 64 * done) (omega (arith, on.left, on.inside, few, size)) ∙ size
 
 choose_holds : (n : ℕ) (b : Bool) (x y : BlockBeat) → HoldsDevice n x.device → HoldsDevice n y.device → HoldsDevice n (if b then x else y).device

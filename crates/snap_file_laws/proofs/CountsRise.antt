@@ -1,6 +1,6 @@
 -- How high a run raises the counts.
 use Rattle.std.proofs.Common.{◌≡◌, ℕ, suc, ◌+◌, List, [], ◌∷◌, arith, refl, subst, sym}
-use Rattle.sv_types.specs.declared.event.Counts.{Counts}
+use Rattle.std.proofs.Math.Nat.{add-zero}
 use Rattle.sv_types.specs.declared.event.Event.{Event}
 use Rattle.sv_types.specs.declared.event.Verdict.{Verdict}
 use Rattle.sv_types.specs.declared.event.Verdict.TheVariants.{Running, Shutdown, Stopped}
@@ -9,42 +9,20 @@ use Rattle.reference.specs.Run.{step, run, HasEnded}
 use Rattle.reference.specs.States.{State}
 use Rattle.reference.proofs.Runs.{ended_stays}
 use Rattle.resume_laws.specs.Continues.{drawn_under, drawn}
-use Rattle.run_laws.specs.GrowthLaws.{RiseByOne}
 use Rattle.run_laws.proofs.StepsGrow.{grows_law}
+use Rattle.machine.proofs.Repeated.{risen}
 use Rattle.snap_file_laws.specs.CountRuns.{CountsLaw}
-
-risen : (n : ℕ) (old new : Counts) → RiseByOne old new → CountsAtMost n old → CountsAtMost (n + 1) new
-risen n old new rise most = record {
-  turns = omega (arith, rise.turns, most.turns);
-  beats = omega (arith, rise.beats, most.beats);
-  keys = omega (arith, rise.keys, most.keys);
-  ticks = omega (arith, rise.ticks, most.ticks);
-  retired = omega (arith, rise.retired, most.retired);
-  traps = omega (arith, rise.traps, most.traps);
-  enters = omega (arith, rise.enters, most.enters);
-  leaves = omega (arith, rise.leaves, most.leaves);
-  demotes = omega (arith, rise.demotes, most.demotes);
-  denied = omega (arith, rise.denied, most.denied);
-  dropped = omega (arith, rise.dropped, most.dropped);
-  loads = omega (arith, rise.loads, most.loads);
-  unloads = omega (arith, rise.unloads, most.unloads);
-  refused = omega (arith, rise.refused, most.refused);
-  notes = omega (arith, rise.notes, most.notes);
-}
 
 -- the counts of a state are at most n
 abbrev Within : ℕ → State → Type 0
 Within n r = CountsAtMost n r.journal.counts
-
-none_more : (n : ℕ) → n ≡ n + 0
-none_more n = omega arith
 
 one_more : (n later : ℕ) → n + 1 + later ≡ n + suc later
 one_more n later = omega arith
 
 ended_within : (r : State) (e : Event) (events : List Event) (n : ℕ) → HasEnded r.journal.verdict → Within n r → Within (n + 0) (run (step r e) events)
 ended_within r e events n ended most =
-    subst (λ (m : ℕ). Within m (run (step r e) events)) (none_more n) (subst (Within n) (sym (ended_stays r (e ∷ events) ended)) most)
+    subst (λ (m : ℕ). Within m (run (step r e) events)) (sym (add-zero n)) (subst (Within n) (sym (ended_stays r (e ∷ events) ended)) most)
 
 under_within : (verdict : Verdict) (r : State) (e : Event) (events : List Event) (n later : ℕ) → r.journal.verdict ≡ verdict → Within n r
     → (Within (n + 1) (step r e) → Within (n + 1 + later) (run (step r e) events)) → Within (n + drawn_under verdict suc later) (run (step r e) events)
@@ -57,5 +35,5 @@ under_within (Stopped rule h at) r e events n later is most rest = ended_within 
 
 pub counts_law : CountsLaw
 unfolding drawn
-counts_law s [] n most = subst (λ (m : ℕ). Within m s) (none_more n) most
+counts_law s [] n most = subst (λ (m : ℕ). Within m s) (sym (add-zero n)) most
 counts_law s (e ∷ events) n most = under_within s.journal.verdict s e events n (drawn (step s e) events) refl most (counts_law (step s e) events (n + 1))

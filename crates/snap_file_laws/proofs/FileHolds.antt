@@ -1,7 +1,7 @@
 -- A snapshot of a run from a measured boot is read again as it was.
-use Rattle.std.proofs.Common.{◌≡◌, ℕ, ◌+◌, ◌^◌, ◌≤◌, List, length, arith, refl, subst, sym, lit<}
+use Rattle.std.proofs.Common.{ℕ, ◌^◌, ◌≤◌, List, length, arith, refl, subst, sym, lit<}
 use Rattle.std.proofs.lemmas.List.{take_all}
-use Rattle.sv_types.specs.Boot.{no_counts}
+use Rattle.std.proofs.Math.Nat.{zero-add}
 use Rattle.sv_types.specs.Limits.{most_events}
 use Rattle.sv_types.specs.Policies.{Rules}
 use Rattle.sv_types.specs.Schedule.{first_events}
@@ -12,14 +12,16 @@ use Rattle.reference.specs.Run.{run}
 use Rattle.reference.specs.Start.{boot_start, start}
 use Rattle.reference.specs.States.{State}
 use Rattle.saved_machine.specs.SavedStates.{IsSaved}
+use Rattle.script.proofs.FirstEvents.{first_few}
 use Rattle.snapshot_form.specs.Snapshots.{contents}
 use Rattle.snapshot_form.specs.declared.whole.Snapshot.{Snapshot}
 use Rattle.resume_laws.specs.Continues.{drawn}
 use Rattle.resume_laws.specs.SavedForm.{HasBlock, IsCounted}
 use Rattle.resumed_start.specs.SnapLaws.{IsSnapAfter}
 use Rattle.resumed_start.proofs.SnapHolds.{snap_read_law}
+use Rattle.machine.proofs.Repeated.{none_counted}
 use Rattle.snap_cli.specs.SnapAnswers.{IsSnapshotOf}
-use Rattle.snap_cli.proofs.RunLemmas.{drawn_few, first_few}
+use Rattle.snap_cli.proofs.RunLemmas.{drawn_few}
 use Rattle.snap_file_laws.specs.BlockRuns.{HoldsDisk}
 use Rattle.snap_file_laws.specs.SnapFile.{IsDisk, SnapFileLaw}
 use Rattle.snap_file_laws.proofs.CountsRise.{counts_law}
@@ -27,25 +29,6 @@ use Rattle.snap_file_laws.proofs.DisksStay.{block_law}
 use Rattle.snap_file_laws.proofs.FileForms.{forms_in}
 
 -- ---- the start
-
-none_counted : CountsAtMost 0 no_counts
-none_counted = record {
-  turns = omega arith;
-  beats = omega arith;
-  keys = omega arith;
-  ticks = omega arith;
-  retired = omega arith;
-  traps = omega arith;
-  enters = omega arith;
-  leaves = omega arith;
-  demotes = omega arith;
-  denied = omega arith;
-  dropped = omega arith;
-  loads = omega arith;
-  unloads = omega arith;
-  refused = omega arith;
-  notes = omega arith;
-}
 
 boot_counts : (rules : Rules) (file disk : List ℕ) → CountsAtMost 0 (boot_start rules file disk).journal.counts
 unfolding boot_start start
@@ -57,15 +40,12 @@ boot_disk rules file disk = record { size = refl; block = record { sector = lit<
 
 -- ---- the snapshot
 
-none_before : (n : ℕ) → 0 + n ≡ n
-none_before n = omega arith
-
 counted_in : (first : State) (events : List Event) (k : ℕ) (s : Snapshot) → CountsAtMost 0 first.journal.counts → length events ≤ k → k ≤ most_events
     → IsSnapshotOf first events s → IsCounted (contents s)
 counted_in first events k s none length_few few snap =
     let made = drawn_few first events in
     let all =
-    subst (λ (n : ℕ). CountsAtMost n (run first events).journal.counts) (none_before (drawn first events)) (counts_law first events 0 none) in
+    subst (λ (n : ℕ). CountsAtMost n (run first events).journal.counts) (zero-add (drawn first events)) (counts_law first events 0 none) in
     record {
       few = subst (λ (n : ℕ). n ≤ 2 ^ 32) (sym snap.made) (omega (arith, made, length_few, few));
       counts =

@@ -1,7 +1,6 @@
 use Rattle.std.proofs.Common.{arith}
-use Rattle.secvisor_cli.proofs.PlanLemmas.{follows_keeps}
+use Rattle.secvisor_cli.proofs.PlanLemmas.{follows_keeps, follows_permits}
 use Rattle.live_cli.proofs.AnswerLemmas.{begins, may_under, ready_performs, refused_performs, wanting_performs}
-use Rattle.live_cli.proofs.LiveLemmas.{follows_permits}
 use Rattle.live_cli.proofs.answer.answer.Goals as goal
 
 pub carry_out-requires-clause-fresh : goal.carry_out-requires-clause-fresh

@@ -1,5 +1,5 @@
 use Rattle.std.proofs.Common.{refl, Err}
-use Rattle.secvisor_cli.specs.declared.trouble.Trouble.TheVariants.{Write}
+use Rattle.outside.specs.declared.trouble.Trouble.TheVariants.{Write}
 use Rattle.live_cli.proofs.answer.report.Goals as goal
 
 pub returns-then-end : goal.returns-then-end

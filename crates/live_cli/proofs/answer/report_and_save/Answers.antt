@@ -3,14 +3,15 @@ use Rattle.sv_types.specs.declared.status.Status.{Status}
 use Rattle.sv_types.specs.Output.{run_status}
 use Rattle.console_run.specs.Standing.{machine_output}
 use Rattle.live_drive.specs.LiveRuns.{harts_of, events_made}
-use Rattle.secvisor_cli.specs.declared.trouble.Trouble.{Trouble}
-use Rattle.secvisor_cli.specs.declared.trouble.Trouble.TheVariants.{Memory}
+use Rattle.outside.specs.declared.trouble.Trouble.{Trouble}
+use Rattle.outside.specs.declared.trouble.Trouble.TheVariants.{Memory}
 use Rattle.secvisor_cli.specs.Answers.{Writes, AfterSave}
 use Rattle.secvisor_cli.specs.Plans.{Exactly}
 use Rattle.secvisor_cli.proofs.ReadyLemmas.{err_by}
 use Rattle.secvisor_cli.proofs.SaveLemmas.{saved_ok, saved_err}
+use Rattle.secvisor_cli.proofs.EndLemmas.{wanting_writes}
 use Rattle.live_cli.specs.LiveAnswers.{SavesScript}
-use Rattle.live_cli.proofs.LiveLemmas.{report_wants, is_script}
+use Rattle.live_cli.proofs.LiveLemmas.{is_script}
 use Rattle.live_cli.proofs.answer.report_and_save.Goals as goal
 
 pub returns-in_err-text : goal.returns-in_err-text
@@ -18,7 +19,7 @@ returns-in_err-text g c =
     err_by _ Memory
     (λ r. (written : Result Status Trouble) × Writes (run_status c.args.live.now.machine.journal.verdict) (machine_output c.args.live.now.machine) (g.O.Sink.state c.args.out.now) (g.O.Sink.state c.args.out.now) written
     × SavesScript (harts_of c.args.live.now.script) (events_made c.args.live.now) c.args.name.now (g.F.Files.state c.args.files.now) (g.F.Files.state c.args.files.now) written r)
-    c.from_residual.ensures.1 (Err Memory, report_wants _ _ _, (refl, refl))
+    c.from_residual.ensures.1 (Err Memory, wanting_writes _ _ _, (refl, refl))
 
 pub returns-in_err-status : goal.returns-in_err-status
 returns-in_err-status g c =

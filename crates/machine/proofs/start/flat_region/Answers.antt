@@ -1,5 +1,6 @@
 use Rattle.std.proofs.Common.{◌∙◌}
-use Rattle.machine.proofs.Starting.{pages_fit, tables_sized, pages_copied}
+use Rattle.resumed_parts.proofs.Regions.{tables_sized}
+use Rattle.machine.proofs.Starting.{pages_fit, pages_copied}
 use Rattle.machine.proofs.start.flat_region.Goals as goal
 
 pub copy_in-requires : goal.copy_in-requires

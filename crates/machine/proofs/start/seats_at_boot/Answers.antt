@@ -1,7 +1,8 @@
 use Rattle.std.proofs.Common.{arith, ◌+◌, ◌∙◌, ap, List, length}
 use Rattle.hart_answers.specs.Hosts.{hosts_of}
 use Rattle.hart_answers.specs.declared.seats.Seat.{Seat}
-use Rattle.machine.proofs.Starting.{length_next, next_seated}
+use Rattle.resumed_parts.proofs.Seated.{length_next}
+use Rattle.machine.proofs.Starting.{next_seated}
 use Rattle.machine.proofs.start.seats_at_boot.Goals as goal
 
 pub seated-preserved : goal.seated-preserved

@@ -1,6 +1,6 @@
 use Rattle.std.proofs.Common.{arith}
-use Rattle.secvisor_cli.proofs.PlanLemmas.{follows_keeps}
-use Rattle.snap_cli.proofs.AnswerLemmas.{begins, follows_permits, may_under, ready_performs, refused_performs, wanting_performs}
+use Rattle.secvisor_cli.proofs.PlanLemmas.{follows_keeps, follows_permits}
+use Rattle.snap_cli.proofs.AnswerLemmas.{begins, may_under, ready_performs, refused_performs, wanting_performs}
 use Rattle.snap_cli.proofs.answer.answer_snap.Goals as goal
 
 pub run_on_bench-requires-clause-saves : goal.run_on_bench-requires-clause-saves

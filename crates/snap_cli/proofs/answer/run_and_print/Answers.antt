@@ -7,7 +7,7 @@ use Rattle.machine.proofs.Repeated.{counts_within}
 use Rattle.outside.specs.Outside.{after_taking, BreaksOff}
 use Rattle.secvisor_cli.proofs.ReadyLemmas.{err_by}
 use Rattle.secvisor_cli.specs.Answers.{Writes}
-use Rattle.secvisor_cli.specs.declared.trouble.Trouble.TheVariants.{Write}
+use Rattle.outside.specs.declared.trouble.Trouble.TheVariants.{Write}
 use Rattle.snap_cli.specs.SnapAnswers.{StandsAfter}
 use Rattle.snap_cli.proofs.RunLemmas.{ran_writes, last_broke_writes, run_broke_writes, ran_stands, last_broke_stands, run_broke_stands}
 use Rattle.snap_cli.proofs.answer.run_and_print.Goals as goal

@@ -1,6 +1,6 @@
 use Rattle.sv_types.specs.Schedule.{first_events}
 use Rattle.secvisor_cli.proofs.ReadyLemmas.{err_by}
-use Rattle.secvisor_cli.specs.declared.trouble.Trouble.TheVariants.{Memory}
+use Rattle.outside.specs.declared.trouble.Trouble.TheVariants.{Memory}
 use Rattle.snap_cli.specs.SnapAnswers.{SnapsTo}
 use Rattle.snap_cli.proofs.RunLemmas.{has_state, stands_all, kind_after, few_counted}
 use Rattle.snap_cli.proofs.SaveLemmas.{snaps_ok, snaps_err, snaps_none, snaps_broke}

@@ -1,9 +1,12 @@
 // What may end an answer early.
-ghost use Rattle.std.specs.Prelude.{◌≡◌};
-ghost use Rattle.secvisor_cli.specs.declared.trouble.Trouble.TheVariants.{Write, Memory};
 
-use outside::{Failed, SaveFailed};
+ghost use Rattle.std.specs.Prelude.{◌≡◌};
+ghost use Rattle.outside.specs.Endings.{settled};
+ghost use Rattle.outside.specs.declared.trouble.Trouble.TheVariants.{Write, Memory};
+
+use crate::SaveFailed;
 use std::alloc::AllocError;
+use sv_types::{Failed, Status};
 
 /// What ends an answer before its status stands.
 #[derive(Clone, Copy, Debug, PartialEq, Eq, Drop)]
@@ -35,5 +38,16 @@ impl From<AllocError> for Trouble {
 
     fn from(_: AllocError) -> Self {
         Trouble::Memory
+    }
+}
+
+/// The status that an answer ends with.
+pub fn settled(answer: Result<Status, Trouble>) -> Status
+    ensures { result ≡ settled answer }
+{
+    match answer {
+        Ok(status) => status,
+        Err(Trouble::Write) => Status::WriteFault,
+        Err(Trouble::Memory) => Status::Memory,
     }
 }
