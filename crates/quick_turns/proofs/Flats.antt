@@ -1,5 +1,5 @@
 -- Fields of flat instructions, and what such an instruction does.
-use Rattle.std.proofs.Common.{◌≡◌, ℕ, ◌+◌, ◌<◌, pos, Bool, true, false, if◌then◌else◌, arith, refl, ◌∙◌, List, Option, Some, None, IsTrue, sym, subst, ap, ◌%◌}
+use Rattle.std.proofs.Common.{◌≡◌, ℕ, ◌+◌, ◌<◌, pos, Bool, true, false, if◌then◌else◌, arith, ◌∙◌, List, Option, Some, None, IsTrue, sym, subst, ap, ◌%◌}
 use Rattle.std.proofs.lemmas.Bool.Decides.{nat_tests}
 use Rattle.processor.specs.Effects.{effect_of}
 use Rattle.processor.specs.Encoding.{fits}

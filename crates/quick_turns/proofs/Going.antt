@@ -137,14 +137,14 @@ stayed_leads r after core next regs page host same course leads =
 
 pub stored_leads : (r after : Region) (core next : Kept) (regs : HRegs) (x y : List (Option CacheLine)) (here there : Window) → GoesOn r after core next regs x y
     → SameCourse core.csrs next.csrs → WalksApart r regs.hgatp → Leads r (core_of core regs) here.page here.host → (IsBare next.csrs.vsatp → there ≡ here)
-    → ((IsBare next.csrs.vsatp → ⊥) → there ≡ record { page = 18446744073709551615; host = 0 }) → Leads after (core_of next regs) there.page there.host
+    → ((IsBare next.csrs.vsatp → ⊥) → there.page ≡ 18446744073709551615) → Leads after (core_of next regs) there.page there.host
 stored_leads r after core next regs x y here there on course apart leads bare paged = elim (eqb_tells (next.csrs.vsatp / 2 ^ 60) 0) [
   | inl same ↦
       let was : IsBare core.csrs.vsatp = ap (λ (n : ℕ). n / 2 ^ 60) (sym course.first) ∙ same.1 in
       subst (λ (w : Window). Leads after (core_of next regs) w.page w.host) (sym (bare same.1))
       (leads_core after (core_of core regs) (core_of next regs) here.page here.host course refl
       (leads_kept r after (core_of core regs) here.page here.host was on.tables on.ram apart leads))
-  | inr other ↦ subst (λ (w : Window). Leads after (core_of next regs) w.page w.host) (sym (paged other.1)) (no_window after (core_of next regs) 0)
+  | inr other ↦ subst (λ (page : ℕ). Leads after (core_of next regs) page there.host) (sym (paged other.1)) (no_window after (core_of next regs) there.host)
 ]
 
 next_aligned : (pc : ℕ) → pc % 4 ≡ 0 → (pc + 4) % 18446744073709551616 % 4 ≡ 0

@@ -15,7 +15,7 @@ ghost use Rattle.quick_turns.specs.Quick.{Comes, SameCourse, Steers};
 use crate::tried::Tried;
 use csr_file::Csrs;
 use hart::{Core, csr_value};
-use processor::{Csr, CsrOp, HRegs, INSTRUCTION_BYTES, Lines};
+use processor::{Csr, CsrOp, HRegs, INSTRUCTION_BYTES, Lines, Mode};
 
 // Some wires, for registers that are read without them.
 const LOW: Lines = Lines {
@@ -133,6 +133,11 @@ pub(crate) fn csr(core: &mut Core, regs: &HRegs, access: CsrAccess) -> Tried
     ensures free { core.new.reservation ≡ None }
     ensures course { Steers result core.old.csrs core.new.csrs }
 {
+    // User mode has the time alone, which goes by the wires. Asked first, the mode doesn't stand between the look for the
+    // register's number and that for what is done with it.
+    if regs.mode != Mode::Kernel {
+        return Tried::Stopped;
+    }
     let Ok(csr) = core.csrs.access(regs.mode, access.number, access.writes) else {
         return Tried::Stopped;
     };

@@ -34,17 +34,19 @@ impl Window {
         }
     }
 
-    /// What a store leaves of a window: with a first stage, whose tables lie in RAM, nothing.
-    #[tactic(auto, using(crate::proofs::Windows::no_window, crate::proofs::Windows::leads_kept))]
+    /// What a store leaves of a window: with a first stage, whose tables lie in RAM, that of no page.
     #[inline(always)]
     pub(crate) fn behind_store(self, core: &Core) -> Window
         ensures bare { IsBare core.now.csrs.vsatp → result ≡ self }
-        ensures paged { (IsBare core.now.csrs.vsatp → ⊥) → result ≡ record { page = 18446744073709551615; host = 0 } }
+        ensures paged { (IsBare core.now.csrs.vsatp → ⊥) → result.page ≡ 18446744073709551615 }
     {
         if core.csrs.vsatp >> ROOT_MODE_PLACE == BARE {
             self
         } else {
-            Window::none()
+            Window {
+                page: u64::MAX,
+                host: self.host,
+            }
         }
     }
 
