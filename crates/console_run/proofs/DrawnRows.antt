@@ -24,3 +24,8 @@ pub one_drawn : (left made : ℕ) (run : EventRun) (old new : Schedule) → 0 < 
 one_drawn left made run old new some one once begins =
     let all : left ≡ run.count + (left - 1) = omega (arith, some, one) in
     ap (λ (n : ℕ). first_events n old) all ∙ begins (left - 1) ∙ ap (λ (n : ℕ). replicate n run.event ++ first_events (left - 1) new) (one ∙ sym once)
+
+-- none is to be drawn any more
+pub none_left : (left : ℕ) (script : Schedule) → left ≡ 0 → first_events left script ≡ []
+unfolding first_events
+none_left left script none = ap (λ (n : ℕ). first_events n script) none

@@ -1,0 +1,81 @@
+use Rattle.std.proofs.Common.{◌≡◌, ◌≢◌, ◌<◌, ◌-◌, ◌+◌, ◌++◌, ℕ, replicate, ap, refl, sym, length, arith}
+use Rattle.sv_types.specs.Limits.{most_events}
+use Rattle.sv_types.specs.declared.event.Verdict.TheVariants.{Running}
+use Rattle.sv_types.specs.Schedule.{first_events}
+use Rattle.outside.proofs.SinkLemmas.{on_err}
+use Rattle.script.proofs.FirstEvents.{begun_none}
+use Rattle.machine.proofs.Repeated.{counts_within}
+use Rattle.console_run.specs.Console.{is_due, RunBrokeFromStart}
+use Rattle.console_run.proofs.ConsoleLemmas.{runs_none, runs_more, runs_broke, ran_ended, ran_all, taken_none, taken_more, state_after, flushed_counts, room_again}
+use Rattle.console_run.proofs.DrawnRows.{none_left, one_drawn}
+use Rattle.console_run.proofs.running.run_one_by_one.Goals as goal
+
+pub events-init : goal.events-init
+events-init g c = record {
+  on = λ start new. runs_none _ start _ _ _ refl new;
+  has = c.requires.state;
+  taken = taken_none _;
+  few = omega arith;
+  counts = counts_within most_events _ c.args.machine.now.journal.counts (omega arith) c.requires.counts;
+  room = omega (arith, ap length c.requires.console);
+  rest = ap is_due c.requires.console;
+}
+
+pub returns-then-ne-clause-all : goal.returns-then-ne-clause-all
+returns-then-ne-clause-all g c =
+    let ended : c.events.machine.journal.verdict ≢ Running = λ is. grind (arith, is) in
+    λ start new. ran_ended _ start _ _ _ _ _ (c.events.invariant.on start new) ended
+
+pub returns-in_default-clause-all : goal.returns-in_default-clause-all
+returns-in_default-clause-all g c =
+    λ start new. ran_all _ start _ _ _ _ _ (c.events.invariant.on start new)
+    (begun_none c.events.left (g.S.EventSource.schedule c.events.source) (sym c.in_default.ensures.event))
+
+pub flush_due-requires-clause-room : goal.flush_due-requires-clause-room
+flush_due-requires-clause-room g c =
+    room_again c.repeat.result c.events.machine c.repeat.new.self c.in-Some.one.event c.events.invariant.has c.repeat.ensures.chain c.events.invariant.room
+
+pub returns-in_err-flush_due-clause-some : goal.returns-in_err-flush_due-clause-some
+returns-in_err-flush_due-clause-some g c =
+    let some : 0 < c.events.left = omega (arith, c.events-test.true) in
+    let one : c.in-Some.one.count ≡ 1 = omega (arith, c.in-Some.ensures.some, c.in-Some.ensures.most) in
+    let once : c.repeat.result ≡ 1 = omega (arith, c.repeat.ensures.some, c.repeat.ensures.most) in
+    let before = g.S.EventSource.schedule c.events.source in
+    let behind = g.S.EventSource.schedule c.draw.new.self in
+    let parts : first_events c.events.left before ≡ replicate c.repeat.result c.in-Some.one.event ++ first_events (c.events.left - 1) behind =
+    one_drawn c.events.left c.repeat.result c.in-Some.one before behind some one once c.in-Some.ensures.first in
+    let room = room_again c.repeat.result c.events.machine c.repeat.new.self c.in-Some.one.event c.events.invariant.has c.repeat.ensures.chain c.events.invariant.room in
+    let broke : RunBrokeFromStart c.args.machine.now (first_events c.args.events (g.S.EventSource.schedule c.args.source)) c.flush_due.new.machine (g.O.Sink.state c.args.out.now) (g.O.Sink.state c.flush_due.new.out) =
+    λ start new. runs_broke c.repeat.result _ start _ (first_events c.events.left before) (first_events (c.events.left - 1) behind) c.events.machine c.repeat.new.self c.flush_due.new.machine
+    c.in-Some.one.event _ _ _ (c.events.invariant.on start new) parts c.repeat.ensures.chain
+    c.in_err-flush_due.ensures.machine room c.in_err-flush_due.ensures.due c.in_err-flush_due.ensures.failed in
+    on_err _ _ broke
+
+pub events-preserved : goal.events-preserved
+events-preserved g c =
+    let some : 0 < c.events.left = omega (arith, c.events-test.true) in
+    let one : c.in-Some.one.count ≡ 1 = omega (arith, c.in-Some.ensures.some, c.in-Some.ensures.most) in
+    let once : c.repeat.result ≡ 1 = omega (arith, c.repeat.ensures.some, c.repeat.ensures.most) in
+    let before = g.S.EventSource.schedule c.events.source in
+    let behind = g.S.EventSource.schedule c.draw.new.self in
+    let parts : first_events c.events.left before ≡ replicate c.repeat.result c.in-Some.one.event ++ first_events (c.events.left - 1) behind =
+    one_drawn c.events.left c.repeat.result c.in-Some.one before behind some one once c.in-Some.ensures.first in
+    let few = c.events.invariant.few in
+    let flushed = c.in_ok-flush_due.ensures.flushed in
+    record {
+      on = λ start new. runs_more c.repeat.result _ start _ (first_events c.events.left before) (first_events (c.events.left - 1) behind) c.events.machine c.repeat.new.self c.flush_due.new.machine
+          c.in-Some.one.event _ _ _ c.repeat.ensures.some (c.events.invariant.on start new) parts c.repeat.ensures.chain flushed;
+      has = state_after c.repeat.result c.events.machine c.repeat.new.self c.flush_due.new.machine c.in-Some.one.event _ _ c.events.invariant.has c.repeat.ensures.chain flushed;
+      taken = taken_more _ c.repeat.new.self c.flush_due.new.machine _ _ c.events.invariant.taken flushed;
+      few = omega (arith, few);
+      counts = flushed_counts (most_events + (c.args.events - (c.events.left - 1))) c.repeat.new.self c.flush_due.new.machine _ _
+          (counts_within (most_events + (c.args.events - c.events.left) + c.repeat.result) (most_events + (c.args.events - (c.events.left - 1))) c.repeat.new.self.journal.counts
+          (omega (arith, once, few, some)) (c.repeat.ensures.counts (most_events + (c.args.events - c.events.left)) c.events.invariant.counts)) flushed;
+      room = c.in_ok-flush_due.ensures.room;
+      rest = c.in_ok-flush_due.ensures.rest;
+    }
+
+pub returns-clause-all : goal.returns-clause-all
+returns-clause-all g c =
+    let none : c.events.left ≡ 0 = omega (arith, c.events-test.false) in
+    λ start new. ran_all _ start _ _ _ _ _ (c.events.invariant.on start new) (none_left c.events.left (g.S.EventSource.schedule c.events.source) none)

@@ -1,0 +1,25 @@
+use Rattle.std.proofs.Common.{◌<◌, ◌≤◌, ◌+◌, ◌-◌, ◌^◌, length, IsFalse}
+use Rattle.sv_types.specs.Limits.{most_events}
+use Rattle.sv_types.specs.Schedule.{first_events}
+use Rattle.reference.specs.Counting.{CountsAtMost}
+use Rattle.reference.specs.States.{State}
+use Rattle.machine_model.specs.Reaches.{IsNew}
+use Rattle.console_run.specs.Standing.{HasState}
+use Rattle.console_run.specs.Console.{is_due, HasTaken}
+use Rattle.console_run.proofs.ConsoleLemmas.{RunsOn}
+use Rattle.console_run.proofs.running.run_one_by_one.Given as goal
+
+abbrev pub invariant-events : goal.invariant-events
+invariant-events g l = record {
+  on : (start : State) → IsNew l.initial.machine start →
+      RunsOn l.initial.machine start (first_events l.events (g.S.EventSource.schedule l.fn.source)) (first_events l.left (g.S.EventSource.schedule l.source)) l.machine (g.O.Sink.state l.initial.out) (g.O.Sink.state l.out);
+  has : HasState l.machine;
+  taken : HasTaken (g.O.Sink.state l.initial.out) (g.O.Sink.state l.out);
+  few : l.left ≤ l.events;
+  counts : CountsAtMost (most_events + (l.events - l.left)) l.machine.journal.counts;
+  room : length l.machine.journal.printed < 4096;
+  rest : IsFalse (is_due l.machine.journal.printed);
+}
+
+abbrev pub decreases-events : goal.decreases-events
+decreases-events g l = l.left
