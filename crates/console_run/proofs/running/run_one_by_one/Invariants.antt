@@ -1,4 +1,4 @@
-use Rattle.std.proofs.Common.{◌<◌, ◌≤◌, ◌+◌, ◌-◌, ◌^◌, length, IsFalse}
+use Rattle.std.proofs.Common.{◌<◌, ◌≤◌, ◌+◌, ◌-◌, length, IsFalse}
 use Rattle.sv_types.specs.Limits.{most_events}
 use Rattle.sv_types.specs.Schedule.{first_events}
 use Rattle.reference.specs.Counting.{CountsAtMost}
