@@ -1,11 +1,11 @@
 // Accesses to supervisor registers that quick turns carry out.
 
-ghost use Rattle.std.specs.Prelude.{◌≡◌, ◌<◌, ◌%◌, ℕ, false, if◌then◌else◌, IfSome, None};
+ghost use Rattle.std.specs.Prelude.{◌≡◌, ◌<◌, ◌%◌, ℕ, false, if◌then◌else◌, IfSome, None, Ok};
 ghost use Rattle.processor.specs.Regions.{Region};
 ghost use Rattle.processor.specs.Requests.{csr_value};
 ghost use Rattle.processor.specs.Hardware.{with_region};
 ghost use Rattle.processor.specs.HardwareAttempt.{csr_reached, after_csr};
-ghost use Rattle.processor.specs.HypervisorRegisters.{HypervisorRegisters, read_virtual, write_virtual};
+ghost use Rattle.processor.specs.HypervisorRegisters.{HypervisorRegisters, csr_access, read_virtual, write_virtual};
 ghost use Rattle.processor.specs.IntegerRegisters.{register_count};
 ghost use Rattle.processor.specs.declared.lines.Lines.{Lines};
 ghost use Rattle.hart.specs.Cores.{core_of};
@@ -98,31 +98,34 @@ fn exchange(csrs: &mut Csrs, hideleg: u64, access: CsrAccess, csr: Csr) -> Optio
     Some(Exchanged { old, steers })
 }
 
-// The same by one look at the register, so that neither its reading nor its writing looks at it again.
+// An access to the register that its number names.
+#[tactic(auto, unfolding(processor::specs::HardwareAttempt::csr_reached, processor::specs::HardwareAttempt::after_csr))]
 #[inline(always)]
-fn exchange_by(csrs: &mut Csrs, hideleg: u64, access: CsrAccess, csr: Csr) -> Option<Exchanged>
-    ensures value { (lines : Lines) → IfSome result (λ done. done.old ≡ read_virtual hideleg csrs.old lines csr) }
-    ensures written { (lines : Lines) → IfSome result (λ done. csrs.new ≡ (if access.writes then write_virtual hideleg csrs.old csr (csr_value access.op (read_virtual hideleg csrs.old lines csr) access.operand) else csrs.old)) }
-    ensures refused { result ≡ None → csrs.new ≡ csrs.old }
-    ensures course { IfSome result (λ done. done.steers ≡ false → SameCourse csrs.old csrs.new) }
+fn access_to(core: &mut Core, regs: &HRegs, access: CsrAccess, csr: Csr) -> Tried
+    requires ready { MayStep core.old regs.now }
+    requires free { core.old.reservation ≡ None }
+    requires register { access.rd < register_count }
+    requires reaches { csr_access regs.now.mode core.old.csrs access.number access.writes ≡ Ok csr }
+    ensures comes { (r : Region) → (lines : Lines) → (word : ℕ) → Comes result (with_region r (after_csr (core_of core.old regs.now) lines access.rd access.op access.operand access.writes (csr_reached (core_of core.old regs.now) word access.number access.writes))) r r (core_of core.old regs.now) (core_of core.new regs.now) }
+    ensures pc { core.new.pc % 4 ≡ 0 }
+    ensures free { core.new.reservation ≡ None }
+    ensures course { Steers result core.old.csrs core.new.csrs }
 {
-    match csr {
-        Csr::Sstatus => exchange(csrs, hideleg, access, Csr::Sstatus),
-        Csr::Sie => exchange(csrs, hideleg, access, Csr::Sie),
-        Csr::Stvec => exchange(csrs, hideleg, access, Csr::Stvec),
-        Csr::Scounteren => exchange(csrs, hideleg, access, Csr::Scounteren),
-        Csr::Sscratch => exchange(csrs, hideleg, access, Csr::Sscratch),
-        Csr::Sepc => exchange(csrs, hideleg, access, Csr::Sepc),
-        Csr::Scause => exchange(csrs, hideleg, access, Csr::Scause),
-        Csr::Stval => exchange(csrs, hideleg, access, Csr::Stval),
-        Csr::Sip => exchange(csrs, hideleg, access, Csr::Sip),
-        Csr::Satp => exchange(csrs, hideleg, access, Csr::Satp),
-        Csr::Time => exchange(csrs, hideleg, access, Csr::Time),
+    let Some(done) = exchange(&mut core.csrs, regs.hideleg, access, csr) else {
+        return Tried::Stopped;
+    };
+    core.regs.set(access.rd, done.old);
+    core.pc = core.pc.wrapping_add(INSTRUCTION_BYTES);
+    if done.steers {
+        Tried::Steered
+    } else {
+        Tried::Retired
     }
 }
 
-/// An access to a supervisor register, where the mode has it and its value doesn't go by the wires.
-#[tactic(auto, unfolding(processor::specs::HardwareAttempt::csr_reached, processor::specs::HardwareAttempt::after_csr))]
+/// An access to a supervisor register, where the mode has it and its value doesn't go by the wires. It is a table of one line
+/// for each register: behind the one look at the number the register is known, so that nothing looks at it again.
+#[tactic(auto, unfolding(processor::specs::HypervisorRegisters::csr_access, processor::specs::HypervisorRegisters::reached_csr))]
 #[inline(always)]
 pub(crate) fn csr(core: &mut Core, regs: &HRegs, access: CsrAccess) -> Tried
     requires ready { MayStep core.old regs.now }
@@ -133,22 +136,20 @@ pub(crate) fn csr(core: &mut Core, regs: &HRegs, access: CsrAccess) -> Tried
     ensures free { core.new.reservation ≡ None }
     ensures course { Steers result core.old.csrs core.new.csrs }
 {
-    // User mode has the time alone, which goes by the wires. Asked first, the mode doesn't stand between the look for the
-    // register's number and that for what is done with it.
+    // User mode has the time alone, which goes by the wires.
     if regs.mode != Mode::Kernel {
         return Tried::Stopped;
     }
-    let Ok(csr) = core.csrs.access(regs.mode, access.number, access.writes) else {
-        return Tried::Stopped;
-    };
-    let Some(done) = exchange_by(&mut core.csrs, regs.hideleg, access, csr) else {
-        return Tried::Stopped;
-    };
-    core.regs.set(access.rd, done.old);
-    core.pc = core.pc.wrapping_add(INSTRUCTION_BYTES);
-    if done.steers {
-        Tried::Steered
-    } else {
-        Tried::Retired
+    match Csr::named(access.number) {
+        Some(Csr::Sstatus) => access_to(core, regs, access, Csr::Sstatus),
+        Some(Csr::Sie) => access_to(core, regs, access, Csr::Sie),
+        Some(Csr::Stvec) => access_to(core, regs, access, Csr::Stvec),
+        Some(Csr::Scounteren) => access_to(core, regs, access, Csr::Scounteren),
+        Some(Csr::Sscratch) => access_to(core, regs, access, Csr::Sscratch),
+        Some(Csr::Sepc) => access_to(core, regs, access, Csr::Sepc),
+        Some(Csr::Scause) => access_to(core, regs, access, Csr::Scause),
+        Some(Csr::Stval) => access_to(core, regs, access, Csr::Stval),
+        Some(Csr::Satp) => access_to(core, regs, access, Csr::Satp),
+        Some(Csr::Sip | Csr::Time) | None => Tried::Stopped,
     }
 }
