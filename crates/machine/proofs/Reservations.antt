@@ -1,21 +1,30 @@
 -- Where no hart gets a reservation.
-use Rattle.std.proofs.Common.{◌≡◌, ℕ, ◌+◌, Bool, true, false, ◌&&◌, List, length, not, sym, subst}
+use Rattle.std.proofs.Common.{◌≡◌, ℕ, ◌+◌, Bool, true, false, ◌&&◌, List, length, refl, sym, subst}
+use Rattle.std.specs.Prelude.{None, if◌then◌else◌}
 use Rattle.processor.specs.Bytes.{ram_place}
+use Rattle.processor.specs.Traps.{trap_target}
+use Rattle.processor.specs.declared.mode.Mode.{Mode}
 use Rattle.sv_types.specs.declared.event.Event.{Event}
 use Rattle.sv_types.specs.declared.event.Event.TheVariants.{Turn, Beat, Key, Tick}
+use Rattle.sv_types.specs.declared.event.Rule.TheVariants.{Entry}
 use Rattle.sv_types.specs.declared.event.Verdict.{Verdict}
 use Rattle.sv_types.specs.declared.event.Verdict.TheVariants.{Running, Shutdown, Stopped}
 use Rattle.reference.specs.Disk.{disk_beat, is_writable}
 use Rattle.reference.specs.Move.{Move, Idle, FromRam, IntoRam, DeniedAt, OutsideRam}
 use Rattle.machine_model.specs.HostEvents.{after_host_move, beat_served, event_served, key_served, tick_served, with_host_disk}
-use Rattle.reference.specs.Counting.{count_beat}
-use Rattle.machine_model.specs.Machine.{Machine, raised}
+use Rattle.sv_types.specs.Policies.{Rules}
+use Rattle.reference.specs.Counting.{count_beat, count_trap, counted, machine_ended}
+use Rattle.reference.specs.Trapping.{may_enter}
+use Rattle.machine_model.specs.HostExits.{host_exit_answered}
+use Rattle.machine_model.specs.HostHarts.{host_at_return, host_at_trap}
+use Rattle.machine_model.specs.Machine.{HostHart, Machine, raised, update}
 use Rattle.machine_model.specs.Steps.{IsStep, Steps, StepsUnder}
-use Rattle.quick_turns.specs.Ends.{is_left}
+use Rattle.machine_model.specs.declared.exits.ExitAnswer.{ExitAnswer}
 use Rattle.quick_turns.specs.declared.leaving.Leaving.{Leaving}
 use Rattle.quick_turns.specs.declared.leaving.Leaving.TheVariants.{Stays, Calls, Returns}
-use Rattle.machine.proofs.Rows.{map_none}
-use Rattle.machine.specs.Rows.{AnswersLeaving, AreFree, AreFreeWhere, reserves_nothing}
+use Rattle.machine.proofs.Rows.{changed_free, map_none}
+use Rattle.machine.specs.Attempts.{hart_in}
+use Rattle.machine.specs.Rows.{AnswersLeaving, AreFree, AreFreeWhere, call_answer, counted_leaving, reserves_nothing}
 
 moved_free : (m : Machine) (move : Move) → AreFree m.harts → AreFree (after_host_move m move).harts
 unfolding after_host_move
@@ -59,8 +68,42 @@ pub step_free : (known : Bool) (m after : Machine) (e : Event) → AreFreeWhere 
 unfolding IsStep
 step_free known m after e free steps = under_free m.journal.verdict known m after e free steps
 
--- the answer to a row that nothing stands behind leaves the machine as it is
-pub leaving_free : (left : Leaving) (m : Machine) (h : ℕ) (after : Machine) → AreFree m.harts → AnswersLeaving left m h after → AreFreeWhere (not (is_left left)) after.harts
+-- ---- the answer to an exit behind a row, which takes the hart's own away
+
+trap_free : (rules : Rules) (interrupt : Bool) (cause tval : ℕ) (x : HostHart) → (host_at_trap rules interrupt cause tval x).core.reservation ≡ None
+unfolding host_at_trap
+trap_free rules interrupt cause tval x = refl
+
+return_free : (x : HostHart) → (host_at_return x).core.reservation ≡ None
+unfolding host_at_return
+return_free x = refl
+
+either_free : (b : Bool) (x y : Machine) → AreFree x.harts → AreFree y.harts → AreFree (if b then x else y).harts
+either_free true x y e f = e
+either_free false x y e f = f
+
+called_free : (m : Machine) (h : ℕ) (host : HostHart) (mode : Mode) → AreFree m.harts → AreFree (host_exit_answered m h host mode call_answer).harts
+unfolding host_exit_answered
+called_free m h host mode free =
+    either_free (may_enter m.rules mode (trap_target host.core.csrs.vstvec false 8))
+    (record m { harts = update m.harts h (host_at_trap m.rules false 8 0); journal = counted (count_trap mode) m.journal })
+    (record m { journal = machine_ended (Stopped (Entry (trap_target host.core.csrs.vstvec false 8)) h m.journal.counts.turns) m.journal })
+    (changed_free m.harts h (host_at_trap m.rules false 8 0) (trap_free m.rules false 8 0) free) free
+
+returned_free : (m : Machine) (h : ℕ) (host : HostHart) (mode : Mode) → AreFree m.harts → AreFree (host_exit_answered m h host mode ExitAnswer.Returns).harts
+unfolding host_exit_answered
+returned_free m h host mode free = changed_free m.harts h host_at_return return_free free
+
+pub leaving_free : (left : Leaving) (m : Machine) (h : ℕ) (after : Machine) → AreFree m.harts → AnswersLeaving left m h after → AreFree after.harts
 leaving_free Stays m h after free same = subst (λ (x : Machine). AreFree x.harts) (sym same) free
-leaving_free Calls m h after free answers = tt
-leaving_free Returns m h after free answers = tt
+leaving_free Calls m h after free answers =
+    subst (λ (x : Machine). AreFree x.harts) (sym answers.same)
+    (called_free (counted_leaving m) h (hart_in m.harts h) (hart_in m.harts h).core.hregs.mode free)
+leaving_free Returns m h after free answers =
+    subst (λ (x : Machine). AreFree x.harts) (sym answers.same)
+    (returned_free (counted_leaving m) h (hart_in m.harts h) (hart_in m.harts h).core.hregs.mode free)
+
+-- where none has one, that may be noted or not
+pub free_where : (known : Bool) (harts : List HostHart) → AreFree harts → AreFreeWhere known harts
+free_where false harts free = tt
+free_where true harts free = free

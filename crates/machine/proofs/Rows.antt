@@ -64,20 +64,24 @@ updated_same (x ∷ harts) zero = refl
 updated_same (x ∷ harts) (suc h) = ap (λ (rest : List HostHart). x ∷ rest) (updated_same harts h)
 
 -- the hart itself, and each of the others
-first_free : (harts : List HostHart) (x : HostHart) (core : Core) → core.reservation ≡ None → AreFree (x ∷ harts) → AreFree (with_core core x ∷ harts)
-first_free harts x core none free zero = none
-first_free harts x core none free (suc h) = free (suc h)
+first_free : (harts : List HostHart) (x changed : HostHart) → changed.core.reservation ≡ None → AreFree (x ∷ harts) → AreFree (changed ∷ harts)
+first_free harts x changed none free zero = none
+first_free harts x changed none free (suc h) = free (suc h)
 
-other_free : (harts : List HostHart) (x : HostHart) (k : ℕ) (core : Core) → AreFree (update harts k (with_core core)) → AreFree (x ∷ harts)
-    → AreFree (x ∷ update harts k (with_core core))
-other_free harts x k core rest free zero = free zero
-other_free harts x k core rest free (suc h) = rest h
+other_free : (harts others : List HostHart) (x : HostHart) → AreFree others → AreFree (x ∷ harts) → AreFree (x ∷ others)
+other_free harts others x rest free zero = free zero
+other_free harts others x rest free (suc h) = rest h
+
+-- a change by which a hart gets no reservation
+pub changed_free : (harts : List HostHart) (k : ℕ) (change : HostHart → HostHart) → ((x : HostHart) → (change x).core.reservation ≡ None) → AreFree harts
+    → AreFree (update harts k change)
+unfolding update
+changed_free [] k change none free = free
+changed_free (x ∷ harts) zero change none free = first_free harts x (change x) (none x) free
+changed_free (x ∷ harts) (suc k) change none free = other_free harts (update harts k change) x (changed_free harts k change none (λ i. free (suc i))) free
 
 still_free : (harts : List HostHart) (k : ℕ) (core : Core) → core.reservation ≡ None → AreFree harts → AreFree (update harts k (with_core core))
-unfolding update
-still_free [] k core none free = free
-still_free (x ∷ harts) zero core none free = first_free harts x core none free
-still_free (x ∷ harts) (suc k) core none free = other_free harts x k core (still_free harts k core none (λ i. free (suc i))) free
+still_free harts k core none free = changed_free harts k (with_core core) (λ x. none) free
 
 -- ---- no reservation is forgotten
 

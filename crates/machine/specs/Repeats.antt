@@ -1,11 +1,14 @@
 -- One event, several times in a row. This project's own.
-use Rattle.std.specs.Prelude.{◌≡◌, ℕ, zero, suc, length}
+use Rattle.std.specs.Prelude.{◌≡◌, ℕ, zero, suc, ◌+◌, ◌-◌, ◌<◌, ◌≤◌, length}
+use Rattle.sv_types.specs.Limits.{most_printed}
 use Rattle.sv_types.specs.declared.event.Event.{Event}
+use Rattle.reference.specs.Counting.{CountsAtMost}
 use Rattle.reference.specs.States.{State}
 use Rattle.reference.specs.Run.{step}
 use Rattle.machine_model.specs.HardwareEvent.{IsEvent}
 use Rattle.machine_model.specs.Machine.{Machine}
 use Rattle.machine_model.specs.StandsFor.{StandsFor}
+use Rattle.machine.specs.Limits.{most_counts}
 
 -- one event: the machine stands for the state after it, and changed no more than the event may
 pub record Makes (m : Machine) (e : Event) (after : Machine) : Type 0 where
@@ -20,3 +23,24 @@ IsQuiet before after = length after.journal.printed ≡ length before.journal.pr
 abbrev pub Repeats : ℕ → Machine → Event → Machine → Type 0
 Repeats zero m e after = after ≡ m
 Repeats (suc n) m e after = (before : Machine) × (Repeats n m e before × (IsQuiet m before × Makes before e after))
+
+-- so many events may be made: one of them prints, and each is counted
+pub record MayMake (m : Machine) (n : ℕ) : Type 0 where
+  pub asked : 0 < n
+  pub few : n ≤ most_counts
+  pub room : length m.journal.printed < most_printed
+  pub counts : CountsAtMost (most_counts - n) m.journal.counts
+
+-- an event was made so many times, at least once and at most as often as was asked, and is counted so often
+pub record Made (n asked : ℕ) (m : Machine) (e : Event) (after : Machine) : Type 0 where
+  pub chain : Repeats n m e after
+  pub counts : (k : ℕ) → CountsAtMost k m.journal.counts → CountsAtMost (k + n) after.journal.counts
+  pub some : 0 < n
+  pub most : n ≤ asked
+
+-- turns of a row: so many at most, none of which prints
+pub record MadeInRow (n asked : ℕ) (m : Machine) (e : Event) (after : Machine) : Type 0 where
+  pub chain : Repeats n m e after
+  pub quiet : IsQuiet m after
+  pub counts : (k : ℕ) → CountsAtMost k m.journal.counts → CountsAtMost (k + n) after.journal.counts
+  pub most : n ≤ asked

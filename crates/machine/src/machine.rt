@@ -12,7 +12,7 @@ ghost use Rattle.machine_model.specs.HardwareEvent.{IsEvent};
 ghost use Rattle.machine_model.specs.Reaches.{Cleared};
 ghost use Rattle.machine_model.specs.StandsFor.{StandsFor};
 ghost use Rattle.machine.specs.Limits.{most_counts};
-ghost use Rattle.machine.specs.Repeats.{IsQuiet, Makes, Repeats};
+ghost use Rattle.machine.specs.Repeats.{Made, MadeInRow, Makes, MayMake, Repeats};
 ghost use Rattle.machine.specs.Rows.{AreFree, MayRow, reserves_nothing};
 ghost use Rattle.quick_turns.specs.Ends.{turns_of};
 
@@ -81,15 +81,9 @@ impl Machine {
     // Rounds of one event, up to `count` times.
     #[inline(always)]
     fn rounds(&mut self, event: Event, count: u64) -> u64
-        requires asked { 0 < count }
-        requires few { count ≤ most_counts }
-        requires room { length self.old.journal.printed < most_printed }
-        requires counts { CountsAtMost (most_counts - count) self.old.journal.counts }
+        requires { MayMake self.old count }
         ensures stands { (r : State) → StandsFor self.old r → StandsFor self.new (run r (replicate result event)) }
-        ensures chain { Repeats result self.old event self.new }
-        ensures counts { (n : ℕ) → CountsAtMost n self.old.journal.counts → CountsAtMost (n + result) self.new.journal.counts }
-        ensures some { 0 < result }
-        ensures most { result ≤ count }
+        ensures made { Made result count self.old event self.new }
         ensures all { length self.new.journal.printed ≡ length self.old.journal.printed → self.new.journal.verdict ≡ Running → result ≡ count }
     {
         let printed = self.printed().len();
@@ -106,14 +100,8 @@ impl Machine {
     // The event once, or turns of a hart in a row.
     #[inline(always)]
     fn round(&mut self, event: Event, most: u64) -> u64
-        requires asked { 0 < most }
-        requires few { most ≤ most_counts }
-        requires room { length self.old.journal.printed < most_printed }
-        requires counts { CountsAtMost (most_counts - most) self.old.journal.counts }
-        ensures chain { Repeats result self.old event self.new }
-        ensures counts { (n : ℕ) → CountsAtMost n self.old.journal.counts → CountsAtMost (n + result) self.new.journal.counts }
-        ensures some { 0 < result }
-        ensures most { result ≤ most }
+        requires { MayMake self.old most }
+        ensures { Made result most self.old event self.new }
     {
         if let Event::Turn(which) = event {
             return self.hart_turns(which, most);
@@ -125,14 +113,8 @@ impl Machine {
     // A row of turns of a hart, and the turn that stopped it where some are left.
     #[inline(always)]
     fn hart_turns(&mut self, which: u8, most: u64) -> u64
-        requires asked { 0 < most }
-        requires few { most ≤ most_counts }
-        requires room { length self.old.journal.printed < most_printed }
-        requires counts { CountsAtMost (most_counts - most) self.old.journal.counts }
-        ensures chain { Repeats result self.old (Turn which) self.new }
-        ensures counts { (n : ℕ) → CountsAtMost n self.old.journal.counts → CountsAtMost (n + result) self.new.journal.counts }
-        ensures some { 0 < result }
-        ensures most { result ≤ most }
+        requires { MayMake self.old most }
+        ensures { Made result most self.old (Turn which) self.new }
     {
         let row = self.row(which, most);
         let made = row.turns();
@@ -148,10 +130,7 @@ impl Machine {
     fn row(&mut self, which: u8, most: u64) -> Row
         requires few { most ≤ most_counts }
         requires counts { CountsAtMost (most_counts - most) self.old.journal.counts }
-        ensures chain { Repeats (turns_of result) self.old (Turn which) self.new }
-        ensures quiet { IsQuiet self.old self.new }
-        ensures counts { (n : ℕ) → CountsAtMost n self.old.journal.counts → CountsAtMost (n + turns_of result) self.new.journal.counts }
-        ensures most { turns_of result ≤ most }
+        ensures { MadeInRow (turns_of result) most self.old (Turn which) self.new }
     {
         if self.may_row(which) {
             self.one_row(which, most)
@@ -187,13 +166,9 @@ impl Machine {
         requires may { MayRow self.old which }
         requires few { most ≤ most_counts }
         requires counts { CountsAtMost (most_counts - most) self.old.journal.counts }
-        ensures chain { Repeats (turns_of result) self.old (Turn which) self.new }
-        ensures quiet { IsQuiet self.old self.new }
-        ensures counts { (n : ℕ) → CountsAtMost n self.old.journal.counts → CountsAtMost (n + turns_of result) self.new.journal.counts }
-        ensures most { turns_of result ≤ most }
+        ensures { MadeInRow (turns_of result) most self.old (Turn which) self.new }
     {
         let row = self.parts.row(which, most);
-        self.none_reserved = !row.left.is_left();
         self.parts.answer_leaving(which, row.left);
         row
     }

@@ -1,15 +1,15 @@
-use Rattle.std.proofs.Common.{◌+◌, ◌-◌, ℕ, Bool, not, subst, sym, arith}
+use Rattle.std.proofs.Common.{◌+◌, ◌-◌, ℕ, subst, sym, arith}
 use Rattle.sv_types.specs.declared.event.Event.TheVariants.{Turn}
 use Rattle.reference.specs.Counting.{CountsAtMost}
 use Rattle.machine_model.specs.Machine.{Machine}
 use Rattle.quick_turns.specs.Ends.{turns_of}
 use Rattle.machine.proofs.Behind.{Begins, behind_bounded, behind_counts, ends_rowed, in_kernel, may_count, may_trap}
 use Rattle.machine.proofs.Ready.{ready_at}
-use Rattle.machine.proofs.Reservations.{leaving_free}
+use Rattle.machine.proofs.Reservations.{free_where, leaving_free}
 use Rattle.machine.proofs.Rows.{Rowed}
 use Rattle.machine.specs.Limits.{most_counts}
-use Rattle.machine.specs.Repeats.{IsQuiet, Repeats}
-use Rattle.machine.specs.Rows.{AreFreeWhere, MayRow}
+use Rattle.machine.specs.Repeats.{MadeInRow}
+use Rattle.machine.specs.Rows.{MayRow}
 use Rattle.machine.proofs.machine.Machine.one_row.Goals as goal
 
 pub row-row-requires-clause-may : goal.row-row-requires-clause-may
@@ -106,13 +106,13 @@ invariant_of-self c =
       addresses = rowed.addresses;
       attempts = rowed.bounded.attempts;
       few = let two = rowed.bounded.attempts in let turns = after.turns in omega (arith, two, turns, c.row-row.ensures.most, c.requires.few);
-      free = subst (λ (left : Bool). AreFreeWhere (not left) c.answer_leaving.new.self.harts) (sym c.is_left.ensures)
+      free = free_where c.self.inside.none_reserved c.answer_leaving.new.self.harts
           (leaving_free c.row-row.result.left c.row-row.new.self c.args.which c.answer_leaving.new.self c.row-row.ensures.free c.answer_leaving.ensures);
       printed = rowed.bounded.printed;
     }
 
-pub returns-clause-chain : goal.returns-clause-chain
-returns-clause-chain c =
+pub returns : goal.returns
+returns c =
     let may : MayRow c.self.inside.parts c.args.which = subst (λ (m : Machine). MayRow m c.args.which) (sym c.self.view_is) c.requires.may in
     let begins : Begins c.self.inside.parts c.args.which = record {
       state = c.self.invariant.state;
@@ -124,34 +124,10 @@ returns-clause-chain c =
     let rowed : Rowed (turns_of c.row-row.result) c.self.inside.parts c.args.which c.answer_leaving.new.self =
     ends_rowed c.row-row.result.left c.row-row.result.made c.self.inside.parts c.row-row.new.self c.answer_leaving.new.self c.args.which begins c.row-row.ensures.ends
     c.answer_leaving.ensures in
-    subst (λ (m : Machine). Repeats (turns_of c.row-row.result) m (Turn c.args.which) c.answer_leaving.new.self) c.self.view_is rowed.chain
-
-pub returns-clause-quiet : goal.returns-clause-quiet
-returns-clause-quiet c =
-    let may : MayRow c.self.inside.parts c.args.which = subst (λ (m : Machine). MayRow m c.args.which) (sym c.self.view_is) c.requires.may in
-    let begins : Begins c.self.inside.parts c.args.which = record {
-      state = c.self.invariant.state;
-      may = may;
-      stands = c.self.invariant.stands;
-      addresses = c.self.invariant.addresses;
-      bounded = record { attempts = c.self.invariant.attempts; printed = c.self.invariant.printed };
+    let made : MadeInRow (turns_of c.row-row.result) c.args.most c.self.inside.parts (Turn c.args.which) c.answer_leaving.new.self = record {
+      chain = rowed.chain;
+      quiet = rowed.quiet;
+      counts = rowed.counts;
+      most = c.row-row.ensures.most;
     } in
-    let rowed : Rowed (turns_of c.row-row.result) c.self.inside.parts c.args.which c.answer_leaving.new.self =
-    ends_rowed c.row-row.result.left c.row-row.result.made c.self.inside.parts c.row-row.new.self c.answer_leaving.new.self c.args.which begins c.row-row.ensures.ends
-    c.answer_leaving.ensures in
-    subst (λ (m : Machine). IsQuiet m c.answer_leaving.new.self) c.self.view_is rowed.quiet
-
-pub returns-clause-counts : goal.returns-clause-counts
-returns-clause-counts c =
-    let may : MayRow c.self.inside.parts c.args.which = subst (λ (m : Machine). MayRow m c.args.which) (sym c.self.view_is) c.requires.may in
-    let begins : Begins c.self.inside.parts c.args.which = record {
-      state = c.self.invariant.state;
-      may = may;
-      stands = c.self.invariant.stands;
-      addresses = c.self.invariant.addresses;
-      bounded = record { attempts = c.self.invariant.attempts; printed = c.self.invariant.printed };
-    } in
-    let rowed : Rowed (turns_of c.row-row.result) c.self.inside.parts c.args.which c.answer_leaving.new.self =
-    ends_rowed c.row-row.result.left c.row-row.result.made c.self.inside.parts c.row-row.new.self c.answer_leaving.new.self c.args.which begins c.row-row.ensures.ends
-    c.answer_leaving.ensures in
-    subst (λ (m : Machine). (n : ℕ) → CountsAtMost n m.journal.counts → CountsAtMost (n + turns_of c.row-row.result) c.answer_leaving.new.self.journal.counts) c.self.view_is rowed.counts
+    subst (λ (m : Machine). MadeInRow (turns_of c.row-row.result) c.args.most m (Turn c.args.which) c.answer_leaving.new.self) c.self.view_is made

@@ -7,5 +7,10 @@ pub make-requires-clause-counts : goal.make-requires-clause-counts
 make-requires-clause-counts c =
     counts_within (most_counts - c.args.most) (most_counts - 1) c.args.self.now.journal.counts (omega (arith, c.requires.asked, c.requires.few)) c.requires.counts
 
-pub returns-clause-chain : goal.returns-clause-chain
-returns-clause-chain c = (c.args.self.now, (refl, (refl, c.make.ensures.makes)))
+pub returns : goal.returns
+returns c = record {
+  chain = (c.args.self.now, (refl, (refl, c.make.ensures.makes)));
+  counts = c.make.ensures.counts;
+  some = omega arith;
+  most = omega (arith, c.requires.asked);
+}

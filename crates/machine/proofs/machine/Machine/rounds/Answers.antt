@@ -3,24 +3,28 @@ use Rattle.machine.specs.Limits.{most_counts}
 use Rattle.machine.proofs.Repeated.{counts_on, counts_within, repeats_on, repeats_stand}
 use Rattle.machine.proofs.machine.Machine.rounds.Goals as goal
 
-pub round-made-requires-clause-counts : goal.round-made-requires-clause-counts
-round-made-requires-clause-counts c =
-    counts_within (most_counts - c.args.count + c.events.made) (most_counts - (c.args.count - c.events.made)) c.events.self.journal.counts
-    (omega (arith, c.events-test.true, c.requires.few))
-    (c.events.invariant.counts (most_counts - c.args.count) c.requires.counts)
+pub round-made-requires : goal.round-made-requires
+round-made-requires c = record {
+  asked = omega (arith, c.events-test.true);
+  few = omega (arith, c.requires.few);
+  room = search rules;
+  counts = counts_within (most_counts - c.args.count + c.events.made) (most_counts - (c.args.count - c.events.made)) c.events.self.journal.counts
+      (omega (arith, c.events-test.true, c.requires.few))
+      (c.events.invariant.counts (most_counts - c.args.count) c.requires.counts);
+}
 
 pub returns-then-printed-clause-stands : goal.returns-then-printed-clause-stands
 returns-then-printed-clause-stands c =
     repeats_stand (c.events.made + c.round-made.result) c.args.self.now c.round-made.new.self c.args.event
     (repeats_on c.events.made c.round-made.result c.args.self.now c.events.self c.round-made.new.self c.args.event c.events.invariant.chain c.events.invariant.quiet c.round-made.ensures.chain)
 
-pub returns-then-printed-clause-chain : goal.returns-then-printed-clause-chain
-returns-then-printed-clause-chain c =
-    repeats_on c.events.made c.round-made.result c.args.self.now c.events.self c.round-made.new.self c.args.event c.events.invariant.chain c.events.invariant.quiet c.round-made.ensures.chain
-
-pub returns-then-printed-clause-counts : goal.returns-then-printed-clause-counts
-returns-then-printed-clause-counts c =
-    counts_on c.events.made c.round-made.result c.args.self.now.journal.counts c.events.self.journal.counts c.round-made.new.self.journal.counts c.events.invariant.counts c.round-made.ensures.counts
+pub returns-then-printed-clause-made : goal.returns-then-printed-clause-made
+returns-then-printed-clause-made c = record {
+  chain = repeats_on c.events.made c.round-made.result c.args.self.now c.events.self c.round-made.new.self c.args.event c.events.invariant.chain c.events.invariant.quiet c.round-made.ensures.chain;
+  counts = counts_on c.events.made c.round-made.result c.args.self.now.journal.counts c.events.self.journal.counts c.round-made.new.self.journal.counts c.events.invariant.counts c.round-made.ensures.counts;
+  some = omega (arith, c.round-made.ensures.some);
+  most = omega (arith, c.events-test.true, c.round-made.ensures.most);
+}
 
 pub events-preserved : goal.events-preserved
 events-preserved c = record {

@@ -1,10 +1,10 @@
-use Rattle.std.proofs.Common.{◌+◌, ℕ, subst}
+use Rattle.std.proofs.Common.{subst}
 use Rattle.machine_model.specs.Machine.{Machine}
-use Rattle.reference.specs.Counting.{CountsAtMost}
+use Rattle.sv_types.specs.declared.event.Event.TheVariants.{Turn}
 use Rattle.quick_turns.specs.Ends.{turns_of}
+use Rattle.machine.specs.Repeats.{MadeInRow}
 use Rattle.machine.proofs.machine.Machine.row.Goals as goal
 
-pub returns-then-may_row-clause-counts : goal.returns-then-may_row-clause-counts
-returns-then-may_row-clause-counts c =
-    subst (λ (m : Machine). (n : ℕ) → CountsAtMost n m.journal.counts → CountsAtMost (n + turns_of c.one_row.result) c.one_row.new.self.journal.counts)
-    c.may_row.ensures.same c.one_row.ensures.counts
+pub returns-then-may_row : goal.returns-then-may_row
+returns-then-may_row c =
+    subst (λ (m : Machine). MadeInRow (turns_of c.one_row.result) c.args.most m (Turn c.args.which) c.one_row.new.self) c.may_row.ensures.same c.one_row.ensures
