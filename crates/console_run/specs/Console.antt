@@ -1,14 +1,15 @@
 -- A run and its console, while it goes on.
-use Rattle.std.specs.Prelude.{◌≡◌, ◌≤◌, ℕ, List, ◌++◌, length, Bool, false, ◌||◌, ◌==◌, ◌-◌, IsTrue, Option, Some, None, slice_get}
+use Rattle.std.specs.Prelude.{◌≡◌, ◌<◌, ◌≤◌, ℕ, List, [], ◌++◌, length, Bool, false, ◌||◌, ◌==◌, ◌-◌, IsFalse, IsTrue, Option, Some, None, slice_get}
 use Rattle.sv_types.specs.Schedule.{line_feed}
-use Rattle.sv_types.specs.Limits.{most_printed}
+use Rattle.sv_types.specs.Limits.{most_events, most_printed}
 use Rattle.sv_types.specs.declared.event.Event.{Event}
+use Rattle.reference.specs.Counting.{CountsAtMost}
 use Rattle.reference.specs.States.{State}
 use Rattle.reference.specs.Run.{run}
 use Rattle.machine_model.specs.Machine.{Machine}
 use Rattle.machine_model.specs.Reaches.{IsNew, ReachesFrom}
-use Rattle.outside.specs.Outside.{SinkState, after_taking, BreaksOff}
-use Rattle.console_run.specs.Standing.{Stands, TakesAway}
+use Rattle.outside.specs.Outside.{SinkState, after_taking, BreaksOff, MayWrite}
+use Rattle.console_run.specs.Standing.{HasState, Stands, TakesAway}
 
 -- ---- when the console's bytes are written
 
@@ -59,3 +60,20 @@ HasRunFromStart first done machine old new = (start : State) → IsNew first sta
 
 abbrev pub RunBrokeFromStart : Machine → List Event → Machine → SinkState → SinkState → Type 0
 RunBrokeFromStart first events machine old new = (start : State) → IsNew first start → RunBroke first start events machine old new
+
+-- ---- a whole run
+
+-- a machine of which nothing is printed yet may be run over so many events, and this sink may take its console
+pub record MayRun (machine : Machine) (events : ℕ) (sink : SinkState) : Type 0 where
+  pub sink : MayWrite sink
+  pub few : events ≤ most_events
+  pub state : HasState machine
+  pub counts : CountsAtMost most_events machine.journal.counts
+  pub console : machine.journal.printed ≡ []
+
+-- a machine has run over these events, and nothing of its console is due any more
+pub record HasRunAll (first : Machine) (events : List Event) (machine : Machine) (old new : SinkState) : Type 0 where
+  pub ran : HasRunFromStart first events machine old new
+  pub taken : HasTaken old new
+  pub room : length machine.journal.printed < most_printed
+  pub rest : IsFalse (is_due machine.journal.printed)

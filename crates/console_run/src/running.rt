@@ -1,12 +1,10 @@
 // A machine's run, with its console.
-ghost use Rattle.std.specs.Prelude.{◌≡◌, ◌<◌, ◌≤◌, ◌-◌, ◌^◌, [], length, IsTrue, IsFalse, OnOk, OnErr};
-ghost use Rattle.sv_types.specs.Limits.{most_events, most_printed};
-ghost use Rattle.reference.specs.Counting.{CountsAtMost};
+ghost use Rattle.std.specs.Prelude.{◌≡◌, ◌<◌, ◌≤◌, length, IsTrue, IsFalse, OnOk, OnErr};
+ghost use Rattle.sv_types.specs.Limits.{most_printed};
 ghost use Rattle.sv_types.specs.Schedule.{first_events};
 ghost use Rattle.machine_model.specs.Reaches.{Cleared};
 ghost use Rattle.outside.specs.Outside.{BreaksOff, MayWrite};
-ghost use Rattle.console_run.specs.Standing.{HasState};
-ghost use Rattle.console_run.specs.Console.{is_due, Flushed, HasTaken, HasRunFromStart, RunBrokeFromStart};
+ghost use Rattle.console_run.specs.Console.{is_due, Flushed, HasRunAll, MayRun, RunBrokeFromStart};
 
 use crate::drawing::Drawing;
 use machine::Machine;
@@ -54,15 +52,8 @@ fn run_in_rows<S: EventSource + Drop, O: Sink>(
     events: u64,
     out: &mut O,
 ) -> Result<(), Failed>
-    requires sink { MayWrite (O.state out.old) }
-    requires events { events ≤ most_events }
-    requires state { HasState machine.old }
-    requires counts { CountsAtMost most_events machine.old.journal.counts }
-    requires console { machine.old.journal.printed ≡ [] }
-    ensures all { OnOk result (HasRunFromStart machine.old (first_events events (S.schedule source)) machine.new (O.state out.old) (O.state out.new)) }
-    ensures taken { OnOk result (HasTaken (O.state out.old) (O.state out.new)) }
-    ensures room { OnOk result (length machine.new.journal.printed < most_printed) }
-    ensures rest { OnOk result (IsFalse (is_due machine.new.journal.printed)) }
+    requires { MayRun machine.old events (O.state out.old) }
+    ensures all { OnOk result (HasRunAll machine.old (first_events events (S.schedule source)) machine.new (O.state out.old) (O.state out.new)) }
     ensures some { OnErr result (RunBrokeFromStart machine.old (first_events events (S.schedule source)) machine.new (O.state out.old) (O.state out.new)) }
 {
     let mut drawing = Drawing::new(source, events);
@@ -85,15 +76,8 @@ fn run_one_by_one<S: EventSource + Drop, O: Sink>(
     events: u64,
     out: &mut O,
 ) -> Result<(), Failed>
-    requires sink { MayWrite (O.state out.old) }
-    requires events { events ≤ most_events }
-    requires state { HasState machine.old }
-    requires counts { CountsAtMost most_events machine.old.journal.counts }
-    requires console { machine.old.journal.printed ≡ [] }
-    ensures all { OnOk result (HasRunFromStart machine.old (first_events events (S.schedule source)) machine.new (O.state out.old) (O.state out.new)) }
-    ensures taken { OnOk result (HasTaken (O.state out.old) (O.state out.new)) }
-    ensures room { OnOk result (length machine.new.journal.printed < most_printed) }
-    ensures rest { OnOk result (IsFalse (is_due machine.new.journal.printed)) }
+    requires { MayRun machine.old events (O.state out.old) }
+    ensures all { OnOk result (HasRunAll machine.old (first_events events (S.schedule source)) machine.new (O.state out.old) (O.state out.new)) }
     ensures some { OnErr result (RunBrokeFromStart machine.old (first_events events (S.schedule source)) machine.new (O.state out.old) (O.state out.new)) }
 {
     let mut source = source;
@@ -122,15 +106,8 @@ pub fn run<O: Sink>(
     events: u64,
     out: &mut O,
 ) -> Result<(), Failed>
-    requires sink { MayWrite (O.state out.old) }
-    requires events { events ≤ most_events }
-    requires state { HasState machine.old }
-    requires counts { CountsAtMost most_events machine.old.journal.counts }
-    requires console { machine.old.journal.printed ≡ [] }
-    ensures all { OnOk result (HasRunFromStart machine.old (first_events events script) machine.new (O.state out.old) (O.state out.new)) }
-    ensures taken { OnOk result (HasTaken (O.state out.old) (O.state out.new)) }
-    ensures room { OnOk result (length machine.new.journal.printed < most_printed) }
-    ensures rest { OnOk result (IsFalse (is_due machine.new.journal.printed)) }
+    requires { MayRun machine.old events (O.state out.old) }
+    ensures all { OnOk result (HasRunAll machine.old (first_events events script) machine.new (O.state out.old) (O.state out.new)) }
     ensures some { OnErr result (RunBrokeFromStart machine.old (first_events events script) machine.new (O.state out.old) (O.state out.new)) }
 {
     match script.into_source() {

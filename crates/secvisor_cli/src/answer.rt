@@ -2,15 +2,14 @@
 ghost use Rattle.std.specs.Prelude.{◌≡◌, ◌<◌, ◌≤◌, ◌-◌, ◌^◌, ◌⊎◌, ℕ, List, Option, [], ◌∷◌, map, string_bytes, Ok, IsTrue, OnOk, IsErrOf, false};
 ghost use Rattle.std.specs.Option.{option_copied};
 ghost use Rattle.std.specs.Result.{is_ok};
-ghost use Rattle.sv_types.specs.Limits.{most_events};
 ghost use Rattle.sv_types.specs.Output.{run_status};
-ghost use Rattle.reference.specs.Counting.{CountsAtMost};
 ghost use Rattle.reference.specs.Disk.{disk_bytes};
 ghost use Rattle.reference.specs.Report.{output};
 ghost use Rattle.reference.specs.Run.{run};
 ghost use Rattle.reference.specs.States.{State};
 ghost use Rattle.machine_model.specs.Reaches.{IsNew};
-ghost use Rattle.console_run.specs.Standing.{HasState, machine_output};
+ghost use Rattle.console_run.specs.Console.{MayRun};
+ghost use Rattle.console_run.specs.Standing.{machine_output};
 ghost use Rattle.sv_types.specs.Schedule.{first_events};
 ghost use Rattle.secvisor_cli.specs.Refusals.{refusal_line, refusal_status, takes_memory};
 ghost use Rattle.secvisor_cli.specs.CommandLine.{judged};
@@ -240,12 +239,8 @@ fn run_and_save<F: Files, O: Sink>(
     files: &mut F,
     out: &mut O,
 ) -> Result<Status, Trouble>
-    requires sink { MayWrite (O.state out.old) }
+    requires may { MayRun machine.old events (O.state out.old) }
     requires saves { (F.state files.old).save_faults < 2 ^ 64 - 1 }
-    requires events { events ≤ most_events }
-    requires state { HasState machine.old }
-    requires counts { CountsAtMost most_events machine.old.journal.counts }
-    requires console { machine.old.journal.printed ≡ [] }
     requires permitted { MaySaveRun machine.old (first_events events script) (option_copied save) (F.state files.old) }
     ensures { (start : State) → IsNew machine.old start → RunsAndSaves start (first_events events script) (option_copied save.entry) machine.new
         (F.state files.old) (F.state files.new) (O.state out.old) (O.state out.new) result }
@@ -263,11 +258,7 @@ fn run_and_report<O: Sink>(
     events: u64,
     out: &mut O,
 ) -> Result<Status, Trouble>
-    requires sink { MayWrite (O.state out.old) }
-    requires events { events ≤ most_events }
-    requires state { HasState machine.old }
-    requires counts { CountsAtMost most_events machine.old.journal.counts }
-    requires console { machine.old.journal.printed ≡ [] }
+    requires { MayRun machine.old events (O.state out.old) }
     ensures writes { (start : State) → IsNew machine.old start → let last = run start (first_events events script) in
         Writes (run_status last.journal.verdict) (output last) (O.state out.old) (O.state out.new) result }
     ensures machine { (start : State) → IsNew machine.old start →

@@ -8,6 +8,7 @@ ghost use Rattle.reference.specs.Run.{run};
 ghost use Rattle.reference.specs.States.{State};
 ghost use Rattle.machine_model.specs.Reaches.{IsNew};
 ghost use Rattle.sv_types.specs.Schedule.{first_events};
+ghost use Rattle.console_run.specs.Console.{MayRun};
 ghost use Rattle.console_run.specs.Standing.{HasState};
 ghost use Rattle.outside.specs.Outside.{MayWrite};
 ghost use Rattle.secvisor_cli.specs.Answers.{outside, Writes};
@@ -187,11 +188,7 @@ fn run_and_print<O: Sink>(
     events: u64,
     out: &mut O,
 ) -> Result<Status, Trouble>
-    requires sink { MayWrite (O.state out.old) }
-    requires events { events ≤ most_events }
-    requires state { HasState machine.old }
-    requires counts { CountsAtMost 0 machine.old.journal.counts }
-    requires console { machine.old.journal.printed ≡ [] }
+    requires { MayRun machine.old events (O.state out.old) }
     ensures writes { (start : State) → IsNew machine.old start →
         Writes Status.Done (run start (first_events events script)).journal.printed (O.state out.old) (O.state out.new) result }
     ensures stands { (start : State) → IsNew machine.old start →

@@ -1,35 +1,35 @@
 use Rattle.std.proofs.Common.{OnOk, ap, subst, sym, ◌∙◌}
 use Rattle.sv_types.specs.Schedule.{Schedule, first_events}
 use Rattle.script.specs.Sources.{schedule_of}
-use Rattle.console_run.specs.Console.{HasRunFromStart}
+use Rattle.console_run.specs.Console.{HasRunAll}
 use Rattle.console_run.proofs.running.run.Goals as goal
 
 pub returns-in-Listed-clause-all : goal.returns-in-Listed-clause-all
 returns-in-Listed-clause-all g c =
-    subst (λ (s : Schedule). OnOk c.run_in_rows.result (HasRunFromStart c.args.machine.now (first_events c.args.events s) c.run_in_rows.new.machine (g.O.Sink.state c.args.out.now) (g.O.Sink.state c.run_in_rows.new.out)))
+    subst (λ (s : Schedule). OnOk c.run_in_rows.result (HasRunAll c.args.machine.now (first_events c.args.events s) c.run_in_rows.new.machine (g.O.Sink.state c.args.out.now) (g.O.Sink.state c.run_in_rows.new.out)))
     (sym (ap schedule_of c.in-Listed.is) ∙ c.into_source.ensures) c.run_in_rows.ensures.all
 
 pub returns-in-Weave-clause-all : goal.returns-in-Weave-clause-all
 returns-in-Weave-clause-all g c =
-    subst (λ (s : Schedule). OnOk c.run_in_rows-in-Weave.result (HasRunFromStart c.args.machine.now (first_events c.args.events s) c.run_in_rows-in-Weave.new.machine (g.O.Sink.state c.args.out.now) (g.O.Sink.state c.run_in_rows-in-Weave.new.out)))
+    subst (λ (s : Schedule). OnOk c.run_in_rows-in-Weave.result (HasRunAll c.args.machine.now (first_events c.args.events s) c.run_in_rows-in-Weave.new.machine (g.O.Sink.state c.args.out.now) (g.O.Sink.state c.run_in_rows-in-Weave.new.out)))
     (sym (ap schedule_of c.in-Weave.is) ∙ c.into_source.ensures) c.run_in_rows-in-Weave.ensures.all
 
 pub returns-then-is_of_several-clause-all : goal.returns-then-is_of_several-clause-all
 returns-then-is_of_several-clause-all g c =
-    subst (λ (s : Schedule). OnOk c.run_one_by_one.result (HasRunFromStart c.args.machine.now (first_events c.args.events s) c.run_one_by_one.new.machine (g.O.Sink.state c.args.out.now) (g.O.Sink.state c.run_one_by_one.new.out)))
+    subst (λ (s : Schedule). OnOk c.run_one_by_one.result (HasRunAll c.args.machine.now (first_events c.args.events s) c.run_one_by_one.new.machine (g.O.Sink.state c.args.out.now) (g.O.Sink.state c.run_one_by_one.new.out)))
     (sym (ap schedule_of c.in-Rounds.is) ∙ c.into_source.ensures) c.run_one_by_one.ensures.all
 
 pub returns-else-is_of_several-clause-all : goal.returns-else-is_of_several-clause-all
 returns-else-is_of_several-clause-all g c =
-    subst (λ (s : Schedule). OnOk c.run_in_rows-else-is_of_several.result (HasRunFromStart c.args.machine.now (first_events c.args.events s) c.run_in_rows-else-is_of_several.new.machine (g.O.Sink.state c.args.out.now) (g.O.Sink.state c.run_in_rows-else-is_of_several.new.out)))
+    subst (λ (s : Schedule). OnOk c.run_in_rows-else-is_of_several.result (HasRunAll c.args.machine.now (first_events c.args.events s) c.run_in_rows-else-is_of_several.new.machine (g.O.Sink.state c.args.out.now) (g.O.Sink.state c.run_in_rows-else-is_of_several.new.out)))
     (sym (ap schedule_of c.in-Rounds.is) ∙ c.into_source.ensures) c.run_in_rows-else-is_of_several.ensures.all
 
 pub returns-then-is_of_several-2-clause-all : goal.returns-then-is_of_several-2-clause-all
 returns-then-is_of_several-2-clause-all g c =
-    subst (λ (s : Schedule). OnOk c.run_one_by_one-then-is_of_several-2.result (HasRunFromStart c.args.machine.now (first_events c.args.events s) c.run_one_by_one-then-is_of_several-2.new.machine (g.O.Sink.state c.args.out.now) (g.O.Sink.state c.run_one_by_one-then-is_of_several-2.new.out)))
+    subst (λ (s : Schedule). OnOk c.run_one_by_one-then-is_of_several-2.result (HasRunAll c.args.machine.now (first_events c.args.events s) c.run_one_by_one-then-is_of_several-2.new.machine (g.O.Sink.state c.args.out.now) (g.O.Sink.state c.run_one_by_one-then-is_of_several-2.new.out)))
     (sym (ap schedule_of c.in-Auto.is) ∙ c.into_source.ensures) c.run_one_by_one-then-is_of_several-2.ensures.all
 
 pub returns-else-is_of_several-2-clause-all : goal.returns-else-is_of_several-2-clause-all
 returns-else-is_of_several-2-clause-all g c =
-    subst (λ (s : Schedule). OnOk c.run_in_rows-else-is_of_several-2.result (HasRunFromStart c.args.machine.now (first_events c.args.events s) c.run_in_rows-else-is_of_several-2.new.machine (g.O.Sink.state c.args.out.now) (g.O.Sink.state c.run_in_rows-else-is_of_several-2.new.out)))
+    subst (λ (s : Schedule). OnOk c.run_in_rows-else-is_of_several-2.result (HasRunAll c.args.machine.now (first_events c.args.events s) c.run_in_rows-else-is_of_several-2.new.machine (g.O.Sink.state c.args.out.now) (g.O.Sink.state c.run_in_rows-else-is_of_several-2.new.out)))
     (sym (ap schedule_of c.in-Auto.is) ∙ c.into_source.ensures) c.run_in_rows-else-is_of_several-2.ensures.all

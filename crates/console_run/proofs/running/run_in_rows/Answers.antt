@@ -28,14 +28,19 @@ events-init g c =
 pub returns-then-ne-clause-all : goal.returns-then-ne-clause-all
 returns-then-ne-clause-all g c =
     let ended : c.events.machine.journal.verdict ≢ Running = λ is. grind (arith, is) in
-    λ start new. ran_ended _ start _ _ _ _ _ (c.events.invariant.on start new) ended
+    record {
+      ran = λ start new. ran_ended _ start _ _ _ _ _ (c.events.invariant.on start new) ended;
+      taken = c.events.invariant.taken;
+      room = c.events.invariant.room;
+      rest = c.events.invariant.rest;
+    }
 
 pub repeat-made-requires-clause-few : goal.repeat-made-requires-clause-few
 repeat-made-requires-clause-few g c =
     let hand : IsAtHand g.S.EventSource.schedule c.events.drawing c.draw.new.self c.in-Some.row = c.in-Some.ensures.row in
     let all : c.in-Some.row.count + c.draw.new.self.undrawn ≡ c.events.drawing.row.count + c.events.drawing.undrawn =
     ap (λ (r : EventRun). r.count + c.draw.new.self.undrawn) hand.row_is ∙ hand.count in
-    omega (arith, all, c.events.invariant.few, c.requires.events)
+    omega (arith, all, c.events.invariant.few, c.requires.few)
 
 pub repeat-made-requires-clause-counts : goal.repeat-made-requires-clause-counts
 repeat-made-requires-clause-counts g c =
@@ -43,7 +48,7 @@ repeat-made-requires-clause-counts g c =
     let all : c.in-Some.row.count + c.draw.new.self.undrawn ≡ c.events.drawing.row.count + c.events.drawing.undrawn =
     ap (λ (r : EventRun). r.count + c.draw.new.self.undrawn) hand.row_is ∙ hand.count in
     counts_within (most_events + (c.args.events - count_left c.events.drawing)) (most_counts - c.in-Some.row.count) c.events.machine.journal.counts
-    (omega (arith, all, c.events.invariant.few, c.requires.events))
+    (omega (arith, all, c.events.invariant.few, c.requires.few))
     c.events.invariant.counts
 
 pub flush_due-requires : goal.flush_due-requires
@@ -90,4 +95,9 @@ events-preserved g c =
 
 pub returns-clause-all : goal.returns-clause-all
 returns-clause-all g c =
-    λ start new. ran_all _ start _ _ _ _ _ (c.events.invariant.on start new) (c.draw.ensures.none c.in_default.is)
+    record {
+      ran = λ start new. ran_all _ start _ _ _ _ _ (c.events.invariant.on start new) (c.draw.ensures.none c.in_default.is);
+      taken = c.events.invariant.taken;
+      room = c.events.invariant.room;
+      rest = c.events.invariant.rest;
+    }

@@ -24,12 +24,22 @@ events-init g c = record {
 pub returns-then-ne-clause-all : goal.returns-then-ne-clause-all
 returns-then-ne-clause-all g c =
     let ended : c.events.machine.journal.verdict ≢ Running = λ is. grind (arith, is) in
-    λ start new. ran_ended _ start _ _ _ _ _ (c.events.invariant.on start new) ended
+    record {
+      ran = λ start new. ran_ended _ start _ _ _ _ _ (c.events.invariant.on start new) ended;
+      taken = c.events.invariant.taken;
+      room = c.events.invariant.room;
+      rest = c.events.invariant.rest;
+    }
 
 pub returns-in_default-clause-all : goal.returns-in_default-clause-all
 returns-in_default-clause-all g c =
-    λ start new. ran_all _ start _ _ _ _ _ (c.events.invariant.on start new)
-    (begun_none c.events.left (g.S.EventSource.schedule c.events.source) (sym c.in_default.ensures.event))
+    record {
+      ran = λ start new. ran_all _ start _ _ _ _ _ (c.events.invariant.on start new)
+          (begun_none c.events.left (g.S.EventSource.schedule c.events.source) (sym c.in_default.ensures.event));
+      taken = c.events.invariant.taken;
+      room = c.events.invariant.room;
+      rest = c.events.invariant.rest;
+    }
 
 pub flush_due-requires-clause-room : goal.flush_due-requires-clause-room
 flush_due-requires-clause-room g c =
@@ -78,4 +88,9 @@ events-preserved g c =
 pub returns-clause-all : goal.returns-clause-all
 returns-clause-all g c =
     let none : c.events.left ≡ 0 = omega (arith, c.events-test.false) in
-    λ start new. ran_all _ start _ _ _ _ _ (c.events.invariant.on start new) (none_left c.events.left (g.S.EventSource.schedule c.events.source) none)
+    record {
+      ran = λ start new. ran_all _ start _ _ _ _ _ (c.events.invariant.on start new) (none_left c.events.left (g.S.EventSource.schedule c.events.source) none);
+      taken = c.events.invariant.taken;
+      room = c.events.invariant.room;
+      rest = c.events.invariant.rest;
+    }

@@ -24,15 +24,15 @@ returns-in_err-run-clause-machine g c = λ start new.
 
 pub returns-clause-writes : goal.returns-clause-writes
 returns-clause-writes g c = λ start new.
-    ran_writes c.args.machine.now start c.run.new.machine _ _ _ _ _ (c.in_ok-run.ensures.all start new) c.finish.ensures.writes
+    ran_writes c.args.machine.now start c.run.new.machine _ _ _ _ _ (c.in_ok-run.ensures.all.ran start new) c.finish.ensures.writes
 
 disk_ok : (result : Result Status Trouble) (P : Type 0) → P → OnOk result P
 disk_ok (Ok s) P p = p
 disk_ok (Err e) P p = tt
 
 pub returns-clause-disk : goal.returns-clause-disk
-returns-clause-disk g c = disk_ok c.finish.result _ (λ start new. stands_disk c.run.new.machine _ _ (c.in_ok-run.ensures.all start new).stands)
+returns-clause-disk g c = disk_ok c.finish.result _ (λ start new. stands_disk c.run.new.machine _ _ (c.in_ok-run.ensures.all.ran start new).stands)
 
 pub returns-clause-machine : goal.returns-clause-machine
 returns-clause-machine g c = λ start new.
-    ran_reaches c.args.machine.now start _ c.run.new.machine _ _ _ _ new (c.in_ok-run.ensures.all start new) c.in_ok-run.ensures.room c.in_ok-run.ensures.rest c.finish.ensures.writes.prefix c.finish.ensures.quiet
+    ran_reaches c.args.machine.now start _ c.run.new.machine _ _ _ _ new (c.in_ok-run.ensures.all.ran start new) c.in_ok-run.ensures.all.room c.in_ok-run.ensures.all.rest c.finish.ensures.writes.prefix c.finish.ensures.quiet
