@@ -21,15 +21,19 @@ const CONVERT: [&str; 3] = ["KERNEL", "IN", "OUT"];
 pub fn program<'a>(alloc: Global) -> Result<Command<'a>, AllocError>
     ensures { IfOk result (λ c. app_of c ≡ whole_app) }
 {
+    // Each command is added before the next one is made, so that few of them are to be dropped where memory is wanting.
     let flat = wanting(alloc, "flat", &FLAT)?;
+    let program = bare(alloc).subcommand(flat)?;
     let generated = wanting(alloc, "gen", &GEN)?;
+    let program = program.subcommand(generated)?;
     let run = wanting(alloc, "run", &RUN)?;
+    let program = program.subcommand(run)?;
     let virtio_run = wanting(alloc, "vrun", &RUN)?;
+    let program = program.subcommand(virtio_run)?;
     let measure = measure(alloc)?;
+    let program = program.subcommand(measure)?;
     let convert = wanting(alloc, "convert", &CONVERT)?;
-    let program = bare(alloc).subcommand(flat)?.subcommand(generated)?;
-    let program = program.subcommand(run)?.subcommand(virtio_run)?;
-    program.subcommand(measure)?.subcommand(convert)
+    program.subcommand(convert)
 }
 
 // The words begin with the name of a command.

@@ -21,16 +21,16 @@ measure_known = with_subcommand vrun_known measure_app.top
 
 pub returns : goal.returns
 returns c =
-    let one : app_of c.in_ok-subcommand.field-0 ≡ flat_known =
-    c.in_ok-subcommand.ensures.shape c.in_ok-flat.ensures.local ∙ ap₂ with_subcommand c.bare.ensures (ap (λ (a : App). a.top) c.in_ok-flat.ensures.app) in
-    let two : app_of c.in_ok-program.program ≡ gen_known =
-    c.in_ok-program.ensures.shape c.in_ok-generated.ensures.local ∙ ap₂ with_subcommand one (ap (λ (a : App). a.top) c.in_ok-generated.ensures.app) in
-    let three : app_of c.in_ok-subcommand-2.field-0 ≡ run_known =
-    c.in_ok-subcommand-2.ensures.shape c.in_ok-run.ensures.local ∙ ap₂ with_subcommand two (ap (λ (a : App). a.top) c.in_ok-run.ensures.app) in
-    let four : app_of c.in_ok-program-2.program ≡ vrun_known =
-    c.in_ok-program-2.ensures.shape c.in_ok-virtio_run.ensures.local ∙ ap₂ with_subcommand three (ap (λ (a : App). a.top) c.in_ok-virtio_run.ensures.app) in
-    let five : app_of c.in_ok-subcommand-3.field-0 ≡ measure_known =
-    c.in_ok-subcommand-3.ensures.shape c.in_ok-measure.ensures.local ∙ ap₂ with_subcommand four (ap (λ (a : App). a.top) c.in_ok-measure.ensures.app) in
+    let one : app_of c.in_ok-program.program ≡ flat_known =
+    c.in_ok-program.ensures.shape c.in_ok-flat.ensures.local ∙ ap₂ with_subcommand c.bare.ensures (ap (λ (a : App). a.top) c.in_ok-flat.ensures.app) in
+    let two : app_of c.in_ok-program-2.program ≡ gen_known =
+    c.in_ok-program-2.ensures.shape c.in_ok-generated.ensures.local ∙ ap₂ with_subcommand one (ap (λ (a : App). a.top) c.in_ok-generated.ensures.app) in
+    let three : app_of c.in_ok-program-3.program ≡ run_known =
+    c.in_ok-program-3.ensures.shape c.in_ok-run.ensures.local ∙ ap₂ with_subcommand two (ap (λ (a : App). a.top) c.in_ok-run.ensures.app) in
+    let four : app_of c.in_ok-program-4.program ≡ vrun_known =
+    c.in_ok-program-4.ensures.shape c.in_ok-virtio_run.ensures.local ∙ ap₂ with_subcommand three (ap (λ (a : App). a.top) c.in_ok-virtio_run.ensures.app) in
+    let five : app_of c.in_ok-program-5.program ≡ measure_known =
+    c.in_ok-program-5.ensures.shape c.in_ok-measure.ensures.local ∙ ap₂ with_subcommand four (ap (λ (a : App). a.top) c.in_ok-measure.ensures.app) in
     IfOk-weaker c.subcommand-6.result _ _
     (λ whole adds. adds.shape c.in_ok-convert.ensures.local ∙ ap₂ with_subcommand five (ap (λ (a : App). a.top) c.in_ok-convert.ensures.app))
     c.subcommand-6.ensures
