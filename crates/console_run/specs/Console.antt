@@ -64,8 +64,8 @@ RunBrokeFromStart first events machine old new = (start : State) → IsNew first
 -- ---- a whole run
 
 -- a machine of which nothing is printed yet may be run over so many events, and this sink may take its console
-pub record MayRun (machine : Machine) (events : ℕ) (sink : SinkState) : Type 0 where
-  pub sink : MayWrite sink
+pub record MayRun (machine : Machine) (events : ℕ) (to : SinkState) : Type 0 where
+  pub sink : MayWrite to
   pub few : events ≤ most_events
   pub state : HasState machine
   pub counts : CountsAtMost most_events machine.journal.counts
