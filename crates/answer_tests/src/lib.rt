@@ -8,6 +8,8 @@ mod calls;
 #[cfg(test)]
 mod gate;
 #[cfg(test)]
+mod guards;
+#[cfg(test)]
 mod harts;
 #[cfg(test)]
 mod loading;

@@ -4,4 +4,8 @@
 #[cfg(test)]
 mod live;
 #[cfg(test)]
+mod remarks_said;
+#[cfg(test)]
+mod show;
+#[cfg(test)]
 mod snap;

@@ -4,8 +4,6 @@
 
 mod csrs;
 mod masks;
-#[cfg(test)]
-mod tests;
 
 pub use csrs::{Csrs, at_hypervisor_places};
 pub use masks::{

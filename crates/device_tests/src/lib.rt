@@ -6,6 +6,8 @@ mod blocks;
 #[cfg(test)]
 mod bus;
 #[cfg(test)]
+mod guard;
+#[cfg(test)]
 mod journal;
 #[cfg(test)]
 mod kinds;

@@ -92,6 +92,3 @@ impl DmaGuard {
         Ok(())
     }
 }
-
-#[cfg(test)]
-mod tests;

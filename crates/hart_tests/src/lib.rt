@@ -4,4 +4,12 @@
 #[cfg(test)]
 mod attempts;
 #[cfg(test)]
+mod memory;
+#[cfg(test)]
+mod registers;
+#[cfg(test)]
+mod traps;
+#[cfg(test)]
 mod views;
+#[cfg(test)]
+mod walks;

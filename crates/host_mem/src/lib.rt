@@ -156,6 +156,3 @@ impl HostMem {
         self.bytes.as_mut_slice()[at..at + bytes.len()].copy_from_slice(bytes);
     }
 }
-
-#[cfg(test)]
-mod tests;

@@ -83,6 +83,3 @@ impl Drop for RawBytes {
         bytes.free(right, &alloc);
     }
 }
-
-#[cfg(test)]
-mod tests;

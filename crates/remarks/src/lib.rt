@@ -10,8 +10,6 @@ mod files;
 mod making;
 mod resuming;
 mod running;
-#[cfg(test)]
-mod tests;
 
 pub use command::remark;
 pub use files::{Again, MostBytes};

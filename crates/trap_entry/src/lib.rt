@@ -4,8 +4,6 @@
 
 mod entry;
 mod interrupt;
-#[cfg(test)]
-mod tests;
 
 pub use entry::{into_guest, into_hypervisor, return_to_guest, target};
 pub use interrupt::pending;

@@ -1,5 +1,5 @@
 // A guard over two pages of RAM, of which the second may not be written.
-use super::{DmaGuard, DmaRefused};
+use dma_guard::{DmaGuard, DmaRefused};
 use host_mem::HostMem;
 use std::test::Fail;
 

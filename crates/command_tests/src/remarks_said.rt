@@ -1,5 +1,5 @@
 // What is said of refused files.
-use super::*;
+use remarks::{Again, MostBytes, remark};
 use std::alloc::Global;
 use std::test::Fail;
 
@@ -114,7 +114,7 @@ const MOST: MostBytes = MostBytes {
 };
 
 #[test]
-fn remarks(rt: HostRuntime) -> Result<(), Fail> {
+fn of_the_files_of_a_command(rt: HostRuntime) -> Result<(), Fail> {
     for row in &ROWS {
         let mut words = Vec::new(rt.alloc());
         for word in row.words {
@@ -131,7 +131,7 @@ fn remarks(rt: HostRuntime) -> Result<(), Fail> {
 }
 
 #[test]
-fn too_long(rt: HostRuntime) -> Result<(), Fail> {
+fn of_a_file_that_is_too_long(rt: HostRuntime) -> Result<(), Fail> {
     let mut words = Vec::new(rt.alloc());
     for word in ["flat", "good.policy", "00", "5"] {
         words.push(String::from_str(rt.alloc(), word)?)?;

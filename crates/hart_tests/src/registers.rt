@@ -1,6 +1,6 @@
-// The file against rows of the register table.
+// The registers of a hart against rows of the register table.
 
-use super::{CsrFault, Csrs};
+use csr_file::{CsrFault, Csrs};
 use processor::{HRegs, Lines, Mode};
 
 const KERNEL: HRegs = HRegs {

@@ -1,8 +1,11 @@
-// A region of one page of tables and two pages of RAM.
+// A block of raw bytes, and a region of one page of tables and two pages of RAM.
 
 ghost use Rattle.std.specs.Prelude.{◌≡◌};
 
-use super::*;
+use host_mem::HostMem;
+use processor::PAGE_SIZE;
+use raw_bytes::RawBytes;
+use std::alloc::AllocError;
 
 const TABLE_BYTES: usize = 4096;
 
@@ -34,5 +37,16 @@ fn words_are_little_endian_and_ram_lies_behind_the_tables(
     assert_eq!(rt; mem.ram_pages(), 2);
     assert_eq!(rt; &mem.page(0)[7..12], [0, 0x11, 0x22, 0x33, 0x44].as_slice());
     assert_eq!(rt; &mem.page(1)[..4], [1, 2, 3, 0].as_slice());
+    Ok(())
+}
+
+#[test]
+fn bytes_are_zeros_then_what_was_written(rt: HostRuntime) -> Result<(), AllocError> {
+    let mut raw = crosses(RawBytes::zeroed(rt.alloc(), 5)?);
+    assert_eq!(rt; raw.as_slice(), [0, 0, 0, 0, 0].as_slice());
+    raw.as_mut_slice()[4] = 7;
+    assert_eq!(rt; raw.as_slice(), [0, 0, 0, 0, 7].as_slice());
+    assert_eq!(rt; RawBytes::zeroed(rt.alloc(), usize::MAX).is_err(), true);
+    assert_eq!(rt; RawBytes::zeroed(rt.alloc(), 0)?.as_slice().len(), 0);
     Ok(())
 }

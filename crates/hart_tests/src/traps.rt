@@ -1,8 +1,8 @@
 // Which interrupt is taken, by delegation, mode and SIE; and one trap with its return.
 
-use super::{into_guest, into_hypervisor, pending, return_to_guest, target};
 use csr_file::Csrs;
 use processor::{Cause, Exit, ExitCause, HRegs, Interrupt, Lines, Mode};
+use trap_entry::{into_guest, into_hypervisor, pending, return_to_guest, target};
 
 const KERNEL: HRegs = HRegs {
     mode: Mode::Kernel,
