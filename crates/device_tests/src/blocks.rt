@@ -1,10 +1,12 @@
 // Transfers over a disk of two sectors and two pages of RAM, of which the second may not be written.
 ghost use Rattle.std.specs.Prelude.{◌%◌};
 
+use crate::same::same;
 use devices::Block;
 use dma_guard::{Beaten, DiskPort, DmaGuard};
 use host_mem::HostMem;
 use std::alloc::{AllocError, Global};
+use std::process::Abort;
 use std::test::Fail;
 use sv_types::{BlockCommand, BlockStatus};
 
@@ -38,7 +40,7 @@ struct Command {
     last: u64,
 }
 
-const COMMANDS: [Command; 11] = [
+static COMMANDS: [Command; 11] = [
     // One sector into RAM, and one of RAM.
     Command {
         sector: 1,
@@ -145,64 +147,103 @@ const COMMANDS: [Command; 11] = [
     },
 ];
 
+// RAM under a guard.
+#[derive(Drop)]
+struct Bench {
+    guard: DmaGuard,
+    mem: HostMem,
+}
+
+// Gives a command, and makes its beats.
+fn check_command(
+    rt: &impl Abort,
+    bench: &mut Bench,
+    block: &mut Block,
+    row: u64,
+    command: &Command,
+) {
+    block.store(SECTOR, 8, command.sector);
+    block.store(ADDRESS, 8, command.gpa);
+    block.store(COUNT, 4, command.count);
+    block.store(COMMAND, 4, command.command);
+    same(
+        rt,
+        "first status of row",
+        row,
+        block.load(STATUS, 4),
+        Some(command.first),
+    );
+    for _ in 0..command.beats {
+        block.beat(&bench.guard, &mut bench.mem);
+    }
+    same(
+        rt,
+        "last status of row",
+        row,
+        block.load(STATUS, 4),
+        Some(command.last),
+    );
+    same(rt, "line of row", row, block.line(), command.last >= 2);
+    same(rt, "command of row", row, block.load(COMMAND, 4), Some(0));
+}
+
+fn check_commands(rt: &impl Abort, alloc: Global, bench: &mut Bench) -> Result<(), AllocError> {
+    for (row, command) in COMMANDS.iter().enumerate() {
+        let mut block = numbered_disk(alloc)?;
+        check_command(rt, bench, &mut block, row as u64, command);
+    }
+    Ok(())
+}
+
 #[test]
 fn commands_and_their_beats(rt: HostRuntime) -> Result<(), Fail> {
     let mut guard = DmaGuard::new(rt.alloc(), 2)?;
     guard.set(1, false);
-    let mut mem = HostMem::new(rt.alloc(), 0, 2)?;
-    for (row, command) in COMMANDS.iter().enumerate() {
-        let mut block = numbered_disk(rt.alloc())?;
-        block.store(SECTOR, 8, command.sector);
-        block.store(ADDRESS, 8, command.gpa);
-        block.store(COUNT, 4, command.count);
-        block.store(COMMAND, 4, command.command);
-        assert_eq!(rt; block.load(STATUS, 4), Some(command.first), "row {row}");
-        for _ in 0..command.beats {
-            block.beat(&guard, &mut mem);
-        }
-        assert_eq!(rt; block.load(STATUS, 4), Some(command.last), "row {row}");
-        assert_eq!(rt; block.line(), command.last >= 2, "row {row}");
-        assert_eq!(rt; block.load(COMMAND, 4), Some(0), "row {row}");
+    let mem = HostMem::new(rt.alloc(), 0, 2)?;
+    let mut bench = Bench { guard, mem };
+    check_commands(&rt, rt.alloc(), &mut bench)?;
+    for (place, wanted) in [(1, 1), (511, 255), (513, 1)] {
+        let found = bench.mem.ram().get(place).copied();
+        same(&rt, "byte", place as u64, found, Some(wanted));
     }
-    assert_eq!(rt; mem.ram().get(1).copied(), Some(1));
-    assert_eq!(rt; mem.ram().get(511).copied(), Some(255));
-    assert_eq!(rt; mem.ram().get(513).copied(), Some(1));
     Ok(())
+}
+
+fn check_beat(rt: &impl Abort, bench: &mut Bench, block: &mut Block, gpa: u64) {
+    let wanted = Beaten::Wrote { gpa, len: 64 };
+    same(
+        rt,
+        "beat at",
+        gpa,
+        block.beat(&bench.guard, &mut bench.mem),
+        wanted,
+    );
+}
+
+fn check_ignored(rt: &impl Abort, bench: &mut Bench, block: &mut Block) {
+    block.store(ADDRESS, 8, 0x8000_0000);
+    block.store(COUNT, 4, 1);
+    block.store(COMMAND, 4, 1);
+    check_beat(rt, bench, block, 0x8000_0000);
+    assert!(rt; block.store(ADDRESS, 8, 0x8000_0800));
+    assert!(rt; block.store(STATUS, 4, 0));
+    check_beat(rt, bench, block, 0x8000_0040);
+    assert!(rt; !block.store(SECTOR, 4, 0));
+    assert!(rt; block.load(STATUS, 8).is_none());
 }
 
 #[test]
 fn stores_during_a_transfer_are_ignored(rt: HostRuntime) -> Result<(), Fail> {
     let guard = DmaGuard::new(rt.alloc(), 1)?;
-    let mut mem = HostMem::new(rt.alloc(), 0, 1)?;
+    let mem = HostMem::new(rt.alloc(), 0, 1)?;
+    let mut bench = Bench { guard, mem };
     let mut block = numbered_disk(rt.alloc())?;
-    block.store(ADDRESS, 8, 0x8000_0000);
-    block.store(COUNT, 4, 1);
-    block.store(COMMAND, 4, 1);
-    assert_eq!(rt;
-        block.beat(&guard, &mut mem),
-        Beaten::Wrote {
-            gpa: 0x8000_0000,
-            len: 64
-        }
-    );
-    assert!(rt; block.store(ADDRESS, 8, 0x8000_0800));
-    assert!(rt; block.store(STATUS, 4, 0));
-    assert_eq!(rt;
-        block.beat(&guard, &mut mem),
-        Beaten::Wrote {
-            gpa: 0x8000_0040,
-            len: 64
-        }
-    );
-    assert!(rt; !block.store(SECTOR, 4, 0));
-    assert_eq!(rt; block.load(STATUS, 8), None);
-    assert_eq!(rt;
-        block.state().status,
-        BlockStatus::Busy {
-            command: BlockCommand::DiskToMemory,
-            done: 2
-        }
-    );
-    assert_eq!(rt; block.disk().len(), 1024);
+    check_ignored(&rt, &mut bench, &mut block);
+    let busy = BlockStatus::Busy {
+        command: BlockCommand::DiskToMemory,
+        done: 2,
+    };
+    same(&rt, "status of block", 0, block.state().status, busy);
+    assert!(rt; block.disk().len() == 1024);
     Ok(())
 }

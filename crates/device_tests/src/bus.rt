@@ -1,16 +1,19 @@
 // A guest's accesses over a disk of one sector and one page of RAM.
+use crate::same::same;
 use devices::{Block, Devices};
 use dma_guard::{Beaten, DmaGuard};
 use host_mem::HostMem;
 use journal_records::Journal;
 use processor::Lines;
+use std::alloc::{AllocError, Global};
+use std::process::Abort;
 use std::test::Fail;
 
 // An address, a width, and the value that is loaded.
 type Load = (u64, u8, Option<u64>);
 
 // What a load gives after a key: the console's registers, the disk's, and addresses where none is.
-const LOADS: [Load; 8] = [
+static LOADS: [Load; 8] = [
     (0x1000_0005, 1, Some(0x61)),
     (0x1000_0000, 1, Some(65)),
     (0x1000_0000, 1, Some(0)),
@@ -21,42 +24,91 @@ const LOADS: [Load; 8] = [
     (0xFFFF_FFFF_FFFF_FFFF, 8, None),
 ];
 
+fn check_loads(rt: &impl Abort, devices: &mut Devices<Block>) {
+    for (row, &(gpa, width, wanted)) in LOADS.iter().enumerate() {
+        same(rt, "load", row as u64, devices.load(gpa, width), wanted);
+    }
+}
+
+// The low byte of 0x142 at an address, and whether it is stored.
+fn store(devices: &mut Devices<Block>, journal: &mut Journal, gpa: u64) -> bool {
+    journal.printed().len() < 4096 && devices.store(journal, gpa, 1, 0x142)
+}
+
+fn check_stores(rt: &impl Abort, devices: &mut Devices<Block>, journal: &mut Journal) {
+    assert!(rt; journal.printed().is_empty());
+    assert!(rt; store(devices, journal, 0x1000_0000));
+    assert!(rt; journal.printed() == b"B".as_slice());
+    assert!(rt; !store(devices, journal, 0x1000_2000));
+    assert!(rt; journal.printed() == b"B".as_slice());
+}
+
+fn lines(time: u64, external: bool, timer: bool) -> Lines {
+    Lines {
+        time,
+        external,
+        timer,
+    }
+}
+
+// A key and the timer of hart 1.
+fn check_events(rt: &impl Abort, devices: &mut Devices<Block>) {
+    assert!(rt; devices.key(66));
+    devices.set_timer(1, 5);
+    devices.tick(5);
+    same(
+        rt,
+        "lines of hart",
+        0,
+        devices.lines(0),
+        lines(5, true, false),
+    );
+    same(
+        rt,
+        "lines of hart",
+        1,
+        devices.lines(1),
+        lines(5, false, true),
+    );
+    assert!(rt; devices.input() == [66].as_slice());
+    assert!(rt; devices.take_input() == Some(66));
+    assert!(rt; devices.time() == 5 && devices.timer(1) == 5);
+}
+
+// No transfer is under way.
+fn beat(alloc: Global, devices: &mut Devices<Block>) -> Result<Beaten, AllocError> {
+    let mut mem = HostMem::new(alloc, 0, 1)?;
+    let guard = DmaGuard::new(alloc, 1)?;
+    Ok(devices.beat(&guard, &mut mem))
+}
+
+fn check_accesses(rt: &impl Abort, devices: &mut Devices<Block>, journal: &mut Journal) {
+    assert!(rt; devices.key(65));
+    assert!(rt; journal.printed().len() < 4096);
+    assert!(rt; devices.store(journal, 0x1000_1010, 4, 1));
+    check_loads(rt, devices);
+    check_stores(rt, devices, journal);
+}
+
+fn check_disk(rt: &impl Abort, devices: &Devices<Block>) {
+    assert!(rt; devices.port().state().count == 1);
+    assert!(rt; devices.disk().first() == Some(&7));
+}
+
 #[test]
 fn accesses_and_events(rt: HostRuntime) -> Result<(), Fail> {
     let disk = vec![in rt.alloc(); 7u8; 512]?;
     let mut devices = Devices::new(Block::new(disk));
     let mut journal = Journal::new(rt.alloc())?;
-    let mut mem = HostMem::new(rt.alloc(), 0, 1)?;
-    let guard = DmaGuard::new(rt.alloc(), 1)?;
-    assert!(rt; devices.key(65));
-    assert!(rt; devices.store(&mut journal, 0x1000_1010, 4, 1));
-    for (gpa, width, wanted) in LOADS {
-        assert_eq!(rt; devices.load(gpa, width), wanted, "{width} bytes at {gpa}");
-    }
-    assert_eq!(rt; journal.printed(), b"".as_slice());
-    assert!(rt; devices.store(&mut journal, 0x1000_0000, 1, 0x142));
-    assert_eq!(rt; journal.printed(), b"B".as_slice());
-    assert!(rt; !devices.store(&mut journal, 0x1000_2000, 1, 0x142));
-    assert_eq!(rt; journal.printed(), b"B".as_slice());
-    assert_eq!(rt; devices.beat(&guard, &mut mem), Beaten::Idle);
-    assert!(rt; devices.key(66));
-    devices.set_timer(1, 5);
-    devices.tick(5);
-    let first = Lines {
-        time: 5,
-        external: true,
-        timer: false,
-    };
-    let second = Lines {
-        time: 5,
-        external: false,
-        timer: true,
-    };
-    assert_eq!(rt; (devices.lines(0), devices.lines(1)), (first, second));
-    assert_eq!(rt; devices.input(), [66].as_slice());
-    assert_eq!(rt; devices.take_input(), Some(66));
-    assert_eq!(rt; (devices.time(), devices.timer(1)), (5, 5));
-    assert_eq!(rt; devices.port().state().count, 1);
-    assert_eq!(rt; devices.disk().first(), Some(&7));
+    check_accesses(&rt, &mut devices, &mut journal);
+    same(
+        &rt,
+        "beat",
+        0,
+        beat(rt.alloc(), &mut devices)?,
+        Beaten::Idle,
+    );
+    check_events(&rt, &mut devices);
+    check_disk(&rt, &devices);
     Ok(())
 }

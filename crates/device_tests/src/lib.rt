@@ -14,4 +14,6 @@ mod kinds;
 #[cfg(test)]
 mod rows;
 #[cfg(test)]
+mod same;
+#[cfg(test)]
 mod virtio;

@@ -1,9 +1,11 @@
 // Requests over a disk of two sectors and nine pages of RAM, of which page 1 may not be written.
 ghost use Rattle.std.specs.Prelude.{◌%◌, length};
 
+use crate::same::same;
 use dma_guard::{Beaten, DiskPort, DmaGuard, DmaRefused};
 use host_mem::HostMem;
 use std::alloc::{AllocError, Global};
+use std::process::Abort;
 use std::test::Fail;
 use virtio_blk::Virtio;
 
@@ -62,7 +64,7 @@ struct Driver {
     mem: HostMem,
 }
 
-// A request with one descriptor of data, and what comes of it.
+// A request with one descriptor of data.
 struct Request {
     kind: u64,
     sector: u64,
@@ -72,7 +74,11 @@ struct Request {
     len: u64,
     flags: u64,
     next: u64,
-    result_gpa: u64,
+    result: u64,
+}
+
+// What comes of a request.
+struct End {
     // what the beat tells that follows so many others
     beats: usize,
     last: Beaten,
@@ -84,7 +90,12 @@ struct Request {
     index: u32,
 }
 
-const ONE_SECTOR: Request = Request {
+struct Row {
+    request: Request,
+    end: End,
+}
+
+const READ: Request = Request {
     kind: 0,
     sector: 0,
     header: HEADER,
@@ -92,7 +103,10 @@ const ONE_SECTOR: Request = Request {
     len: 512,
     flags: NEXT | WRITE,
     next: 2,
-    result_gpa: RESULT,
+    result: RESULT,
+};
+
+const DONE: End = End {
     beats: 12,
     last: Beaten::Wrote {
         gpa: USED + 2,
@@ -105,14 +119,14 @@ const ONE_SECTOR: Request = Request {
     index: 1,
 };
 
-const REFUSED: Request = Request {
+const REFUSED: End = End {
     beats: 4,
     result: 1,
     length: 1,
-    ..ONE_SECTOR
+    ..DONE
 };
 
-const BROKEN: Request = Request {
+const BROKEN: End = End {
     beats: 0,
     last: Beaten::Range,
     interrupt: 2,
@@ -120,73 +134,126 @@ const BROKEN: Request = Request {
     result: 0xAA,
     length: 0,
     index: 0,
-    ..ONE_SECTOR
 };
 
-static REQUESTS: [Request; 16] = [
-    // A sector into memory, and one of memory.
-    ONE_SECTOR,
-    Request {
-        kind: 1,
-        sector: 1,
-        flags: NEXT,
-        length: 1,
-        ..ONE_SECTOR
+// The first sector into memory.
+static READS: Request = READ;
+
+// The second one of memory.
+static WRITES: Request = Request {
+    kind: 1,
+    sector: 1,
+    flags: NEXT,
+    ..READ
+};
+
+static ROWS: [Row; 16] = [
+    Row {
+        request: READ,
+        end: DONE,
+    },
+    Row {
+        request: Request {
+            kind: 1,
+            sector: 1,
+            flags: NEXT,
+            ..READ
+        },
+        end: End { length: 1, ..DONE },
     },
     // The ninth move of data would be into the protected page.
-    Request {
-        gpa: 0x8000_0E00,
-        len: 1024,
-        beats: 13,
-        result: 1,
-        ..ONE_SECTOR
+    Row {
+        request: Request {
+            gpa: 0x8000_0E00,
+            len: 1024,
+            ..READ
+        },
+        end: End {
+            beats: 13,
+            result: 1,
+            ..DONE
+        },
     },
     // The type isn't known.
-    Request {
-        kind: 8,
-        result: 2,
-        ..REFUSED
+    Row {
+        request: Request { kind: 8, ..READ },
+        end: End {
+            result: 2,
+            ..REFUSED
+        },
     },
     // No sectors, a part of one, sectors past the disk, data past RAM, flags that don't fit the type.
-    Request { len: 0, ..REFUSED },
-    Request {
-        len: 500,
-        ..REFUSED
+    Row {
+        request: Request { len: 0, ..READ },
+        end: REFUSED,
     },
-    Request {
-        sector: 2,
-        ..REFUSED
+    Row {
+        request: Request { len: 500, ..READ },
+        end: REFUSED,
     },
-    Request {
-        sector: 0xFFFF_FFFF_FFFF_FFFF,
-        ..REFUSED
+    Row {
+        request: Request { sector: 2, ..READ },
+        end: REFUSED,
     },
-    Request {
-        gpa: 0x8000_8E01,
-        ..REFUSED
+    Row {
+        request: Request {
+            sector: 0xFFFF_FFFF_FFFF_FFFF,
+            ..READ
+        },
+        end: REFUSED,
     },
-    Request {
-        flags: NEXT,
-        ..REFUSED
+    Row {
+        request: Request {
+            gpa: 0x8000_8E01,
+            ..READ
+        },
+        end: REFUSED,
     },
-    Request { kind: 1, ..REFUSED },
+    Row {
+        request: Request {
+            flags: NEXT,
+            ..READ
+        },
+        end: REFUSED,
+    },
+    Row {
+        request: Request { kind: 1, ..READ },
+        end: REFUSED,
+    },
     // A descriptor that leads to itself, one past the table, a table of its own, a header past RAM.
-    Request { next: 1, ..BROKEN },
-    Request { next: 64, ..BROKEN },
-    Request {
-        flags: NEXT | WRITE | INDIRECT,
-        ..BROKEN
+    Row {
+        request: Request { next: 1, ..READ },
+        end: BROKEN,
     },
-    Request {
-        header: 0x8000_8FF8,
-        ..BROKEN
+    Row {
+        request: Request { next: 64, ..READ },
+        end: BROKEN,
+    },
+    Row {
+        request: Request {
+            flags: NEXT | WRITE | INDIRECT,
+            ..READ
+        },
+        end: BROKEN,
+    },
+    Row {
+        request: Request {
+            header: 0x8000_8FF8,
+            ..READ
+        },
+        end: BROKEN,
     },
     // The result would be written into the protected page.
-    Request {
-        result_gpa: 0x8000_1000,
-        beats: 9,
-        last: Beaten::Denied { gpa: 0x8000_1000 },
-        ..BROKEN
+    Row {
+        request: Request {
+            result: 0x8000_1000,
+            ..READ
+        },
+        end: End {
+            beats: 9,
+            last: Beaten::Denied { gpa: 0x8000_1000 },
+            ..BROKEN
+        },
     },
 ];
 
@@ -194,16 +261,20 @@ impl Driver {
     fn new(alloc: Global) -> Result<Driver, AllocError> {
         let mut guard = DmaGuard::new(alloc, 9)?;
         guard.set(1, false);
-        let mut device = numbered_disk(alloc)?;
-        for &(offset, value) in SET_UP.iter() {
-            device.store(offset, 4, value);
-        }
-        Ok(Driver {
-            device,
+        let mut driver = Driver {
+            device: numbered_disk(alloc)?,
             guard,
             open: DmaGuard::new(alloc, 9)?,
             mem: HostMem::new(alloc, 0, 9)?,
-        })
+        };
+        driver.set_up();
+        Ok(driver)
+    }
+
+    fn set_up(&mut self) {
+        for &(offset, value) in SET_UP.iter() {
+            self.store(offset, value);
+        }
     }
 
     // Writes the lowest bytes of a value into guest memory.
@@ -214,10 +285,13 @@ impl Driver {
         self.open.write(&mut self.mem, gpa, &value.to_le_bytes())
     }
 
-    fn word(&self, gpa: u64) -> Result<u32, DmaRefused> {
+    // None past RAM.
+    fn word(&self, gpa: u64) -> Option<u32> {
         let mut bytes = [0; 4];
-        self.open.read(&self.mem, gpa, &mut bytes)?;
-        Ok(u32::from_le_bytes(bytes))
+        match self.open.read(&self.mem, gpa, &mut bytes) {
+            Ok(()) => Some(u32::from_le_bytes(bytes)),
+            Err(_) => None,
+        }
     }
 
     // Writes a descriptor into a place of the table. The next one's place stands above the flags.
@@ -241,8 +315,26 @@ impl Driver {
         self.put(RESULT, 0xAA)?;
         self.describe(0, request.header, 16, NEXT, 1)?;
         self.describe(1, request.gpa, request.len, request.flags, request.next)?;
-        self.describe(2, request.result_gpa, 1, WRITE, 0)?;
+        self.describe(2, request.result, 1, WRITE, 0)?;
         self.put(AVAILABLE, index << 16)
+    }
+
+    // A load of four bytes.
+    fn register(&self, offset: u64) -> Option<u64> {
+        self.device.load(offset, 4)
+    }
+
+    // A store of four bytes.
+    fn store(&mut self, offset: u64, value: u64) {
+        self.device.store(offset, 4, value);
+    }
+
+    fn byte_of_disk(&self, place: usize) -> Option<u8> {
+        self.device.disk().get(place).copied()
+    }
+
+    fn line(&self) -> bool {
+        self.device.line()
     }
 
     fn beat(&mut self) -> Beaten {
@@ -256,24 +348,80 @@ impl Driver {
     }
 }
 
+fn check_beat(rt: &impl Abort, driver: &mut Driver, number: u64, wanted: Beaten) {
+    same(rt, "beat", number, driver.beat(), wanted);
+}
+
+fn check_register(rt: &impl Abort, driver: &Driver, offset: u64, wanted: u64) {
+    same(
+        rt,
+        "register",
+        offset,
+        driver.register(offset),
+        Some(wanted),
+    );
+}
+
+fn check_word(rt: &impl Abort, driver: &Driver, gpa: u64, wanted: u32) {
+    same(rt, "word", gpa, driver.word(gpa), Some(wanted));
+}
+
+// The last beat, and the registers behind it.
+fn check_end(rt: &impl Abort, driver: &mut Driver, row: u64, end: &End) {
+    same(rt, "first line of row", row, driver.line(), false);
+    same(rt, "last beat of row", row, driver.beat(), end.last);
+    same(rt, "last line of row", row, driver.line(), true);
+    let interrupt = driver.register(INTERRUPT_STATUS);
+    same(rt, "interrupt of row", row, interrupt, Some(end.interrupt));
+    same(
+        rt,
+        "status of row",
+        row,
+        driver.register(STATUS),
+        Some(end.status),
+    );
+}
+
+// What the request left in memory, of which page 1 is as it was.
+fn check_memory(rt: &impl Abort, driver: &Driver, row: u64, end: &End) {
+    same(
+        rt,
+        "result of row",
+        row,
+        driver.word(RESULT),
+        Some(end.result),
+    );
+    same(
+        rt,
+        "length of row",
+        row,
+        driver.word(USED + 8),
+        Some(end.length),
+    );
+    let index = driver.word(USED).map(|word| word / 65536);
+    same(rt, "index of row", row, index, Some(end.index));
+    same(rt, "page 1 of row", row, driver.word(0x8000_1000), Some(0));
+}
+
+fn check_row(
+    rt: &impl Abort,
+    driver: &mut Driver,
+    row: u64,
+    wanted: &Row,
+) -> Result<(), DmaRefused> {
+    driver.ask(&wanted.request, 1)?;
+    driver.beats(wanted.end.beats);
+    check_end(rt, driver, row, &wanted.end);
+    check_memory(rt, driver, row, &wanted.end);
+    same(rt, "beat behind row", row, driver.beat(), Beaten::Idle);
+    Ok(())
+}
+
 #[test]
 fn requests_and_their_ends(rt: HostRuntime) -> Result<(), Fail> {
-    for (row, request) in REQUESTS.iter().enumerate() {
+    for (row, wanted) in ROWS.iter().enumerate() {
         let mut driver = Driver::new(rt.alloc())?;
-        driver.ask(request, 1)?;
-        driver.beats(request.beats);
-        assert!(rt; !driver.device.line(), "row {row}");
-        assert_eq!(rt; driver.beat(), request.last, "row {row}");
-        assert!(rt; driver.device.line(), "row {row}");
-        let interrupt = driver.device.load(INTERRUPT_STATUS, 4);
-        assert_eq!(rt; interrupt, Some(request.interrupt), "row {row}");
-        let status = driver.device.load(STATUS, 4);
-        assert_eq!(rt; status, Some(request.status), "row {row}");
-        assert_eq!(rt; driver.word(RESULT)?, request.result, "row {row}");
-        assert_eq!(rt; driver.word(USED + 8)?, request.length, "row {row}");
-        assert_eq!(rt; driver.word(USED)? / 65536, request.index, "row {row}");
-        assert_eq!(rt; driver.word(0x8000_1000)?, 0, "row {row}");
-        assert_eq!(rt; driver.beat(), Beaten::Idle, "row {row}");
+        check_row(&rt, &mut driver, row as u64, wanted)?;
     }
     Ok(())
 }
@@ -294,35 +442,64 @@ static MOVES: [(u64, u32); 12] = [
     (USED + 2, 2),
 ];
 
+// Writes the second sector of memory that begins with a number.
+fn write_sector(rt: &impl Abort, driver: &mut Driver) -> Result<(), DmaRefused> {
+    driver.put(0x8000_8000, 0x1122_3344_5566_7788)?;
+    driver.ask(&WRITES, 1)?;
+    driver.beat();
+    check_beat(rt, driver, 1, Beaten::Read { gpa: 0x8000_8000 });
+    driver.beats(11);
+    Ok(())
+}
+
+fn check_disk(rt: &impl Abort, driver: &Driver) {
+    for (place, wanted) in [(511, 127), (512, 0x88), (1023, 0)] {
+        same(
+            rt,
+            "byte",
+            place as u64,
+            driver.byte_of_disk(place),
+            Some(wanted),
+        );
+    }
+}
+
+// Asks to read the first sector, and changes the chain behind its acceptance.
+fn read_by_changed_chain(rt: &impl Abort, driver: &mut Driver) -> Result<(), DmaRefused> {
+    driver.ask(&READS, 2)?;
+    check_beat(rt, driver, 0, Beaten::Idle);
+    driver.describe(1, 0x8000_1000, 0, 0, 0)?;
+    driver.put(HEADER, 8)
+}
+
+fn check_moves(rt: &impl Abort, driver: &mut Driver) {
+    for (row, &(gpa, len)) in MOVES.iter().enumerate() {
+        check_word(rt, driver, USED, 0x0001_0000);
+        check_beat(rt, driver, row as u64, Beaten::Wrote { gpa, len });
+    }
+    for (gpa, wanted) in [
+        (USED, 0x0002_0000),
+        (USED + 16, 513),
+        (0x8000_8004, 0x0101_0101),
+        (0x8000_81FC, 0x7F7F_7F7F),
+    ] {
+        check_word(rt, driver, gpa, wanted);
+    }
+}
+
 #[test]
 fn a_chain_that_changes_after_its_acceptance_changes_no_move(rt: HostRuntime) -> Result<(), Fail> {
     let mut driver = Driver::new(rt.alloc())?;
-    driver.put(0x8000_8000, 0x1122_3344_5566_7788)?;
-    driver.ask(&REQUESTS[1], 1)?;
-    driver.beat();
-    assert_eq!(rt; driver.beat(), Beaten::Read { gpa: 0x8000_8000 });
-    driver.beats(11);
-    assert_eq!(rt; driver.device.disk().get(511).copied(), Some(127));
-    assert_eq!(rt; driver.device.disk().get(512).copied(), Some(0x88));
-    assert_eq!(rt; driver.device.disk().get(1023).copied(), Some(0));
-    driver.ask(&REQUESTS[0], 2)?;
-    assert_eq!(rt; driver.beat(), Beaten::Idle);
-    driver.describe(1, 0x8000_1000, 0, 0, 0)?;
-    driver.put(HEADER, 8)?;
-    for &(gpa, len) in MOVES.iter() {
-        assert_eq!(rt; driver.word(USED)?, 0x0001_0000);
-        assert_eq!(rt; driver.beat(), Beaten::Wrote { gpa, len });
-    }
-    assert_eq!(rt; driver.word(USED)?, 0x0002_0000);
-    assert_eq!(rt; driver.word(USED + 16)?, 513);
-    assert_eq!(rt; driver.word(0x8000_8004)?, 0x0101_0101);
-    assert_eq!(rt; driver.word(0x8000_81FC)?, 0x7F7F_7F7F);
+    write_sector(&rt, &mut driver)?;
+    check_disk(&rt, &driver);
+    read_by_changed_chain(&rt, &mut driver)?;
+    check_moves(&rt, &mut driver);
     Ok(())
 }
 
 // Asks to read a sector by a chain of so many descriptors, of which each between the first and the last has 16 bytes.
 fn ask_in_parts(driver: &mut Driver, count: u8) -> Result<(), DmaRefused> {
-    driver.ask(&REQUESTS[0], 1)?;
+    driver.ask(&READS, 1)?;
     for place in 1..count {
         let next = place as u64 + 1;
         driver.describe(place, 0x8000_8000, 16, NEXT | WRITE, next)?;
@@ -330,18 +507,28 @@ fn ask_in_parts(driver: &mut Driver, count: u8) -> Result<(), DmaRefused> {
     driver.describe(count, RESULT, 1, WRITE, 0)
 }
 
+fn check_longest_chain(rt: &impl Abort, driver: &mut Driver) -> Result<(), DmaRefused> {
+    ask_in_parts(driver, 33)?;
+    check_beat(rt, driver, 0, Beaten::Idle);
+    driver.beats(36);
+    check_register(rt, driver, INTERRUPT_STATUS, 1);
+    check_word(rt, driver, USED + 8, 513);
+    Ok(())
+}
+
+fn check_longer_chain(rt: &impl Abort, driver: &mut Driver) -> Result<(), DmaRefused> {
+    ask_in_parts(driver, 34)?;
+    check_beat(rt, driver, 0, Beaten::Range);
+    check_register(rt, driver, STATUS, 79);
+    Ok(())
+}
+
 #[test]
 fn a_chain_has_at_most_34_descriptors(rt: HostRuntime) -> Result<(), Fail> {
     let mut driver = Driver::new(rt.alloc())?;
-    ask_in_parts(&mut driver, 33)?;
-    assert_eq!(rt; driver.beat(), Beaten::Idle);
-    driver.beats(36);
-    assert_eq!(rt; driver.device.load(INTERRUPT_STATUS, 4), Some(1));
-    assert_eq!(rt; driver.word(USED + 8)?, 513);
+    check_longest_chain(&rt, &mut driver)?;
     let mut driver = Driver::new(rt.alloc())?;
-    ask_in_parts(&mut driver, 34)?;
-    assert_eq!(rt; driver.beat(), Beaten::Range);
-    assert_eq!(rt; driver.device.load(STATUS, 4), Some(79));
+    check_longer_chain(&rt, &mut driver)?;
     Ok(())
 }
 
@@ -378,42 +565,60 @@ static STORES: [(u64, u64, u64, u64); 26] = [
     (STATUS, 0, 0x044, 0),
 ];
 
+fn check_registers(rt: &impl Abort, device: &mut Virtio) {
+    for (row, &(offset, value, read, wanted)) in STORES.iter().enumerate() {
+        same(
+            rt,
+            "store",
+            row as u64,
+            device.store(offset, 4, value),
+            true,
+        );
+        same(rt, "load", row as u64, device.load(read, 4), Some(wanted));
+    }
+    same(rt, "status of width", 8, device.load(STATUS, 8), None);
+    same(rt, "load at", 0x108, device.load(0x108, 4), None);
+    same(rt, "store of width", 1, device.store(STATUS, 1, 1), false);
+    assert!(rt; !device.state().ready);
+}
+
 #[test]
 fn registers_after_stores(rt: HostRuntime) -> Result<(), Fail> {
     let mut device = numbered_disk(rt.alloc())?;
-    for (row, &(offset, value, read, want)) in STORES.iter().enumerate() {
-        assert!(rt; device.store(offset, 4, value), "row {row}");
-        assert_eq!(rt; device.load(read, 4), Some(want), "row {row}");
-    }
-    assert_eq!(rt; device.load(STATUS, 8), None);
-    assert_eq!(rt; device.load(0x108, 4), None);
-    assert!(rt; !device.store(STATUS, 1, 1));
-    assert!(rt; !device.state().ready);
+    check_registers(&rt, &mut device);
+    Ok(())
+}
+
+// The index is more than the queue's places ahead.
+fn check_broken(rt: &impl Abort, driver: &mut Driver) -> Result<(), DmaRefused> {
+    driver.put(AVAILABLE, 65 << 16)?;
+    check_beat(rt, driver, 0, Beaten::Range);
+    driver.store(STATUS, 15);
+    check_register(rt, driver, STATUS, 79);
+    driver.store(0x064, 2);
+    assert!(rt; !driver.line());
+    driver.store(STATUS, 0);
+    check_register(rt, driver, STATUS, 0);
+    Ok(())
+}
+
+// A ring past RAM breaks it, though no request waits.
+fn check_ring_past_ram(rt: &impl Abort, driver: &mut Driver) -> Result<(), DmaRefused> {
+    driver.set_up();
+    driver.put(AVAILABLE, 0)?;
+    check_beat(rt, driver, 0, Beaten::Idle);
+    driver.store(0x044, 0);
+    driver.store(0x0A0, 0x8000_8FF0);
+    driver.store(0x044, 1);
+    check_beat(rt, driver, 1, Beaten::Range);
+    check_register(rt, driver, STATUS, 79);
     Ok(())
 }
 
 #[test]
 fn a_broken_device_needs_a_reset(rt: HostRuntime) -> Result<(), Fail> {
     let mut driver = Driver::new(rt.alloc())?;
-    // The index is more than the queue's places ahead.
-    driver.put(AVAILABLE, 65 << 16)?;
-    assert_eq!(rt; driver.beat(), Beaten::Range);
-    driver.device.store(STATUS, 4, 15);
-    assert_eq!(rt; driver.device.load(STATUS, 4), Some(79));
-    driver.device.store(0x064, 4, 2);
-    assert!(rt; !driver.device.line());
-    driver.device.store(STATUS, 4, 0);
-    assert_eq!(rt; driver.device.load(STATUS, 4), Some(0));
-    // A ring past RAM breaks it, though no request waits.
-    for &(offset, value) in SET_UP.iter() {
-        driver.device.store(offset, 4, value);
-    }
-    driver.put(AVAILABLE, 0)?;
-    assert_eq!(rt; driver.beat(), Beaten::Idle);
-    driver.device.store(0x044, 4, 0);
-    driver.device.store(0x0A0, 4, 0x8000_8FF0);
-    driver.device.store(0x044, 4, 1);
-    assert_eq!(rt; driver.beat(), Beaten::Range);
-    assert_eq!(rt; driver.device.load(STATUS, 4), Some(79));
+    check_broken(&rt, &mut driver)?;
+    check_ring_past_ram(&rt, &mut driver)?;
     Ok(())
 }
