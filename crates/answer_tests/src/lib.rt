@@ -1,4 +1,5 @@
-//! Tests of what SecVisor answers to exits and calls, and of what a machine starts with for its modules.
+//! Tests of pages and entries, of what SecVisor answers to exits and calls, and of what a machine starts with for its
+//! modules.
 #![tactic(auto)]
 
 #[cfg(test)]

@@ -1,4 +1,5 @@
-//! Whole runs of the commands that record keys or save machines, over files and a sink in memory.
+//! Whole runs of the commands that record keys, or save and show machines, over files and a sink in memory; and what is
+//! said of refused files.
 #![tactic(auto)]
 
 #[cfg(test)]

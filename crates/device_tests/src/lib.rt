@@ -1,4 +1,4 @@
-//! Tests of the journal, of the devices and of the virtio block device.
+//! Tests of a device's writes, of the journal, of the devices and of the virtio block device.
 #![tactic(auto)]
 
 #[cfg(test)]

@@ -1,4 +1,4 @@
-//! Tests of translation and of attempts on the second-stage trees.
+//! Tests of host memory, of registers and traps, and of translation and attempts on the second-stage trees.
 #![tactic(auto)]
 
 #[cfg(test)]
