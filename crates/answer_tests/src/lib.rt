@@ -1,5 +1,4 @@
-//! Tests of pages and entries, of what SecVisor answers to exits and calls, and of what a machine starts with for its
-//! modules.
+//! Tests of what SecVisor answers to exits and calls, and of what a machine starts with for its modules.
 #![tactic(auto)]
 
 #[cfg(test)]
@@ -8,8 +7,6 @@ mod accesses;
 mod calls;
 #[cfg(test)]
 mod gate;
-#[cfg(test)]
-mod guards;
 #[cfg(test)]
 mod harts;
 #[cfg(test)]

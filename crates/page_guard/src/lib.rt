@@ -9,3 +9,6 @@ mod side;
 pub use entries::Entries;
 pub use guard::{Guard, Hold, Taken};
 pub use side::{Forbidden, Side};
+
+#[cfg(test)]
+mod tests;

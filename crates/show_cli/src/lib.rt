@@ -3,6 +3,8 @@
 
 mod answer;
 mod refusal;
+#[cfg(test)]
+mod tests;
 mod words;
 
 pub use answer::secvisor_show;

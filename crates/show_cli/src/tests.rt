@@ -1,8 +1,8 @@
 // What is answered over one file in memory.
 ghost use Rattle.std.specs.Prelude.{◌<◌, ◌-◌, ◌^◌, ℕ, List, IsTrue};
 
+use super::secvisor_show;
 use outside::{Files, MemFiles, MemSink, Sink};
-use show_cli::secvisor_show;
 use std::alloc::{AllocError, Global};
 use std::test::Fail;
 use sv_types::{Name, Status};
