@@ -1,12 +1,13 @@
 // A hart that reads and writes device registers.
+use crate::ground::{guarded, started};
+use crate::same::same;
 use access_answers::{Load, Store, device_load, device_store};
 use devices::{Block, Devices};
-use gstage_tables::Trees;
-use hart::Hart;
-use hart_answers::{Seat, start};
-use host_mem::HostMem;
+use hart_answers::Seat;
 use journal_records::Journal;
-use page_guard::{Entries, Guard, Side};
+use page_guard::{Entries, Guard};
+use std::alloc::{AllocError, Global};
+use std::process::Abort;
 use std::test::Fail;
 
 const PC: u64 = 0x8000_3000;
@@ -35,7 +36,7 @@ struct Access {
     printed: usize,
 }
 
-const ACCESSES: [Access; 5] = [
+static ACCESSES: [Access; 5] = [
     // The console's status, a byte of the disk's registers, and the byte that waits.
     Access {
         kind: Kind::Load { signed: false },
@@ -85,73 +86,127 @@ const ACCESSES: [Access; 5] = [
     },
 ];
 
+// A hart beside its devices.
+#[derive(Drop)]
+struct Bench {
+    guard: Guard,
+    entries: Entries,
+    seat: Seat,
+    devices: Devices<Block>,
+}
+
+impl Bench {
+    fn new(rt: &impl Abort, alloc: Global) -> Result<Bench, AllocError> {
+        let (_mem, guard) = guarded(rt, alloc)?;
+        let seat = started(&guard, 0, PC, 0);
+        let disk = vec![in alloc; 0u8; 512]?;
+        Ok(Bench {
+            entries: Entries::new(alloc, &[], &[])?,
+            devices: Devices::new(Block::new(disk)),
+            guard,
+            seat,
+        })
+    }
+
+    fn a0(&self) -> u64 {
+        self.seat.hart.core.regs.get(A0)
+    }
+
+    // The notes of a load of a byte.
+    fn load(
+        &mut self,
+        rt: &impl Abort,
+        alloc: Global,
+        gpa: u64,
+        signed: bool,
+    ) -> Result<Journal, AllocError> {
+        let mut notes = Journal::new(alloc)?;
+        let load = Load {
+            rd: A0,
+            address: gpa,
+            width: 1,
+            signed,
+            gpa,
+        };
+        assert!(rt; self.seat.hart.core.pc.is_multiple_of(4));
+        device_load(
+            0,
+            &mut self.seat,
+            &self.guard,
+            &self.entries,
+            &mut self.devices,
+            &mut notes,
+            load,
+        );
+        Ok(notes)
+    }
+
+    // The notes of a store of the low byte of a0.
+    fn store(&mut self, rt: &impl Abort, alloc: Global, gpa: u64) -> Result<Journal, AllocError> {
+        let mut notes = Journal::new(alloc)?;
+        let store = Store {
+            address: gpa,
+            gpa,
+            width: 1,
+            value: self.a0(),
+        };
+        assert!(rt; self.seat.hart.core.pc.is_multiple_of(4));
+        device_store(
+            0,
+            &mut self.seat,
+            &self.guard,
+            &self.entries,
+            &mut self.devices,
+            &mut notes,
+            store,
+        );
+        Ok(notes)
+    }
+}
+
+fn check_access(
+    rt: &impl Abort,
+    alloc: Global,
+    bench: &mut Bench,
+    row: u64,
+    access: &Access,
+) -> Result<(), AllocError> {
+    let notes = match access.kind {
+        Kind::Load { signed } => bench.load(rt, alloc, access.gpa, signed)?,
+        Kind::Store => bench.store(rt, alloc, access.gpa)?,
+    };
+    let core = &bench.seat.hart.core;
+    same(rt, "pc of row", row, core.pc, access.pc);
+    same(rt, "a0 of row", row, core.regs.get(A0), access.a0);
+    same(rt, "cause of row", row, core.csrs.vscause, access.vscause);
+    same(
+        rt,
+        "retired of row",
+        row,
+        notes.counts().retired,
+        access.retired,
+    );
+    same(
+        rt,
+        "printed of row",
+        row,
+        notes.printed().len(),
+        access.printed,
+    );
+    Ok(())
+}
+
+fn check_accesses(rt: &impl Abort, alloc: Global, bench: &mut Bench) -> Result<(), AllocError> {
+    assert!(rt; bench.devices.key(0xF0));
+    for (row, access) in ACCESSES.iter().enumerate() {
+        check_access(rt, alloc, bench, row as u64, access)?;
+    }
+    Ok(())
+}
+
 #[test]
 fn registers(rt: HostRuntime) -> Result<(), Fail> {
-    let size = Trees::table_bytes(16, 0);
-    let mut mem = HostMem::new(rt.alloc(), size, 16)?;
-    assert_eq!(rt; mem.table_bytes(), size);
-    assert_eq!(rt; mem.ram_pages(), 16);
-    let guard = Guard::new(rt.alloc(), &mut mem, &[])?;
-    let entries = Entries::new(rt.alloc(), &[], &[])?;
-    let mut seat = Seat {
-        hart: Hart::at_boot(),
-        side: Side::at_boot(&guard),
-    };
-    start(&mut seat.hart, &mut seat.side, &guard, 0, PC, 0);
-    let disk = vec![in rt.alloc(); 0u8; 512]?;
-    let mut devices = Devices::new(Block::new(disk));
-    assert!(rt; devices.key(0xF0));
-    for (row, access) in ACCESSES.iter().enumerate() {
-        let mut notes = Journal::new(rt.alloc())?;
-        assert!(rt; seat.hart.core.pc.is_multiple_of(4));
-        match access.kind {
-            Kind::Load { signed } => {
-                let load = Load {
-                    rd: A0,
-                    address: access.gpa,
-                    width: 1,
-                    signed,
-                    gpa: access.gpa,
-                };
-                device_load(
-                    0,
-                    &mut seat,
-                    &guard,
-                    &entries,
-                    &mut devices,
-                    &mut notes,
-                    load,
-                );
-            }
-            Kind::Store => {
-                let store = Store {
-                    address: access.gpa,
-                    gpa: access.gpa,
-                    width: 1,
-                    value: seat.hart.core.regs.get(A0),
-                };
-                device_store(
-                    0,
-                    &mut seat,
-                    &guard,
-                    &entries,
-                    &mut devices,
-                    &mut notes,
-                    store,
-                );
-            }
-        }
-        assert_eq!(rt;
-            (seat.hart.core.pc, seat.hart.core.regs.get(A0)),
-            (access.pc, access.a0),
-            "row {row}"
-        );
-        assert_eq!(rt; seat.hart.core.csrs.vscause, access.vscause, "row {row}");
-        assert_eq!(rt;
-            (notes.counts().retired, notes.printed().len()),
-            (access.retired, access.printed),
-            "row {row}"
-        );
-    }
+    let mut bench = Bench::new(&rt, rt.alloc())?;
+    check_accesses(&rt, rt.alloc(), &mut bench)?;
     Ok(())
 }

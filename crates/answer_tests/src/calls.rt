@@ -1,12 +1,14 @@
 // Calls of a hart beside another one, on guarded memory.
+use crate::ground::{guarded, started};
+use crate::same::same;
 use call_answers::{answer_of, give};
 use devices::{Block, Devices};
-use gstage_tables::Trees;
 use hart::Hart;
-use hart_answers::{ALL_HARTS, Asked, Seat, start};
-use host_mem::HostMem;
+use hart_answers::{ALL_HARTS, Asked, Seat};
 use journal_records::Journal;
 use page_guard::{Entries, Guard, Side};
+use std::alloc::{AllocError, Global};
+use std::process::Abort;
 use std::test::Fail;
 use sv_types::{SbiCode, Verdict};
 
@@ -15,7 +17,6 @@ const ENTRY: u64 = 0x8000_0104;
 const HART_STATE: u64 = 0x0048_534D;
 
 // A call of hart 0's, and what its a0 and a1 then are.
-#[derive(Clone, Copy)]
 struct Row {
     extension: u64,
     function: u64,
@@ -26,7 +27,7 @@ struct Row {
 }
 
 // What hart 0 asks, one call after another.
-const ROWS: [Row; 9] = [
+static ROWS: [Row; 9] = [
     Row {
         extension: 0x10,
         function: 3,
@@ -101,52 +102,98 @@ const ROWS: [Row; 9] = [
     },
 ];
 
+// Both harts beside their devices.
+#[derive(Drop)]
+struct Bench {
+    guard: Guard,
+    entries: Entries,
+    seats: [Seat; 2],
+    devices: Devices<Block>,
+}
+
+impl Bench {
+    fn new(rt: &impl Abort, alloc: Global) -> Result<Bench, AllocError> {
+        let (_mem, guard) = guarded(rt, alloc)?;
+        let caller = started(&guard, 0, 0x8000_0000, 0);
+        let other = Seat {
+            hart: Hart::at_boot(),
+            side: Side::at_boot(&guard),
+        };
+        let disk = vec![in alloc; 0u8; 512]?;
+        Ok(Bench {
+            entries: Entries::new(alloc, &[ENTRY], &[])?,
+            devices: Devices::new(Block::new(disk)),
+            seats: [caller, other],
+            guard,
+        })
+    }
+
+    // The verdict behind a call of hart 0's.
+    fn ask(
+        &mut self,
+        rt: &impl Abort,
+        alloc: Global,
+        asked: &Asked,
+    ) -> Result<Verdict, AllocError> {
+        let mut journal = Journal::new(alloc)?;
+        assert!(rt; !asked.is_about_modules());
+        let answer = answer_of(&self.seats, &self.entries, self.devices.input(), asked);
+        give(
+            0,
+            &mut self.seats,
+            &self.guard,
+            &mut self.devices,
+            &mut journal,
+            &answer,
+        );
+        Ok(journal.verdict())
+    }
+}
+
+fn check_call(
+    rt: &impl Abort,
+    alloc: Global,
+    bench: &mut Bench,
+    number: u64,
+    row: &Row,
+) -> Result<(), AllocError> {
+    let asked = Asked {
+        extension: row.extension,
+        function: row.function,
+        a0: row.a0,
+        a1: row.a1,
+        a2: 7,
+        a3: 0,
+    };
+    let verdict = bench.ask(rt, alloc, &asked)?;
+    same(rt, "verdict of call", number, verdict, Verdict::Running);
+    let [caller, _] = &bench.seats;
+    let regs = &caller.hart.core.regs;
+    same(rt, "a0 of call", number, regs.get(10), row.code.word());
+    same(rt, "a1 of call", number, regs.get(11), row.value);
+    Ok(())
+}
+
+fn check_calls(rt: &impl Abort, alloc: Global, bench: &mut Bench) -> Result<(), AllocError> {
+    for (number, row) in ROWS.iter().enumerate() {
+        check_call(rt, alloc, bench, number as u64, row)?;
+    }
+    Ok(())
+}
+
+fn check_harts(rt: &impl Abort, bench: &Bench) {
+    let [caller, other] = &bench.seats;
+    same(rt, "pc of hart", 0, caller.hart.core.pc, 0x8000_0024);
+    same(rt, "hvip of hart", 0, caller.hart.core.csrs.hvip, 4);
+    same(rt, "pc of hart", 1, other.hart.core.pc, ENTRY);
+    same(rt, "hvip of hart", 1, other.hart.core.csrs.hvip, 4);
+    same(rt, "a1 of hart", 1, other.hart.core.regs.get(11), 7);
+}
+
 #[test]
 fn calls_one_after_another(rt: HostRuntime) -> Result<(), Fail> {
-    let size = Trees::table_bytes(16, 0);
-    let mut mem = HostMem::new(rt.alloc(), size, 16)?;
-    assert_eq!(rt; mem.table_bytes(), size);
-    assert_eq!(rt; mem.ram_pages(), 16);
-    let guard = Guard::new(rt.alloc(), &mut mem, &[])?;
-    let entries = Entries::new(rt.alloc(), &[ENTRY], &[])?;
-    let disk = vec![in rt.alloc(); 0u8; 512]?;
-    let mut devices = Devices::new(Block::new(disk));
-    let mut hart = Hart::at_boot();
-    let mut side = Side::at_boot(&guard);
-    start(&mut hart, &mut side, &guard, 0, 0x8000_0000, 0);
-    let caller = Seat { hart, side };
-    let other = Seat {
-        hart: Hart::at_boot(),
-        side: Side::at_boot(&guard),
-    };
-    let mut seats = [caller, other];
-    for row in ROWS {
-        let mut journal = Journal::new(rt.alloc())?;
-        let asked = Asked {
-            extension: row.extension,
-            function: row.function,
-            a0: row.a0,
-            a1: row.a1,
-            a2: 7,
-            a3: 0,
-        };
-        assert!(rt; !asked.is_about_modules());
-        let answer = answer_of(&seats, &entries, devices.input(), &asked);
-        give(0, &mut seats, &guard, &mut devices, &mut journal, &answer);
-        let [caller, _] = &seats;
-        let registers = (caller.hart.core.regs.get(10), caller.hart.core.regs.get(11));
-        assert_eq!(rt; journal.verdict(), Verdict::Running);
-        assert_eq!(rt; registers, (row.code.word(), row.value));
-    }
-    let [caller, other] = &seats;
-    assert_eq!(rt; caller.hart.core.pc, 0x8000_0024);
-    assert_eq!(rt;
-        (caller.hart.core.csrs.hvip, other.hart.core.csrs.hvip),
-        (4, 4)
-    );
-    assert_eq!(rt;
-        (other.hart.core.pc, other.hart.core.regs.get(11)),
-        (ENTRY, 7)
-    );
+    let mut bench = Bench::new(&rt, rt.alloc())?;
+    check_calls(&rt, rt.alloc(), &mut bench)?;
+    check_harts(&rt, &bench);
     Ok(())
 }

@@ -8,8 +8,12 @@ mod calls;
 #[cfg(test)]
 mod gate;
 #[cfg(test)]
+mod ground;
+#[cfg(test)]
 mod harts;
 #[cfg(test)]
 mod loading;
+#[cfg(test)]
+mod same;
 #[cfg(test)]
 mod traps;

@@ -1,12 +1,14 @@
 // A hart that fetches from a page that isn't approved, and then traps to an address that isn't permitted.
-use gstage_tables::Trees;
-use hart::Hart;
-use hart_answers::{Seat, Trap, start};
+use crate::ground::{guarded, started};
+use crate::same::same;
+use hart_answers::{Seat, Trap};
 use host_mem::HostMem;
 use journal_records::Journal;
 use machine_model::ExitAnswer;
-use page_guard::{Entries, Guard, Side};
+use page_guard::{Entries, Guard};
 use processor::{Cause, Exit, ExitCause, Mode};
+use std::alloc::{AllocError, Global};
+use std::process::Abort;
 use std::test::Fail;
 use sv_types::{Note, Rule, Verdict};
 use trap_answers::{exit_answer, guest_demotion, guest_trap};
@@ -36,47 +38,68 @@ const DEMOTED: Note = Note::Demote {
     gpa: PC,
 };
 
-#[test]
-fn demoted_and_then_stopped(rt: HostRuntime) -> Result<(), Fail> {
-    let size = Trees::table_bytes(16, 0);
-    let mut mem = HostMem::new(rt.alloc(), size, 16)?;
-    assert_eq!(rt; mem.table_bytes(), size);
-    assert_eq!(rt; mem.ram_pages(), 16);
-    let guard = Guard::new(rt.alloc(), &mut mem, &[])?;
-    let entries = Entries::new(rt.alloc(), &[0x8000_0104], &[])?;
-    let mut seat = Seat {
-        hart: Hart::at_boot(),
-        side: Side::at_boot(&guard),
-    };
-    start(&mut seat.hart, &mut seat.side, &guard, 0, PC, 0);
-    let mut notes = Journal::new(rt.alloc())?;
+fn answer_to(
+    rt: &impl Abort,
+    mem: &HostMem,
+    seat: &Seat,
+    entries: &Entries,
+    exit: &Exit,
+) -> ExitAnswer {
     assert!(rt; seat.hart.core.pc.is_multiple_of(4));
-    let fetch = exit_answer(&mem, &seat, &entries, &FETCH);
-    assert_eq!(rt; fetch, ExitAnswer::Demotes { gpa: PC });
-    guest_demotion(0, &mut seat, &guard, &mut notes, PC);
-    assert_eq!(rt; notes.notes().first(), Some(&DEMOTED));
-    assert_eq!(rt; seat.side.mode(), Mode::User);
-    let mut stop = Journal::new(rt.alloc())?;
-    assert!(rt; seat.hart.core.pc.is_multiple_of(4));
-    let illegal = exit_answer(&mem, &seat, &entries, &ILLEGAL);
+    exit_answer(mem, seat, entries, exit)
+}
+
+fn check_demotion(
+    rt: &impl Abort,
+    alloc: Global,
+    seat: &mut Seat,
+    guard: &Guard,
+) -> Result<(), AllocError> {
+    let mut notes = Journal::new(alloc)?;
+    guest_demotion(0, seat, guard, &mut notes, PC);
+    assert!(rt; notes.notes().first() == Some(&DEMOTED));
+    assert!(rt; seat.side.mode() == Mode::User);
+    Ok(())
+}
+
+// The verdict behind a trap.
+fn trapped(
+    rt: &impl Abort,
+    alloc: Global,
+    seat: &mut Seat,
+    guard: &Guard,
+    entries: &Entries,
+) -> Result<Verdict, AllocError> {
+    let mut notes = Journal::new(alloc)?;
     let trap = Trap {
-        cause: ExitCause::Exception(Cause::Illegal),
+        cause: ILLEGAL.cause,
         tval: 0,
     };
-    let same = ExitAnswer::Traps {
-        cause: trap.cause,
-        tval: trap.tval,
+    assert!(rt; seat.hart.core.pc.is_multiple_of(4));
+    guest_trap(0, seat, guard, entries, &mut notes, trap);
+    Ok(notes.verdict())
+}
+
+#[test]
+fn demoted_and_then_stopped(rt: HostRuntime) -> Result<(), Fail> {
+    let (mem, guard) = guarded(&rt, rt.alloc())?;
+    let entries = Entries::new(rt.alloc(), &[0x8000_0104], &[])?;
+    let mut seat = started(&guard, 0, PC, 0);
+    let fetch = answer_to(&rt, &mem, &seat, &entries, &FETCH);
+    same(&rt, "answer", 0, fetch, ExitAnswer::Demotes { gpa: PC });
+    check_demotion(&rt, rt.alloc(), &mut seat, &guard)?;
+    let illegal = answer_to(&rt, &mem, &seat, &entries, &ILLEGAL);
+    let traps = ExitAnswer::Traps {
+        cause: ILLEGAL.cause,
+        tval: 0,
     };
-    assert_eq!(rt; illegal, same);
-    guest_trap(0, &mut seat, &guard, &entries, &mut stop, trap);
-    let rule = Rule::Entry { target: 0 };
-    assert_eq!(rt;
-        stop.verdict(),
-        Verdict::Stopped {
-            rule,
-            hart: 0,
-            turn: 0
-        }
-    );
+    same(&rt, "answer", 1, illegal, traps);
+    let stopped = Verdict::Stopped {
+        rule: Rule::Entry { target: 0 },
+        hart: 0,
+        turn: 0,
+    };
+    let verdict = trapped(&rt, rt.alloc(), &mut seat, &guard, &entries)?;
+    same(&rt, "verdict of hart", 0, verdict, stopped);
     Ok(())
 }
