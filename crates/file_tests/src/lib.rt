@@ -11,3 +11,5 @@ mod loading;
 mod making;
 #[cfg(test)]
 mod objects;
+#[cfg(test)]
+mod same;

@@ -3,19 +3,21 @@
 ghost use Rattle.std.specs.Prelude.{◌≡◌, ◌*◌, ◌≤◌, length, IfOk};
 ghost use Rattle.processor.specs.Regions.{most_ram_pages};
 
+use crate::same::same;
 use elf64_load::{ElfRefusal, read_kernel};
 use gstage_tables::Trees;
 use host_mem::HostMem;
 use image_loader::{approve_text, fill_ram};
 use page_guard::Guard;
 use std::alloc::{AllocError, Global};
+use std::process::Abort;
 use std::test::Fail;
 use sv_types::Protection;
 
 const RAM_PAGES: u32 = 4;
 
 // The header of a file with four program headers behind it, up to their number.
-const HEADER: [u8; 56] = [
+static HEADER: [u8; 56] = [
     0x7F, 0x45, 0x4C, 0x46, 0x02, 0x01, 0x01, 0x00, 0x00, 0x00, 0x00, 0x00, 0x00, 0x00, 0x00, 0x00,
     0x02, 0x00, 0xF3, 0x00, 0x01, 0x00, 0x00, 0x00, 0x00, 0x00, 0x00, 0x80, 0x00, 0x00, 0x00, 0x00,
     0x40, 0x00, 0x00, 0x00, 0x00, 0x00, 0x00, 0x00, 0x00, 0x00, 0x00, 0x00, 0x00, 0x00, 0x00, 0x00,
@@ -23,10 +25,10 @@ const HEADER: [u8; 56] = [
 ];
 
 // The number of program headers, and three fields on sections.
-const HEADER_END: [u8; 8] = [0x04, 0x00, 0x00, 0x00, 0x00, 0x00, 0x00, 0x00];
+static HEADER_END: [u8; 8] = [0x04, 0x00, 0x00, 0x00, 0x00, 0x00, 0x00, 0x00];
 
 // The bytes that segments name.
-const BYTES: [u8; 16] = [1, 2, 3, 4, 5, 6, 7, 8, 9, 10, 11, 12, 13, 14, 15, 16];
+static BYTES: [u8; 16] = [1, 2, 3, 4, 5, 6, 7, 8, 9, 10, 11, 12, 13, 14, 15, 16];
 
 // Where they lie.
 const BYTES_PLACE: u64 = 64 + 4 * 56;
@@ -100,130 +102,161 @@ fn filled(alloc: Global, file: &[u8], ram_pages: u32) -> Result<HostMem, ElfRefu
 }
 
 // The second page of RAM begins with these bytes.
-#[derive(Clone, Copy, Drop)]
-struct Row<'a> {
-    what: &'a str,
+struct Row {
+    what: &'static str,
     parts: [Part; 3],
     bytes: [u8; 8],
 }
 
+const FIRST: Part = Part {
+    place: 0x1000,
+    filled: 8,
+    memory: 8,
+    ..NOTHING
+};
+
+static ROWS: [Row; 4] = [
+    Row {
+        what: "one over the end of another",
+        parts: [
+            FIRST,
+            Part {
+                from: 8,
+                place: 0x1004,
+                filled: 8,
+                memory: 8,
+                ..NOTHING
+            },
+            NOTHING,
+        ],
+        bytes: [1, 2, 3, 4, 9, 10, 11, 12],
+    },
+    Row {
+        what: "zeros behind a segment's bytes",
+        parts: [
+            FIRST,
+            Part {
+                from: 8,
+                place: 0x1002,
+                filled: 2,
+                memory: 5,
+                ..NOTHING
+            },
+            NOTHING,
+        ],
+        bytes: [1, 2, 9, 10, 0, 0, 0, 8],
+    },
+    Row {
+        what: "no bytes but zeros",
+        parts: [
+            FIRST,
+            Part {
+                place: 0x1001,
+                filled: 0,
+                memory: 3,
+                ..NOTHING
+            },
+            NOTHING,
+        ],
+        bytes: [1, 0, 0, 0, 5, 6, 7, 8],
+    },
+    Row {
+        what: "a whole page and then a part",
+        parts: [
+            FIRST,
+            Part {
+                from: 4,
+                place: 0x1000,
+                filled: 4,
+                memory: 0x1800,
+                ..NOTHING
+            },
+            Part {
+                place: 0x1001,
+                filled: 1,
+                memory: 1,
+                ..NOTHING
+            },
+        ],
+        bytes: [5, 1, 7, 8, 0, 0, 0, 0],
+    },
+];
+
+fn check_row(rt: &impl Abort, alloc: Global, row: &Row) -> Result<(), ElfRefusal> {
+    let file = file_of(alloc, &row.parts)?;
+    let mem = filled(alloc, &file, RAM_PAGES)?;
+    let what = row.what;
+    assert!(rt; mem.ram().starts_with(&BYTES), "text: {what}");
+    assert!(rt; mem.ram()[0x1000..].starts_with(&row.bytes), "{what}");
+    Ok(())
+}
+
 #[test]
 fn later_segments_win(rt: HostRuntime) -> Result<(), Fail> {
-    let first = Part {
-        place: 0x1000,
-        filled: 8,
-        memory: 8,
-        ..NOTHING
-    };
-    let table: [Row<'_>; 4] = [
-        Row {
-            what: "one over the end of another",
-            parts: [
-                first,
-                Part {
-                    from: 8,
-                    place: 0x1004,
-                    filled: 8,
-                    memory: 8,
-                    ..NOTHING
-                },
-                NOTHING,
-            ],
-            bytes: [1, 2, 3, 4, 9, 10, 11, 12],
-        },
-        Row {
-            what: "zeros behind a segment's bytes",
-            parts: [
-                first,
-                Part {
-                    from: 8,
-                    place: 0x1002,
-                    filled: 2,
-                    memory: 5,
-                    ..NOTHING
-                },
-                NOTHING,
-            ],
-            bytes: [1, 2, 9, 10, 0, 0, 0, 8],
-        },
-        Row {
-            what: "no bytes but zeros",
-            parts: [
-                first,
-                Part {
-                    place: 0x1001,
-                    filled: 0,
-                    memory: 3,
-                    ..NOTHING
-                },
-                NOTHING,
-            ],
-            bytes: [1, 0, 0, 0, 5, 6, 7, 8],
-        },
-        Row {
-            what: "a whole page and then a part",
-            parts: [
-                first,
-                Part {
-                    from: 4,
-                    place: 0x1000,
-                    filled: 4,
-                    memory: 0x1800,
-                    ..NOTHING
-                },
-                Part {
-                    place: 0x1001,
-                    filled: 1,
-                    memory: 1,
-                    ..NOTHING
-                },
-            ],
-            bytes: [5, 1, 7, 8, 0, 0, 0, 0],
-        },
-    ];
-    for row in table {
-        let Row { what, parts, bytes } = row;
-        let file = file_of(rt.alloc(), &parts)?;
-        let mem = filled(rt.alloc(), &file, RAM_PAGES)?;
-        assert_eq!(rt; &mem.ram()[..16], BYTES.as_slice(), "text: {what}");
-        assert_eq!(rt; &mem.ram()[0x1000..0x1008], bytes.as_slice(), "{what}");
+    for row in &ROWS {
+        check_row(&rt, rt.alloc(), row)?;
     }
     Ok(())
+}
+
+// A guard of RAM that approves the text of a file.
+fn approving(rt: &impl Abort, alloc: Global, file: &[u8]) -> Result<Guard, ElfRefusal> {
+    let image = read_kernel(alloc, file, RAM_PAGES)?;
+    let size = Trees::table_bytes(RAM_PAGES as usize, 0);
+    let mut mem = HostMem::new(alloc, size, RAM_PAGES as usize)?;
+    assert!(rt; mem.table_bytes() == size);
+    assert!(rt; mem.ram_pages() == RAM_PAGES as usize);
+    let mut guard = Guard::new(alloc, &mut mem, &[])?;
+    approve_text(alloc, &mut guard, &mut mem, &image)?;
+    Ok(guard)
 }
 
 #[test]
 fn pages_of_text_are_approved(rt: HostRuntime) -> Result<(), Fail> {
     let file = file_of(rt.alloc(), &[NOTHING, NOTHING, NOTHING])?;
-    let image = read_kernel(rt.alloc(), &file, RAM_PAGES)?;
-    let size = Trees::table_bytes(RAM_PAGES as usize, 0);
-    let mut mem = HostMem::new(rt.alloc(), size, RAM_PAGES as usize)?;
-    assert_eq!(rt; mem.table_bytes(), size);
-    assert_eq!(rt; mem.ram_pages(), RAM_PAGES as usize);
-    let mut guard = Guard::new(rt.alloc(), &mut mem, &[])?;
-    approve_text(rt.alloc(), &mut guard, &mut mem, &image)?;
-    assert_eq!(rt; guard.protection(0), Protection::Approved);
-    assert_eq!(rt; guard.protection(1), Protection::Free);
+    let guard = approving(&rt, rt.alloc(), &file)?;
+    let pages = guard.protections();
+    same(
+        &rt,
+        "page",
+        0,
+        pages.first().copied(),
+        Some(Protection::Approved),
+    );
+    same(
+        &rt,
+        "page",
+        1,
+        pages.get(1).copied(),
+        Some(Protection::Free),
+    );
     Ok(())
 }
 
-// The most segments that a file can name, all but the text over the whole of the largest RAM behind it. What they name
-// are the bytes of a program header.
-#[test]
-fn as_many_segments_as_can_be(rt: HostRuntime) -> Result<(), Fail> {
+// As many segments as can be.
+fn largest(alloc: Global) -> Result<Vec<u8>, AllocError> {
     let behind = Part {
         place: 0x1000,
         filled: 16,
         memory: 0x0FFF_F000,
         ..NOTHING
     };
-    let mut file = Vec::new(rt.alloc());
+    let mut file = Vec::new(alloc);
     file.extend_from_slice(&HEADER)?;
     file.extend_from_slice(&[0xFF, 0xFF, 0, 0, 0, 0, 0, 0])?;
     push_header(&mut file, &TEXT)?;
     for _ in 1..0xFFFF {
         push_header(&mut file, &behind)?;
     }
+    Ok(file)
+}
+
+// The most segments that a file can name, all but the text over the whole of the largest RAM behind it. What they name
+// are the bytes of a program header.
+#[test]
+fn as_many_segments_as_can_be(rt: HostRuntime) -> Result<(), Fail> {
+    let file = largest(rt.alloc())?;
     let mem = filled(rt.alloc(), &file, 65_536)?;
-    assert_eq!(rt; &mem.ram()[0x1000..0x1005], [1, 0, 0, 0, 6].as_slice());
+    assert!(rt; mem.ram()[0x1000..].starts_with(&[1, 0, 0, 0, 6]));
     Ok(())
 }

@@ -4,9 +4,10 @@
 use elf64_reloc::ObjectFault;
 use policy_making::*;
 use std::alloc::{AllocError, Global};
+use std::process::Abort;
 use std::test::Fail;
 use std::thread::Threads;
-use sv_types::{HeaderFault, ImageFault, Name, Policy};
+use sv_types::{Export, HeaderFault, ImageFault, ModulePolicy, Name, Policy};
 
 /// A field of a file: its place, its width in bytes and its value.
 type Field = (u16, u8, u64);
@@ -15,7 +16,7 @@ type Field = (u16, u8, u64);
 /// symbols and names, and the text.
 const KERNEL_BYTES: usize = 0x18C;
 
-const KERNEL: [Field; 37] = [
+static KERNEL: [Field; 37] = [
     (0, 4, 0x464C_457F),
     (4, 1, 2),
     (5, 1, 1),
@@ -58,7 +59,7 @@ const KERNEL: [Field; 37] = [
 /// The object's bytes, and its fields that aren't 0.
 const OBJECT_BYTES: usize = 512;
 
-const OBJECT: [Field; 46] = [
+static OBJECT: [Field; 46] = [
     (0, 4, 0x464C_457F),
     (4, 1, 2),
     (5, 1, 1),
@@ -140,14 +141,8 @@ fn name(text: &str) -> Result<Name, MakingRefusal> {
     }
 }
 
-// The policy of one hart and 16 pages for the kernel, cut to a length, and for objects of these lengths.
-fn made<R: Threads + Sync>(
-    rt: &R,
-    alloc: Global,
-    kernel_length: usize,
-    lengths: &[usize],
-) -> Result<Policy, MakingRefusal> {
-    let kernel = file(alloc, &KERNEL, KERNEL_BYTES, kernel_length)?;
+// Objects of these lengths.
+fn objects_of(alloc: Global, lengths: &[usize]) -> Result<Vec<ObjectFile>, MakingRefusal> {
     let mut objects = Vec::new(alloc);
     for length in lengths {
         let name = name("a.o")?;
@@ -156,6 +151,18 @@ fn made<R: Threads + Sync>(
             objects.push(ObjectFile { name, bytes })?;
         }
     }
+    Ok(objects)
+}
+
+// The policy of one hart and 16 pages for the kernel, cut to a length, and for objects of these lengths.
+fn made<R: Threads + Sync>(
+    rt: &R,
+    alloc: Global,
+    kernel_length: usize,
+    lengths: &[usize],
+) -> Result<Policy, MakingRefusal> {
+    let kernel = file(alloc, &KERNEL, KERNEL_BYTES, kernel_length)?;
+    let objects = objects_of(alloc, lengths)?;
     let settings = Settings {
         harts: 1,
         ram_pages: 16,
@@ -171,77 +178,84 @@ fn made<R: Threads + Sync>(
 }
 
 // The digests are those of Python's hashlib; the module's is that of its text with both fields of the call cleared.
+static KERNEL_DIGEST: [u8; 32] = [
+    0x18, 0x16, 0x02, 0xB7, 0xFA, 0x4F, 0xC7, 0x7A, 0x00, 0x18, 0xA4, 0xA5, 0xCC, 0xB2, 0xE8, 0xB5,
+    0xF4, 0x00, 0x95, 0x71, 0xA2, 0x18, 0x76, 0x8D, 0x82, 0x2C, 0x0E, 0x4E, 0x32, 0xDB, 0xFF, 0x2B,
+];
+
+static MODULE_DIGEST: [u8; 32] = [
+    0x35, 0xBB, 0xEF, 0x9B, 0xE4, 0x2D, 0xEB, 0xAB, 0x63, 0x88, 0x91, 0x63, 0x87, 0xCE, 0xD7, 0xD9,
+    0x4B, 0x3B, 0xB7, 0xB2, 0xA2, 0xCE, 0xD3, 0x2B, 0x5A, 0x40, 0x98, 0x52, 0xA5, 0xB8, 0x64, 0x4F,
+];
+
+fn check_exports(rt: &impl Abort, exports: &[Export]) {
+    assert!(rt; exports.len() == 1);
+    for export in exports {
+        assert!(rt; export.name.text() == "print");
+        assert!(rt; export.addr == 0x8000_0008);
+    }
+}
+
+fn check_modules(rt: &impl Abort, modules: &[ModulePolicy]) {
+    assert!(rt; modules.len() == 1);
+    for module in modules {
+        assert!(rt; module.name.text() == "a.o");
+        assert!(rt; module.pages == 1);
+        assert!(rt; module.sites.len() == 2);
+        assert!(rt; module.measure == MODULE_DIGEST);
+    }
+}
+
 #[test]
 fn a_module_that_calls_the_kernel(rt: HostRuntime) -> Result<(), Fail> {
     let policy = made(&rt, rt.alloc(), KERNEL_BYTES, &[OBJECT_BYTES])?;
-    let kernel = [
-        0x18, 0x16, 0x02, 0xB7, 0xFA, 0x4F, 0xC7, 0x7A, 0x00, 0x18, 0xA4, 0xA5, 0xCC, 0xB2, 0xE8,
-        0xB5, 0xF4, 0x00, 0x95, 0x71, 0xA2, 0x18, 0x76, 0x8D, 0x82, 0x2C, 0x0E, 0x4E, 0x32, 0xDB,
-        0xFF, 0x2B,
-    ];
-    assert_eq!(rt; policy.kernel, kernel);
-    assert_eq!(rt; policy.exports.len(), 1);
-    for export in &policy.exports {
-        assert_eq!(rt; export.name.text(), "print");
-        assert_eq!(rt; export.addr, 0x8000_0008);
-    }
-    assert_eq!(rt; policy.modules.len(), 1);
-    let measure = [
-        0x35, 0xBB, 0xEF, 0x9B, 0xE4, 0x2D, 0xEB, 0xAB, 0x63, 0x88, 0x91, 0x63, 0x87, 0xCE, 0xD7,
-        0xD9, 0x4B, 0x3B, 0xB7, 0xB2, 0xA2, 0xCE, 0xD3, 0x2B, 0x5A, 0x40, 0x98, 0x52, 0xA5, 0xB8,
-        0x64, 0x4F,
-    ];
-    for module in &policy.modules {
-        assert_eq!(rt; module.name.text(), "a.o");
-        assert_eq!(rt; module.pages, 1);
-        assert_eq!(rt; module.sites.len(), 2);
-        assert_eq!(rt; module.measure, measure);
-    }
+    assert!(rt; policy.kernel == KERNEL_DIGEST);
+    check_exports(&rt, &policy.exports);
+    check_modules(&rt, &policy.modules);
     Ok(())
 }
 
 // Lengths of the kernel's file and of the objects' files, and why no policy is made of them.
-#[derive(Clone, Copy, Drop)]
-struct RefusedRow<'a> {
-    what: &'a str,
+struct RefusedRow {
+    what: &'static str,
     kernel: usize,
-    objects: &'a [usize],
+    objects: &'static [usize],
     fault: MakingFault,
 }
 
+static REFUSALS: [RefusedRow; 3] = [
+    RefusedRow {
+        what: "a short kernel comes before a short object",
+        kernel: 63,
+        objects: &[63],
+        fault: MakingFault::Image(ImageFault::Header(HeaderFault::TooShort)),
+    },
+    RefusedRow {
+        what: "the kernel's text is cut, and read before the objects",
+        kernel: 0x18B,
+        objects: &[63],
+        fault: MakingFault::Image(ImageFault::OutsideFile),
+    },
+    RefusedRow {
+        what: "a short second object",
+        kernel: KERNEL_BYTES,
+        objects: &[OBJECT_BYTES, 63],
+        fault: MakingFault::Module(ObjectFault::Header(HeaderFault::TooShort)),
+    },
+];
+
+fn check_refusal<R: Threads + Sync + Abort>(rt: &R, alloc: Global, row: &RefusedRow) {
+    let found = match made(rt, alloc, row.kernel, row.objects) {
+        Ok(_) => None,
+        Err(refusal) => Some(refusal),
+    };
+    let what = row.what;
+    assert!(rt; found == Some(MakingRefusal::Fault(row.fault)), "{what}");
+}
+
 #[test]
-fn refused_by_the_first_stage(rt: HostRuntime) -> Result<(), Fail> {
-    let table: [RefusedRow<'_>; 3] = [
-        RefusedRow {
-            what: "a short kernel comes before a short object",
-            kernel: 63,
-            objects: &[63],
-            fault: MakingFault::Image(ImageFault::Header(HeaderFault::TooShort)),
-        },
-        RefusedRow {
-            what: "the kernel's text is cut, and read before the objects",
-            kernel: 0x18B,
-            objects: &[63],
-            fault: MakingFault::Image(ImageFault::OutsideFile),
-        },
-        RefusedRow {
-            what: "a short second object",
-            kernel: KERNEL_BYTES,
-            objects: &[OBJECT_BYTES, 63],
-            fault: MakingFault::Module(ObjectFault::Header(HeaderFault::TooShort)),
-        },
-    ];
-    for row in table {
-        let found = match made(&rt, rt.alloc(), row.kernel, row.objects) {
-            Ok(_) => None,
-            Err(refusal) => Some(refusal),
-        };
-        assert_eq!(rt;
-            found,
-            Some(MakingRefusal::Fault(row.fault)),
-            "{}",
-            row.what
-        );
+fn refused_by_the_first_stage(rt: HostRuntime) {
+    for row in &REFUSALS {
+        check_refusal(&rt, rt.alloc(), row);
     }
-    Ok(())
 }

@@ -2,8 +2,10 @@
 
 ghost use Rattle.std.specs.Prelude.{◌≡◌, ◌≤◌, IfOk, length, vec_len};
 
+use crate::same::same;
 use elf64_reloc::*;
 use std::alloc::{AllocError, Global};
+use std::process::Abort;
 use std::test::Fail;
 use sv_types::{Export, Name, RelocationKind, Site};
 
@@ -15,7 +17,7 @@ const OBJECT_BYTES: usize = 512;
 
 /// Its fields that aren't 0: the header; three instructions; the symbol; the relocation; the names; and the headers of
 /// names, text, relocations and symbols.
-const FIELDS: [Field; 46] = [
+static FIELDS: [Field; 46] = [
     (0, 4, 0x464C_457F),
     (4, 1, 2),
     (5, 1, 1),
@@ -78,8 +80,8 @@ fn put(object: &mut [u8], field: Field) {
 // The object with fields changed, cut or filled with zeros to a length.
 fn changed(alloc: Global, fields: &[Field], length: usize) -> Result<Vec<u8>, AllocError> {
     let mut object = vec![in alloc; 0; OBJECT_BYTES]?;
-    for field in FIELDS {
-        put(&mut object, field);
+    for field in FIELDS.iter() {
+        put(&mut object, *field);
     }
     object.resize(length, 0)?;
     for field in fields {
@@ -122,466 +124,480 @@ fn module_fault(alloc: Global, object: &[u8], exports: &[Export]) -> Option<u8>
 }
 
 // An object with fields changed, cut to a length; the numbers that refuse its names and the module, 0 where it is good.
-#[derive(Clone, Copy, Drop)]
-struct FaultRow<'a> {
-    what: &'a str,
-    fields: &'a [Field],
+struct FaultRow {
+    what: &'static str,
+    fields: [Field; 5],
     length: usize,
     names: u8,
     number: u8,
 }
 
+// A field of no bytes.
+const NONE: Field = (0, 0, 0);
+
+static FAULTS: [FaultRow; 41] = [
+    FaultRow {
+        what: "whole",
+        fields: [NONE, NONE, NONE, NONE, NONE],
+        length: 512,
+        names: 0,
+        number: 0,
+    },
+    FaultRow {
+        what: "short",
+        fields: [NONE, NONE, NONE, NONE, NONE],
+        length: 63,
+        names: 1,
+        number: 1,
+    },
+    FaultRow {
+        what: "magic",
+        fields: [(0, 1, 0), NONE, NONE, NONE, NONE],
+        length: 512,
+        names: 2,
+        number: 2,
+    },
+    FaultRow {
+        what: "class",
+        fields: [(4, 1, 1), NONE, NONE, NONE, NONE],
+        length: 512,
+        names: 3,
+        number: 3,
+    },
+    FaultRow {
+        what: "version",
+        fields: [(20, 4, 2), NONE, NONE, NONE, NONE],
+        length: 512,
+        names: 4,
+        number: 4,
+    },
+    FaultRow {
+        what: "machine",
+        fields: [(18, 2, 62), NONE, NONE, NONE, NONE],
+        length: 512,
+        names: 5,
+        number: 5,
+    },
+    FaultRow {
+        what: "an executable file",
+        fields: [(16, 2, 2), NONE, NONE, NONE, NONE],
+        length: 512,
+        names: 6,
+        number: 6,
+    },
+    FaultRow {
+        what: "compressed",
+        fields: [(48, 4, 1), NONE, NONE, NONE, NONE],
+        length: 512,
+        names: 7,
+        number: 7,
+    },
+    FaultRow {
+        what: "section headers behind the end",
+        fields: [(40, 8, 193), NONE, NONE, NONE, NONE],
+        length: 512,
+        names: 8,
+        number: 8,
+    },
+    FaultRow {
+        what: "section headers that wrap",
+        fields: [(40, 8, u64::MAX - 63), NONE, NONE, NONE, NONE],
+        length: 512,
+        names: 8,
+        number: 8,
+    },
+    FaultRow {
+        what: "section headers of 40 bytes",
+        fields: [(58, 2, 40), NONE, NONE, NONE, NONE],
+        length: 512,
+        names: 8,
+        number: 8,
+    },
+    FaultRow {
+        what: "a section behind the end",
+        fields: [(0x160, 8, 0x1C1), NONE, NONE, NONE, NONE],
+        length: 512,
+        names: 9,
+        number: 9,
+    },
+    FaultRow {
+        what: "a section that wraps",
+        fields: [(0x158, 8, u64::MAX), NONE, NONE, NONE, NONE],
+        length: 512,
+        names: 9,
+        number: 9,
+    },
+    FaultRow {
+        what: "zeros behind the end",
+        fields: [(0x144, 4, 8), (0x160, 8, 0x1C1), NONE, NONE, NONE],
+        length: 512,
+        names: 0,
+        number: 18,
+    },
+    FaultRow {
+        what: "no symbols",
+        fields: [(0x1C4, 4, 1), NONE, NONE, NONE, NONE],
+        length: 512,
+        names: 10,
+        number: 10,
+    },
+    FaultRow {
+        what: "symbols of 16 bytes",
+        fields: [(0x1F8, 8, 16), NONE, NONE, NONE, NONE],
+        length: 512,
+        names: 10,
+        number: 10,
+    },
+    FaultRow {
+        what: "names in another section",
+        fields: [(0x1E8, 4, 2), NONE, NONE, NONE, NONE],
+        length: 512,
+        names: 10,
+        number: 10,
+    },
+    FaultRow {
+        what: "names in no section",
+        fields: [(0x1E8, 4, 5), NONE, NONE, NONE, NONE],
+        length: 512,
+        names: 10,
+        number: 10,
+    },
+    FaultRow {
+        what: "alignment of 3",
+        fields: [(0x170, 8, 3), NONE, NONE, NONE, NONE],
+        length: 512,
+        names: 0,
+        number: 11,
+    },
+    FaultRow {
+        what: "alignment of 8,192",
+        fields: [(0x1B0, 8, 8192), NONE, NONE, NONE, NONE],
+        length: 512,
+        names: 0,
+        number: 11,
+    },
+    FaultRow {
+        what: "alignment of 0",
+        fields: [(0x170, 8, 0), NONE, NONE, NONE, NONE],
+        length: 512,
+        names: 0,
+        number: 0,
+    },
+    FaultRow {
+        what: "a field at byte 2",
+        fields: [(0x80, 8, 2), NONE, NONE, NONE, NONE],
+        length: 512,
+        names: 0,
+        number: 11,
+    },
+    FaultRow {
+        what: "8 bytes at byte 4",
+        fields: [(0x80, 8, 4), (0x88, 4, 2), NONE, NONE, NONE],
+        length: 512,
+        names: 0,
+        number: 11,
+    },
+    FaultRow {
+        what: "kind 20",
+        fields: [(0x88, 4, 20), NONE, NONE, NONE, NONE],
+        length: 512,
+        names: 0,
+        number: 12,
+    },
+    FaultRow {
+        what: "an alignment to be kept by a linker",
+        fields: [(0x88, 4, 43), NONE, NONE, NONE, NONE],
+        length: 512,
+        names: 0,
+        number: 12,
+    },
+    FaultRow {
+        what: "a kind of more than a byte",
+        fields: [(0x88, 4, 0x102), NONE, NONE, NONE, NONE],
+        length: 512,
+        names: 0,
+        number: 12,
+    },
+    FaultRow {
+        what: "leave to relax",
+        fields: [(0x88, 4, 51), (0x8C, 4, 9), NONE, NONE, NONE],
+        length: 512,
+        names: 0,
+        number: 0,
+    },
+    FaultRow {
+        what: "no such symbol",
+        fields: [(0x8C, 4, 0xFFFF_FFFF), NONE, NONE, NONE, NONE],
+        length: 512,
+        names: 0,
+        number: 13,
+    },
+    FaultRow {
+        what: "symbol 0",
+        fields: [(0x8C, 4, 0), NONE, NONE, NONE, NONE],
+        length: 512,
+        names: 19,
+        number: 13,
+    },
+    FaultRow {
+        what: "a name that isn't exported",
+        fields: [(0x68, 4, 13), NONE, NONE, NONE, NONE],
+        length: 512,
+        names: 0,
+        number: 13,
+    },
+    FaultRow {
+        what: "a common symbol",
+        fields: [(0x6E, 2, 0xFFF2), NONE, NONE, NONE, NONE],
+        length: 512,
+        names: 0,
+        number: 13,
+    },
+    FaultRow {
+        what: "a symbol of names",
+        fields: [(0x6E, 2, 1), NONE, NONE, NONE, NONE],
+        length: 512,
+        names: 0,
+        number: 13,
+    },
+    FaultRow {
+        what: "a symbol of no section",
+        fields: [(0x6E, 2, 5), NONE, NONE, NONE, NONE],
+        length: 512,
+        names: 0,
+        number: 13,
+    },
+    FaultRow {
+        what: "an absolute symbol",
+        fields: [(0x6E, 2, 0xFFF1), NONE, NONE, NONE, NONE],
+        length: 512,
+        names: 0,
+        number: 0,
+    },
+    FaultRow {
+        what: "a call at the end",
+        fields: [(0x80, 8, 8), NONE, NONE, NONE, NONE],
+        length: 512,
+        names: 0,
+        number: 14,
+    },
+    FaultRow {
+        what: "a low part of no high part",
+        fields: [(0x88, 4, 24), (0x6E, 2, 2), NONE, NONE, NONE],
+        length: 512,
+        names: 0,
+        number: 15,
+    },
+    FaultRow {
+        what: "a low part with an addend",
+        fields: [(0x88, 4, 24), (0x90, 8, 4), NONE, NONE, NONE],
+        length: 512,
+        names: 0,
+        number: 15,
+    },
+    FaultRow {
+        what: "two calls at one place",
+        fields: [
+            (0x198, 8, 512),
+            (0x1A0, 8, 48),
+            (520, 8, 0x1_0000_0012),
+            (544, 8, 0x1_0000_0012),
+            NONE,
+        ],
+        length: 560,
+        names: 0,
+        number: 17,
+    },
+    FaultRow {
+        what: "a field in a call",
+        fields: [
+            (0x198, 8, 512),
+            (0x1A0, 8, 48),
+            (520, 8, 0x1_0000_0012),
+            (536, 8, 4),
+            (544, 8, 0x1_0000_0011),
+        ],
+        length: 560,
+        names: 0,
+        number: 17,
+    },
+    FaultRow {
+        what: "no text",
+        fields: [(0x160, 8, 0), (0x1A0, 8, 0), NONE, NONE, NONE],
+        length: 512,
+        names: 0,
+        number: 18,
+    },
+    FaultRow {
+        what: "a name without an end",
+        fields: [(0x120, 8, 16), NONE, NONE, NONE, NONE],
+        length: 512,
+        names: 19,
+        number: 13,
+    },
+];
+
+static LONG_TEXT: [Field; 2] = [(0x158, 8, 0), (0x160, 8, 0x40_0001)];
+
+fn check_fault(
+    rt: &impl Abort,
+    alloc: Global,
+    exports: &[Export],
+    row: &FaultRow,
+) -> Result<(), AllocError> {
+    let object = changed(alloc, &row.fields, row.length)?;
+    same(rt, row.what, 1, name_fault(alloc, &object), Some(row.names));
+    assert!(rt; exports.len() <= 4096);
+    same(
+        rt,
+        row.what,
+        2,
+        module_fault(alloc, &object, exports),
+        Some(row.number),
+    );
+    Ok(())
+}
+
+// The names of an object and then the module are refused.
 #[test]
 fn first_faults(rt: HostRuntime) -> Result<(), Fail> {
-    let table: [FaultRow<'_>; 41] = [
-        FaultRow {
-            what: "whole",
-            fields: &[],
-            length: 512,
-            names: 0,
-            number: 0,
-        },
-        FaultRow {
-            what: "short",
-            fields: &[],
-            length: 63,
-            names: 1,
-            number: 1,
-        },
-        FaultRow {
-            what: "magic",
-            fields: &[(0, 1, 0)],
-            length: 512,
-            names: 2,
-            number: 2,
-        },
-        FaultRow {
-            what: "class",
-            fields: &[(4, 1, 1)],
-            length: 512,
-            names: 3,
-            number: 3,
-        },
-        FaultRow {
-            what: "version",
-            fields: &[(20, 4, 2)],
-            length: 512,
-            names: 4,
-            number: 4,
-        },
-        FaultRow {
-            what: "machine",
-            fields: &[(18, 2, 62)],
-            length: 512,
-            names: 5,
-            number: 5,
-        },
-        FaultRow {
-            what: "an executable file",
-            fields: &[(16, 2, 2)],
-            length: 512,
-            names: 6,
-            number: 6,
-        },
-        FaultRow {
-            what: "compressed",
-            fields: &[(48, 4, 1)],
-            length: 512,
-            names: 7,
-            number: 7,
-        },
-        FaultRow {
-            what: "section headers behind the end",
-            fields: &[(40, 8, 193)],
-            length: 512,
-            names: 8,
-            number: 8,
-        },
-        FaultRow {
-            what: "section headers that wrap",
-            fields: &[(40, 8, u64::MAX - 63)],
-            length: 512,
-            names: 8,
-            number: 8,
-        },
-        FaultRow {
-            what: "section headers of 40 bytes",
-            fields: &[(58, 2, 40)],
-            length: 512,
-            names: 8,
-            number: 8,
-        },
-        FaultRow {
-            what: "a section behind the end",
-            fields: &[(0x160, 8, 0x1C1)],
-            length: 512,
-            names: 9,
-            number: 9,
-        },
-        FaultRow {
-            what: "a section that wraps",
-            fields: &[(0x158, 8, u64::MAX)],
-            length: 512,
-            names: 9,
-            number: 9,
-        },
-        FaultRow {
-            what: "zeros behind the end",
-            fields: &[(0x144, 4, 8), (0x160, 8, 0x1C1)],
-            length: 512,
-            names: 0,
-            number: 18,
-        },
-        FaultRow {
-            what: "no symbols",
-            fields: &[(0x1C4, 4, 1)],
-            length: 512,
-            names: 10,
-            number: 10,
-        },
-        FaultRow {
-            what: "symbols of 16 bytes",
-            fields: &[(0x1F8, 8, 16)],
-            length: 512,
-            names: 10,
-            number: 10,
-        },
-        FaultRow {
-            what: "names in another section",
-            fields: &[(0x1E8, 4, 2)],
-            length: 512,
-            names: 10,
-            number: 10,
-        },
-        FaultRow {
-            what: "names in no section",
-            fields: &[(0x1E8, 4, 5)],
-            length: 512,
-            names: 10,
-            number: 10,
-        },
-        FaultRow {
-            what: "alignment of 3",
-            fields: &[(0x170, 8, 3)],
-            length: 512,
-            names: 0,
-            number: 11,
-        },
-        FaultRow {
-            what: "alignment of 8,192",
-            fields: &[(0x1B0, 8, 8192)],
-            length: 512,
-            names: 0,
-            number: 11,
-        },
-        FaultRow {
-            what: "alignment of 0",
-            fields: &[(0x170, 8, 0)],
-            length: 512,
-            names: 0,
-            number: 0,
-        },
-        FaultRow {
-            what: "a field at byte 2",
-            fields: &[(0x80, 8, 2)],
-            length: 512,
-            names: 0,
-            number: 11,
-        },
-        FaultRow {
-            what: "8 bytes at byte 4",
-            fields: &[(0x80, 8, 4), (0x88, 4, 2)],
-            length: 512,
-            names: 0,
-            number: 11,
-        },
-        FaultRow {
-            what: "kind 20",
-            fields: &[(0x88, 4, 20)],
-            length: 512,
-            names: 0,
-            number: 12,
-        },
-        FaultRow {
-            what: "an alignment to be kept by a linker",
-            fields: &[(0x88, 4, 43)],
-            length: 512,
-            names: 0,
-            number: 12,
-        },
-        FaultRow {
-            what: "a kind of more than a byte",
-            fields: &[(0x88, 4, 0x102)],
-            length: 512,
-            names: 0,
-            number: 12,
-        },
-        FaultRow {
-            what: "leave to relax",
-            fields: &[(0x88, 4, 51), (0x8C, 4, 9)],
-            length: 512,
-            names: 0,
-            number: 0,
-        },
-        FaultRow {
-            what: "no such symbol",
-            fields: &[(0x8C, 4, 0xFFFF_FFFF)],
-            length: 512,
-            names: 0,
-            number: 13,
-        },
-        FaultRow {
-            what: "symbol 0",
-            fields: &[(0x8C, 4, 0)],
-            length: 512,
-            names: 19,
-            number: 13,
-        },
-        FaultRow {
-            what: "a name that isn't exported",
-            fields: &[(0x68, 4, 13)],
-            length: 512,
-            names: 0,
-            number: 13,
-        },
-        FaultRow {
-            what: "a common symbol",
-            fields: &[(0x6E, 2, 0xFFF2)],
-            length: 512,
-            names: 0,
-            number: 13,
-        },
-        FaultRow {
-            what: "a symbol of names",
-            fields: &[(0x6E, 2, 1)],
-            length: 512,
-            names: 0,
-            number: 13,
-        },
-        FaultRow {
-            what: "a symbol of no section",
-            fields: &[(0x6E, 2, 5)],
-            length: 512,
-            names: 0,
-            number: 13,
-        },
-        FaultRow {
-            what: "an absolute symbol",
-            fields: &[(0x6E, 2, 0xFFF1)],
-            length: 512,
-            names: 0,
-            number: 0,
-        },
-        FaultRow {
-            what: "a call at the end",
-            fields: &[(0x80, 8, 8)],
-            length: 512,
-            names: 0,
-            number: 14,
-        },
-        FaultRow {
-            what: "a low part of no high part",
-            fields: &[(0x88, 4, 24), (0x6E, 2, 2)],
-            length: 512,
-            names: 0,
-            number: 15,
-        },
-        FaultRow {
-            what: "a low part with an addend",
-            fields: &[(0x88, 4, 24), (0x90, 8, 4)],
-            length: 512,
-            names: 0,
-            number: 15,
-        },
-        FaultRow {
-            what: "two calls at one place",
-            fields: &[
-                (0x198, 8, 512),
-                (0x1A0, 8, 48),
-                (520, 8, 0x1_0000_0012),
-                (544, 8, 0x1_0000_0012),
-            ],
-            length: 560,
-            names: 0,
-            number: 17,
-        },
-        FaultRow {
-            what: "a field in a call",
-            fields: &[
-                (0x198, 8, 512),
-                (0x1A0, 8, 48),
-                (520, 8, 0x1_0000_0012),
-                (536, 8, 4),
-                (544, 8, 0x1_0000_0011),
-            ],
-            length: 560,
-            names: 0,
-            number: 17,
-        },
-        FaultRow {
-            what: "no text",
-            fields: &[(0x160, 8, 0), (0x1A0, 8, 0)],
-            length: 512,
-            names: 0,
-            number: 18,
-        },
-        FaultRow {
-            what: "a name without an end",
-            fields: &[(0x120, 8, 16)],
-            length: 512,
-            names: 19,
-            number: 13,
-        },
-    ];
     let exports = print_exported(rt.alloc())?;
-    for row in table {
-        let FaultRow {
-            what,
-            fields,
-            length,
-            names,
-            number,
-        } = row;
-        let object = changed(rt.alloc(), fields, length)?;
-        assert_eq!(rt;
-            name_fault(rt.alloc(), &object),
-            Some(names),
-            "names of {what}"
-        );
-        assert_eq!(rt;
-            module_fault(rt.alloc(), &object, &exports),
-            Some(number),
-            "{what}"
-        );
+    for row in &FAULTS {
+        check_fault(&rt, rt.alloc(), &exports, row)?;
     }
-    let long = changed(
-        rt.alloc(),
-        &[(0x158, 8, 0), (0x160, 8, 0x40_0001)],
-        0x40_0200,
-    )?;
-    assert_eq!(rt; module_fault(rt.alloc(), &long, &exports), Some(16));
     Ok(())
+}
+
+#[test]
+fn text_that_is_too_long(rt: HostRuntime) -> Result<(), Fail> {
+    let exports = print_exported(rt.alloc())?;
+    let object = changed(rt.alloc(), &LONG_TEXT, 0x40_0200)?;
+    let found = module_fault(rt.alloc(), &object, &exports);
+    same(&rt, "long text", 2, found, Some(16));
+    Ok(())
+}
+
+// The two sites of a call or of an address, by its base and addend.
+fn check_sites(rt: &impl Abort, sites: &[Site], base: u16, addend: i64) {
+    let high = Site {
+        offset: 0,
+        kind: RelocationKind::PcrelHi20,
+        base,
+        addend,
+        anchor: 0,
+    };
+    let low = Site {
+        offset: 4,
+        kind: RelocationKind::PcrelLo12I,
+        base,
+        addend,
+        anchor: 0,
+    };
+    assert!(rt; sites == [high, low].as_slice());
+}
+
+fn check_names(rt: &impl Abort, names: &[Name]) {
+    same(rt, "names", 0, names.len(), 1);
+    for name in names {
+        assert!(rt; name.text() == "print");
+    }
+}
+
+fn check_text(rt: &impl Abort, text: &[u8]) {
+    same(rt, "bytes of text", 0, text.len(), 4096);
+    assert!(rt; text.starts_with(&[0x97, 0, 0, 0, 0xE7, 0x80, 0, 0, 0x67, 0x80, 0, 0, 0]));
 }
 
 #[test]
 fn a_call_of_an_export(rt: HostRuntime) -> Result<(), Fail> {
     let object = changed(rt.alloc(), &[], OBJECT_BYTES)?;
-    let names = undefined_names(rt.alloc(), &object)?;
-    assert_eq!(rt; names.len(), 1);
-    for name in &names {
-        assert_eq!(rt; name.text(), "print");
-    }
+    check_names(&rt, &undefined_names(rt.alloc(), &object)?);
     let exports = print_exported(rt.alloc())?;
     let module = read_module(rt.alloc(), &object, &exports)?;
-    let wanted = vec![in rt.alloc();
-        Site {
-            offset: 0,
-            kind: RelocationKind::PcrelHi20,
-            base: 3,
-            addend: 0,
-            anchor: 0
-        },
-        Site {
-            offset: 4,
-            kind: RelocationKind::PcrelLo12I,
-            base: 3,
-            addend: 0,
-            anchor: 0
-        },
-    ]?;
-    assert_eq!(rt; module.sites, wanted);
-    assert_eq!(rt; module.text.len(), 4096);
-    assert!(rt;
-        module
-            .text
-            .starts_with(&[0x97, 0, 0, 0, 0xE7, 0x80, 0, 0, 0x67, 0x80, 0, 0, 0])
-    );
+    check_sites(&rt, &module.sites, 3, 0);
+    check_text(&rt, &module.text);
     Ok(())
 }
+
+static LOW_BEFORE_HIGH: [Field; 14] = [
+    (0x198, 8, 512),
+    (0x1A0, 8, 48),
+    (512, 8, 4),
+    (520, 8, 0x1_0000_0018),
+    (536, 8, 0),
+    (544, 8, 0x2_0000_0017),
+    (552, 8, 40),
+    (0x1D8, 8, 560),
+    (0x1E0, 8, 72),
+    (0x6C, 4, 0),
+    (590, 2, 2),
+    (614, 2, 1),
+    (616, 8, 7),
+    (0x108, 8, 2),
+];
 
 // A low part in front of its high part, which names data: text, data and zeros are laid out in their spaces.
 #[test]
 fn a_low_part_goes_by_its_high_part(rt: HostRuntime) -> Result<(), Fail> {
-    let fields = [
-        (0x198, 8, 512),
-        (0x1A0, 8, 48),
-        (512, 8, 4),
-        (520, 8, 0x1_0000_0018),
-        (536, 8, 0),
-        (544, 8, 0x2_0000_0017),
-        (552, 8, 40),
-        (0x1D8, 8, 560),
-        (0x1E0, 8, 72),
-        (0x6C, 4, 0),
-        (590, 2, 2),
-        (614, 2, 1),
-        (616, 8, 7),
-        (0x108, 8, 2),
-    ];
-    let object = changed(rt.alloc(), &fields, 640)?;
+    let object = changed(rt.alloc(), &LOW_BEFORE_HIGH, 640)?;
     let names = undefined_names(rt.alloc(), &object)?;
-    assert_eq!(rt; names.len(), 0);
+    same(&rt, "names", 0, names.len(), 0);
     let module = read_module(rt.alloc(), &object, &[])?;
-    let wanted = vec![in rt.alloc();
-        Site {
-            offset: 0,
-            kind: RelocationKind::PcrelHi20,
-            base: 1,
-            addend: 47,
-            anchor: 0
-        },
-        Site {
-            offset: 4,
-            kind: RelocationKind::PcrelLo12I,
-            base: 1,
-            addend: 47,
-            anchor: 0
-        },
-    ]?;
-    assert_eq!(rt; module.sites, wanted);
+    check_sites(&rt, &module.sites, 1, 47);
     Ok(())
 }
 
 // An object with fields changed, and where it is refused for a kernel that exports `print`; the empty text where it isn't.
-#[derive(Clone, Copy, Drop)]
-struct PlaceRow<'a> {
-    fields: &'a [Field],
-    place: &'a str,
+struct PlaceRow {
+    fields: [Field; 3],
+    place: &'static str,
+}
+
+static PLACES: [PlaceRow; 5] = [
+    PlaceRow {
+        fields: [NONE, NONE, NONE],
+        place: "",
+    },
+    PlaceRow {
+        fields: [(0x140, 4, 6), (0x170, 8, 3), NONE],
+        place: "section .text",
+    },
+    PlaceRow {
+        fields: [(0x140, 4, 6), (0x88, 4, 20), NONE],
+        place: "section .text, offset 0x0, R_RISCV_GOT_HI20 (20), symbol print",
+    },
+    PlaceRow {
+        fields: [(0x68, 4, 1), (0x88, 4, 99), NONE],
+        place: "section 2, offset 0x0, relocation 99, symbol .rela.text",
+    },
+    PlaceRow {
+        fields: [(0x140, 4, 6), (0x80, 8, 8), (62, 2, 9)],
+        place: "section 2, offset 0x8, R_RISCV_CALL (18), symbol print",
+    },
+];
+
+fn check_place(
+    rt: &impl Abort,
+    alloc: Global,
+    exports: &[Export],
+    row: &PlaceRow,
+) -> Result<(), AllocError> {
+    let object = changed(alloc, &row.fields, OBJECT_BYTES)?;
+    assert!(rt; exports.len() <= 4096);
+    let place = refused_place(alloc, &object, exports)?;
+    let wanted = row.place;
+    match &place {
+        Some(told) => assert!(rt; told.as_str() == wanted, "{told}, not {wanted}"),
+        None => assert!(rt; wanted.is_empty(), "{wanted}"),
+    }
+    Ok(())
 }
 
 #[test]
 fn refused_places(rt: HostRuntime) -> Result<(), Fail> {
-    let table: [PlaceRow<'_>; 5] = [
-        PlaceRow {
-            fields: &[],
-            place: "",
-        },
-        PlaceRow {
-            fields: &[(0x140, 4, 6), (0x170, 8, 3)],
-            place: "section .text",
-        },
-        PlaceRow {
-            fields: &[(0x140, 4, 6), (0x88, 4, 20)],
-            place: "section .text, offset 0x0, R_RISCV_GOT_HI20 (20), symbol print",
-        },
-        PlaceRow {
-            fields: &[(0x68, 4, 1), (0x88, 4, 99)],
-            place: "section 2, offset 0x0, relocation 99, symbol .rela.text",
-        },
-        PlaceRow {
-            fields: &[(0x140, 4, 6), (0x80, 8, 8), (62, 2, 9)],
-            place: "section 2, offset 0x8, R_RISCV_CALL (18), symbol print",
-        },
-    ];
     let exports = print_exported(rt.alloc())?;
-    for row in &table {
-        let object = changed(rt.alloc(), row.fields, OBJECT_BYTES)?;
-        let place = refused_place(rt.alloc(), &object, &exports)?;
-        let told = match &place {
-            Some(place) => place.as_str(),
-            None => "",
-        };
-        assert!(rt; told == row.place, "{told}, not {}", row.place);
+    for row in &PLACES {
+        check_place(&rt, rt.alloc(), &exports, row)?;
     }
     Ok(())
 }

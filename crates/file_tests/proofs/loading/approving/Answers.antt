@@ -4,7 +4,7 @@ use Rattle.processor.specs.Regions.{Region}
 use Rattle.elf64_load.specs.Images.{segments_of}
 use Rattle.image_loader.specs.Placed.{ArePlaced}
 use Rattle.image_loader.proofs.Accepted.{image_placed}
-use Rattle.file_tests.proofs.loading.pages_of_text_are_approved.Goals as goal
+use Rattle.file_tests.proofs.loading.approving.Goals as goal
 
 pub approve_text-requires-clause-placed : goal.approve_text-requires-clause-placed
 approve_text-requires-clause-placed g c =
