@@ -1,6 +1,6 @@
 // The commands, as `clap` is told them.
 ghost use Rattle.std.specs.Prelude.{◌≡◌, IfOk, false, map};
-ghost use Rattle.clap.specs.Words.{app_of, rule_of};
+ghost use Rattle.clap.specs.Words.{app_of, rule_of, with_subcommand};
 ghost use Rattle.clap.specs.declared.builder.Command.TheViews.{out-Command};
 ghost use Rattle.command_words.specs.Parsing.{wanted_rule, list_rule, wanting, measure_app, bare_app, whole_app};
 
@@ -21,19 +21,32 @@ const CONVERT: [&str; 3] = ["KERNEL", "IN", "OUT"];
 pub fn program<'a>(alloc: Global) -> Result<Command<'a>, AllocError>
     ensures { IfOk result (λ c. app_of c ≡ whole_app) }
 {
-    // Each command is added before the next one is made, so that few of them are to be dropped where memory is wanting.
-    let flat = wanting(alloc, "flat", &FLAT)?;
-    let program = bare(alloc).subcommand(flat)?;
-    let generated = wanting(alloc, "gen", &GEN)?;
-    let program = program.subcommand(generated)?;
-    let run = wanting(alloc, "run", &RUN)?;
-    let program = program.subcommand(run)?;
-    let virtio_run = wanting(alloc, "vrun", &RUN)?;
-    let program = program.subcommand(virtio_run)?;
-    let measure = measure(alloc)?;
-    let program = program.subcommand(measure)?;
-    let convert = wanting(alloc, "convert", &CONVERT)?;
-    program.subcommand(convert)
+    let program = with_words(alloc, bare(alloc), "flat", &FLAT)?;
+    let program = with_words(alloc, program, "gen", &GEN)?;
+    let program = with_words(alloc, program, "run", &RUN)?;
+    let program = with_words(alloc, program, "vrun", &RUN)?;
+    let program = with_measure(alloc, program)?;
+    with_words(alloc, program, "convert", &CONVERT)
+}
+
+// A program with one more command, which wants a word under each of the names.
+fn with_words<'a>(
+    alloc: Global,
+    program: Command<'a>,
+    name: &'a str,
+    words: &[&'a str],
+) -> Result<Command<'a>, AllocError>
+    ensures { IfOk result (λ c. app_of c ≡ with_subcommand (app_of program.entry) (wanting name.entry.now (map (λ w. w.now) words.now)).top) }
+{
+    let command = wanting(alloc, name, words)?;
+    program.subcommand(command)
+}
+
+fn with_measure<'a>(alloc: Global, program: Command<'a>) -> Result<Command<'a>, AllocError>
+    ensures { IfOk result (λ c. app_of c ≡ with_subcommand (app_of program.entry) measure_app.top) }
+{
+    let command = measure(alloc)?;
+    program.subcommand(command)
 }
 
 // The words begin with the name of a command.
