@@ -24,7 +24,7 @@ abbrev pub Repeats : ℕ → Machine → Event → Machine → Type 0
 Repeats zero m e after = after ≡ m
 Repeats (suc n) m e after = (before : Machine) × (Repeats n m e before × (IsQuiet m before × Makes before e after))
 
--- so many events may be made: one of them prints, and each is counted
+-- so many events may be made: one of them may print, and each is counted
 pub record MayMake (m : Machine) (n : ℕ) : Type 0 where
   pub asked : 0 < n
   pub few : n ≤ most_counts

@@ -1,6 +1,6 @@
 // The machine before its first event.
 
-ghost use Rattle.std.specs.Prelude.{◌≡◌, [], ◌≤◌, ◌*◌, ◌/◌, ◌%◌, ◌↔◌, length, replicate, true, false, IfOk, OnOk, IfErr, IsTrue};
+ghost use Rattle.std.specs.Prelude.{◌≡◌, [], ◌≤◌, ◌*◌, ◌/◌, ◌%◌, ◌↔◌, length, replicate, true, false, None, IfOk, OnOk, IfErr, IsTrue};
 ghost use Rattle.processor.specs.Bytes.{page_size};
 ghost use Rattle.sv_types.specs.Boot.{flat_ram_pages, most_flat_bytes};
 ghost use Rattle.sv_types.specs.Limits.{most_harts};
@@ -12,6 +12,7 @@ ghost use Rattle.hart_answers.specs.Hosts.{host_at, hosts_of};
 ghost use Rattle.reference.specs.Start.{flat_rules, flat_start};
 ghost use Rattle.machine_model.specs.Reaches.{IsNew};
 ghost use Rattle.machine_model.specs.StandsFor.{bound_pages};
+ghost use Rattle.module_gate.specs.Gates.{no_modules};
 ghost use Rattle.standing_laws.specs.Starts.{host_at_boot, hosts_at_boot, machine_at_boot, first_approved, flat_ram, flat_machine, journal_at_boot, IsGuarded};
 ghost use Rattle.disk_port.specs.Ports.{port_disk};
 ghost use Rattle.machine.specs.Attempts.{nothing_kept};
@@ -59,13 +60,15 @@ impl Parts {
         requires four { policy.harts ≤ most_harts }
         ensures { IfOk result (λ p. p ≡ machine_at_boot (rules_of policy) mem entry guard.pages (port_disk port)) }
     {
-        let entries = Entries::new(alloc, &policy.entries, &policy.bound)?;
-        let seats = seats_at_boot(alloc, &guard, policy.harts, entry)?;
-        let caches = empty_caches(alloc, policy.harts)?;
-        let journal = Journal::new(alloc)?;
-        let cpu = Cpu::new(alloc)?;
-        let words = Words::new(alloc)?;
-        let modules = Modules::new(alloc)?;
+        let Begun {
+            entries,
+            seats,
+            caches,
+            modules,
+            journal,
+            cpu,
+            words,
+        } = Begun::new(alloc, &policy, &guard, entry)?;
         Ok(Parts {
             policy,
             entries,
@@ -104,6 +107,57 @@ impl Parts {
     {
         judge_measure(rt, alloc, pages, wanted)?;
         Ok(assemble(alloc, pages, wanted)?)
+    }
+}
+
+/// What a machine begins with beside its memory and its devices.
+pub(crate) struct Begun {
+    pub(crate) entries: Entries,
+    pub(crate) seats: Vec<Seat>,
+    pub(crate) caches: Vec<HartCaches>,
+    pub(crate) modules: Modules,
+    pub(crate) journal: Journal,
+    pub(crate) cpu: Cpu,
+    pub(crate) words: Words,
+}
+
+impl Begun {
+    /// The permitted entries of a policy and its harts, of which the first begins at an entry. No module is loaded, and nothing is
+    /// recorded or kept.
+    pub(crate) fn new(
+        alloc: Global,
+        policy: &Policy,
+        guard: &Guard,
+        entry: u64,
+    ) -> Result<Begun, AllocError>
+        requires along { length policy.now.bound.items ≤ length policy.now.entries.items }
+        requires few { length policy.now.bound.items ≤ most_bound }
+        requires one { 1 ≤ policy.now.harts }
+        ensures entries { IfOk result (λ b. b.entries ≡ record { entries = policy.now.entries.items; bound = policy.now.bound.items }) }
+        ensures hosts { IfOk result (λ b. hosts_of b.seats.items ≡ hosts_at_boot policy.now.harts entry) }
+        ensures number { IfOk result (λ b. length b.seats.items ≡ policy.now.harts) }
+        ensures caches { IfOk result (λ b. b.caches.items ≡ replicate policy.now.harts nothing_kept) }
+        ensures gate { IfOk result (λ b. b.modules.gate ≡ no_modules) }
+        ensures loading { IfOk result (λ b. b.modules.loading ≡ None) }
+        ensures journal { IfOk result (λ b. b.journal ≡ journal_at_boot) }
+        ensures attempts { IfOk result (λ b. b.cpu ≡ 0) }
+    {
+        let entries = Entries::new(alloc, &policy.entries, &policy.bound)?;
+        let seats = seats_at_boot(alloc, guard, policy.harts, entry)?;
+        let caches = empty_caches(alloc, policy.harts)?;
+        let journal = Journal::new(alloc)?;
+        let cpu = Cpu::new(alloc)?;
+        let words = Words::new(alloc)?;
+        let modules = Modules::new(alloc)?;
+        Ok(Begun {
+            entries,
+            seats,
+            caches,
+            modules,
+            journal,
+            cpu,
+            words,
+        })
     }
 }
 

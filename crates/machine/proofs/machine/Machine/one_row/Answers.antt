@@ -1,4 +1,4 @@
-use Rattle.std.proofs.Common.{◌+◌, ◌-◌, ℕ, subst, sym, arith}
+use Rattle.std.proofs.Common.{◌-◌, subst, sym, arith}
 use Rattle.sv_types.specs.declared.event.Event.TheVariants.{Turn}
 use Rattle.reference.specs.Counting.{CountsAtMost}
 use Rattle.machine_model.specs.Machine.{Machine}

@@ -1,4 +1,4 @@
-use Rattle.std.proofs.Common.{◌+◌, ◌-◌, arith, refl}
+use Rattle.std.proofs.Common.{◌-◌, arith, refl}
 use Rattle.machine.specs.Limits.{most_counts}
 use Rattle.machine.proofs.Repeated.{counts_within}
 use Rattle.machine.proofs.machine.Machine.round.Goals as goal
