@@ -55,16 +55,13 @@ fn writes_of_a_device(rt: HostRuntime) -> Result<(), Fail> {
     let bytes = [0x5A; 64];
     for write in &WRITES {
         let found = guard.write(&mut mem, write.gpa, &bytes[..write.len]);
-        assert_eq!(rt; found, write.answer, "{}", write.gpa);
+        assert!(rt; found == write.answer, "{}", write.gpa);
     }
     let mut read = [0; 64];
     guard.read(&mem, 0x8000_0FC0, &mut read)?;
     assert_eq!(rt; read, bytes);
     guard.read(&mem, 0x8000_1FC0, &mut read)?;
     assert_eq!(rt; read, [0; 64]);
-    assert_eq!(rt;
-        guard.read(&mem, 0x8000_1FC1, &mut read),
-        Err(DmaRefused::OutOfRam)
-    );
+    assert!(rt; guard.read(&mem, 0x8000_1FC1, &mut read) == Err(DmaRefused::OutOfRam));
     Ok(())
 }

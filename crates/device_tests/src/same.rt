@@ -1,13 +1,12 @@
 // What is found at a place, and has to be as wanted: `what` says of which the place is.
-use std::fmt::Debug;
 use std::process::Abort;
 
-pub(crate) fn same<T: Copy + Debug + PartialEq>(
+pub(crate) fn same<T: Copy + PartialEq>(
     rt: &impl Abort,
     what: &str,
     place: u64,
     found: T,
     wanted: T,
 ) {
-    assert_eq!(rt; found, wanted, "{what} {place}");
+    assert!(rt; found == wanted, "{what} {place}");
 }

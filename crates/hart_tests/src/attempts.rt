@@ -118,299 +118,521 @@ fn core_with(address: u64) -> Core {
     core
 }
 
-fn exit(cause: Cause, pc: u64, stval: u64, htval: u64, htinst: u32) -> Outcome {
-    Outcome::Exit(Exit {
-        cause: ExitCause::Exception(cause),
-        pc,
-        stval,
-        htval,
-        htinst,
-    })
-}
-
-fn wrote(hpa: u64, width: u8) -> Outcome {
-    Outcome::Retired {
-        wrote: Some(Wrote {
-            hpa,
-            width: u64::from(width),
-        }),
-    }
-}
-
 const DONE: Outcome = Outcome::Retired { wrote: None };
 
 // Where the table part ends: its tables take twelve pages, and a block of RAM begins at a multiple of 2 MiB.
 const TABLES: u64 = 0x20_0000;
 
-// Each row: the mode, the instruction, x1, and what comes of it: the outcome, x3, and whether the reservation stands.
+const LOADED: u64 = 0x1122_3344_5566_7780;
+
+// An instruction in a mode, with its address in x1, and what comes of it.
+struct Attempt {
+    mode: Mode,
+    word: u64,
+    address: u64,
+    outcome: Outcome,
+    x3: u64,
+    // The reservation does.
+    stands: bool,
+}
+
+static ATTEMPTS: [Attempt; 30] = [
+    // addi
+    Attempt {
+        mode: Mode::Kernel,
+        word: 0x0050_0193,
+        address: 0,
+        outcome: DONE,
+        x3: 5,
+        stands: true,
+    },
+    // lb, ld
+    Attempt {
+        mode: Mode::Kernel,
+        word: 0x0000_8183,
+        address: 0x8000_2000,
+        outcome: DONE,
+        x3: 0xFFFF_FFFF_FFFF_FF80,
+        stands: true,
+    },
+    Attempt {
+        mode: Mode::Kernel,
+        word: 0x0000_B183,
+        address: 0x8000_2000,
+        outcome: DONE,
+        x3: LOADED,
+        stands: true,
+    },
+    Attempt {
+        mode: Mode::Kernel,
+        word: 0x0000_B183,
+        address: 0x8000_2001,
+        outcome: Outcome::GuestTrap,
+        x3: 0,
+        stands: false,
+    },
+    Attempt {
+        mode: Mode::Kernel,
+        word: 0x0000_B183,
+        address: 0x200_0000_0000,
+        outcome: Outcome::Exit(Exit {
+            cause: ExitCause::Exception(Cause::GuestLoad),
+            pc: KERNEL_PC,
+            stval: 0x200_0000_0000,
+            htval: 0x80_0000_0000,
+            htinst: 0x3183,
+        }),
+        x3: 0,
+        stands: true,
+    },
+    // sd
+    Attempt {
+        mode: Mode::Kernel,
+        word: 0x0020_B023,
+        address: 0x8000_3000,
+        outcome: Outcome::Retired {
+            wrote: Some(Wrote {
+                hpa: TABLES + 0x3000,
+                width: 8,
+            }),
+        },
+        x3: 0,
+        stands: true,
+    },
+    Attempt {
+        mode: Mode::Kernel,
+        word: 0x0020_B023,
+        address: 0x8000_2000,
+        outcome: Outcome::Retired {
+            wrote: Some(Wrote {
+                hpa: TABLES + 0x2000,
+                width: 8,
+            }),
+        },
+        x3: 0,
+        stands: false,
+    },
+    Attempt {
+        mode: Mode::Kernel,
+        word: 0x0020_B023,
+        address: 0x8000_0008,
+        outcome: Outcome::Exit(Exit {
+            cause: ExitCause::Exception(Cause::GuestStore),
+            pc: KERNEL_PC,
+            stval: 0x8000_0008,
+            htval: 0x2000_0002,
+            htinst: 0x0020_3023,
+        }),
+        x3: 0,
+        stands: true,
+    },
+    Attempt {
+        mode: Mode::User,
+        word: 0x0020_B023,
+        address: 0x8000_0001,
+        outcome: Outcome::Exit(Exit {
+            cause: ExitCause::Exception(Cause::StoreMisaligned),
+            pc: USER_PC,
+            stval: 0x8000_0001,
+            htval: 0,
+            htinst: 0,
+        }),
+        x3: 0,
+        stands: true,
+    },
+    // lr.d, sc.d
+    Attempt {
+        mode: Mode::Kernel,
+        word: 0x1000_B1AF,
+        address: 0x8000_2000,
+        outcome: DONE,
+        x3: LOADED,
+        stands: true,
+    },
+    Attempt {
+        mode: Mode::Kernel,
+        word: 0x1820_B1AF,
+        address: 0x8000_2000,
+        outcome: Outcome::Retired {
+            wrote: Some(Wrote {
+                hpa: TABLES + 0x2000,
+                width: 8,
+            }),
+        },
+        x3: 0,
+        stands: false,
+    },
+    Attempt {
+        mode: Mode::Kernel,
+        word: 0x1820_B1AF,
+        address: 0x8000_3000,
+        outcome: DONE,
+        x3: 1,
+        stands: false,
+    },
+    Attempt {
+        mode: Mode::Kernel,
+        word: 0x1820_B1AF,
+        address: 0x8000_0008,
+        outcome: Outcome::Exit(Exit {
+            cause: ExitCause::Exception(Cause::GuestStore),
+            pc: KERNEL_PC,
+            stval: 0x8000_0008,
+            htval: 0x2000_0002,
+            htinst: 0x1820_31AF,
+        }),
+        x3: 0,
+        stands: true,
+    },
+    // amoadd.d, amoadd.w
+    Attempt {
+        mode: Mode::Kernel,
+        word: 0x0020_B1AF,
+        address: 0x8000_2000,
+        outcome: Outcome::Retired {
+            wrote: Some(Wrote {
+                hpa: TABLES + 0x2000,
+                width: 8,
+            }),
+        },
+        x3: LOADED,
+        stands: false,
+    },
+    Attempt {
+        mode: Mode::Kernel,
+        word: 0x0020_A1AF,
+        address: 0x1000_0000,
+        outcome: Outcome::Exit(Exit {
+            cause: ExitCause::Exception(Cause::GuestStore),
+            pc: KERNEL_PC,
+            stval: 0x1000_0000,
+            htval: 0x400_0000,
+            htinst: 0x0020_21AF,
+        }),
+        x3: 0,
+        stands: true,
+    },
+    // csrrs of sstatus, csrrw of time
+    Attempt {
+        mode: Mode::Kernel,
+        word: 0x1000_21F3,
+        address: 0,
+        outcome: DONE,
+        x3: 0x2_0000_0000,
+        stands: true,
+    },
+    Attempt {
+        mode: Mode::User,
+        word: 0x1000_21F3,
+        address: 0,
+        outcome: Outcome::Exit(Exit {
+            cause: ExitCause::Exception(Cause::Virtual),
+            pc: USER_PC,
+            stval: 0x1000_21F3,
+            htval: 0,
+            htinst: 0,
+        }),
+        x3: 0,
+        stands: true,
+    },
+    Attempt {
+        mode: Mode::Kernel,
+        word: 0xC010_91F3,
+        address: 0,
+        outcome: Outcome::GuestTrap,
+        x3: 0,
+        stands: false,
+    },
+    // ecall, ebreak
+    Attempt {
+        mode: Mode::Kernel,
+        word: 0x0000_0073,
+        address: 0,
+        outcome: Outcome::Exit(Exit {
+            cause: ExitCause::Exception(Cause::GuestCall),
+            pc: KERNEL_PC,
+            stval: 0,
+            htval: 0,
+            htinst: 0,
+        }),
+        x3: 0,
+        stands: true,
+    },
+    Attempt {
+        mode: Mode::User,
+        word: 0x0000_0073,
+        address: 0,
+        outcome: Outcome::Exit(Exit {
+            cause: ExitCause::Exception(Cause::UserCall),
+            pc: USER_PC,
+            stval: 0,
+            htval: 0,
+            htinst: 0,
+        }),
+        x3: 0,
+        stands: true,
+    },
+    Attempt {
+        mode: Mode::Kernel,
+        word: 0x0010_0073,
+        address: 0,
+        outcome: Outcome::GuestTrap,
+        x3: 0,
+        stands: false,
+    },
+    Attempt {
+        mode: Mode::User,
+        word: 0x0010_0073,
+        address: 0,
+        outcome: Outcome::Exit(Exit {
+            cause: ExitCause::Exception(Cause::Breakpoint),
+            pc: USER_PC,
+            stval: USER_PC,
+            htval: 0,
+            htinst: 0,
+        }),
+        x3: 0,
+        stands: true,
+    },
+    // wfi, sret, sfence.vma, fence, hlv.b, jalr, no instruction
+    Attempt {
+        mode: Mode::Kernel,
+        word: 0x1050_0073,
+        address: 0,
+        outcome: DONE,
+        x3: 0,
+        stands: true,
+    },
+    Attempt {
+        mode: Mode::User,
+        word: 0x1050_0073,
+        address: 0,
+        outcome: Outcome::Exit(Exit {
+            cause: ExitCause::Exception(Cause::Virtual),
+            pc: USER_PC,
+            stval: 0x1050_0073,
+            htval: 0,
+            htinst: 0,
+        }),
+        x3: 0,
+        stands: true,
+    },
+    Attempt {
+        mode: Mode::Kernel,
+        word: 0x1020_0073,
+        address: 0,
+        outcome: Outcome::Exit(Exit {
+            cause: ExitCause::Exception(Cause::Virtual),
+            pc: KERNEL_PC,
+            stval: 0x1020_0073,
+            htval: 0,
+            htinst: 0,
+        }),
+        x3: 0,
+        stands: true,
+    },
+    Attempt {
+        mode: Mode::User,
+        word: 0x1200_0073,
+        address: 0,
+        outcome: Outcome::Exit(Exit {
+            cause: ExitCause::Exception(Cause::Virtual),
+            pc: USER_PC,
+            stval: 0x1200_0073,
+            htval: 0,
+            htinst: 0,
+        }),
+        x3: 0,
+        stands: true,
+    },
+    Attempt {
+        mode: Mode::Kernel,
+        word: 0x0FF0_000F,
+        address: 0,
+        outcome: DONE,
+        x3: 0,
+        stands: true,
+    },
+    Attempt {
+        mode: Mode::Kernel,
+        word: 0x6000_C1F3,
+        address: 0,
+        outcome: Outcome::Exit(Exit {
+            cause: ExitCause::Exception(Cause::Virtual),
+            pc: KERNEL_PC,
+            stval: 0x6000_C1F3,
+            htval: 0,
+            htinst: 0,
+        }),
+        x3: 0,
+        stands: true,
+    },
+    Attempt {
+        mode: Mode::User,
+        word: 0x0000_81E7,
+        address: 0x8000_0002,
+        outcome: Outcome::Exit(Exit {
+            cause: ExitCause::Exception(Cause::InstrMisaligned),
+            pc: USER_PC,
+            stval: 0x8000_0002,
+            htval: 0,
+            htinst: 0,
+        }),
+        x3: 0,
+        stands: true,
+    },
+    Attempt {
+        mode: Mode::User,
+        word: 0,
+        address: 0,
+        outcome: Outcome::Exit(Exit {
+            cause: ExitCause::Exception(Cause::Illegal),
+            pc: USER_PC,
+            stval: 0,
+            htval: 0,
+            htinst: 0,
+        }),
+        x3: 0,
+        stands: true,
+    },
+];
+
+// The attempt of a row by itself.
+fn check_attempt(rt: &impl Abort, alloc: Global, row: &Attempt) -> Result<(), AllocError> {
+    let word = row.word;
+    let mut core = core_with(row.address);
+    core.pc = match row.mode {
+        Mode::Kernel => KERNEL_PC,
+        Mode::User => USER_PC,
+    };
+    let words = [(0, word), (0x4000, word), (0x2000, LOADED)];
+    let found = attempt_once(rt, alloc, &words, &mut core, row.mode, &QUIET)?;
+    let left = (found, core.regs.get(3), core.reservation.is_some());
+    assert!(rt; left == (row.outcome, row.x3, row.stands), "{word:x}");
+    Ok(())
+}
+
 #[test]
 fn each_instruction_has_its_outcome(rt: HostRuntime) -> Result<(), AllocError> {
-    const K: Mode = Mode::Kernel;
-    const U: Mode = Mode::User;
-    const LOADED: u64 = 0x1122_3344_5566_7780;
-    for (mode, word, address, want, x3, stands) in [
-        // addi
-        (K, 0x0050_0193, 0, DONE, 5, true),
-        // lb, ld
-        (
-            K,
-            0x0000_8183,
-            0x8000_2000,
-            DONE,
-            0xFFFF_FFFF_FFFF_FF80,
-            true,
-        ),
-        (K, 0x0000_B183, 0x8000_2000, DONE, LOADED, true),
-        (K, 0x0000_B183, 0x8000_2001, Outcome::GuestTrap, 0, false),
-        (
-            K,
-            0x0000_B183,
-            0x200_0000_0000,
-            exit(
-                Cause::GuestLoad,
-                KERNEL_PC,
-                0x200_0000_0000,
-                0x80_0000_0000,
-                0x3183,
-            ),
-            0,
-            true,
-        ),
-        // sd
-        (
-            K,
-            0x0020_B023,
-            0x8000_3000,
-            wrote(TABLES + 0x3000, 8),
-            0,
-            true,
-        ),
-        (
-            K,
-            0x0020_B023,
-            0x8000_2000,
-            wrote(TABLES + 0x2000, 8),
-            0,
-            false,
-        ),
-        (
-            K,
-            0x0020_B023,
-            0x8000_0008,
-            exit(
-                Cause::GuestStore,
-                KERNEL_PC,
-                0x8000_0008,
-                0x2000_0002,
-                0x0020_3023,
-            ),
-            0,
-            true,
-        ),
-        (
-            U,
-            0x0020_B023,
-            0x8000_0001,
-            exit(Cause::StoreMisaligned, USER_PC, 0x8000_0001, 0, 0),
-            0,
-            true,
-        ),
-        // lr.d, sc.d
-        (K, 0x1000_B1AF, 0x8000_2000, DONE, LOADED, true),
-        (
-            K,
-            0x1820_B1AF,
-            0x8000_2000,
-            wrote(TABLES + 0x2000, 8),
-            0,
-            false,
-        ),
-        (K, 0x1820_B1AF, 0x8000_3000, DONE, 1, false),
-        (
-            K,
-            0x1820_B1AF,
-            0x8000_0008,
-            exit(
-                Cause::GuestStore,
-                KERNEL_PC,
-                0x8000_0008,
-                0x2000_0002,
-                0x1820_31AF,
-            ),
-            0,
-            true,
-        ),
-        // amoadd.d, amoadd.w
-        (
-            K,
-            0x0020_B1AF,
-            0x8000_2000,
-            wrote(TABLES + 0x2000, 8),
-            LOADED,
-            false,
-        ),
-        (
-            K,
-            0x0020_A1AF,
-            0x1000_0000,
-            exit(
-                Cause::GuestStore,
-                KERNEL_PC,
-                0x1000_0000,
-                0x400_0000,
-                0x0020_21AF,
-            ),
-            0,
-            true,
-        ),
-        // csrrs of sstatus, csrrw of time
-        (K, 0x1000_21F3, 0, DONE, 0x2_0000_0000, true),
-        (
-            U,
-            0x1000_21F3,
-            0,
-            exit(Cause::Virtual, USER_PC, 0x1000_21F3, 0, 0),
-            0,
-            true,
-        ),
-        (K, 0xC010_91F3, 0, Outcome::GuestTrap, 0, false),
-        // ecall, ebreak
-        (
-            K,
-            0x0000_0073,
-            0,
-            exit(Cause::GuestCall, KERNEL_PC, 0, 0, 0),
-            0,
-            true,
-        ),
-        (
-            U,
-            0x0000_0073,
-            0,
-            exit(Cause::UserCall, USER_PC, 0, 0, 0),
-            0,
-            true,
-        ),
-        (K, 0x0010_0073, 0, Outcome::GuestTrap, 0, false),
-        (
-            U,
-            0x0010_0073,
-            0,
-            exit(Cause::Breakpoint, USER_PC, USER_PC, 0, 0),
-            0,
-            true,
-        ),
-        // wfi, sret, sfence.vma, fence, hlv.b, jalr, no instruction
-        (K, 0x1050_0073, 0, DONE, 0, true),
-        (
-            U,
-            0x1050_0073,
-            0,
-            exit(Cause::Virtual, USER_PC, 0x1050_0073, 0, 0),
-            0,
-            true,
-        ),
-        (
-            K,
-            0x1020_0073,
-            0,
-            exit(Cause::Virtual, KERNEL_PC, 0x1020_0073, 0, 0),
-            0,
-            true,
-        ),
-        (
-            U,
-            0x1200_0073,
-            0,
-            exit(Cause::Virtual, USER_PC, 0x1200_0073, 0, 0),
-            0,
-            true,
-        ),
-        (K, 0x0FF0_000F, 0, DONE, 0, true),
-        (
-            K,
-            0x6000_C1F3,
-            0,
-            exit(Cause::Virtual, KERNEL_PC, 0x6000_C1F3, 0, 0),
-            0,
-            true,
-        ),
-        (
-            U,
-            0x0000_81E7,
-            0x8000_0002,
-            exit(Cause::InstrMisaligned, USER_PC, 0x8000_0002, 0, 0),
-            0,
-            true,
-        ),
-        (U, 0, 0, exit(Cause::Illegal, USER_PC, 0, 0, 0), 0, true),
-    ] {
-        let mut core = core_with(address);
-        core.pc = if mode == K { KERNEL_PC } else { USER_PC };
-        let words = [(0, word), (0x4000, word), (0x2000, LOADED)];
-        let found = attempt_once(&rt, rt.alloc(), &words, &mut core, mode, &QUIET)?;
-        assert_eq!(rt; found, want, "of {word:x}");
-        assert_eq!(rt; core.regs.get(3), x3, "x3 of {word:x}");
-        assert_eq!(rt;
-            core.reservation.is_some(),
-            stands,
-            "reservation of {word:x}"
-        );
+    for row in &ATTEMPTS {
+        check_attempt(&rt, rt.alloc(), row)?;
     }
     Ok(())
 }
 
+// A fetch from a page, in a mode, with these registers and lines, and what comes of it.
+struct Fetch {
+    mode: Mode,
+    page: u8,
+    status: u64,
+    satp: u64,
+    lines: Lines,
+    outcome: Outcome,
+}
+
 // An interrupt goes to the guest in kernel mode where SIE is set; a fetch asks the mode's view; a first stage whose root
 // lies outside RAM is an implicit fault.
+static FETCHES: [Fetch; 7] = [
+    Fetch {
+        mode: Mode::Kernel,
+        page: 0,
+        status: 0,
+        satp: 0,
+        lines: TIMER,
+        outcome: DONE,
+    },
+    Fetch {
+        mode: Mode::Kernel,
+        page: 0,
+        status: 2,
+        satp: 0,
+        lines: TIMER,
+        outcome: Outcome::GuestTrap,
+    },
+    Fetch {
+        mode: Mode::Kernel,
+        page: 1,
+        status: 2,
+        satp: 0,
+        lines: TIMER,
+        outcome: Outcome::GuestTrap,
+    },
+    Fetch {
+        mode: Mode::User,
+        page: 4,
+        status: 0,
+        satp: 0,
+        lines: TIMER,
+        outcome: Outcome::Exit(Exit {
+            cause: ExitCause::Interrupt(Interrupt::Timer),
+            pc: USER_PC,
+            stval: 0,
+            htval: 0,
+            htinst: 0,
+        }),
+    },
+    Fetch {
+        mode: Mode::Kernel,
+        page: 1,
+        status: 2,
+        satp: 0,
+        lines: QUIET,
+        outcome: Outcome::Exit(Exit {
+            cause: ExitCause::Exception(Cause::GuestFetch),
+            pc: 0x8000_1000,
+            stval: 0x8000_1000,
+            htval: 0x2000_0400,
+            htinst: 0,
+        }),
+    },
+    Fetch {
+        mode: Mode::User,
+        page: 0,
+        status: 2,
+        satp: 0,
+        lines: QUIET,
+        outcome: Outcome::Exit(Exit {
+            cause: ExitCause::Exception(Cause::GuestFetch),
+            pc: 0x8000_0000,
+            stval: 0x8000_0000,
+            htval: 0x2000_0000,
+            htinst: 0,
+        }),
+    },
+    Fetch {
+        mode: Mode::User,
+        page: 4,
+        status: 0,
+        satp: 0x8000_0000_0010_0000,
+        lines: QUIET,
+        outcome: Outcome::Exit(Exit {
+            cause: ExitCause::Exception(Cause::GuestFetch),
+            pc: USER_PC,
+            stval: USER_PC,
+            htval: 0x4000_0004,
+            htinst: 0x3000,
+        }),
+    },
+];
+
+// The fetch of a row by itself.
+fn check_fetch(rt: &impl Abort, alloc: Global, row: &Fetch) -> Result<(), AllocError> {
+    let page = u64::from(row.page);
+    let mut core = core_with(0);
+    let regs = hypervisor_registers(Mode::Kernel);
+    let _status = core.csrs.write(&regs, 0x100, row.status);
+    let _satp = core.csrs.write(&regs, 0x180, row.satp);
+    core.pc = KERNEL_PC + 0x1000 * page % 0x1_0000;
+    let words = [(0, 0x0050_0193), (0x4000, 0x0050_0193)];
+    let found = attempt_once(rt, alloc, &words, &mut core, row.mode, &row.lines)?;
+    assert!(rt; found == row.outcome, "on page {page}");
+    Ok(())
+}
+
 #[test]
 fn interrupts_come_before_fetches(rt: HostRuntime) -> Result<(), AllocError> {
-    const K: Mode = Mode::Kernel;
-    const U: Mode = Mode::User;
-    let timer = Outcome::Exit(Exit {
-        cause: ExitCause::Interrupt(Interrupt::Timer),
-        pc: USER_PC,
-        stval: 0,
-        htval: 0,
-        htinst: 0,
-    });
-    for (mode, page, status, satp, lines, want) in [
-        (K, 0, 0, 0, TIMER, DONE),
-        (K, 0, 2, 0, TIMER, Outcome::GuestTrap),
-        (K, 1, 2, 0, TIMER, Outcome::GuestTrap),
-        (U, 4, 0, 0, TIMER, timer),
-        (
-            K,
-            1,
-            2,
-            0,
-            QUIET,
-            exit(Cause::GuestFetch, 0x8000_1000, 0x8000_1000, 0x2000_0400, 0),
-        ),
-        (
-            U,
-            0,
-            2,
-            0,
-            QUIET,
-            exit(Cause::GuestFetch, 0x8000_0000, 0x8000_0000, 0x2000_0000, 0),
-        ),
-        (
-            U,
-            4,
-            0,
-            0x8000_0000_0010_0000,
-            QUIET,
-            exit(Cause::GuestFetch, USER_PC, USER_PC, 0x4000_0004, 0x3000),
-        ),
-    ] {
-        let mut core = core_with(0);
-        let regs = hypervisor_registers(K);
-        let _status = core.csrs.write(&regs, 0x100, status);
-        let _satp = core.csrs.write(&regs, 0x180, satp);
-        core.pc = KERNEL_PC + 0x1000 * page % 0x1_0000;
-        let words = [(0, 0x0050_0193), (0x4000, 0x0050_0193)];
-        let found = attempt_once(&rt, rt.alloc(), &words, &mut core, mode, &lines)?;
-        assert_eq!(rt; found, want, "on page {page}");
+    for row in &FETCHES {
+        check_fetch(&rt, rt.alloc(), row)?;
     }
     Ok(())
 }
@@ -441,7 +663,7 @@ fn loads_through_sv39_fault_by_the_entry(rt: HostRuntime) -> Result<(), AllocErr
         let _satp = core.csrs.write(&regs, 0x180, 0x8000_0000_0008_0001);
         core.pc = KERNEL_PC;
         let found = attempt_once(&rt, rt.alloc(), &words, &mut core, Mode::Kernel, &QUIET)?;
-        assert_eq!(rt; found, want, "at {address:x}");
+        assert!(rt; found == want, "at {address:x}");
         if found == Outcome::GuestTrap {
             assert_eq!(rt;
                 (core.csrs.vscause, core.csrs.vstval),
@@ -463,20 +685,13 @@ fn an_attempt_fills_the_cache(rt: HostRuntime) -> Result<(), AllocError> {
     let mut cpu = Cpu::new(rt.alloc())?;
     let mut core = core_with(0);
     core.pc = KERNEL_PC;
-    assert_eq!(rt;
-        cache.walk(&mem, regs.hgatp, KERNEL_PC, Access::Fetch),
-        Ok(TABLES)
-    );
-    assert_eq!(rt;
-        cache.walk(&mem, regs.hgatp, KERNEL_PC, Access::Store),
-        Err(GuestFault { gpa: KERNEL_PC })
+    assert!(rt; cache.walk(&mem, regs.hgatp, KERNEL_PC, Access::Fetch) == Ok(TABLES));
+    assert!(rt;
+        cache.walk(&mem, regs.hgatp, KERNEL_PC, Access::Store) == Err(GuestFault { gpa: KERNEL_PC })
     );
     cache.fence_all();
     assert!(rt; !cache.holds(regs.hgatp, KERNEL_PC));
-    assert_eq!(rt;
-        cpu.attempt(&mut core, &regs, &mut cache, &mut mem, &QUIET),
-        DONE
-    );
+    assert!(rt; cpu.attempt(&mut core, &regs, &mut cache, &mut mem, &QUIET) == DONE);
     assert_eq!(rt; cpu.count(), 1);
     assert!(rt; cache.holds(regs.hgatp, KERNEL_PC));
     assert!(rt; !cache.holds(0x8000_2000_0000_0004, KERNEL_PC));

@@ -39,18 +39,17 @@ fn answers_each_access(rt: HostRuntime) {
         (USER, 0x300, Err(CsrFault::Illegal)),
         (USER, 0xC01, Err(CsrFault::Virtual)),
     ] {
-        assert_eq!(rt;
-            csrs.read(&regs, &LINES, number),
-            want,
+        assert!(rt;
+            csrs.read(&regs, &LINES, number) == want,
             "read of {number:x}"
         );
     }
-    assert_eq!(rt; csrs.write(&KERNEL, 0xC01, 1), Err(CsrFault::Illegal));
-    assert_eq!(rt; csrs.write(&USER, 0xC01, 1), Err(CsrFault::Illegal));
-    assert_eq!(rt; csrs.write(&USER, 0x180, 0), Err(CsrFault::Virtual));
-    assert_eq!(rt; csrs, Csrs::at_boot());
-    assert_eq!(rt; csrs.write(&KERNEL, 0x106, 2), Ok(()));
-    assert_eq!(rt; csrs.read(&USER, &LINES, 0xC01), Ok(7000));
+    assert!(rt; csrs.write(&KERNEL, 0xC01, 1) == Err(CsrFault::Illegal));
+    assert!(rt; csrs.write(&USER, 0xC01, 1) == Err(CsrFault::Illegal));
+    assert!(rt; csrs.write(&USER, 0x180, 0) == Err(CsrFault::Virtual));
+    assert!(rt; csrs == Csrs::at_boot());
+    assert!(rt; csrs.write(&KERNEL, 0x106, 2) == Ok(()));
+    assert!(rt; csrs.read(&USER, &LINES, 0xC01) == Ok(7000));
 }
 
 #[test]
@@ -70,14 +69,12 @@ fn keeps_the_bits_that_may_stand(rt: HostRuntime) {
         (0x180, 0x9000000000000000, 0x80000FFFFFFFFFFF),
         (0x180, 5, 5),
     ] {
-        assert_eq!(rt;
-            csrs.write(&KERNEL, number, value),
-            Ok(()),
+        assert!(rt;
+            csrs.write(&KERNEL, number, value) == Ok(()),
             "write of {number:x}"
         );
-        assert_eq!(rt;
-            csrs.read(&KERNEL, &LINES, number),
-            Ok(want),
+        assert!(rt;
+            csrs.read(&KERNEL, &LINES, number) == Ok(want),
             "read of {number:x}"
         );
     }

@@ -31,31 +31,28 @@ fn lines(external: bool, timer: bool) -> Lines {
 #[test]
 fn takes_the_first_that_is_deliverable(rt: HostRuntime) {
     let mut csrs = Csrs::at_boot();
-    assert_eq!(rt; csrs.write(&KERNEL, 0x104, 1 << 5), Ok(()));
-    assert_eq!(rt;
-        pending(&csrs, &USER, &lines(false, true)),
-        Some(Interrupt::Timer)
-    );
-    assert_eq!(rt; pending(&csrs, &USER, &lines(true, false)), None);
-    assert_eq!(rt; pending(&csrs, &KERNEL, &lines(false, true)), None);
-    assert_eq!(rt; csrs.write(&KERNEL, 0x104, 0x222), Ok(()));
-    assert_eq!(rt; csrs.write(&KERNEL, 0x100, 2), Ok(()));
+    assert!(rt; csrs.write(&KERNEL, 0x104, 1 << 5) == Ok(()));
+    assert!(rt; pending(&csrs, &USER, &lines(false, true)) == Some(Interrupt::Timer));
+    assert!(rt; pending(&csrs, &USER, &lines(true, false)) == None);
+    assert!(rt; pending(&csrs, &KERNEL, &lines(false, true)) == None);
+    assert!(rt; csrs.write(&KERNEL, 0x104, 0x222) == Ok(()));
+    assert!(rt; csrs.write(&KERNEL, 0x100, 2) == Ok(()));
     for (software, external, timer, want) in [
         (0, false, false, None),
         (0, false, true, Some(Interrupt::Timer)),
         (2, false, true, Some(Interrupt::Software)),
         (2, true, true, Some(Interrupt::External)),
     ] {
-        assert_eq!(rt; csrs.write(&KERNEL, 0x144, software), Ok(()));
-        assert_eq!(rt; pending(&csrs, &KERNEL, &lines(external, timer)), want);
+        assert!(rt; csrs.write(&KERNEL, 0x144, software) == Ok(()));
+        assert!(rt; pending(&csrs, &KERNEL, &lines(external, timer)) == want);
     }
 }
 
 #[test]
 fn enters_and_returns(rt: HostRuntime) {
     let mut csrs = Csrs::at_boot();
-    assert_eq!(rt; csrs.write(&KERNEL, 0x100, 0xC0002), Ok(()));
-    assert_eq!(rt; csrs.write(&KERNEL, 0x105, 0x80001101), Ok(()));
+    assert!(rt; csrs.write(&KERNEL, 0x100, 0xC0002) == Ok(()));
+    assert!(rt; csrs.write(&KERNEL, 0x105, 0x80001101) == Ok(()));
     assert_eq!(rt;
         target(&csrs, ExitCause::Exception(Cause::UserCall)),
         0x80001100
@@ -67,7 +64,7 @@ fn enters_and_returns(rt: HostRuntime) {
     );
     assert_eq!(rt; (csrs.vsstatus, csrs.vsepc), (0xC0120, 0x80001000));
     assert_eq!(rt; (csrs.vscause, csrs.vstval), (0x8000000000000005, 7));
-    assert_eq!(rt; return_to_guest(&mut csrs), (0x80001000, Mode::Kernel));
+    assert!(rt; return_to_guest(&mut csrs) == (0x80001000, Mode::Kernel));
     assert_eq!(rt; csrs.vsstatus, 0xC0022);
     let exit = Exit {
         cause: ExitCause::Exception(Cause::GuestStore),
@@ -76,7 +73,7 @@ fn enters_and_returns(rt: HostRuntime) {
         htval: 0x20000800,
         htinst: 0x3000,
     };
-    assert_eq!(rt; into_hypervisor(&mut csrs, exit), exit);
+    assert!(rt; into_hypervisor(&mut csrs, exit) == exit);
     assert_eq!(rt;
         (csrs.sepc, csrs.scause, csrs.stval),
         (0x80001004, 23, 0x80002003)

@@ -133,8 +133,8 @@ fn bad_entries_and_addresses_fault(rt: HostRuntime) -> Result<(), AllocError> {
         (POINTER, 0x40_0000_2000_00CF, 0x123, Err(Fault::Page)),
         (POINTER, 0x2000_008F, 0x123, Err(Fault::Page)),
     ] {
-        assert_eq!(rt; load(&rt, rt.alloc(), SV39, middle, leaf, va)?, want);
+        assert!(rt; load(&rt, rt.alloc(), SV39, middle, leaf, va)? == want);
     }
-    assert_eq!(rt; load(&rt, rt.alloc(), 0, 0, 0, 0x200_0000_0000)?, beyond);
+    assert!(rt; load(&rt, rt.alloc(), 0, 0, 0, 0x200_0000_0000)? == beyond);
     Ok(())
 }

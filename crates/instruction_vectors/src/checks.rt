@@ -42,6 +42,22 @@ fn sets(found: Effect, word: u64, wanted: u64, then: u64) -> bool {
     }
 }
 
+// The effect sets no register, and goes on there.
+fn goes_on(found: Effect, then: u64) -> bool {
+    match found {
+        Effect::Set { rd, value, next } => rd == 0 && value == 0 && next == then,
+        _ => false,
+    }
+}
+
+// The effect is a jump to this address, which is no multiple of 4.
+fn is_misaligned(found: Effect, wanted: u64) -> bool {
+    match found {
+        Effect::MisalignedJump { target } => target == wanted,
+        _ => false,
+    }
+}
+
 // Once it has a value, the word's rd reads as the wanted one.
 fn reads(word: u64, value: u64, wanted: u64) -> bool {
     let mut regs = Regs::new();
@@ -68,15 +84,9 @@ pub fn jumps(text: &str) -> Option<bool> {
     let agrees = if first == "trap" {
         let cause = number(&mut words)?;
         let target = number(&mut words)?;
-        cause == 0 && found == Effect::MisalignedJump { target }
+        cause == 0 && is_misaligned(found, target)
     } else if first == "-" {
-        let next = number(&mut words)?;
-        found
-            == Effect::Set {
-                rd: 0,
-                value: 0,
-                next,
-            }
+        goes_on(found, number(&mut words)?)
     } else {
         let value = u64::from_str_radix(first, 16).ok()?;
         sets(found, word, value, number(&mut words)?)

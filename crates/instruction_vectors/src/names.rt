@@ -39,6 +39,11 @@ pub fn name_of(alloc: Global, instr: &Instr) -> Result<String, AllocError> {
         Instr::Jal { .. } => format!(in alloc; "Jal"),
         Instr::Jalr { .. } => format!(in alloc; "Jalr"),
         Instr::SfenceVma { .. } => format!(in alloc; "SfenceVma"),
-        _ => format!(in alloc; "{instr:?}"),
+        Instr::Fence => format!(in alloc; "Fence"),
+        Instr::FenceI => format!(in alloc; "FenceI"),
+        Instr::Ecall => format!(in alloc; "Ecall"),
+        Instr::Ebreak => format!(in alloc; "Ebreak"),
+        Instr::Sret => format!(in alloc; "Sret"),
+        Instr::Wfi => format!(in alloc; "Wfi"),
     }
 }

@@ -1,20 +1,23 @@
 // Runs of `convert`: the generated guest's policy with its entries bound.
-use crate::generated::files;
-use memory_runs::{GOOD, call};
+use crate::generated::run;
+use crate::outcomes::{ends, holds, saved_begins};
+use memory_runs::GOOD;
 use secvisor_cli::Status;
-use std::test::Fail;
+use std::alloc::AllocError;
+
+static WORDS: [&str; 4] = ["convert", "image", "policy", "saved"];
 
 #[test]
-fn binds_the_entries_of_the_generated_guest(rt: HostRuntime) -> Result<(), Fail> {
-    let handed = files(rt.alloc())?;
-    let words = ["convert", "image", "policy", "saved"];
-    let left = call(&rt, rt.alloc(), &handed, &words, GOOD)?;
-    assert_eq!(rt; left.status, Status::Done);
-    assert!(rt; left.taken.as_slice() == b"converted 2\n".as_slice());
-    assert!(rt; !left.is_booted);
-    match &left.saved {
-        Some(saved) => assert!(rt; saved.starts_with(b"entries = [[")),
-        None => assert!(rt; false),
-    }
+fn binds_the_entries_of_the_generated_guest(rt: HostRuntime) -> Result<(), AllocError> {
+    let left = run(&rt, rt.alloc(), &WORDS, GOOD)?;
+    ends(
+        &rt,
+        "convert",
+        &left,
+        Status::Done,
+        "converted 2\n".as_bytes(),
+    );
+    holds(&rt, "no machine", !left.is_booted);
+    holds(&rt, "saved", saved_begins(&left, "entries = [[".as_bytes()));
     Ok(())
 }

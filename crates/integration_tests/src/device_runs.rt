@@ -2,7 +2,7 @@
 
 use crate::kernel::{GUEST, Guest, KERNEL, Kernel, run_as_printed};
 use memory_runs::{PRINTED, Printed};
-use std::test::Fail;
+use std::alloc::AllocError;
 
 static GUESTS: [Guest; 2] = [
     Guest {
@@ -74,7 +74,6 @@ static GUESTS: [Guest; 2] = [
 ];
 
 #[test]
-fn writes_of_the_disk_and_reservations(rt: HostRuntime) -> Result<(), Fail> {
-    run_as_printed(&rt, rt.alloc(), &GUESTS)?;
-    Ok(())
+fn writes_of_the_disk_and_reservations(rt: HostRuntime) -> Result<(), AllocError> {
+    run_as_printed(&rt, rt.alloc(), &GUESTS)
 }

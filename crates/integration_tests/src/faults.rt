@@ -1,10 +1,12 @@
 // Each call of the outside that fails, in turn.
-ghost use Rattle.std.specs.Prelude.{◌<◌};
 
-use crate::generated::run;
-use memory_runs::{GOOD, Outside};
+use crate::generated::{WORDS, run};
+use crate::outcomes::{ends, holds, holds_at, is_broken_off, refuses};
+use memory_runs::{GOOD, Left, Outside};
 use secvisor_cli::Status;
-use std::test::Fail;
+use std::alloc::{AllocError, Global};
+use std::process::Abort;
+use std::thread::Threads;
 
 // A read that fails, counted from 1, and the line.
 struct Read {
@@ -31,66 +33,79 @@ static READS: [Read; 4] = [
     },
 ];
 
+fn refuse_read<R: Threads + Sync + Abort>(
+    rt: &R,
+    alloc: Global,
+    read: &Read,
+) -> Result<(), AllocError> {
+    let outside = Outside {
+        failing_read: read.number,
+        ..GOOD
+    };
+    let left = run(rt, alloc, &WORDS, outside)?;
+    refuses(rt, read.line, &left, Status::ReadFault, read.line);
+    Ok(())
+}
+
 #[test]
-fn names_the_part_whose_read_fails(rt: HostRuntime) -> Result<(), Fail> {
+fn names_the_part_whose_read_fails(rt: HostRuntime) -> Result<(), AllocError> {
     for read in &READS {
-        let line = read.line;
-        let left = run(
-            &rt,
-            rt.alloc(),
-            Outside {
-                failing_read: read.number,
-                ..GOOD
-            },
-        )?;
-        assert_eq!(rt; left.status, Status::ReadFault, "{line}");
-        assert!(rt; left.taken.as_slice() == line.as_bytes(), "{line}");
-        assert!(rt; left.saved.is_none(), "{line}");
-        assert!(rt; !left.is_booted, "{line}");
+        refuse_read(&rt, rt.alloc(), read)?;
     }
+    Ok(())
+}
+
+// All has to be printed, as where nothing fails.
+fn prints_all<R: Threads + Sync + Abort>(
+    rt: &R,
+    alloc: Global,
+    what: &str,
+    left: &Left,
+    status: Status,
+) -> Result<(), AllocError> {
+    let good = run(rt, alloc, &WORDS, GOOD)?;
+    ends(rt, what, left, status, &good.taken);
     Ok(())
 }
 
 // A sink that takes a byte at a time takes so many, whichever write fails.
 #[test]
-fn stops_at_the_write_that_fails(rt: HostRuntime) -> Result<(), Fail> {
-    let alloc = rt.alloc();
-    let good = run(&rt, alloc, GOOD)?;
-    let whole = run(&rt, alloc, Outside { piece: 1, ..GOOD })?;
-    assert_eq!(rt; whole.status, Status::Done);
-    assert!(rt; whole.taken.as_slice() == good.taken.as_slice());
+fn stops_at_the_write_that_fails(rt: HostRuntime) -> Result<(), AllocError> {
+    let whole = run(&rt, rt.alloc(), &WORDS, Outside { piece: 1, ..GOOD })?;
+    prints_all(&rt, rt.alloc(), "whole", &whole, Status::Done)?;
     for before in 0..whole.taken.len() {
-        let left = run(
-            &rt,
-            alloc,
-            Outside {
-                failing_write: before as u64 + 1,
-                piece: 1,
-                ..GOOD
-            },
-        )?;
-        assert_eq!(rt; left.status, Status::WriteFault, "{before}");
-        assert!(rt; left.taken.as_slice() == &whole.taken[..before], "{before}");
-        assert!(rt; left.saved.is_none(), "{before}");
-        assert!(rt; left.is_booted, "{before}");
+        stops_behind(&rt, rt.alloc(), &whole.taken[..before])?;
     }
+    Ok(())
+}
+
+// The write behind these bytes fails.
+fn stops_behind<R: Threads + Sync + Abort>(
+    rt: &R,
+    alloc: Global,
+    before: &[u8],
+) -> Result<(), AllocError> {
+    let failing_write = before.len() as u64 + 1;
+    let outside = Outside {
+        failing_write,
+        piece: 1,
+        ..GOOD
+    };
+    let left = run(rt, alloc, &WORDS, outside)?;
+    holds_at(rt, failing_write, is_broken_off(&left, before.len()));
+    holds_at(rt, failing_write, left.taken.as_slice() == before);
+    holds_at(rt, failing_write, left.saved.is_none());
     Ok(())
 }
 
 // The report is whole.
 #[test]
-fn answers_a_save_that_fails(rt: HostRuntime) -> Result<(), Fail> {
-    let whole = run(&rt, rt.alloc(), GOOD)?;
-    let left = run(
-        &rt,
-        rt.alloc(),
-        Outside {
-            failing_save: 1,
-            ..GOOD
-        },
-    )?;
-    assert_eq!(rt; left.status, Status::WriteFault);
-    assert!(rt; left.taken.as_slice() == whole.taken.as_slice());
-    assert!(rt; left.saved.is_none());
-    Ok(())
+fn answers_a_save_that_fails(rt: HostRuntime) -> Result<(), AllocError> {
+    let outside = Outside {
+        failing_save: 1,
+        ..GOOD
+    };
+    let left = run(&rt, rt.alloc(), &WORDS, outside)?;
+    holds(&rt, "save", left.saved.is_none());
+    prints_all(&rt, rt.alloc(), "save", &left, Status::WriteFault)
 }

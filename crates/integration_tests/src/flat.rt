@@ -1,15 +1,15 @@
 // Runs of `flat`, and the words and files that are refused before one.
-ghost use Rattle.std.specs.Prelude.{◌≡◌, ◌<◌, ◌-◌, ◌^◌, ℕ, List, IfOk, OnOk, IsTrue, vec_len};
+ghost use Rattle.std.specs.Prelude.{◌≡◌, IfOk, OnOk, vec_len};
 
+use crate::outcomes::{ends_as, holds, holds_at, is_broken_off, refuses, runs};
 use memory_runs::{
-    GOOD, Handed, Left, Outside, PRINTED, Printed, answer_on, call, line_of, text_of,
+    Answer, GOOD, Handed, Left, Outside, PRINTED, Printed, answer_on, call, line_of,
 };
-use outside::{Files, MemSink, RealFiles};
+use outside::{MemSink, RealFiles};
 use page_measure::{join_digests, page_digest};
 use secvisor_cli::Status;
 use std::alloc::{AllocError, Global};
 use std::process::Abort;
-use std::test::Fail;
 use std::thread::Threads;
 
 pub(crate) const PRINTS_A_AND_SHUTS_DOWN: [u32; 5] = [
@@ -52,9 +52,13 @@ pub(crate) fn push_words(bytes: &mut Vec<u8>, words: &[u32]) -> Result<(), Alloc
     Ok(())
 }
 
-/// The measure of a page, as a text.
-pub(crate) fn measure_text(alloc: Global, page: &[u8]) -> Result<String, AllocError> {
-    hex::encode(alloc, join_digests(&[page_digest(page)]))
+/// The measure of pages, as a text.
+pub(crate) fn measure_text(alloc: Global, pages: &[u8]) -> Result<String, AllocError> {
+    let mut digests = Vec::new(alloc);
+    for page in pages.chunks_exact(4096) {
+        digests.push(page_digest(page))?;
+    }
+    hex::encode(alloc, join_digests(&digests))
 }
 
 // The call with these words, over a file with the name `image`.
@@ -108,6 +112,9 @@ const ROW: Row = Row {
     printed: PRINTED,
 };
 
+// How much a sink takes at a time.
+static PIECES: [usize; 3] = [1, 7, ROOM];
+
 // Runs pages through sinks that take little at a time. Each has to end and to print as it says.
 fn run_as_printed<R: Threads + Sync + Abort>(
     rt: &R,
@@ -115,13 +122,13 @@ fn run_as_printed<R: Threads + Sync + Abort>(
     rows: &[Row],
 ) -> Result<(), AllocError> {
     for row in rows {
-        let what = row.what;
-        let want = text_of(alloc, &row.printed)?;
-        for piece in [1, 7, ROOM] {
-            let left = run_page(rt, alloc, row, Outside { piece, ..GOOD })?;
-            assert_eq!(rt; left.status, row.status, "{what}");
-            assert!(rt; left.taken.as_slice() == want.as_bytes(), "{what}");
-            assert!(rt; left.is_booted, "{what}");
+        for piece in &PIECES {
+            let outside = Outside {
+                piece: *piece,
+                ..GOOD
+            };
+            let left = run_page(rt, alloc, row, outside)?;
+            runs(rt, alloc, row.what, &left, row.status, &row.printed)?;
         }
     }
     Ok(())
@@ -212,9 +219,8 @@ static RUNS: [Row; 6] = [
 ];
 
 #[test]
-fn runs_a_page_to_its_report(rt: HostRuntime) -> Result<(), Fail> {
-    run_as_printed(&rt, rt.alloc(), &RUNS)?;
-    Ok(())
+fn runs_a_page_to_its_report(rt: HostRuntime) -> Result<(), AllocError> {
+    run_as_printed(&rt, rt.alloc(), &RUNS)
 }
 
 // Pages that leave kernel mode, and pages that are stopped.
@@ -303,9 +309,8 @@ static STOPS: [Row; 6] = [
 ];
 
 #[test]
-fn stops_a_page_by_its_rule(rt: HostRuntime) -> Result<(), Fail> {
-    run_as_printed(&rt, rt.alloc(), &STOPS)?;
-    Ok(())
+fn stops_a_page_by_its_rule(rt: HostRuntime) -> Result<(), AllocError> {
+    run_as_printed(&rt, rt.alloc(), &STOPS)
 }
 
 // Pages that trap in kernel mode.
@@ -388,9 +393,8 @@ static TRAPS: [Row; 6] = [
 ];
 
 #[test]
-fn traps_to_a_page(rt: HostRuntime) -> Result<(), Fail> {
-    run_as_printed(&rt, rt.alloc(), &TRAPS)?;
-    Ok(())
+fn traps_to_a_page(rt: HostRuntime) -> Result<(), AllocError> {
+    run_as_printed(&rt, rt.alloc(), &TRAPS)
 }
 
 // The measure of the page that prints A and shuts down, by Python's hashlib.
@@ -578,130 +582,191 @@ static REFUSALS: [Refused; 22] = [
     },
 ];
 
-#[test]
-fn refuses_words_and_files(rt: HostRuntime) -> Result<(), Fail> {
-    let alloc = rt.alloc();
-    for refused in &REFUSALS {
-        let want = refused.line;
-        let failing_read = refused.failing_read;
-        let mut image = page(alloc, &PRINTS_A_AND_SHUTS_DOWN, &[])?;
-        image.resize(refused.size, 0)?;
-        let left = run(
-            &rt,
-            alloc,
-            image,
-            refused.words,
-            Outside {
-                failing_read,
-                ..GOOD
-            },
-        )?;
-        assert_eq!(rt; left.status, refused.status, "{want}");
-        assert!(rt; left.taken.as_slice() == want.as_bytes(), "{want}");
-        assert!(rt; !left.is_booted, "{want}");
-    }
+// The page that prints A and shuts down, cut or filled up to so many bytes.
+fn sized_page(alloc: Global, size: usize) -> Result<Vec<u8>, AllocError> {
+    let mut image = page(alloc, &PRINTS_A_AND_SHUTS_DOWN, &[])?;
+    fill(&mut image, size)?;
+    Ok(image)
+}
+
+fn refuse<R: Threads + Sync + Abort>(
+    rt: &R,
+    alloc: Global,
+    refused: &Refused,
+) -> Result<(), AllocError> {
+    let outside = Outside {
+        failing_read: refused.failing_read,
+        ..GOOD
+    };
+    let image = sized_page(alloc, refused.size)?;
+    let left = run(rt, alloc, image, refused.words, outside)?;
+    refuses(rt, refused.line, &left, refused.status, refused.line);
     Ok(())
 }
 
 #[test]
-fn refuses_another_measure(rt: HostRuntime) -> Result<(), Fail> {
-    let alloc = rt.alloc();
+fn refuses_words_and_files(rt: HostRuntime) -> Result<(), AllocError> {
+    for refused in &REFUSALS {
+        refuse(&rt, rt.alloc(), refused)?;
+    }
+    Ok(())
+}
+
+// The page that prints A and shuts down, with another byte behind its words.
+fn changed_page(alloc: Global) -> Result<Vec<u8>, AllocError> {
     let mut image = page(alloc, &PRINTS_A_AND_SHUTS_DOWN, &[])?;
     if let Some(byte) = image.get_mut(100) {
         *byte ^= 1;
     }
-    // Python's hashlib.
-    let found = "62885a10f183d3fd5b960cc9fc88caf6c02f65d7bb7a8a938de42edbea4c6b0a";
-    let left = run(&rt, alloc, image, &["flat", "image", MEASURE, "5"], GOOD)?;
-    let want = format!(in alloc; "refused measure found {found} wanted {MEASURE}\n")?;
-    assert_eq!(rt; left.status, Status::Refused);
-    assert!(rt; left.taken.as_slice() == want.as_str().as_bytes());
-    assert!(rt; !left.is_booted);
-    Ok(())
+    Ok(image)
 }
 
+static WORDS: [&str; 4] = ["flat", "image", MEASURE, "5"];
+
+// The measure found is by Python's hashlib.
 #[test]
-fn breaks_off_at_a_write_that_fails(rt: HostRuntime) -> Result<(), Fail> {
-    let alloc = rt.alloc();
-    let row = Row {
-        words: &PRINTS_WITHOUT_END,
-        events: "10001",
-        ..ROW
-    };
-    let whole = run_page(&rt, alloc, &row, GOOD)?;
-    assert_eq!(rt; whole.status, Status::Ended);
-    let console = console_of_5000(alloc)?;
-    assert!(rt; whole.taken.starts_with(console.as_slice()));
-    let cases = [(ROOM, 1, 0), (ROOM, 2, 4096), (ROOM, 3, 5000), (4, 3, 8)];
-    for (piece, failing_write, taken) in cases {
-        breaks_off(&rt, alloc, &row, piece, failing_write, taken)?;
-    }
+fn refuses_another_measure(rt: HostRuntime) -> Result<(), AllocError> {
+    let image = changed_page(rt.alloc())?;
+    let left = run(&rt, rt.alloc(), image, &WORDS, GOOD)?;
+    let line =
+        "refused measure found 62885a10f183d3fd5b960cc9fc88caf6c02f65d7bb7a8a938de42edbea4c6b0a wanted af44e185b81d5c466478c3f650919766a7722b3b76f26f5f2a238cca2bf39858\n";
+    refuses(&rt, "measure", &left, Status::Refused, line);
     Ok(())
 }
 
-// Each write is a line, and the fourth is the report.
-#[test]
-fn writes_each_line(rt: HostRuntime) -> Result<(), Fail> {
-    let alloc = rt.alloc();
-    let row = Row {
-        words: &PRINTS_LINES,
-        events: "18",
-        ..ROW
-    };
-    let whole = run_page(&rt, alloc, &row, GOOD)?;
-    assert_eq!(rt; whole.status, Status::Ended);
-    assert!(rt; whole.taken.starts_with(b"A\nA\nA\n\n"));
-    let cases = [(1, 0), (2, 2), (3, 4), (4, 6)];
-    for (failing_write, taken) in cases {
-        breaks_off(&rt, alloc, &row, ROOM, failing_write, taken)?;
-    }
-    Ok(())
+// A write that fails: how much a write takes, its number, and how many bytes stand before it.
+struct FailingWrite {
+    piece: usize,
+    number: u64,
+    taken: usize,
 }
 
-// The run of a page whose write of this number fails, behind so many bytes.
-fn breaks_off<R: Threads + Sync + Abort>(
+// The runs of a page in which these writes fail.
+fn break_off<R: Threads + Sync + Abort>(
     rt: &R,
     alloc: Global,
     row: &Row,
-    piece: usize,
-    failing_write: u64,
-    taken: usize,
+    writes: &[FailingWrite],
 ) -> Result<(), AllocError> {
-    let outside = Outside {
-        failing_write,
-        piece,
-        ..GOOD
-    };
-    let left = run_page(rt, alloc, row, outside)?;
-    assert_eq!(rt; left.status, Status::WriteFault, "{failing_write}");
-    assert_eq!(rt; left.taken.len(), taken, "{failing_write}");
-    assert!(rt; left.is_booted, "{failing_write}");
+    for write in writes {
+        let outside = Outside {
+            failing_write: write.number,
+            piece: write.piece,
+            ..GOOD
+        };
+        let left = run_page(rt, alloc, row, outside)?;
+        holds_at(rt, write.number, is_broken_off(&left, write.taken));
+    }
     Ok(())
+}
+
+// The run of a page has to end with its events, and to print these bytes first.
+fn prints_first<R: Threads + Sync + Abort>(
+    rt: &R,
+    alloc: Global,
+    row: &Row,
+    begin: &[u8],
+) -> Result<(), AllocError> {
+    let whole = run_page(rt, alloc, row, GOOD)?;
+    ends_as(rt, "whole", &whole, Status::Ended);
+    holds(rt, "begin", whole.taken.starts_with(begin));
+    Ok(())
+}
+
+static WITHOUT_END: Row = Row {
+    words: &PRINTS_WITHOUT_END,
+    events: "10001",
+    ..ROW
+};
+
+static WRITES: [FailingWrite; 4] = [
+    FailingWrite {
+        piece: ROOM,
+        number: 1,
+        taken: 0,
+    },
+    FailingWrite {
+        piece: ROOM,
+        number: 2,
+        taken: 4096,
+    },
+    FailingWrite {
+        piece: ROOM,
+        number: 3,
+        taken: 5000,
+    },
+    FailingWrite {
+        piece: 4,
+        number: 3,
+        taken: 8,
+    },
+];
+
+#[test]
+fn breaks_off_at_a_write_that_fails(rt: HostRuntime) -> Result<(), AllocError> {
+    let console = console_of_5000(rt.alloc())?;
+    prints_first(&rt, rt.alloc(), &WITHOUT_END, &console)?;
+    break_off(&rt, rt.alloc(), &WITHOUT_END, &WRITES)
+}
+
+static LINES: Row = Row {
+    words: &PRINTS_LINES,
+    events: "18",
+    ..ROW
+};
+
+// Each write is a line, and the fourth is the report.
+static LINE_WRITES: [FailingWrite; 4] = [
+    FailingWrite {
+        piece: ROOM,
+        number: 1,
+        taken: 0,
+    },
+    FailingWrite {
+        piece: ROOM,
+        number: 2,
+        taken: 2,
+    },
+    FailingWrite {
+        piece: ROOM,
+        number: 3,
+        taken: 4,
+    },
+    FailingWrite {
+        piece: ROOM,
+        number: 4,
+        taken: 6,
+    },
+];
+
+#[test]
+fn writes_each_line(rt: HostRuntime) -> Result<(), AllocError> {
+    prints_first(&rt, rt.alloc(), &LINES, "A\nA\nA\n\n".as_bytes())?;
+    break_off(&rt, rt.alloc(), &LINES, &LINE_WRITES)
 }
 
 // One A, 4,999 zero bytes, and the line feed behind the console.
 fn console_of_5000(alloc: Global) -> Result<Vec<u8>, AllocError> {
-    let mut bytes = vec![in alloc; 0u8; 5000]?;
-    bytes[0] = b'A';
+    let mut bytes = Vec::new(alloc);
+    bytes.push(b'A')?;
+    fill(&mut bytes, 5000)?;
     bytes.push(b'\n')?;
     Ok(bytes)
 }
 
-// Sixteen pages are the whole of RAM. Behind the first page's words all are zeros.
-#[test]
-fn boots_the_largest_file(rt: HostRuntime) -> Result<(), Fail> {
-    let alloc = rt.alloc();
-    let mut image = page(alloc, &PRINTS_A_AND_SHUTS_DOWN, &[])?;
-    fill(&mut image, 65536)?;
-    let mut digests = Vec::new(alloc);
-    for page in image.chunks_exact(4096) {
-        digests.push(page_digest(page))?;
-    }
-    let wanted = hex::encode(alloc, join_digests(&digests))?;
+// The run of this page filled up with zeros to the whole of RAM, which is sixteen pages.
+fn run_largest<R: Threads + Sync>(rt: &R, alloc: Global) -> Result<Left, AllocError> {
+    let image = sized_page(alloc, 65536)?;
+    let wanted = measure_text(alloc, &image)?;
     let words = ["flat", "image", wanted.as_str(), "5"];
-    let left = run(&rt, alloc, image, &words, GOOD)?;
-    assert_eq!(rt; left.status, Status::Done);
-    assert!(rt; left.is_booted);
+    run(rt, alloc, image, &words, GOOD)
+}
+
+#[test]
+fn boots_the_largest_file(rt: HostRuntime) -> Result<(), AllocError> {
+    let left = run_largest(&rt, rt.alloc())?;
+    ends_as(&rt, "largest", &left, Status::Done);
+    holds(&rt, "largest", left.is_booted);
     Ok(())
 }
 
@@ -722,39 +787,46 @@ static ENDLESS: [Endless; 2] = [
     },
 ];
 
-// The call with these words, over files that may be asked for any name and save under any.
-fn call_on<R: Threads + Sync, F: Files>(
-    rt: &R,
-    alloc: Global,
-    files: &mut F,
-    words: &[&str],
-) -> Result<Left, AllocError>
-    requires names { (asked : List (List ℕ × ℕ)) → IsTrue ((F.state files.old).permits asked) }
-    requires saving { (saves : List (List ℕ × List ℕ)) → IsTrue ((F.state files.old).permits_save saves) }
-    requires reads { (F.state files.old).read_faults < 2 ^ 64 - 1 }
-    requires saves { (F.state files.old).save_faults < 2 ^ 64 - 1 }
-{
-    let line = line_of(alloc, words)?;
-    let mut out = MemSink::new(alloc, ROOM, ROOM, &[])?;
-    let answer = answer_on(rt, alloc, &line, files, &mut out);
+// What an answer leaves behind that saved nothing.
+fn left_of(alloc: Global, answer: Answer, taken: &[u8]) -> Result<Left, AllocError> {
     Ok(Left {
         status: answer.status,
-        taken: out.taken().to_vec(alloc)?,
+        taken: taken.to_vec(alloc)?,
         saved: None,
         is_booted: answer.is_booted,
     })
 }
 
+// The call over the files of a host.
+fn call_on_host<R: Threads + Sync, H: std::rt::Files + AllocGlobal + Eprint + Drop>(
+    rt: &R,
+    alloc: Global,
+    host: H,
+    line: &[String],
+) -> Result<Left, AllocError> {
+    let mut out = MemSink::new(alloc, ROOM, ROOM, &[])?;
+    let mut files = RealFiles::new(host, false);
+    let answer = answer_on(rt, alloc, line, &mut files, &mut out);
+    left_of(alloc, answer, out.taken())
+}
+
+fn refuse_endless<R: Threads + Sync + Abort, H: std::rt::Files + AllocGlobal + Eprint + Drop>(
+    rt: &R,
+    alloc: Global,
+    host: H,
+    endless: &Endless,
+) -> Result<(), AllocError> {
+    let line = line_of(alloc, endless.words)?;
+    let left = call_on_host(rt, alloc, host, &line)?;
+    refuses(rt, endless.line, &left, Status::Refused, endless.line);
+    Ok(())
+}
+
 // One byte more than the limit is read of a file without end.
 #[test]
-fn refuses_a_file_without_end(rt: HostRuntime) -> Result<(), Fail> {
-    let alloc = rt.alloc();
+fn refuses_a_file_without_end(rt: HostRuntime) -> Result<(), AllocError> {
     for endless in &ENDLESS {
-        let want = endless.line;
-        let mut files = RealFiles::new(rt.clone()?, false);
-        let left = call_on(&rt, alloc, &mut files, endless.words)?;
-        assert_eq!(rt; left.status, Status::Refused, "{want}");
-        assert!(rt; left.taken.as_slice() == want.as_bytes(), "{want}");
+        refuse_endless(&rt, rt.alloc(), rt.clone()?, endless)?;
     }
     Ok(())
 }

@@ -1,10 +1,11 @@
 // Runs of the generated guest: by `gen`, and by `run` over its files.
 
+use crate::outcomes::{call_over, holds, refuses, runs, saved_is};
 use guest_gen::generate;
-use memory_runs::{GOOD, Handed, Left, Outside, PRINTED, Printed, call, text_of};
+use memory_runs::{GOOD, Handed, Left, Outside, PRINTED, Printed, call};
 use secvisor_cli::Status;
 use std::alloc::{AllocError, Global};
-use std::test::Fail;
+use std::process::Abort;
 use std::thread::Threads;
 
 // A guest of so many calls, and all that its run prints.
@@ -48,21 +49,21 @@ const PRINTED_OF_TEN: Printed = Printed {
     verdict: "verdict shutdown",
 };
 
+fn runs_row<R: Threads + Sync + Abort>(rt: &R, alloc: Global, row: &Row) -> Result<(), AllocError> {
+    let left = run(rt, alloc, &["gen", row.calls], GOOD)?;
+    runs(rt, alloc, row.calls, &left, Status::Done, &row.printed)
+}
+
 #[test]
-fn runs_of_generated_guests(rt: HostRuntime) -> Result<(), Fail> {
-    let none = files(rt.alloc())?;
+fn runs_of_generated_guests(rt: HostRuntime) -> Result<(), AllocError> {
     for row in &ROWS {
-        let calls = row.calls;
-        let want = text_of(rt.alloc(), &row.printed)?;
-        let left = call(&rt, rt.alloc(), &none, &["gen", calls], GOOD)?;
-        assert_eq!(rt; left.status, Status::Done, "{calls}");
-        assert!(rt; left.taken.as_slice() == want.as_bytes(), "{calls}");
+        runs_row(&rt, rt.alloc(), row)?;
     }
     Ok(())
 }
 
 /// The words under which the guest's files run.
-pub(crate) const WORDS: [&str; 7] = ["run", "image", "policy", "disk", "script", "1000", "saved"];
+pub(crate) static WORDS: [&str; 7] = ["run", "image", "policy", "disk", "script", "1000", "saved"];
 
 // Two sectors, in which each byte is the last one of its place.
 fn disk(alloc: Global) -> Result<Vec<u8>, AllocError> {
@@ -82,60 +83,77 @@ fn script(alloc: Global) -> Result<Vec<u8>, AllocError> {
     Ok(text)
 }
 
-/// The image, the policy, the disk and the script of the guest that calls its kernel ten times.
-pub(crate) fn files(alloc: Global) -> Result<Handed, AllocError> {
-    let (image, policy) = generate(alloc, 10)?;
+// The files of a guest with this image and this policy.
+fn with_policy(alloc: Global, image: Vec<u8>, policy: Vec<u8>) -> Result<Handed, AllocError> {
     Ok(Handed {
         image,
-        policy: policy_printing::write(alloc, &policy)?,
+        policy,
         disk: disk(alloc)?,
         script: script(alloc)?,
     })
 }
 
-/// The run of these files.
+/// The image, the policy, the disk and the script of the guest that calls its kernel ten times.
+pub(crate) fn files(alloc: Global) -> Result<Handed, AllocError> {
+    let (image, policy) = generate(alloc, 10)?;
+    with_policy(alloc, image, policy_printing::write(alloc, &policy)?)
+}
+
+/// The call with these words, over these files.
 pub(crate) fn run<R: Threads + Sync>(
     rt: &R,
     alloc: Global,
+    words: &[&str],
     outside: Outside,
 ) -> Result<Left, AllocError> {
-    call(rt, alloc, &files(alloc)?, &WORDS, outside)
+    call(rt, alloc, &files(alloc)?, words, outside)
 }
 
 #[test]
-fn runs_the_generated_guest_from_files(rt: HostRuntime) -> Result<(), Fail> {
-    let left = run(&rt, rt.alloc(), GOOD)?;
-    let want = text_of(rt.alloc(), &PRINTED_OF_TEN)?;
-    assert_eq!(rt; left.status, Status::Done);
-    assert!(rt; left.taken.as_slice() == want.as_bytes());
-    match &left.saved {
-        Some(saved) => assert!(rt; saved.as_slice() == disk(rt.alloc())?.as_slice()),
-        None => assert!(rt; false),
-    }
-    Ok(())
+fn runs_the_generated_guest_from_files(rt: HostRuntime) -> Result<(), AllocError> {
+    let left = run(&rt, rt.alloc(), &WORDS, GOOD)?;
+    let disk = disk(rt.alloc())?;
+    holds(&rt, "saved", saved_is(&left, &disk));
+    runs(
+        &rt,
+        rt.alloc(),
+        "files",
+        &left,
+        Status::Done,
+        &ROWS[1].printed,
+    )
+}
+
+// A policy's text, with another line of pages.
+fn with_ram(alloc: Global, policy: &[u8], ram_pages: &str) -> Result<Vec<u8>, AllocError> {
+    let text = str::from_utf8(policy).unwrap_or("");
+    let replaced = text.replace(alloc, "ram_pages = 64\n", ram_pages)?;
+    Ok(replaced.into_bytes())
+}
+
+// The files of the guest that calls its kernel once, whose policy has this line of pages.
+fn files_with_ram(alloc: Global, ram_pages: &str) -> Result<Handed, AllocError> {
+    let (image, policy) = generate(alloc, 1)?;
+    let written = policy_printing::write(alloc, &policy)?;
+    with_policy(alloc, image, with_ram(alloc, &written, ram_pages)?)
+}
+
+// The run of that guest.
+fn run_with_ram<R: Threads + Sync>(
+    rt: &R,
+    alloc: Global,
+    ram_pages: &str,
+) -> Result<Left, AllocError> {
+    call_over(rt, alloc, files_with_ram(alloc, ram_pages)?, &WORDS)
 }
 
 // The most RAM that a policy may ask for, 1 GiB, and a page more.
 #[test]
-fn runs_in_the_most_ram(rt: HostRuntime) -> Result<(), Fail> {
-    let (image, policy) = generate(rt.alloc(), 1)?;
-    let written = policy_printing::write(rt.alloc(), &policy)?;
-    let text = str::from_utf8(&written).unwrap_or("");
-    let ran = text_of(rt.alloc(), &ROWS[0].printed)?;
-    for (ram_pages, want) in [
-        ("ram_pages = 262144\n", ran.as_str()),
-        ("ram_pages = 262145\n", "refused policy 6\n"),
-    ] {
-        let handed = Handed {
-            image: image.as_slice().to_vec(rt.alloc())?,
-            policy: text
-                .replace(rt.alloc(), "ram_pages = 64\n", ram_pages)?
-                .into_bytes(),
-            disk: disk(rt.alloc())?,
-            script: script(rt.alloc())?,
-        };
-        let left = call(&rt, rt.alloc(), &handed, &WORDS, GOOD)?;
-        assert!(rt; left.taken.as_slice() == want.as_bytes(), "{ram_pages}");
-    }
-    Ok(())
+fn runs_in_the_most_ram(rt: HostRuntime) -> Result<(), AllocError> {
+    let more = "ram_pages = 262145\n";
+    let left = run_with_ram(&rt, rt.alloc(), more)?;
+    refuses(&rt, more, &left, Status::Refused, "refused policy 6\n");
+    let most = "ram_pages = 262144\n";
+    let left = run_with_ram(&rt, rt.alloc(), most)?;
+    runs(&rt, rt.alloc(), most, &left, Status::Done, &ROWS[0].printed)
 }

@@ -5,7 +5,7 @@ use crate::kernel::{
 };
 use memory_runs::{PRINTED, Printed};
 use secvisor_cli::Status;
-use std::test::Fail;
+use std::alloc::AllocError;
 
 // A jump to itself, and zeros.
 const JUMP: Module = Module {
@@ -136,9 +136,8 @@ static LOADS: [Guest; 3] = [
 ];
 
 #[test]
-fn loads_beside_another_hart(rt: HostRuntime) -> Result<(), Fail> {
-    run_as_printed(&rt, rt.alloc(), &LOADS)?;
-    Ok(())
+fn loads_beside_another_hart(rt: HostRuntime) -> Result<(), AllocError> {
+    run_as_printed(&rt, rt.alloc(), &LOADS)
 }
 
 static STARTS: [Guest; 2] = [
@@ -206,7 +205,6 @@ static STARTS: [Guest; 2] = [
 ];
 
 #[test]
-fn starts_and_unloads_beside_another_hart(rt: HostRuntime) -> Result<(), Fail> {
-    run_as_printed(&rt, rt.alloc(), &STARTS)?;
-    Ok(())
+fn starts_and_unloads_beside_another_hart(rt: HostRuntime) -> Result<(), AllocError> {
+    run_as_printed(&rt, rt.alloc(), &STARTS)
 }

@@ -1,10 +1,10 @@
 // Kernels under test: their files, their policies, and their runs.
 ghost use Rattle.std.specs.Prelude.{◌≡◌, IfOk, vec_len};
 
-use crate::flat::{fill, push_words};
+use crate::flat::{fill, measure_text, push_words};
+use crate::outcomes::{call_over, runs};
 use guest_gen::image;
-use memory_runs::{GOOD, Handed, Left, PRINTED, Printed, call, text_of};
-use page_measure::{join_digests, page_digest};
+use memory_runs::{Handed, Left, PRINTED, Printed};
 use secvisor_cli::Status;
 use std::alloc::{AllocError, Global};
 use std::process::Abort;
@@ -218,18 +218,24 @@ fn text(alloc: Global, kernel: &Kernel) -> Result<Vec<u8>, AllocError> {
     Ok(text)
 }
 
+// Puts a kernel's words and entries into the two pages behind its text.
+fn fill_body(body: &mut [u8], alloc: Global, kernel: &Kernel) -> Result<(), AllocError> {
+    let mut behind = Vec::new(alloc);
+    push_words(&mut behind, kernel.behind)?;
+    put(body, 0x800, &behind);
+    for entry in &ENTRIES {
+        put_entry(body, entry);
+    }
+    for entry in kernel.entries {
+        put_entry(body, entry);
+    }
+    Ok(())
+}
+
 // The file of a kernel: a page of headers, and its three pages.
 fn file(alloc: Global, kernel: &Kernel) -> Result<Vec<u8>, AllocError> {
     let mut body = zeros(alloc, 2 * PAGE)?;
-    for entry in &ENTRIES {
-        put_entry(&mut body, entry);
-    }
-    for entry in kernel.entries {
-        put_entry(&mut body, entry);
-    }
-    let mut behind = Vec::new(alloc);
-    push_words(&mut behind, kernel.behind)?;
-    put(&mut body, 0x800, &behind);
+    fill_body(&mut body, alloc, kernel)?;
     let mut file = image(alloc, &[], &body)?;
     put(&mut file, PAGE, &text(alloc, kernel)?);
     if kernel.is_all_text {
@@ -245,13 +251,34 @@ fn measure(alloc: Global, kernel: &Kernel, file: &[u8]) -> Result<String, AllocE
     } else {
         2 * PAGE
     };
-    let mut digests = Vec::new(alloc);
-    if let Some(text) = file.get(PAGE..end) {
-        for page in text.chunks_exact(PAGE) {
-            digests.push(page_digest(page))?;
-        }
-    }
-    hex::encode(alloc, join_digests(&digests))
+    measure_text(alloc, file.get(PAGE..end).unwrap_or(&[]))
+}
+
+fn push_module(
+    text: &mut String,
+    alloc: Global,
+    id: usize,
+    module: &Module,
+) -> Result<(), AllocError> {
+    let pages = module.pages;
+    let measure = module.measure;
+    let sites = module.sites;
+    let more = format!(in alloc;
+        "[[module]]\nname = 'module {id}'\npages = {pages}\nmeasure = '{measure}'\nsites = [{sites}]\n"
+    )?;
+    text.push_str(more.as_str())
+}
+
+// What a policy says before its modules.
+fn rules_text(alloc: Global, policy: &Policy, measure: &str) -> Result<String, AllocError> {
+    let harts = policy.harts;
+    let ram_pages = policy.ram_pages;
+    let entries = policy.entries;
+    let exports = policy.exports;
+    let init = policy.init;
+    format!(in alloc;
+        "format = 1\nharts = {harts}\nram_pages = {ram_pages}\nentries = [{entries}]\nexports = [{exports}]\n[kernel]\nmeasure = '{measure}'\n{init}\n"
+    )
 }
 
 /// The text of a policy, with this measure.
@@ -260,22 +287,9 @@ pub(crate) fn policy_text(
     policy: &Policy,
     measure: &str,
 ) -> Result<String, AllocError> {
-    let harts = policy.harts;
-    let ram_pages = policy.ram_pages;
-    let entries = policy.entries;
-    let exports = policy.exports;
-    let init = policy.init;
-    let mut text = format!(in alloc;
-        "format = 1\nharts = {harts}\nram_pages = {ram_pages}\nentries = [{entries}]\nexports = [{exports}]\n[kernel]\nmeasure = '{measure}'\n{init}\n"
-    )?;
+    let mut text = rules_text(alloc, policy, measure)?;
     for (id, module) in policy.modules.iter().enumerate() {
-        let pages = module.pages;
-        let measure = module.measure;
-        let sites = module.sites;
-        let more = format!(in alloc;
-            "[[module]]\nname = 'module {id}'\npages = {pages}\nmeasure = '{measure}'\nsites = [{sites}]\n"
-        )?;
-        text.push_str(more.as_str())?;
+        push_module(&mut text, alloc, id, module)?;
     }
     Ok(text)
 }
@@ -290,14 +304,20 @@ fn disk(alloc: Global, first: &[u64]) -> Result<Vec<u8>, AllocError> {
     Ok(disk)
 }
 
+// The policy of a guest that has this image.
+fn measured_policy(alloc: Global, guest: &Guest, image: &[u8]) -> Result<Vec<u8>, AllocError> {
+    let measure = measure(alloc, &guest.kernel, image)?;
+    let policy = policy_text(alloc, &guest.policy, measure.as_str())?;
+    Ok(policy.into_bytes())
+}
+
 // A guest's image, policy, disk and script.
 fn files(alloc: Global, guest: &Guest) -> Result<Handed, AllocError> {
     let image = file(alloc, &guest.kernel)?;
-    let measure = measure(alloc, &guest.kernel, &image)?;
-    let policy = policy_text(alloc, &guest.policy, measure.as_str())?;
+    let policy = measured_policy(alloc, guest, &image)?;
     Ok(Handed {
         image,
-        policy: policy.as_bytes().to_vec(alloc)?,
+        policy,
         disk: disk(alloc, guest.disk)?,
         script: guest.script.as_bytes().to_vec(alloc)?,
     })
@@ -314,7 +334,7 @@ fn run<R: Threads + Sync>(rt: &R, alloc: Global, guest: &Guest) -> Result<Left, 
         guest.events,
         "none",
     ];
-    call(rt, alloc, &files(alloc, guest)?, &words, GOOD)
+    call_over(rt, alloc, files(alloc, guest)?, &words)
 }
 
 /// Runs guests, each of which has to end and to print as it says.
@@ -324,12 +344,8 @@ pub(crate) fn run_as_printed<R: Threads + Sync + Abort>(
     guests: &[Guest],
 ) -> Result<(), AllocError> {
     for guest in guests {
-        let what = guest.what;
-        let want = text_of(alloc, &guest.printed)?;
         let left = run(rt, alloc, guest)?;
-        assert_eq!(rt; left.status, guest.status, "{what}");
-        assert!(rt; left.taken.as_slice() == want.as_bytes(), "{what}");
-        assert!(rt; left.is_booted, "{what}");
+        runs(rt, alloc, guest.what, &left, guest.status, &guest.printed)?;
     }
     Ok(())
 }

@@ -24,6 +24,8 @@ mod modules;
 #[cfg(test)]
 mod objects;
 #[cfg(test)]
+mod outcomes;
+#[cfg(test)]
 mod real;
 #[cfg(test)]
 mod texts;

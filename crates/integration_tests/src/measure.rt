@@ -1,11 +1,11 @@
 // Runs of `measure`: the generated guest's policy, and what is refused.
 
-use crate::generated::files;
-use memory_runs::{GOOD, Outside, call};
+use crate::generated::{files, run};
+use crate::outcomes::{ends, holds, refuses, saved_is};
+use memory_runs::{GOOD, Outside};
 use secvisor_cli::Status;
 use std::alloc::{AllocError, Global};
 use std::process::Abort;
-use std::test::Fail;
 use std::thread::Threads;
 
 const WORDS: [&str; 7] = [
@@ -22,21 +22,25 @@ const WORDS: [&str; 7] = [
 const MEASURED: &str =
     "measured d4f51c377f677df9207628708ab229d1b69fedd1148d89be211bd719ec10e9db\n";
 
-#[test]
-fn makes_the_policy_of_the_generated_guest(rt: HostRuntime) -> Result<(), Fail> {
-    let handed = files(rt.alloc())?;
-    for piece in [1, 20_000] {
-        let outside = Outside { piece, ..GOOD };
-        let left = call(&rt, rt.alloc(), &handed, &WORDS, outside)?;
-        assert_eq!(rt; left.status, Status::Done);
-        assert!(rt; left.taken.as_slice() == MEASURED.as_bytes());
-        assert!(rt; !left.is_booted);
-        match &left.saved {
-            Some(saved) => assert!(rt; saved.as_slice() == handed.policy.as_slice()),
-            None => assert!(rt; false),
-        }
-    }
+// The policy has to be made through a sink that takes so much at a time.
+fn makes_policy<R: Threads + Sync + Abort>(
+    rt: &R,
+    alloc: Global,
+    policy: &[u8],
+    piece: usize,
+) -> Result<(), AllocError> {
+    let left = run(rt, alloc, &WORDS, Outside { piece, ..GOOD })?;
+    ends(rt, "policy", &left, Status::Done, MEASURED.as_bytes());
+    holds(rt, "no machine", !left.is_booted);
+    holds(rt, "saved", saved_is(&left, policy));
     Ok(())
+}
+
+#[test]
+fn makes_the_policy_of_the_generated_guest(rt: HostRuntime) -> Result<(), AllocError> {
+    let handed = files(rt.alloc())?;
+    makes_policy(&rt, rt.alloc(), &handed.policy, 1)?;
+    makes_policy(&rt, rt.alloc(), &handed.policy, 20_000)
 }
 
 // A policy that isn't made: the words, the call that fails, the status and the line.
@@ -194,41 +198,32 @@ fn refuse<R: Threads + Sync + Abort>(
     alloc: Global,
     rows: &[Refused],
 ) -> Result<(), AllocError> {
-    let handed = files(alloc)?;
     for row in rows {
-        let line = row.line;
-        let left = call(rt, alloc, &handed, row.words, row.outside)?;
-        assert_eq!(rt; left.status, row.status, "{line}");
-        assert!(rt; left.taken.as_slice() == line.as_bytes(), "{line}");
-        assert!(rt; left.saved.is_none(), "{line}");
-        assert!(rt; !left.is_booted, "{line}");
+        let left = run(rt, alloc, row.words, row.outside)?;
+        refuses(rt, row.line, &left, row.status, row.line);
     }
     Ok(())
 }
 
 #[test]
-fn refuses_words_out_of_range(rt: HostRuntime) -> Result<(), Fail> {
-    refuse(&rt, rt.alloc(), &OUT_OF_RANGE)?;
-    Ok(())
+fn refuses_words_out_of_range(rt: HostRuntime) -> Result<(), AllocError> {
+    refuse(&rt, rt.alloc(), &OUT_OF_RANGE)
 }
 
 #[test]
-fn refuses_kernels_and_modules(rt: HostRuntime) -> Result<(), Fail> {
-    refuse(&rt, rt.alloc(), &FILES)?;
-    Ok(())
+fn refuses_kernels_and_modules(rt: HostRuntime) -> Result<(), AllocError> {
+    refuse(&rt, rt.alloc(), &FILES)
 }
 
 // The policy is saved before its line is written.
 #[test]
-fn keeps_the_policy_whose_line_is_not_written(rt: HostRuntime) -> Result<(), Fail> {
-    let handed = files(rt.alloc())?;
+fn keeps_the_policy_whose_line_is_not_written(rt: HostRuntime) -> Result<(), AllocError> {
     let outside = Outside {
         failing_write: 1,
         ..GOOD
     };
-    let left = call(&rt, rt.alloc(), &handed, &WORDS, outside)?;
-    assert_eq!(rt; left.status, Status::WriteFault);
-    assert!(rt; left.taken.is_empty());
-    assert!(rt; left.saved.is_some());
+    let left = run(&rt, rt.alloc(), &WORDS, outside)?;
+    ends(&rt, "line", &left, Status::WriteFault, &[]);
+    holds(&rt, "saved", left.saved.is_some());
     Ok(())
 }

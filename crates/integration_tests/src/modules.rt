@@ -5,7 +5,7 @@ use crate::kernel::{
 };
 use memory_runs::{PRINTED, Printed};
 use secvisor_cli::Status;
-use std::test::Fail;
+use std::alloc::AllocError;
 
 // A call of `print`, at the module's begin.
 const CALLER: Module = Module {
@@ -116,9 +116,8 @@ static LOADS: [Guest; 3] = [
 ];
 
 #[test]
-fn loads_of_modules(rt: HostRuntime) -> Result<(), Fail> {
-    run_as_printed(&rt, rt.alloc(), &LOADS)?;
-    Ok(())
+fn loads_of_modules(rt: HostRuntime) -> Result<(), AllocError> {
+    run_as_printed(&rt, rt.alloc(), &LOADS)
 }
 
 // Pages that are written before they are text, while they become it, and when they no longer are.
@@ -241,7 +240,6 @@ static TEXT_AND_DATA: [Guest; 3] = [
 ];
 
 #[test]
-fn pages_between_text_and_data(rt: HostRuntime) -> Result<(), Fail> {
-    run_as_printed(&rt, rt.alloc(), &TEXT_AND_DATA)?;
-    Ok(())
+fn pages_between_text_and_data(rt: HostRuntime) -> Result<(), AllocError> {
+    run_as_printed(&rt, rt.alloc(), &TEXT_AND_DATA)
 }

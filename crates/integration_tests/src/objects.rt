@@ -1,11 +1,11 @@
 // Module objects that are wrong in one place.
 
 use crate::generated::files;
-use crate::images::{Bad, Field, put_fields};
-use memory_runs::{GOOD, Handed, call};
+use crate::images::{Bad, Field, NONE, put_fields};
+use crate::outcomes::{call_over, ends_as, holds, refuses_files};
+use memory_runs::Handed;
 use secvisor_cli::Status;
 use std::alloc::{AllocError, Global};
-use std::test::Fail;
 
 // The 8-byte words of a file that clang 14 made of three instructions and a number:
 // lui a0, %hi(number); lw a0, %lo(number)(a0); ret
@@ -95,165 +95,205 @@ static OBJECTS: [Bad; 15] = [
     Bad {
         what: "a byte less than the header",
         length: 63,
-        fields: &[],
+        fields: [NONE, NONE],
         line: "refused module 1\n",
     },
     Bad {
         what: "another magic",
         length: WHOLE,
-        fields: &[Field {
-            place: 1,
-            width: 1,
-            value: 70,
-        }],
+        fields: [
+            Field {
+                place: 1,
+                width: 1,
+                value: 70,
+            },
+            NONE,
+        ],
         line: "refused module 2\n",
     },
     Bad {
         what: "a program",
         length: WHOLE,
-        fields: &[Field {
-            place: 16,
-            width: 2,
-            value: 2,
-        }],
+        fields: [
+            Field {
+                place: 16,
+                width: 2,
+                value: 2,
+            },
+            NONE,
+        ],
         line: "refused module 6\n",
     },
     Bad {
         what: "with compressed instructions",
         length: WHOLE,
-        fields: &[Field {
-            place: 48,
-            width: 4,
-            value: 1,
-        }],
+        fields: [
+            Field {
+                place: 48,
+                width: 4,
+                value: 1,
+            },
+            NONE,
+        ],
         line: "refused module 7\n",
     },
     Bad {
         what: "section headers behind the file",
         length: WHOLE,
-        fields: &[Field {
-            place: 40,
-            width: 8,
-            value: 616,
-        }],
+        fields: [
+            Field {
+                place: 40,
+                width: 8,
+                value: 616,
+            },
+            NONE,
+        ],
         line: "refused module 8\n",
     },
     Bad {
         what: "section headers of another size",
         length: WHOLE,
-        fields: &[Field {
-            place: 58,
-            width: 2,
-            value: 40,
-        }],
+        fields: [
+            Field {
+                place: 58,
+                width: 2,
+                value: 40,
+            },
+            NONE,
+        ],
         line: "refused module 8\n",
     },
     Bad {
         what: "a section at the end of all numbers",
         length: WHOLE,
-        fields: &[Field {
-            place: 512,
-            width: 8,
-            value: 0xFFFF_FFFF_FFFF_FFF8,
-        }],
+        fields: [
+            Field {
+                place: 512,
+                width: 8,
+                value: 0xFFFF_FFFF_FFFF_FFF8,
+            },
+            NONE,
+        ],
         line: "refused module 9\n",
     },
     Bad {
         what: "symbols of another size",
         length: WHOLE,
-        fields: &[Field {
-            place: 608,
-            width: 8,
-            value: 16,
-        }],
+        fields: [
+            Field {
+                place: 608,
+                width: 8,
+                value: 16,
+            },
+            NONE,
+        ],
         line: "refused module 10\n",
     },
     Bad {
         what: "text that is aligned to three bytes",
         length: WHOLE,
-        fields: &[Field {
-            place: 408,
-            width: 8,
-            value: 3,
-        }],
+        fields: [
+            Field {
+                place: 408,
+                width: 8,
+                value: 3,
+            },
+            NONE,
+        ],
         line: "refused module 11\n",
     },
     Bad {
         what: "a kind of relocation that there is none of",
         length: WHOLE,
-        fields: &[Field {
-            place: 0x90,
-            width: 4,
-            value: 20,
-        }],
+        fields: [
+            Field {
+                place: 0x90,
+                width: 4,
+                value: 20,
+            },
+            NONE,
+        ],
         line: "refused module 12\n",
     },
     Bad {
         what: "the last of all symbols",
         length: WHOLE,
-        fields: &[Field {
-            place: 0x94,
-            width: 4,
-            value: 0xFFFF_FFFF,
-        }],
+        fields: [
+            Field {
+                place: 0x94,
+                width: 4,
+                value: 0xFFFF_FFFF,
+            },
+            NONE,
+        ],
         line: "refused module 13\n",
     },
     Bad {
         what: "a field behind the text",
         length: WHOLE,
-        fields: &[Field {
-            place: 0x88,
-            width: 8,
-            value: 12,
-        }],
+        fields: [
+            Field {
+                place: 0x88,
+                width: 8,
+                value: 12,
+            },
+            NONE,
+        ],
         line: "refused module 14\n",
     },
     Bad {
         what: "the lower half of an address whose upper half is missing",
         length: WHOLE,
-        fields: &[Field {
-            place: 0xA8,
-            width: 4,
-            value: 24,
-        }],
+        fields: [
+            Field {
+                place: 0xA8,
+                width: 4,
+                value: 24,
+            },
+            NONE,
+        ],
         line: "refused module 15\n",
     },
     Bad {
         what: "two fields in one place",
         length: WHOLE,
-        fields: &[Field {
-            place: 0xA0,
-            width: 8,
-            value: 0,
-        }],
+        fields: [
+            Field {
+                place: 0xA0,
+                width: 8,
+                value: 0,
+            },
+            NONE,
+        ],
         line: "refused module 17\n",
     },
     Bad {
         what: "no text",
         length: WHOLE,
-        fields: &[Field {
-            place: 368,
-            width: 8,
-            value: 2,
-        }],
+        fields: [
+            Field {
+                place: 368,
+                width: 8,
+                value: 2,
+            },
+            NONE,
+        ],
         line: "refused module 18\n",
     },
 ];
 
-// The object, changed and cut, under the name of the script.
-fn with_object(alloc: Global, fields: &[Field], length: usize) -> Result<Handed, AllocError> {
+// The object, changed and cut.
+fn object(alloc: Global, fields: &[Field], length: usize) -> Result<Vec<u8>, AllocError> {
     let mut object = Vec::new(alloc);
     for word in &OBJECT {
         object.extend_from_slice(&word.to_le_bytes())?;
     }
     put_fields(&mut object, fields);
     object.truncate(length);
-    let mut handed = files(alloc)?;
-    handed.script = object;
-    Ok(handed)
+    Ok(object)
 }
 
-const WORDS: [&str; 8] = [
+static WORDS: [&str; 8] = [
     "measure",
     "saved",
     "image",
@@ -264,25 +304,32 @@ const WORDS: [&str; 8] = [
     "script",
 ];
 
+// The generated guest's files, with the object under the name of the script.
+fn with_object(alloc: Global, fields: &[Field], length: usize) -> Result<Handed, AllocError> {
+    let mut handed = files(alloc)?;
+    handed.script = object(alloc, fields, length)?;
+    Ok(handed)
+}
+
 #[test]
-fn takes_the_object_as_it_is(rt: HostRuntime) -> Result<(), Fail> {
+fn takes_the_object_as_it_is(rt: HostRuntime) -> Result<(), AllocError> {
     let handed = with_object(rt.alloc(), &[], WHOLE)?;
-    let left = call(&rt, rt.alloc(), &handed, &WORDS, GOOD)?;
-    assert_eq!(rt; left.status, Status::Done);
-    assert!(rt; left.taken.starts_with(b"measured "));
-    assert!(rt; left.saved.is_some());
+    let left = call_over(&rt, rt.alloc(), handed, &WORDS)?;
+    ends_as(&rt, "as it is", &left, Status::Done);
+    holds(
+        &rt,
+        "measured",
+        left.taken.starts_with("measured ".as_bytes()),
+    );
+    holds(&rt, "saved", left.saved.is_some());
     Ok(())
 }
 
 #[test]
-fn refuses_objects(rt: HostRuntime) -> Result<(), Fail> {
+fn refuses_objects(rt: HostRuntime) -> Result<(), AllocError> {
     for bad in &OBJECTS {
-        let what = bad.what;
-        let handed = with_object(rt.alloc(), bad.fields, bad.length)?;
-        let left = call(&rt, rt.alloc(), &handed, &WORDS, GOOD)?;
-        assert_eq!(rt; left.status, Status::Refused, "{what}");
-        assert!(rt; left.taken.as_slice() == bad.line.as_bytes(), "{what}");
-        assert!(rt; left.saved.is_none(), "{what}");
+        let handed = with_object(rt.alloc(), &bad.fields, bad.length)?;
+        refuses_files(&rt, rt.alloc(), bad.what, handed, &WORDS, bad.line)?;
     }
     Ok(())
 }

@@ -2,14 +2,15 @@
 ghost use Rattle.std.specs.Prelude.{◌≤◌};
 
 use crate::generated::{WORDS, files};
-use memory_runs::{GOOD, PRINTED, Printed, call, text_of};
+use crate::outcomes::{call_over, holds, refuses_files, runs, saved_is};
+use memory_runs::{Handed, PRINTED, Printed};
 use secvisor_cli::Status;
 use std::alloc::{AllocError, Global};
-use std::test::Fail;
 
-// A policy's text in parts, and the line that refuses it.
+// A policy's text: its first parts, which are in order, and the rest, which the line refuses.
 struct BadPolicy {
-    parts: &'static [&'static str],
+    start: &'static [&'static str],
+    rest: &'static str,
     line: &'static str,
 }
 
@@ -24,94 +25,98 @@ const MODULE: &str =
 
 static POLICIES: [BadPolicy; 18] = [
     BadPolicy {
-        parts: &[""],
+        start: &[],
+        rest: "",
         line: "refused policy 2\n",
     },
     // Cut within a text.
     BadPolicy {
-        parts: &["format = 1\nharts = 1\nram_pages = 16\nentries = ['0x8000"],
+        start: &[],
+        rest: "format = 1\nharts = 1\nram_pages = 16\nentries = ['0x8000",
         line: "refused policy 1\n",
     },
     // A key twice.
     BadPolicy {
-        parts: &["format = 1\nharts = 1\nharts = 1\n"],
+        start: &[],
+        rest: "format = 1\nharts = 1\nharts = 1\n",
         line: "refused policy 1\n",
     },
     BadPolicy {
-        parts: &["format = 3\n"],
+        start: &[],
+        rest: "format = 3\n",
         line: "refused policy 8\n",
     },
     BadPolicy {
-        parts: &["format = 1\nram_pages = 16\n"],
+        start: &[],
+        rest: "format = 1\nram_pages = 16\n",
         line: "refused policy 2\n",
     },
     BadPolicy {
-        parts: &["format = 1\ncores = 1\nharts = 1\n"],
+        start: &[],
+        rest: "format = 1\ncores = 1\nharts = 1\n",
         line: "refused policy 3\n",
     },
     BadPolicy {
-        parts: &["format = 1\nharts = '1'\n"],
+        start: &[],
+        rest: "format = 1\nharts = '1'\n",
         line: "refused policy 4\n",
     },
     BadPolicy {
-        parts: &["format = 1\nharts = 5\n"],
+        start: &[],
+        rest: "format = 1\nharts = 5\n",
         line: "refused policy 6\n",
     },
     BadPolicy {
-        parts: &["format = 1\nharts = 1\nram_pages = 15\n"],
+        start: &[],
+        rest: "format = 1\nharts = 1\nram_pages = 15\n",
         line: "refused policy 6\n",
     },
     BadPolicy {
-        parts: &["format = 1\nharts = 1\nram_pages = 16\nentries = ['80000000']\n"],
+        start: &[],
+        rest: "format = 1\nharts = 1\nram_pages = 16\nentries = ['80000000']\n",
         line: "refused policy 5\n",
     },
     BadPolicy {
-        parts: &["format = 1\nharts = 1\nram_pages = 16\nentries = ['0x80000002']\n"],
+        start: &[],
+        rest: "format = 1\nharts = 1\nram_pages = 16\nentries = ['0x80000002']\n",
         line: "refused policy 6\n",
     },
     BadPolicy {
-        parts: &[
-            MACHINE,
-            "exports = [['print', '0x80000100'], ['print', '0x80000200']]\n",
-        ],
+        start: &[MACHINE],
+        rest: "exports = [['print', '0x80000100'], ['print', '0x80000200']]\n",
         line: "refused policy 7\n",
     },
     // A digit is missing in a measure, and another is none.
     BadPolicy {
-        parts: &[
-            MACHINE,
-            "[kernel]\nmeasure = '001122334455667788990011223344556677889900112233445566778899001'\n",
-        ],
+        start: &[MACHINE],
+        rest: "[kernel]\nmeasure = '001122334455667788990011223344556677889900112233445566778899001'\n",
         line: "refused policy 5\n",
     },
     BadPolicy {
-        parts: &[
-            MACHINE,
-            "[kernel]\nmeasure = '001122334455667788990011223344556677889900112233445566778899001g'\n",
-        ],
+        start: &[MACHINE],
+        rest: "[kernel]\nmeasure = '001122334455667788990011223344556677889900112233445566778899001g'\n",
         line: "refused policy 5\n",
     },
     // Init pages begin within a page.
     BadPolicy {
-        parts: &[MACHINE, KERNEL, "init = ['0x80000800', 1]\n"],
+        start: &[MACHINE, KERNEL],
+        rest: "init = ['0x80000800', 1]\n",
         line: "refused policy 6\n",
     },
     // A kind of site that there is none of, a base that is not exported, and sites that overlap.
     BadPolicy {
-        parts: &[MACHINE, KERNEL, MODULE, "sites = [[0, 20, 0, 0, 0]]\n"],
+        start: &[MACHINE, KERNEL, MODULE],
+        rest: "sites = [[0, 20, 0, 0, 0]]\n",
         line: "refused policy 6\n",
     },
     BadPolicy {
-        parts: &[MACHINE, KERNEL, MODULE, "sites = [[0, 23, 3, 0, 0]]\n"],
+        start: &[MACHINE, KERNEL, MODULE],
+        rest: "sites = [[0, 23, 3, 0, 0]]\n",
         line: "refused policy 6\n",
     },
     BadPolicy {
-        parts: &[
-            MACHINE,
-            KERNEL,
-            MODULE,
-            "sites = [[0, 2, 0, 0, 0], [4, 23, 0, 0, 4]]\n",
-        ],
+        start: &[MACHINE, KERNEL, MODULE],
+        rest: "sites = [[0, 2, 0, 0, 0], [4, 23, 0, 0, 4]]\n",
         line: "refused policy 9\n",
     },
 ];
@@ -124,15 +129,20 @@ fn joined(alloc: Global, parts: &[&str]) -> Result<Vec<u8>, AllocError> {
     Ok(bytes)
 }
 
+// The generated guest's files, with another policy.
+fn with_policy(alloc: Global, bad: &BadPolicy) -> Result<Handed, AllocError> {
+    let mut policy = joined(alloc, bad.start)?;
+    policy.extend_from_slice(bad.rest.as_bytes())?;
+    let mut handed = files(alloc)?;
+    handed.policy = policy;
+    Ok(handed)
+}
+
 #[test]
-fn refuses_policies(rt: HostRuntime) -> Result<(), Fail> {
-    for (row, bad) in POLICIES.iter().enumerate() {
-        let mut handed = files(rt.alloc())?;
-        handed.policy = joined(rt.alloc(), bad.parts)?;
-        let left = call(&rt, rt.alloc(), &handed, &WORDS, GOOD)?;
-        assert_eq!(rt; left.status, Status::Refused, "row {row}");
-        assert!(rt; left.taken.as_slice() == bad.line.as_bytes(), "row {row}");
-        assert!(rt; !left.is_booted, "row {row}");
+fn refuses_policies(rt: HostRuntime) -> Result<(), AllocError> {
+    for bad in &POLICIES {
+        let handed = with_policy(rt.alloc(), bad)?;
+        refuses_files(&rt, rt.alloc(), bad.rest, handed, &WORDS, bad.line)?;
     }
     Ok(())
 }
@@ -150,24 +160,35 @@ fn push_sites(text: &mut Vec<u8>, alloc: Global, count: u32) -> Result<(), Alloc
     text.extend_from_slice(b"]\n")
 }
 
+fn push_module(text: &mut Vec<u8>, alloc: Global, id: u32) -> Result<(), AllocError> {
+    let module = format!(in alloc;
+        "[[module]]\nname = '{id}'\npages = 43\nmeasure = '0011223344556677889900112233445566778899001122334455667788990011'\n"
+    )?;
+    text.extend_from_slice(module.as_bytes())
+}
+
 // Three modules that have 131,073 sites together, one more than a policy may have.
-#[test]
-fn refuses_too_many_sites(rt: HostRuntime) -> Result<(), Fail> {
-    let alloc = rt.alloc();
-    let mut handed = files(alloc)?;
+fn too_many_sites(alloc: Global) -> Result<Vec<u8>, AllocError> {
     let mut text = joined(alloc, &[MACHINE, KERNEL])?;
-    for id in 0..3u32 {
-        let module = format!(in alloc;
-            "[[module]]\nname = '{id}'\npages = 43\nmeasure = '0011223344556677889900112233445566778899001122334455667788990011'\n"
-        )?;
-        text.extend_from_slice(module.as_bytes())?;
+    for id in 0..3 {
+        push_module(&mut text, alloc, id)?;
         push_sites(&mut text, alloc, 43_691)?;
     }
-    handed.policy = text;
-    let left = call(&rt, alloc, &handed, &WORDS, GOOD)?;
-    assert_eq!(rt; left.status, Status::Refused);
-    assert!(rt; left.taken.as_slice() == b"refused policy 6\n".as_slice());
-    Ok(())
+    Ok(text)
+}
+
+#[test]
+fn refuses_too_many_sites(rt: HostRuntime) -> Result<(), AllocError> {
+    let mut handed = files(rt.alloc())?;
+    handed.policy = too_many_sites(rt.alloc())?;
+    refuses_files(
+        &rt,
+        rt.alloc(),
+        "sites",
+        handed,
+        &WORDS,
+        "refused policy 6\n",
+    )
 }
 
 // A script, and the line that refuses it.
@@ -207,17 +228,17 @@ static SCRIPTS: [BadScript; 7] = [
     },
 ];
 
+fn with_script(alloc: Global, script: &[u8]) -> Result<Handed, AllocError> {
+    let mut handed = files(alloc)?;
+    handed.script = script.to_vec(alloc)?;
+    Ok(handed)
+}
+
 #[test]
-fn refuses_scripts(rt: HostRuntime) -> Result<(), Fail> {
+fn refuses_scripts(rt: HostRuntime) -> Result<(), AllocError> {
     for bad in &SCRIPTS {
-        let text = bad.text;
-        let mut handed = files(rt.alloc())?;
-        handed.script = text.as_bytes().to_vec(rt.alloc())?;
-        let left = call(&rt, rt.alloc(), &handed, &WORDS, GOOD)?;
-        assert_eq!(rt; left.status, Status::Refused, "{text}");
-        assert!(rt; left.taken.as_slice() == bad.line.as_bytes(), "{text}");
-        assert!(rt; left.saved.is_none(), "{text}");
-        assert!(rt; !left.is_booted, "{text}");
+        let handed = with_script(rt.alloc(), bad.text.as_bytes())?;
+        refuses_files(&rt, rt.alloc(), bad.text, handed, &WORDS, bad.line)?;
     }
     Ok(())
 }
@@ -247,62 +268,72 @@ static SIZES: [Sized; 3] = [
     },
 ];
 
+// The generated guest's files, with a disk and a script of line feeds, so many of each.
+fn with_sizes(alloc: Global, disk: usize, script: usize) -> Result<Handed, AllocError> {
+    let mut handed = files(alloc)?;
+    handed.disk = vec![in alloc; b'\n'; disk]?;
+    handed.script = vec![in alloc; b'\n'; script]?;
+    Ok(handed)
+}
+
 #[test]
-fn refuses_sizes(rt: HostRuntime) -> Result<(), Fail> {
-    let alloc = rt.alloc();
+fn refuses_sizes(rt: HostRuntime) -> Result<(), AllocError> {
     for sized in &SIZES {
-        let line = sized.line;
-        let mut handed = files(alloc)?;
-        handed.disk = vec![in alloc; b'\n'; sized.disk]?;
-        handed.script = vec![in alloc; b'\n'; sized.script]?;
-        let left = call(&rt, alloc, &handed, &WORDS, GOOD)?;
-        assert_eq!(rt; left.status, Status::Refused, "{line}");
-        assert!(rt; left.taken.as_slice() == line.as_bytes(), "{line}");
-        assert!(rt; !left.is_booted, "{line}");
+        let handed = with_sizes(rt.alloc(), sized.disk, sized.script)?;
+        refuses_files(&rt, rt.alloc(), sized.line, handed, &WORDS, sized.line)?;
     }
     Ok(())
 }
+
+static PRINTED_OF_NO_EVENT: Printed = PRINTED;
 
 // An empty script has no event, and an empty disk no sector.
 #[test]
-fn runs_without_events(rt: HostRuntime) -> Result<(), Fail> {
-    let mut handed = files(rt.alloc())?;
-    handed.disk.clear();
-    handed.script.clear();
-    let left = call(&rt, rt.alloc(), &handed, &WORDS, GOOD)?;
-    let want = text_of(rt.alloc(), &PRINTED)?;
-    assert_eq!(rt; left.status, Status::Ended);
-    assert!(rt; left.taken.as_slice() == want.as_bytes());
-    match &left.saved {
-        Some(saved) => assert!(rt; saved.is_empty()),
-        None => assert!(rt; false),
-    }
-    Ok(())
+fn runs_without_events(rt: HostRuntime) -> Result<(), AllocError> {
+    let handed = with_sizes(rt.alloc(), 0, 0)?;
+    let left = call_over(&rt, rt.alloc(), handed, &WORDS)?;
+    holds(&rt, "saved", saved_is(&left, &[]));
+    runs(
+        &rt,
+        rt.alloc(),
+        "empty",
+        &left,
+        Status::Ended,
+        &PRINTED_OF_NO_EVENT,
+    )
 }
 
-// The queue has room for 256 keys.
-#[test]
-fn drops_keys_without_room(rt: HostRuntime) -> Result<(), Fail> {
-    let alloc = rt.alloc();
-    let mut handed = files(alloc)?;
-    handed.script.clear();
+// The generated guest's files, with a script of 257 keys and two ticks.
+fn with_keys(alloc: Global) -> Result<Handed, AllocError> {
+    let mut handed = with_script(alloc, &[])?;
     for _ in 0..257 {
         handed.script.extend_from_slice(b"key 65\n")?;
     }
     handed
         .script
         .extend_from_slice(b"tick 18446744073709551615\ntick 1")?;
-    let words = ["run", "image", "policy", "none", "script", "1000", "none"];
-    let left = call(&rt, alloc, &handed, &words, GOOD)?;
-    let want = text_of(
-        alloc,
-        &Printed {
-            events: "turns 0 beats 0 keys 257 ticks 2",
-            devices: "denied 0 dropped 1 loads 0 unloads 0 refused 0",
-            ..PRINTED
-        },
-    )?;
-    assert_eq!(rt; left.status, Status::Ended);
-    assert!(rt; left.taken.as_slice() == want.as_bytes());
-    Ok(())
+    Ok(handed)
+}
+
+static WORDS_WITHOUT_DISK: [&str; 7] = ["run", "image", "policy", "none", "script", "1000", "none"];
+
+static PRINTED_OF_KEYS: Printed = Printed {
+    events: "turns 0 beats 0 keys 257 ticks 2",
+    devices: "denied 0 dropped 1 loads 0 unloads 0 refused 0",
+    ..PRINTED
+};
+
+// The queue has room for 256 keys.
+#[test]
+fn drops_keys_without_room(rt: HostRuntime) -> Result<(), AllocError> {
+    let handed = with_keys(rt.alloc())?;
+    let left = call_over(&rt, rt.alloc(), handed, &WORDS_WITHOUT_DISK)?;
+    runs(
+        &rt,
+        rt.alloc(),
+        "keys",
+        &left,
+        Status::Ended,
+        &PRINTED_OF_KEYS,
+    )
 }

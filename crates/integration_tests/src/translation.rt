@@ -6,7 +6,7 @@ use crate::kernel::{
 };
 use memory_runs::{PRINTED, Printed};
 use secvisor_cli::Status;
-use std::test::Fail;
+use std::alloc::AllocError;
 
 // Addresses that the guest's tables translate.
 static WALKS: [Guest; 4] = [
@@ -157,9 +157,8 @@ static WALKS: [Guest; 4] = [
 ];
 
 #[test]
-fn walks_of_hostile_tables(rt: HostRuntime) -> Result<(), Fail> {
-    run_as_printed(&rt, rt.alloc(), &WALKS)?;
-    Ok(())
+fn walks_of_hostile_tables(rt: HostRuntime) -> Result<(), AllocError> {
+    run_as_printed(&rt, rt.alloc(), &WALKS)
 }
 
 // Where the tables begin, and where traps lead.
@@ -269,7 +268,6 @@ static ROOTS_AND_VECTORS: [Guest; 4] = [
 ];
 
 #[test]
-fn hostile_roots_and_vectors(rt: HostRuntime) -> Result<(), Fail> {
-    run_as_printed(&rt, rt.alloc(), &ROOTS_AND_VECTORS)?;
-    Ok(())
+fn hostile_roots_and_vectors(rt: HostRuntime) -> Result<(), AllocError> {
+    run_as_printed(&rt, rt.alloc(), &ROOTS_AND_VECTORS)
 }

@@ -39,12 +39,9 @@ fn a_span_held_approved_and_freed(rt: HostRuntime) -> Result<(), Fail> {
     let mut guard = Guard::new(rt.alloc(), &mut mem, &bound)?;
     let text = Span { first: 2, count: 3 };
     let hold = guard.hold(&mut mem, text)?;
-    assert_eq!(rt; guard.protection(4), Protection::Held);
+    assert!(rt; guard.protection(4) == Protection::Held);
     guard.approve(&mut mem, hold);
-    assert_eq!(rt;
-        guard.protections().get(4).copied(),
-        Some(Protection::Approved)
-    );
+    assert!(rt; guard.protections().get(4).copied() == Some(Protection::Approved));
     guard.unapprove(&mut mem, text);
     assert!(rt; guard.dma().may_write(2));
     Ok(())

@@ -15,7 +15,7 @@ pub trait Meter {
 }
 
 /// Watches nothing.
-#[derive(Clone, Copy, Debug, PartialEq, Eq, Drop)]
+#[derive(Clone, Copy, Drop)]
 pub struct Silent;
 
 impl Meter for Silent {

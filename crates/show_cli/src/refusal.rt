@@ -6,7 +6,7 @@ use snapshot_form::SnapRefusal;
 use sv_types::Status;
 
 /// Why nothing is shown.
-#[derive(Clone, Copy, Debug, PartialEq, Eq, Drop)]
+#[derive(Clone, Copy, Drop)]
 pub enum ShowRefusal {
     /// The words aren't those of the command.
     NoCommand,

@@ -10,6 +10,8 @@ mod numbers;
 #[cfg(test)]
 mod reports;
 #[cfg(test)]
+mod same;
+#[cfg(test)]
 mod scripts;
 #[cfg(test)]
 mod snapshots;

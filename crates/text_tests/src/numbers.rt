@@ -1,108 +1,111 @@
+use crate::same::{same, same_text};
+use std::alloc::{AllocError, Global};
+use std::process::Abort;
 use std::test::Fail;
 use text_numbers::{address_of, address_text, digest_of, digest_text, number_within};
 
 const MOST: u64 = u64::MAX;
 
 struct Number {
-    text: &'static [u8],
+    text: &'static str,
     low: u64,
     high: u64,
     wanted: Option<u64>,
 }
 
-const NUMBERS: [Number; 16] = [
+static NUMBERS: [Number; 16] = [
     Number {
-        text: b"0",
+        text: "0",
         low: 0,
         high: MOST,
         wanted: Some(0),
     },
     Number {
-        text: b"007",
+        text: "007",
         low: 0,
         high: 7,
         wanted: Some(7),
     },
     Number {
-        text: b"00000000000000000001",
+        text: "00000000000000000001",
         low: 1,
         high: 1,
         wanted: Some(1),
     },
     Number {
-        text: b"000000000000000000001",
+        text: "000000000000000000001",
         low: 1,
         high: 1,
         wanted: None,
     },
     Number {
-        text: b"4294967296",
+        text: "4294967296",
         low: 1,
         high: 1 << 32,
         wanted: Some(1 << 32),
     },
     Number {
-        text: b"4294967297",
+        text: "4294967297",
         low: 1,
         high: 1 << 32,
         wanted: None,
     },
     Number {
-        text: b"18446744073709551615",
+        text: "18446744073709551615",
         low: 0,
         high: MOST,
         wanted: Some(MOST),
     },
     Number {
-        text: b"18446744073709551616",
+        text: "18446744073709551616",
         low: 0,
         high: MOST,
         wanted: None,
     },
     Number {
-        text: b"99999999999999999999",
+        text: "99999999999999999999",
         low: 0,
         high: MOST,
         wanted: None,
     },
     Number {
-        text: b"0",
+        text: "0",
         low: 1,
         high: MOST,
         wanted: None,
     },
     Number {
-        text: b"",
+        text: "",
         low: 0,
         high: MOST,
         wanted: None,
     },
     Number {
-        text: b"+1",
+        text: "+1",
         low: 0,
         high: MOST,
         wanted: None,
     },
     Number {
-        text: b"-1",
+        text: "-1",
         low: 0,
         high: MOST,
         wanted: None,
     },
     Number {
-        text: b"1 ",
+        text: "1 ",
         low: 0,
         high: MOST,
         wanted: None,
     },
     Number {
-        text: b"0x1",
+        text: "0x1",
         low: 0,
         high: MOST,
         wanted: None,
     },
     Number {
-        text: b"1\r",
+        text: "1\r",
         low: 0,
         high: MOST,
         wanted: None,
@@ -112,7 +115,8 @@ const NUMBERS: [Number; 16] = [
 #[test]
 fn texts_of_numbers(rt: HostRuntime) {
     for row in &NUMBERS {
-        assert_eq!(rt; number_within(row.text, row.low, row.high), row.wanted);
+        let found = number_within(row.text.as_bytes(), row.low, row.high);
+        same(&rt, row.text, found, row.wanted);
     }
 }
 
@@ -121,7 +125,7 @@ struct Address {
     wanted: Option<u64>,
 }
 
-const ADDRESSES: [Address; 14] = [
+static ADDRESSES: [Address; 14] = [
     Address {
         text: "0x0",
         wanted: Some(0),
@@ -183,7 +187,7 @@ const ADDRESSES: [Address; 14] = [
 #[test]
 fn texts_of_addresses(rt: HostRuntime) {
     for row in &ADDRESSES {
-        assert_eq!(rt; address_of(row.text), row.wanted);
+        same(&rt, row.text, address_of(row.text), row.wanted);
     }
 }
 
@@ -192,7 +196,7 @@ struct Digest {
     is_read: bool,
 }
 
-const DIGESTS: [Digest; 6] = [
+static DIGESTS: [Digest; 6] = [
     Digest {
         text: "00112233445566778899aabbccddeeff00112233445566778899AABBCCDDEEFF",
         is_read: true,
@@ -219,7 +223,7 @@ const DIGESTS: [Digest; 6] = [
     },
 ];
 
-const BYTES: [u8; 32] = [
+static BYTES: [u8; 32] = [
     0x00, 0x11, 0x22, 0x33, 0x44, 0x55, 0x66, 0x77, 0x88, 0x99, 0xaa, 0xbb, 0xcc, 0xdd, 0xee, 0xff,
     0x00, 0x11, 0x22, 0x33, 0x44, 0x55, 0x66, 0x77, 0x88, 0x99, 0xaa, 0xbb, 0xcc, 0xdd, 0xee, 0xff,
 ];
@@ -228,24 +232,41 @@ const BYTES: [u8; 32] = [
 fn texts_of_digests(rt: HostRuntime) {
     for row in &DIGESTS {
         let wanted = if row.is_read { Some(BYTES) } else { None };
-        assert_eq!(rt; digest_of(row.text), wanted);
+        same(&rt, row.text, digest_of(row.text), wanted);
     }
+}
+
+static PRINTED_DIGEST: &str = "00112233445566778899aabbccddeeff00112233445566778899aabbccddeeff";
+
+// An address, and its text.
+static PRINTED: [(u64, &str); 3] = [
+    (0, "0x0000000000000000"),
+    (0x8000_1abc, "0x0000000080001abc"),
+    (MOST, "0xffffffffffffffff"),
+];
+
+fn check_address(
+    rt: &impl Abort,
+    alloc: Global,
+    address: u64,
+    wanted: &str,
+) -> Result<(), AllocError> {
+    let text = address_text(alloc, address)?;
+    same_text(rt, text.as_str(), wanted);
+    Ok(())
+}
+
+fn check_digest(rt: &impl Abort, alloc: Global) -> Result<(), AllocError> {
+    let text = digest_text(alloc, &BYTES)?;
+    same_text(rt, text.as_str(), PRINTED_DIGEST);
+    Ok(())
 }
 
 #[test]
 fn printed_texts(rt: HostRuntime) -> Result<(), Fail> {
-    assert_eq!(rt; address_text(rt.alloc(), 0)?.as_str(), "0x0000000000000000");
-    assert_eq!(rt;
-        address_text(rt.alloc(), 0x8000_1abc)?.as_str(),
-        "0x0000000080001abc"
-    );
-    assert_eq!(rt;
-        address_text(rt.alloc(), MOST)?.as_str(),
-        "0xffffffffffffffff"
-    );
-    assert_eq!(rt;
-        digest_text(rt.alloc(), &BYTES)?.as_str(),
-        "00112233445566778899aabbccddeeff00112233445566778899aabbccddeeff"
-    );
+    for &(address, wanted) in &PRINTED {
+        check_address(&rt, rt.alloc(), address, wanted)?;
+    }
+    check_digest(&rt, rt.alloc())?;
     Ok(())
 }
