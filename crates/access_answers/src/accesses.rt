@@ -22,7 +22,7 @@ use processor::{Cause, ExitCause};
 use trap_answers::guest_trap;
 
 /// A load: the register that it sets, its virtual address, how it takes the value, and the guest-physical address.
-#[derive(Clone, Copy, Debug, PartialEq, Eq, Drop)]
+#[derive(Clone, Copy, Drop)]
 pub struct Load {
     pub rd: u8,
     pub address: u64,
@@ -32,7 +32,7 @@ pub struct Load {
 }
 
 /// A store: its virtual address, the guest-physical one, and what is stored.
-#[derive(Clone, Copy, Debug, PartialEq, Eq, Drop)]
+#[derive(Clone, Copy, Drop)]
 pub struct Store {
     pub address: u64,
     pub gpa: u64,

@@ -14,7 +14,7 @@ pub(crate) const HARTS: usize = MOST_HARTS as usize;
 const NEVER: u64 = u64::MAX;
 
 /// The time and the timers of four harts, in ticks.
-#[derive(Debug, Drop)]
+#[derive(Drop)]
 pub struct Clock {
     time: u64,
     timers: [u64; HARTS],

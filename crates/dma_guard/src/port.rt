@@ -8,7 +8,7 @@ use crate::DmaGuard;
 use host_mem::HostMem;
 
 /// What a beat did.
-#[derive(Clone, Copy, Debug, PartialEq, Eq, Drop)]
+#[derive(Clone, Copy, PartialEq, Eq, Drop)]
 pub enum Beaten {
     /// Nothing: no transfer is under way.
     Idle,

@@ -12,7 +12,7 @@ use processor::{PAGE_BYTES, ram_place};
 use std::alloc::{AllocError, Global};
 
 /// A segment that is loaded: its bytes, which stay in the file, and zeros behind them up to the size in memory.
-#[derive(Clone, Copy, Debug, PartialEq, Eq, Drop)]
+#[derive(Clone, Copy, PartialEq, Eq, Drop)]
 pub struct Segment<'a> {
     /// The virtual address.
     pub va: u64,
@@ -27,7 +27,7 @@ pub struct Segment<'a> {
 }
 
 /// A kernel: where its hart begins, and its segments in the order of their headers.
-#[derive(Debug, PartialEq, Eq, Drop)]
+#[derive(Drop)]
 pub struct KernelImage<'a> {
     pub entry: u64,
     pub segments: Vec<Segment<'a>>,

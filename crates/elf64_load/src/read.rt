@@ -17,7 +17,7 @@ use sv_types::{ImageFault, ProgramHeader};
 use thiserror::Error;
 
 /// Why a file is refused.
-#[derive(Clone, Copy, Debug, PartialEq, Eq, Drop, Error)]
+#[derive(Clone, Copy, Debug, Drop, Error)]
 pub enum ElfRefusal {
     /// The first fault of the image.
     #[error("a fault of the image")]

@@ -13,7 +13,7 @@ use std::alloc::{AllocError, Global};
 const MOST_ALIGNMENT: u64 = PAGE_BYTES;
 
 /// What a section belongs to.
-#[derive(Clone, Copy, Debug, PartialEq, Eq, Drop)]
+#[derive(Clone, Copy, PartialEq, Eq, Drop)]
 pub enum Space {
     Text,
     Data,

@@ -14,7 +14,7 @@ use std::alloc::{AllocError, Global};
 
 /// What the header of a section says: its kind, its flags, its bytes in the file, the number of a section that it is tied
 /// to, another number by its kind, and which multiples its address has to be.
-#[derive(Clone, Copy, Debug, PartialEq, Eq, Drop)]
+#[derive(Clone, Copy, Drop)]
 pub struct SectionHeader {
     pub kind: u32,
     pub flags: u64,

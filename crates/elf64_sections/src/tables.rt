@@ -10,14 +10,14 @@ use crate::fields::{byte, double, half, word};
 use crate::sections::{SectionHeader, part, part_in_file};
 
 /// The bytes of a symbol table, and of the table in which its names stand. They stay in the file.
-#[derive(Clone, Copy, Debug, Drop)]
+#[derive(Clone, Copy, Drop)]
 pub struct SymbolTables<'a> {
     pub symbols: &'a [u8],
     pub strings: &'a [u8],
 }
 
 /// A symbol: where its name begins, its binding and type, the section that defines it (0: none), and its value.
-#[derive(Clone, Copy, Debug, PartialEq, Eq, Drop)]
+#[derive(Clone, Copy, Drop)]
 pub struct Symbol {
     pub name: u32,
     pub info: u8,

@@ -33,7 +33,7 @@ impl ConvertFault {
 }
 
 /// What is wrong with a policy and a kernel.
-#[derive(Clone, Copy, Debug, PartialEq, Eq, Drop)]
+#[derive(Clone, Copy, Debug, Drop)]
 pub enum BindFault {
     /// The policy's format, or the first entry that isn't bound.
     Convert(ConvertFault),
@@ -42,7 +42,7 @@ pub enum BindFault {
 }
 
 /// Why a policy's entries aren't bound.
-#[derive(Clone, Copy, Debug, PartialEq, Eq, Drop, Error)]
+#[derive(Clone, Copy, Debug, Drop, Error)]
 pub enum BindRefusal {
     /// The first fault.
     #[error("a fault of the policy, the kernel or an entry")]

@@ -10,7 +10,7 @@ use rv64_encode::{Instr, encode};
 use std::alloc::AllocError;
 
 /// A field of a file.
-#[derive(Clone, Copy, Debug, PartialEq, Eq, Drop)]
+#[derive(Clone, Copy, Drop)]
 pub enum Field {
     Byte(u8),
     Half(u16),

@@ -21,7 +21,7 @@ use rv64_exec::Regs;
 use trap_entry::{into_guest, return_to_guest, target};
 
 /// A trap of the guest: its cause, and the value that `stval` takes.
-#[derive(Clone, Copy, Debug, PartialEq, Eq, Drop)]
+#[derive(Clone, Copy, Drop)]
 pub struct Trap {
     pub cause: ExitCause,
     pub tval: u64,

@@ -11,7 +11,7 @@ use rv64_exec::Regs;
 use std::marker::Model;
 
 /// What a call asks, as its registers say.
-#[derive(Clone, Copy, Debug, PartialEq, Eq, Drop)]
+#[derive(Clone, Copy, Drop)]
 pub struct Asked {
     /// The number of the extension.
     pub extension: u64,

@@ -25,7 +25,7 @@ pub struct KeySource {
 }
 
 /// How a live run ended.
-#[derive(Clone, Copy, Debug, PartialEq, Eq, Drop)]
+#[derive(Clone, Copy, Drop)]
 pub struct LiveEnd {
     /// A read of the keys failed, and none was read behind it.
     pub read_failed: bool,

@@ -6,7 +6,7 @@ use std::alloc::{AllocError, AllocFailed};
 use sv_types::Digest;
 
 /// Why a machine isn't booted.
-#[derive(Clone, Copy, Debug, PartialEq, Eq, Drop)]
+#[derive(Clone, Copy, Drop)]
 pub enum BootRefusal {
     /// The pages measure to another digest than the one that is wanted.
     Measure { found: Digest, wanted: Digest },

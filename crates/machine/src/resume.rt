@@ -28,7 +28,7 @@ use std::thread::Threads;
 use sv_types::Policy;
 
 /// Why a machine doesn't go on from a snapshot.
-#[derive(Clone, Copy, Debug, PartialEq, Eq, Drop)]
+#[derive(Clone, Copy, Drop)]
 pub enum ResumeFailure {
     /// The first judgement that fails.
     Refused(ResumeRefusal),

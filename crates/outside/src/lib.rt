@@ -33,7 +33,7 @@ pub enum FileRefusal {
 }
 
 /// A save failed; the name may hold anything.
-#[derive(Clone, Copy, Debug, PartialEq, Eq, Drop)]
+#[derive(Clone, Copy, Drop)]
 pub struct SaveFailed;
 
 /// Files by name.

@@ -9,7 +9,7 @@ use std::alloc::AllocError;
 use sv_types::{Failed, Status};
 
 /// What ends an answer before its status stands.
-#[derive(Clone, Copy, Debug, PartialEq, Eq, Drop)]
+#[derive(Clone, Copy, PartialEq, Eq, Drop)]
 pub enum Trouble {
     /// A write or a save failed.
     Write,

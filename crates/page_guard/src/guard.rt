@@ -53,7 +53,7 @@ impl Model for Hold {
 }
 
 /// The first page of a span that isn't free.
-#[derive(Clone, Copy, Debug, PartialEq, Eq, Drop)]
+#[derive(Clone, Copy, Debug, Drop)]
 pub struct Taken {
     pub page: u32,
 }

@@ -47,7 +47,7 @@ impl Model for Side {
 }
 
 /// The target of a trap from user mode that isn't a permitted entry.
-#[derive(Clone, Copy, Debug, PartialEq, Eq, Drop)]
+#[derive(Clone, Copy, PartialEq, Eq, Drop)]
 pub struct Forbidden {
     pub target: u64,
 }

@@ -1,7 +1,7 @@
 // Accesses to memory.
 
 /// A kind of access to memory.
-#[derive(Clone, Copy, Debug, PartialEq, Eq, Drop)]
+#[derive(Clone, Copy, PartialEq, Eq, Drop)]
 pub enum Access {
     Fetch,
     Load,

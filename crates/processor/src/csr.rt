@@ -27,7 +27,7 @@ const SATP: u16 = 0x180;
 const TIME: u16 = 0xC01;
 
 /// A supervisor register of the register table in `specs/Registers.antt`, or the time.
-#[derive(Clone, Copy, Debug, PartialEq, Eq, Drop)]
+#[derive(Clone, Copy, PartialEq, Eq, Drop)]
 pub enum Csr {
     Sstatus,
     Sie,
@@ -86,7 +86,7 @@ impl Csr {
 }
 
 /// Why the hardware refuses an access to a register with V = 1.
-#[derive(Clone, Copy, Debug, PartialEq, Eq, Drop)]
+#[derive(Clone, Copy, PartialEq, Eq, Drop)]
 pub enum CsrFault {
     /// An illegal-instruction exception.
     Illegal,

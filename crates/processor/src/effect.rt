@@ -3,7 +3,7 @@
 use crate::instruction::{AmoOp, CsrOp};
 
 /// The effect of an instruction, by the effect table in `specs/Effects.antt`. Widths are in bytes.
-#[derive(Clone, Copy, Debug, PartialEq, Eq, Drop)]
+#[derive(Clone, Copy, Drop)]
 pub enum Effect {
     /// A register and the next pc are set.
     Set {

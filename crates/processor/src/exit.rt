@@ -8,7 +8,7 @@ use crate::cause::Cause;
 use crate::interrupt::Interrupt;
 
 /// Why a hart traps or leaves: an exception, or an interrupt of the guest.
-#[derive(Clone, Copy, Debug, PartialEq, Eq, Drop)]
+#[derive(Clone, Copy, PartialEq, Eq, Drop)]
 pub enum ExitCause {
     Exception(Cause),
     Interrupt(Interrupt),
@@ -47,7 +47,7 @@ impl ExitCause {
 }
 
 /// What an attempt hands to SecVisor.
-#[derive(Clone, Copy, Debug, PartialEq, Eq, Drop)]
+#[derive(Clone, Copy, PartialEq, Eq, Drop)]
 pub struct Exit {
     /// The guest-virtual address of the instruction.
     pub pc: u64,

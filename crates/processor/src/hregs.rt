@@ -3,7 +3,7 @@
 use crate::mode::Mode;
 
 /// The hypervisor registers of one hart.
-#[derive(Clone, Copy, Debug, PartialEq, Eq, Drop)]
+#[derive(Clone, Copy, Drop)]
 pub struct HRegs {
     pub mode: Mode,
     pub hgatp: u64,

@@ -156,7 +156,7 @@ pub const WFI: u32 = 0x1050_0073;
 /// An instruction. Immediates are sign-extended, register numbers are below 32, widths are 4 or 8 bytes. A shift
 /// by an immediate has `imm` 0, and the other computations have `shamt` 0. A register access with an immediate keeps
 /// it in `rs1`. In `Hyper` a field that the row fixes is 0.
-#[derive(Clone, Copy, Debug, PartialEq, Eq, Drop)]
+#[derive(Clone, Copy, Drop)]
 pub enum Instr {
     Lui {
         rd: u8,

@@ -1,7 +1,7 @@
 // A hart's privilege.
 
 /// A hart's privilege.
-#[derive(Clone, Copy, Debug, PartialEq, Eq, Drop)]
+#[derive(Clone, Copy, PartialEq, Eq, Drop)]
 pub enum Mode {
     Kernel,
     User,

@@ -5,7 +5,7 @@ ghost use Rattle.std.specs.Prelude.{⊤, [], ◌∷◌, codes};
 use bitflags::{Flag, Flags, bitflag_items};
 
 /// The flags in the lowest bits of a page-table entry. The bits above them, as an entry has them, may be set too.
-#[derive(Clone, Copy, Debug, PartialEq, Eq, Drop)]
+#[derive(Clone, Copy, Drop)]
 pub struct PteBits(pub u64);
 
 bitflag_items! {

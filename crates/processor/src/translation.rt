@@ -10,14 +10,14 @@ pub const BARE: u64 = 0;
 pub const SV39: u64 = 8;
 
 /// Where a virtual address leads: its guest-physical address and its host place.
-#[derive(Clone, Copy, Debug, PartialEq, Eq, Drop)]
+#[derive(Clone, Copy, PartialEq, Eq, Drop)]
 pub struct Place {
     pub gpa: u64,
     pub hpa: u64,
 }
 
 /// Why a virtual address leads nowhere.
-#[derive(Clone, Copy, Debug, PartialEq, Eq, Drop)]
+#[derive(Clone, Copy, PartialEq, Eq, Drop)]
 pub enum Fault {
     /// The first stage refuses the access.
     Page,
@@ -27,7 +27,7 @@ pub enum Fault {
 }
 
 /// The guest-physical address that the second stage refuses.
-#[derive(Clone, Copy, Debug, PartialEq, Eq, Drop)]
+#[derive(Clone, Copy, PartialEq, Eq, Drop)]
 pub struct GuestFault {
     pub gpa: u64,
 }

@@ -8,7 +8,7 @@ ghost use Rattle.reach.specs.Kept.{with_entry, IsThere, AreThere, ArePlaces};
 use host_mem::HostMem;
 
 /// An entry of a table that a walk read: its host place, and the word that stood there.
-#[derive(Clone, Copy, Debug, PartialEq, Eq, Drop)]
+#[derive(Clone, Copy, Drop)]
 pub struct Entry {
     pub at: u64,
     pub word: u64,
@@ -28,7 +28,7 @@ impl Entry {
 
 /// The entries that a walk of the first stage read, of the root first. Where it ended sooner, its last one stands for those
 /// that it didn't come to.
-#[derive(Clone, Copy, Debug, PartialEq, Eq, Drop)]
+#[derive(Clone, Copy, Drop)]
 pub struct Entries {
     pub root: Entry,
     pub middle: Entry,

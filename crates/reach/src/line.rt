@@ -10,7 +10,7 @@ use sv39_walk::Regime;
 /// Where accesses of one kind to a page of virtual addresses are led: by what the translation went, the page's number, the
 /// host place of its first byte, and the entries that the first stage read. Its tag is the number of all by which it is
 /// found beside the roots.
-#[derive(Clone, Copy, Debug, Drop)]
+#[derive(Clone, Copy, Drop)]
 pub struct Line {
     pub tag: u64,
     pub regime: Regime,

@@ -6,7 +6,7 @@ ghost use Rattle.reference.specs.Calls.{code, value, plain, extension_of};
 use sv_types::{SavedModule, SbiCode, Span};
 
 /// An extension of SBI. The first four are legacy calls.
-#[derive(Clone, Copy, Debug, PartialEq, Eq, Drop)]
+#[derive(Clone, Copy, PartialEq, Eq, Drop)]
 pub enum Extension {
     SetTimer,
     PutChar,
@@ -45,7 +45,7 @@ impl Extension {
 }
 
 /// What becomes of the hart that called.
-#[derive(Clone, Copy, Debug, PartialEq, Eq, Drop)]
+#[derive(Clone, Copy, Drop)]
 pub enum Reply {
     /// It goes on, with a0 set.
     Gives { a0: u64 },
@@ -77,7 +77,7 @@ impl Reply {
 }
 
 /// What happens beside.
-#[derive(Clone, Copy, Debug, PartialEq, Eq, Drop)]
+#[derive(Clone, Copy, Drop)]
 pub enum Beside {
     Nothing,
     /// The timer of the hart that called is set.
@@ -111,7 +111,7 @@ pub enum Beside {
 }
 
 /// An answer.
-#[derive(Clone, Copy, Debug, PartialEq, Eq, Drop)]
+#[derive(Clone, Copy, Drop)]
 pub struct Answer {
     pub reply: Reply,
     pub beside: Beside,

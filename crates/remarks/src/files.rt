@@ -12,7 +12,7 @@ pub trait Again {
 }
 
 /// The most bytes of each part of a command.
-#[derive(Clone, Copy, Debug, Drop)]
+#[derive(Clone, Copy, Drop)]
 pub struct MostBytes {
     pub flat: usize,
     pub policy: usize,

@@ -3,7 +3,7 @@
 use processor::{Mode, REGISTERS};
 
 /// A hart: its mode, its registers as the guest sees them, and what is kept beside them.
-#[derive(Clone, Copy, Debug, PartialEq, Eq, Drop)]
+#[derive(Clone, Copy, Drop)]
 pub struct SavedHart {
     pub started: bool,
     pub mode: Mode,

@@ -4,7 +4,7 @@ use crate::harts::SavedHart;
 use sv_types::{Counts, Note, PortState, Protection, SavedModule, Verdict};
 
 /// A load under way: the hart that asked for it, its arguments, and the pages that are left to count.
-#[derive(Clone, Copy, Debug, PartialEq, Eq, Drop)]
+#[derive(Clone, Copy, Drop)]
 pub struct SavedLoad {
     pub hart: u8,
     pub module: SavedModule,
@@ -13,7 +13,7 @@ pub struct SavedLoad {
 
 /// A machine between two events: all that its guest's further run depends on, and what it recorded, but for the policy and
 /// the printed bytes.
-#[derive(Debug, PartialEq, Eq, Drop)]
+#[derive(Drop)]
 pub struct Saved {
     pub harts: Vec<SavedHart>,
     /// The bytes of guest RAM.

@@ -10,7 +10,7 @@ use snapshot_form::SnapRefusal;
 use sv_types::ImageFault;
 
 /// A file by what it is for.
-#[derive(Clone, Copy, Debug, PartialEq, Eq, Drop)]
+#[derive(Clone, Copy, PartialEq, Eq, Drop)]
 pub enum Part {
     Flat,
     Policy,
@@ -25,7 +25,7 @@ pub enum Part {
 }
 
 /// What is wrong with a file.
-#[derive(Clone, Copy, Debug, PartialEq, Eq, Drop)]
+#[derive(Clone, Copy, Drop)]
 pub enum FileFault {
     /// It is longer than its part may be.
     Longer { part: Part },

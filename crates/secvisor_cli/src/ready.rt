@@ -39,7 +39,7 @@ pub struct Booted<'a> {
 }
 
 /// Why nothing is ready.
-#[derive(Clone, Copy, Debug, PartialEq, Eq, Drop)]
+#[derive(Clone, Copy, Drop)]
 pub enum Stop {
     Refused(Refusal),
     /// Memory was wanting.

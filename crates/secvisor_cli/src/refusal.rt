@@ -10,7 +10,7 @@ use sv_types::{Digest, Status};
 use text_numbers::{address_text, digest_text};
 
 /// A word by its name.
-#[derive(Clone, Copy, Debug, PartialEq, Eq, Drop)]
+#[derive(Clone, Copy, PartialEq, Eq, Drop)]
 pub enum Word {
     Measure,
     Script,
@@ -24,7 +24,7 @@ pub enum Word {
 }
 
 /// Why a command isn't carried out.
-#[derive(Clone, Copy, Debug, PartialEq, Eq, Drop)]
+#[derive(Clone, Copy, Drop)]
 pub enum Refusal {
     /// The words are of no command.
     NoCommand,

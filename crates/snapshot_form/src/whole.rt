@@ -7,14 +7,14 @@ use sv_types::Digest;
 pub const MAGIC: &[u8; 8] = b"SVSNAP01";
 
 /// A page of the kernel's text, and the SHA-256 of the bytes that it was approved with.
-#[derive(Clone, Copy, Debug, PartialEq, Eq, Drop)]
+#[derive(Clone, Copy, Drop)]
 pub struct TextPage {
     pub page: u32,
     pub digest: Digest,
 }
 
 /// A machine, with what its state alone doesn't tell.
-#[derive(Debug, PartialEq, Eq, Drop)]
+#[derive(Drop)]
 pub struct Snapshot {
     /// The events that were made while the machine ran.
     pub events: u64,

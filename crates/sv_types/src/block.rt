@@ -19,7 +19,7 @@ pub const BLOCK_COMMAND: u64 = 0x14;
 pub const BLOCK_STATUS: u64 = 0x18;
 
 /// What the device is told to do.
-#[derive(Clone, Copy, Debug, PartialEq, Eq, Drop)]
+#[derive(Clone, Copy, PartialEq, Eq, Drop)]
 pub enum BlockCommand {
     /// Sectors go from the disk to memory.
     DiskToMemory,
@@ -28,7 +28,7 @@ pub enum BlockCommand {
 }
 
 /// How the device stands.
-#[derive(Clone, Copy, Debug, PartialEq, Eq, Drop)]
+#[derive(Clone, Copy, PartialEq, Eq, Drop)]
 pub enum BlockStatus {
     /// No transfer was made since the status was cleared.
     Idle,
@@ -43,7 +43,7 @@ pub enum BlockStatus {
 }
 
 /// The block device's registers and its transfer.
-#[derive(Clone, Copy, Debug, PartialEq, Eq, Drop)]
+#[derive(Clone, Copy, Drop)]
 pub struct BlockState {
     pub sector: u64,
     pub gpa: u64,

@@ -3,7 +3,7 @@
 use crate::sbi::SbiCode;
 
 /// The rule by which a machine stops.
-#[derive(Clone, Copy, Debug, PartialEq, Eq, Drop)]
+#[derive(Clone, Copy, PartialEq, Eq, Drop)]
 pub enum Rule {
     /// A trap from user mode to an address that is no permitted entry.
     Entry { target: u64 },
@@ -12,7 +12,7 @@ pub enum Rule {
 }
 
 /// Whether the machine runs. `turn` is the count of turns with the one that stopped it.
-#[derive(Clone, Copy, Debug, PartialEq, Eq, Drop)]
+#[derive(Clone, Copy, PartialEq, Eq, Drop)]
 pub enum Verdict {
     Running,
     Shutdown,
@@ -29,7 +29,7 @@ pub enum Event {
 }
 
 /// One line of the machine's journal.
-#[derive(Clone, Copy, Debug, PartialEq, Eq, Drop)]
+#[derive(Clone, Copy, PartialEq, Eq, Drop)]
 pub enum Note {
     /// A hart left kernel mode, since its next instruction isn't approved.
     Demote {
@@ -65,7 +65,7 @@ pub enum Note {
 }
 
 /// How often each thing happened.
-#[derive(Clone, Copy, Debug, Default, PartialEq, Eq, Drop)]
+#[derive(Clone, Copy, Default, PartialEq, Eq, Drop)]
 pub struct Counts {
     pub turns: u64,
     pub beats: u64,

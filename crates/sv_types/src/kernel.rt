@@ -1,7 +1,7 @@
 // What a kernel image's program headers say.
 
 /// A program header of an ELF-64 file. Addresses, places and sizes are in bytes.
-#[derive(Clone, Copy, Debug, PartialEq, Eq, Drop)]
+#[derive(Clone, Copy, Drop)]
 pub struct ProgramHeader {
     /// The kind of segment: 1 is loaded.
     pub kind: u32,

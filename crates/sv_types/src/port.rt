@@ -4,7 +4,7 @@ use crate::block::BlockState;
 use crate::virtio::VirtioState;
 
 /// The registers of the device that a disk is behind, with what it has under way.
-#[derive(Clone, Copy, Debug, PartialEq, Eq, Drop)]
+#[derive(Clone, Copy, Drop)]
 pub enum PortState {
     /// This project's own block device.
     Block(BlockState),

@@ -5,7 +5,7 @@ ghost use Rattle.sv_types.specs.RelocationKinds.{kind_number, kind_of};
 
 /// How a field of a module's text is relocated: the types of the RISC-V ELF psABI that a policy may name, without their
 /// prefix `R_RISCV_`. S is the symbol's value, A the addend and P the field's place.
-#[derive(Clone, Copy, Debug, PartialEq, Eq, Drop)]
+#[derive(Clone, Copy, PartialEq, Eq, Drop)]
 pub enum RelocationKind {
     /// R_RISCV_64: S + A in 8 bytes of data.
     Word64,

@@ -1,7 +1,7 @@
 // Parts of a whole machine as plain data.
 
 /// A loaded module, by the arguments of its load.
-#[derive(Clone, Copy, Debug, PartialEq, Eq, Drop)]
+#[derive(Clone, Copy, Drop)]
 pub struct SavedModule {
     /// The module's place in the policy.
     pub id: u64,

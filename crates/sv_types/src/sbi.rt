@@ -7,7 +7,7 @@ ghost use Rattle.sv_types.specs.SbiCodes.{code_number, code_word};
 pub const IMPLEMENTATION: u64 = 0x0053_4543;
 
 /// How a call went. RISC-V SBI, "Binary Encoding"; what the codes of modules mean is this project's own.
-#[derive(Clone, Copy, Debug, PartialEq, Eq, Drop)]
+#[derive(Clone, Copy, PartialEq, Eq, Drop)]
 pub enum SbiCode {
     /// What was asked is done.
     Success,

@@ -1,7 +1,7 @@
 // Which second-stage tree a hart looks through.
 
 /// Which second-stage tree a hart looks through.
-#[derive(Clone, Copy, Debug, PartialEq, Eq, Drop)]
+#[derive(Clone, Copy, Drop)]
 pub enum View {
     Kernel,
     User,

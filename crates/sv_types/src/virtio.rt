@@ -4,7 +4,7 @@
 pub const MOST_VIRTIO_PARTS: usize = 34;
 
 /// What one descriptor of a chain says: so many bytes at a guest-physical address, and whether the device writes them.
-#[derive(Clone, Copy, Debug, Default, PartialEq, Eq, Drop)]
+#[derive(Clone, Copy, Default, Drop)]
 pub struct VirtioPart {
     pub gpa: u64,
     pub len: u32,
@@ -12,7 +12,7 @@ pub struct VirtioPart {
 }
 
 /// A descriptor of the queue's table.
-#[derive(Clone, Copy, Debug, PartialEq, Eq, Drop)]
+#[derive(Clone, Copy, Drop)]
 pub struct VirtioDescriptor {
     /// What it says.
     pub part: VirtioPart,
@@ -24,7 +24,7 @@ pub struct VirtioDescriptor {
 }
 
 /// A request that was accepted and whose moves aren't all made.
-#[derive(Clone, Copy, Debug, PartialEq, Eq, Drop)]
+#[derive(Clone, Copy, Drop)]
 pub struct VirtioRequest {
     /// The chain's first descriptor.
     pub head: u16,
@@ -49,7 +49,7 @@ pub struct VirtioRequest {
 }
 
 /// The registers as the driver wrote them, the number of accepted requests, and the request under way.
-#[derive(Clone, Copy, Debug, PartialEq, Eq, Drop)]
+#[derive(Clone, Copy, Drop)]
 pub struct VirtioState {
     pub device_select: u32,
     pub driver_select: u32,
@@ -71,7 +71,7 @@ pub struct VirtioState {
 }
 
 /// One move of a request.
-#[derive(Clone, Copy, Debug, PartialEq, Eq, Drop)]
+#[derive(Clone, Copy, Drop)]
 pub enum VirtioMove {
     /// So many bytes of the disk, from a place on, into memory.
     ToMemory { gpa: u64, place: u64, size: u64 },
@@ -88,7 +88,7 @@ pub enum VirtioMove {
 }
 
 /// A register of a virtio device over MMIO, and the two of the block device's configuration.
-#[derive(Clone, Copy, Debug, PartialEq, Eq, Drop)]
+#[derive(Clone, Copy, PartialEq, Eq, Drop)]
 pub enum VirtioRegister {
     MagicValue,
     Version,
