@@ -1,4 +1,5 @@
-//! Tests of what SecVisor answers to exits and calls, and of what a machine starts with for its modules.
+//! Tests of what SecVisor answers to exits and calls, of how pages are guarded, and of what a machine starts with for its
+//! modules.
 #![tactic(auto)]
 
 #[cfg(test)]
@@ -13,6 +14,8 @@ mod ground;
 mod harts;
 #[cfg(test)]
 mod loading;
+#[cfg(test)]
+mod pages;
 #[cfg(test)]
 mod same;
 #[cfg(test)]

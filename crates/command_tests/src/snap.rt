@@ -1,6 +1,7 @@
 // Machines that are saved as snapshots, and what is said of them.
 ghost use Rattle.std.specs.Prelude.{◌<◌, ◌-◌, ◌^◌, ℕ, List, IsTrue};
 
+use crate::show::show;
 use guest_gen::generate;
 use memory_runs::{
     Answer, GOOD, Handed, Left, Outside, PRINTED_ROOM, call, hold, left_behind, line_of,
@@ -8,7 +9,6 @@ use memory_runs::{
 use outside::{Files, MemSink, Sink};
 use resume_cli::secvisor_resume;
 use secvisor_cli::{Bench, Status};
-use show_cli::secvisor_show;
 use snap_cli::secvisor_snap;
 use std::alloc::{AllocError, Global};
 use std::test::Fail;
@@ -60,24 +60,6 @@ fn answer_resume_on<R: Threads + Sync, F: Files, O: Sink>(
     }
 }
 
-// `show` of a file `image`.
-fn answer_show_on<F: Files, O: Sink>(
-    alloc: Global,
-    line: &[String],
-    files: &mut F,
-    out: &mut O,
-) -> Answer
-    requires names { (asked : List (List ℕ × ℕ)) → IsTrue ((F.state files.old).permits asked) }
-    requires is_open { IsTrue (O.state out.old).is_open }
-    requires reads { (F.state files.old).read_faults < 2 ^ 64 - 1 }
-    requires writes { (O.state out.old).faults < 2 ^ 64 - 1 }
-{
-    Answer {
-        status: secvisor_show(alloc, line, files, out),
-        is_booted: false,
-    }
-}
-
 // The snapshot of a guest behind so many events of the harts in turn.
 fn snap<R: Threads + Sync>(
     rt: &R,
@@ -116,25 +98,6 @@ fn resume<R: Threads + Sync>(
         &[GOOD.failing_write],
     )?;
     let answer = answer_resume_on(rt, alloc, &line, &mut files, &mut out);
-    left_behind(alloc, answer, &files, &out)
-}
-
-fn show(alloc: Global, snapshot: &[u8]) -> Result<Left, AllocError> {
-    let held = Handed {
-        image: snapshot.to_vec(alloc)?,
-        policy: Vec::new(alloc),
-        disk: Vec::new(alloc),
-        script: Vec::new(alloc),
-    };
-    let line = line_of(alloc, &["show", "image"])?;
-    let mut files = hold(alloc, &held, GOOD)?;
-    let mut out = MemSink::new(
-        alloc,
-        PRINTED_ROOM,
-        GOOD.piece.max(1),
-        &[GOOD.failing_write],
-    )?;
-    let answer = answer_show_on(alloc, &line, &mut files, &mut out);
     left_behind(alloc, answer, &files, &out)
 }
 
@@ -206,7 +169,7 @@ fn machines_are_saved_and_shown(rt: HostRuntime) -> Result<(), Fail> {
             assert!(rt; row.status != Status::Done);
             continue;
         };
-        let shown = show(alloc, saved)?;
+        let shown = show(alloc, &["show", "image"], saved, GOOD)?;
         assert!(rt; shown.status == Status::Done);
         assert!(rt; shown.taken.starts_with(row.shown.as_bytes()));
     }

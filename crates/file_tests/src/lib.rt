@@ -1,4 +1,4 @@
-//! Tests of kernel images and module objects, of what is made of them, and of the generated guest.
+//! Tests of measures, of kernel images and module objects, of what is made of them, and of the generated guest.
 #![tactic(auto)]
 
 #[cfg(test)]
@@ -9,6 +9,8 @@ mod images;
 mod loading;
 #[cfg(test)]
 mod making;
+#[cfg(test)]
+mod measures;
 #[cfg(test)]
 mod objects;
 #[cfg(test)]

@@ -9,6 +9,3 @@ mod side;
 pub use entries::Entries;
 pub use guard::{Guard, Hold, Taken};
 pub use side::{Forbidden, Side};
-
-#[cfg(test)]
-mod tests;

@@ -109,6 +109,3 @@ fn digest_pages(alloc: Global, pages: &[u8]) -> Result<Vec<Digest>, AllocError>
     }
     Ok(digests)
 }
-
-#[cfg(test)]
-mod tests;

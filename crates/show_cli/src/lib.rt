@@ -3,8 +3,6 @@
 
 mod answer;
 mod refusal;
-#[cfg(test)]
-mod tests;
 mod words;
 
 pub use answer::secvisor_show;

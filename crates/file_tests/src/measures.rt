@@ -2,7 +2,7 @@
 ghost use Rattle.std.specs.Prelude.{◌≡◌, ◌*◌, ◌<◌, IfOk, vec_len};
 ghost use Rattle.processor.specs.Bytes.{page_size};
 
-use super::{Meter, Silent, join_digests, measure, page_digest};
+use page_measure::{Meter, Silent, join_digests, measure, page_digest};
 use processor::PAGE_SIZE;
 use std::alloc::{AllocError, Global};
 use std::sync::atomic::{AtomicBool, Ordering};

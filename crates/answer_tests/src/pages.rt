@@ -1,7 +1,7 @@
 // Calls that take memory, with memory; and a span that is held, approved and freed again, with one of its pages bound.
-use super::{Entries, Guard};
 use gstage_tables::Trees;
 use host_mem::HostMem;
+use page_guard::{Entries, Guard};
 use std::test::Fail;
 use sv_types::{Protection, Span};
 
