@@ -1,7 +1,7 @@
 // The bytes of harts.
 
-ghost use Rattle.std.specs.Prelude.{◌≡◌, ◌∷◌, drop, length, IfOk};
-ghost use Rattle.snapshot_form.specs.HartForms.{hart, harts, mode, registers, reservation, side};
+ghost use Rattle.std.specs.Prelude.{◌≡◌, ◌∷◌, drop, length, not, IfOk, ◌&&◌, ◌||◌, ◌==◌};
+ghost use Rattle.snapshot_form.specs.HartForms.{hart, harts, is_user, mode, place_number, registers, reservation, side};
 ghost use Rattle.snapshot_reader.specs.Reading.{Gives, Reads};
 
 use crate::read_error::ReadError;
@@ -66,17 +66,31 @@ fn read_hart(bytes: &[u8], ram_pages: u32) -> Result<(SavedHart, &[u8]), SnapRef
     Ok((hart, rest))
 }
 
-// Started, mode and entry. A stopped hart is in kernel mode, and one that is stopped or in user mode is in no entry.
+// Started, mode and entry.
 #[tactic(auto, unfolding(snapshot_form::specs::HartForms::side))]
 fn read_side(bytes: &[u8]) -> Result<((bool, Mode, Option<u8>), &[u8]), SnapRefusal>
     ensures { Gives (λ x. ((x.0.0, (x.0.1, x.0.2)), x.1.now)) result (side.taken bytes.now) }
 {
     let (started, rest) = read_flag(bytes)?;
     let (mode, rest) = read_mode(rest)?;
-    in_range(started || mode == Mode::Kernel)?;
+    in_range(may_have_mode(started, mode))?;
     let (entry, rest) = read_place(rest)?;
-    in_range((started && mode == Mode::Kernel) || entry.is_none())?;
+    in_range(may_have_entry(started, mode, entry))?;
     Ok(((started, mode, entry), rest))
+}
+
+// A stopped hart is in kernel mode.
+fn may_have_mode(started: bool, mode: Mode) -> bool
+    ensures { result ≡ (started || not (is_user mode)) }
+{
+    started || mode == Mode::Kernel
+}
+
+// A hart that is stopped or in user mode is in no entry.
+fn may_have_entry(started: bool, mode: Mode, entry: Option<u8>) -> bool
+    ensures { result ≡ ((started && not (is_user mode)) || place_number entry == 0) }
+{
+    (started && mode == Mode::Kernel) || entry.is_none()
 }
 
 #[tactic(auto, unfolding(snapshot_form::specs::HartForms::mode))]
