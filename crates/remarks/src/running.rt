@@ -110,7 +110,7 @@ pub(crate) fn script_file<A: Again>(
     requires some { 0 < harts }
     requires few { harts ≤ most_harts }
 {
-    if name == "none" || name.starts_with("auto:") {
+    if is_no_file(name) {
         return Ok(());
     }
     let text = read_part(alloc, files, name, most)?;
@@ -121,4 +121,9 @@ pub(crate) fn script_file<A: Again>(
         }
         Ok(_) | Err(ScriptRefusal::Memory) => Ok(()),
     }
+}
+
+// Whether a script's word names no file.
+fn is_no_file(name: &str) -> bool {
+    name == "none" || name.starts_with("auto:")
 }
