@@ -1,12 +1,7 @@
-//! Whole runs of the commands that record keys, save machines or show them, over files and a sink in memory; and what is
-//! said of refused files.
+//! Live runs, over files, keys and a sink in memory; and the files of the operating system.
 #![tactic(auto)]
 
 #[cfg(test)]
 mod live;
 #[cfg(test)]
-mod remarks_said;
-#[cfg(test)]
-mod show;
-#[cfg(test)]
-mod snap;
+mod real;

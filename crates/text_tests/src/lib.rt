@@ -1,4 +1,4 @@
-//! Tests of what is read as text and printed: numbers, words of a call, scripts, reports, snapshots, keys, files.
+//! Tests of what is read as text and printed: numbers, words of a call, scripts, policies, reports, snapshots, keys, files.
 #![tactic(auto)]
 
 #[cfg(test)]
@@ -7,6 +7,8 @@ mod files;
 mod keys;
 #[cfg(test)]
 mod numbers;
+#[cfg(test)]
+mod policies;
 #[cfg(test)]
 mod reports;
 #[cfg(test)]

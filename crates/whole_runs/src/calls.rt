@@ -1,0 +1,213 @@
+// Calls of the program, and what is printed of them.
+
+use crate::answers::answer;
+use crate::case::Case;
+use memory_runs::{GOOD, Left, Outside, PRINTED_ROOM, hold, left_behind, line_of};
+use outside::MemSink;
+use remarks::{MostBytes, remark};
+use secvisor_cli::{
+    MOST_DISK_BYTES, MOST_FLAT_BYTES, MOST_IMAGE_BYTES, MOST_OBJECT_BYTES, MOST_POLICY_BYTES,
+    MOST_SCRIPT_BYTES, Status,
+};
+use snapshot_reader::MOST_SNAPSHOT_BYTES;
+use std::alloc::{AllocError, Global};
+use std::io;
+use std::io::Write;
+use std::thread::Threads;
+
+// The words of a call. In them `{measure}` is the measure, and `{empty}` no letter.
+fn line(alloc: Global, case: &Case, words: &str) -> Result<Vec<String>, AllocError> {
+    let words = words.replace(alloc, "{measure}", case.measure.as_str())?;
+    let mut line: Vec<&str> = Vec::new(alloc);
+    for word in words.as_str().split_whitespace() {
+        line.push(if word == "{empty}" { "" } else { word })?;
+    }
+    line_of(alloc, &line)
+}
+
+// Makes the call with these words.
+fn called<R: Threads + Sync>(
+    rt: &R,
+    alloc: Global,
+    case: &Case,
+    line: &[String],
+    outside: Outside,
+) -> Result<Left, AllocError> {
+    let mut files = hold(alloc, &case.handed, outside)?;
+    let mut out = MemSink::new(
+        alloc,
+        PRINTED_ROOM,
+        outside.piece.max(1),
+        &[outside.failing_write],
+    )?;
+    let answer = answer(rt, alloc, line, &mut files, &mut out);
+    left_behind(alloc, answer, &files, &out)
+}
+
+// Prints the status of a call, how many bytes it printed, and what it saved.
+fn print_status<R: Print>(rt: &R, case: &Case, left: &Left) -> io::Result<()> {
+    let status = left.status.number();
+    let printed = left.taken.len();
+    let machine = if left.is_booted {
+        "booted"
+    } else {
+        "not booted"
+    };
+    match &left.saved {
+        Some(saved) => {
+            let count = saved.len();
+            let same = held_as(case, saved);
+            println!(rt; "status {status}, {machine}, {printed} bytes printed, {count} saved{same}")
+        }
+        None => println!(rt; "status {status}, {machine}, {printed} bytes printed, nothing saved"),
+    }
+}
+
+// Which of the files what was saved is.
+fn held_as(case: &Case, saved: &[u8]) -> &'static str {
+    if saved == case.handed.policy.as_slice() {
+        " as in the policy"
+    } else if saved == case.handed.disk.as_slice() {
+        " as on the disk"
+    } else {
+        ""
+    }
+}
+
+// The most bytes of each part, as the program has them.
+const MOST_BYTES: MostBytes = MostBytes {
+    flat: MOST_FLAT_BYTES,
+    policy: MOST_POLICY_BYTES,
+    image: MOST_IMAGE_BYTES,
+    disk: MOST_DISK_BYTES,
+    script: MOST_SCRIPT_BYTES,
+    module: MOST_OBJECT_BYTES,
+    snapshot: MOST_SNAPSHOT_BYTES,
+};
+
+/// Prints what a person at a terminal is told of the file that is refused of a command.
+pub fn print_remark<R: Threads + Sync + AllocGlobal + Print>(
+    rt: &R,
+    case: &Case,
+    words: &str,
+) -> io::Result<()> {
+    let line = line(rt.alloc(), case, words)?;
+    match remark(rt, rt.alloc(), &line, case, &MOST_BYTES) {
+        Some(said) => println!(rt; "remark: {said}"),
+        None => println!(rt; "no remark"),
+    }
+}
+
+// Makes a call, prints its words and its status, and keeps what it saved.
+fn made<R: Threads + Sync + AllocGlobal + Print>(
+    rt: &R,
+    case: &mut Case,
+    words: &str,
+) -> io::Result<Left> {
+    let line = line(rt.alloc(), case, words)?;
+    println!(rt; "secvisor {words}")?;
+    let left = called(rt, rt.alloc(), case, &line, case.outside)?;
+    print_status(rt, case, &left)?;
+    if let Some(saved) = &left.saved {
+        case.saved = saved.to_vec(rt.alloc())?;
+    }
+    Ok(left)
+}
+
+/// Prints bytes as lines.
+pub fn print_lines<R: Print>(rt: &R, bytes: &[u8]) -> io::Result<()> {
+    io::writer(rt).write_all(bytes)?;
+    if bytes.is_empty() || bytes.ends_with(b"\n") {
+        Ok(())
+    } else {
+        println!(rt)
+    }
+}
+
+/// Makes a call and prints its status alone.
+pub fn count<R: Threads + Sync + AllocGlobal + Print>(
+    rt: &R,
+    case: &mut Case,
+    words: &str,
+) -> io::Result<()> {
+    made(rt, case, words)?;
+    Ok(())
+}
+
+/// Makes a call, prints its status and all that it prints, and what a person is told where a file is refused.
+pub fn print<R: Threads + Sync + AllocGlobal + Print>(
+    rt: &R,
+    case: &mut Case,
+    words: &str,
+) -> io::Result<()> {
+    let left = made(rt, case, words)?;
+    print_lines(rt, &left.taken)?;
+    if left.status == Status::Refused {
+        print_remark(rt, case, words)
+    } else {
+        Ok(())
+    }
+}
+
+// How many bytes a sink takes at a time, beside all.
+static PIECES: [usize; 2] = [1, 7];
+
+/// Makes a call, prints its status and all that it prints, and says where that is other where the sink takes little at a time.
+pub fn print_pieces<R: Threads + Sync + AllocGlobal + Print>(
+    rt: &R,
+    case: &mut Case,
+    words: &str,
+) -> io::Result<()> {
+    let whole = made(rt, case, words)?;
+    print_lines(rt, &whole.taken)?;
+    let line = line(rt.alloc(), case, words)?;
+    for piece in &PIECES {
+        let outside = Outside {
+            piece: *piece,
+            ..GOOD
+        };
+        if !is_same(&called(rt, rt.alloc(), case, &line, outside)?, &whole) {
+            println!(rt; "other bytes in pieces of {piece}")?;
+        }
+    }
+    Ok(())
+}
+
+fn is_same(left: &Left, whole: &Left) -> bool {
+    left.status == whole.status && left.taken.as_slice() == whole.taken.as_slice()
+}
+
+/// Makes a call and prints its status; makes it over a sink that takes a byte at a time, each of whose writes fails in turn,
+/// and says which of these faults doesn't end the call right there.
+pub fn print_writes<R: Threads + Sync + AllocGlobal + Print>(
+    rt: &R,
+    case: &mut Case,
+    words: &str,
+) -> io::Result<()> {
+    let whole = made(rt, case, words)?;
+    let line = line(rt.alloc(), case, words)?;
+    for before in 0..whole.taken.len() {
+        if !stops_behind(rt, rt.alloc(), case, &line, &whole.taken[..before])? {
+            println!(rt; "goes on behind {before} bytes")?;
+        }
+    }
+    Ok(())
+}
+
+// The call ends where the write behind these bytes fails.
+fn stops_behind<R: Threads + Sync>(
+    rt: &R,
+    alloc: Global,
+    case: &Case,
+    line: &[String],
+    before: &[u8],
+) -> Result<bool, AllocError> {
+    let outside = Outside {
+        failing_write: (before.len() as u64).saturating_add(1),
+        piece: 1,
+        ..GOOD
+    };
+    let left = called(rt, alloc, case, line, outside)?;
+    let is_kept = left.taken.as_slice() == before && left.is_booted && left.saved.is_none();
+    Ok(is_kept && left.status == Status::WriteFault)
+}

@@ -1,0 +1,38 @@
+// Files of the operating system that have no end.
+
+use memory_runs::{answer_on, line_of};
+use outside::{MemSink, RealFiles};
+use std::io;
+use std::io::Write;
+use std::thread::Threads;
+
+// The most bytes that a call prints.
+const ROOM: usize = 1000;
+
+// A call over each of these files: one byte more than its limit is read.
+static CALLS: [&[&str]; 2] = [
+    &[
+        "flat",
+        "/dev/zero",
+        "af44e185b81d5c466478c3f650919766a7722b3b76f26f5f2a238cca2bf39858",
+        "5",
+    ],
+    &["run", "image", "/dev/zero", "none", "none", "5", "none"],
+];
+
+/// Prints what calls say of files without end.
+pub fn refuse_endless<
+    R: Threads + Sync + AllocGlobal + Print,
+    H: std::rt::Files + AllocGlobal + Eprint + Drop,
+>(rt: &R, host: H) -> io::Result<()> {
+    println!(rt; "== files without end")?;
+    let mut files = RealFiles::new(host, false);
+    for words in &CALLS {
+        let line = line_of(rt.alloc(), words)?;
+        let mut out = MemSink::new(rt.alloc(), ROOM, ROOM, &[])?;
+        let answer = answer_on(rt, rt.alloc(), &line, &mut files, &mut out);
+        println!(rt; "status {}", answer.status.number())?;
+        io::writer(rt).write_all(out.taken())?;
+    }
+    Ok(())
+}

@@ -1,0 +1,96 @@
+// The orders of a case.
+
+use crate::calls::{count, print, print_lines, print_pieces, print_remark, print_writes};
+use crate::case::Case;
+use crate::files::make;
+use crate::values::{first_word, number};
+use memory_runs::Outside;
+use std::io;
+use std::thread::Threads;
+
+/// Follows an order. One to use a part is to follow the orders of that part.
+pub fn follow<R: Threads + Sync + AllocGlobal + Print>(
+    rt: &R,
+    parts: &str,
+    case: &mut Case,
+    line: &str,
+) -> io::Result<()> {
+    let (order, words) = first_word(line);
+    if order == "use" {
+        use_part(rt, parts, case, words)
+    } else {
+        obey(rt, case, order, words)
+    }
+}
+
+// Follows the orders behind a part's name, up to an empty line.
+fn use_part<R: Threads + Sync + AllocGlobal + Print>(
+    rt: &R,
+    parts: &str,
+    case: &mut Case,
+    name: &str,
+) -> io::Result<()> {
+    let mut is_within = false;
+    for line in parts.lines() {
+        let (order, words) = first_word(line);
+        if order == "part" {
+            is_within = words == name;
+        } else if is_within {
+            obey(rt, case, order, words)?;
+        }
+    }
+    Ok(())
+}
+
+fn obey<R: Threads + Sync + AllocGlobal + Print>(
+    rt: &R,
+    case: &mut Case,
+    order: &str,
+    words: &str,
+) -> io::Result<()> {
+    match order {
+        "" | "#" => Ok(()),
+        "case" => begin(rt, case, words),
+        "outside" => {
+            set_outside(&mut case.outside, words);
+            Ok(())
+        }
+        "call" => print(rt, case, words),
+        "count" => count(rt, case, words),
+        "saved" => print_lines(rt, &case.saved),
+        "pieces" => print_pieces(rt, case, words),
+        "remark" => print_remark(rt, case, words),
+        "writes" => print_writes(rt, case, words),
+        _ => make_or_tell(rt, case, order, words),
+    }
+}
+
+fn begin<R: AllocGlobal + Print>(rt: &R, case: &mut Case, what: &str) -> io::Result<()> {
+    *case = Case::new(rt.alloc());
+    println!(rt; "== {what}")
+}
+
+fn make_or_tell<R: AllocGlobal + Print>(
+    rt: &R,
+    case: &mut Case,
+    order: &str,
+    words: &str,
+) -> io::Result<()> {
+    if make(rt.alloc(), case, order, words)? {
+        Ok(())
+    } else {
+        println!(rt; "no order {order} {words}")
+    }
+}
+
+// The number of the read, the write or the save that fails, or how many bytes a write takes.
+fn set_outside(outside: &mut Outside, words: &str) {
+    let (what, value) = first_word(words);
+    let value = number(value);
+    match what {
+        "read" => outside.failing_read = value,
+        "write" => outside.failing_write = value,
+        "save" => outside.failing_save = value,
+        _ => outside.piece = value as usize,
+    }
+}

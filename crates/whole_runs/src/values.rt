@@ -1,0 +1,16 @@
+// Numbers in the words of an order.
+
+use text_numbers::{address_of, number_within};
+
+/// The number that a word writes, in decimal digits or in hexadecimal ones behind `0x`; 0 where it writes none.
+pub fn number(word: &str) -> u64 {
+    match address_of(word) {
+        Some(value) => value,
+        None => number_within(word.as_bytes(), 0, u64::MAX).unwrap_or(0),
+    }
+}
+
+/// The first word of a line, and what stands behind it.
+pub fn first_word(line: &str) -> (&str, &str) {
+    line.split_once(' ').unwrap_or((line, ""))
+}
