@@ -5,7 +5,7 @@ cd "$(dirname "$0")" || exit 1
 what=$1
 program=$(command -v "${2:-secvisor}") || exit 1
 program=$(realpath "$program")
-crate=$(realpath ../crates/guest_runs)
+crate=$(realpath ../crates/whole_runs)
 copy=$(mktemp -d)
 trap 'rm -rf "$copy"' EXIT
 cp "$crate"/data/* "$copy"
@@ -52,11 +52,12 @@ policies)
     ;;
 expected)
     { run_all; compare_all; } > expected
-    cp expected "$crate"/stdout
+    sed -n '/^== /,$p' "$crate"/stdout > cases
+    cat expected cases > "$crate"/stdout
     ;;
 check)
     { run_all; compare_all; } > expected
-    diff expected "$crate"/stdout && echo "same runs and policies" || failed=1
+    diff expected <(sed '/^== /,$d' "$crate"/stdout) && echo "same runs and policies" || failed=1
     ;;
 *)
     echo "run.sh policies|expected|check SECVISOR"

@@ -15,12 +15,17 @@ use std::io;
 use std::io::Write;
 use std::thread::Threads;
 
-// The words of a call. In them `{measure}` is the measure, and `{empty}` no letter.
+// A word, in which `{empty}` is no letter.
+fn spelled(word: &str) -> &str {
+    if word == "{empty}" { "" } else { word }
+}
+
+// The words of a call. In them `{measure}` is the measure.
 fn line(alloc: Global, case: &Case, words: &str) -> Result<Vec<String>, AllocError> {
     let words = words.replace(alloc, "{measure}", case.measure.as_str())?;
     let mut line: Vec<&str> = Vec::new(alloc);
     for word in words.as_str().split_whitespace() {
-        line.push(if word == "{empty}" { "" } else { word })?;
+        line.push(spelled(word))?;
     }
     line_of(alloc, &line)
 }
@@ -162,19 +167,24 @@ pub fn print_pieces<R: Threads + Sync + AllocGlobal + Print>(
     print_lines(rt, &whole.taken)?;
     let line = line(rt.alloc(), case, words)?;
     for piece in &PIECES {
-        let outside = Outside {
-            piece: *piece,
-            ..GOOD
-        };
-        if !is_same(&called(rt, rt.alloc(), case, &line, outside)?, &whole) {
+        if !is_same_in(rt, rt.alloc(), case, &line, *piece, &whole)? {
             println!(rt; "other bytes in pieces of {piece}")?;
         }
     }
     Ok(())
 }
 
-fn is_same(left: &Left, whole: &Left) -> bool {
-    left.status == whole.status && left.taken.as_slice() == whole.taken.as_slice()
+// The call prints the same where the sink takes so many bytes at a time.
+fn is_same_in<R: Threads + Sync>(
+    rt: &R,
+    alloc: Global,
+    case: &Case,
+    line: &[String],
+    piece: usize,
+    whole: &Left,
+) -> Result<bool, AllocError> {
+    let left = called(rt, alloc, case, line, Outside { piece, ..GOOD })?;
+    Ok(left.status == whole.status && left.taken.as_slice() == whole.taken.as_slice())
 }
 
 /// Makes a call and prints its status; makes it over a sink that takes a byte at a time, each of whose writes fails in turn,

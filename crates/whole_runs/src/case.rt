@@ -31,6 +31,17 @@ impl Case {
         }
     }
 
+    /// Makes it such a case again.
+    pub fn clear(&mut self) {
+        self.handed.image.clear();
+        self.handed.policy.clear();
+        self.handed.disk.clear();
+        self.handed.script.clear();
+        self.outside = GOOD;
+        self.measure.clear();
+        self.saved.clear();
+    }
+
     // The bytes under a name.
     fn bytes(&self, name: &str) -> Option<&[u8]> {
         match name {

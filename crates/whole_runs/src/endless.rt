@@ -9,8 +9,8 @@ use std::thread::Threads;
 // The most bytes that a call prints.
 const ROOM: usize = 1000;
 
-// A call over each of these files: one byte more than its limit is read.
-static CALLS: [&[&str]; 2] = [
+/// A call over each of these files: one byte more than its limit is read.
+pub static ENDLESS: [&[&str]; 2] = [
     &[
         "flat",
         "/dev/zero",
@@ -20,19 +20,15 @@ static CALLS: [&[&str]; 2] = [
     &["run", "image", "/dev/zero", "none", "none", "5", "none"],
 ];
 
-/// Prints what calls say of files without end.
+/// Prints what a call with these words says of a file without end.
 pub fn refuse_endless<
     R: Threads + Sync + AllocGlobal + Print,
     H: std::rt::Files + AllocGlobal + Eprint + Drop,
->(rt: &R, host: H) -> io::Result<()> {
-    println!(rt; "== files without end")?;
+>(rt: &R, host: H, words: &[&str]) -> io::Result<()> {
+    let line = line_of(rt.alloc(), words)?;
+    let mut out = MemSink::new(rt.alloc(), ROOM, ROOM, &[])?;
     let mut files = RealFiles::new(host, false);
-    for words in &CALLS {
-        let line = line_of(rt.alloc(), words)?;
-        let mut out = MemSink::new(rt.alloc(), ROOM, ROOM, &[])?;
-        let answer = answer_on(rt, rt.alloc(), &line, &mut files, &mut out);
-        println!(rt; "status {}", answer.status.number())?;
-        io::writer(rt).write_all(out.taken())?;
-    }
-    Ok(())
+    let answer = answer_on(rt, rt.alloc(), &line, &mut files, &mut out);
+    println!(rt; "status {}", answer.status.number())?;
+    io::writer(rt).write_all(out.taken())
 }

@@ -1,5 +1,7 @@
-//! Whole runs of the program over files and a sink in memory: it follows the orders that the files of `data/` give, a line
-//! each, and prints what each call leaves behind. `data/parts.txt` says what the orders are.
+//! Whole runs of the program over files and a sink in memory. It runs the stored guests, and prints of each its name, the
+//! status of its run and all that the run prints; it says of each stored policy whether it is what `measure` makes of its
+//! image. Then it follows the orders of the cases, a line each, and prints what each call leaves behind.
+//! `data/parts.cases` says what the orders are.
 #![tactic(auto)]
 
 mod answers;
@@ -8,11 +10,14 @@ mod case;
 mod edits;
 mod endless;
 mod files;
+mod guests;
+mod held;
 mod orders;
 mod values;
 
 use case::Case;
-use endless::refuse_endless;
+use endless::{ENDLESS, refuse_endless};
+use guests::{compare_policies, run_guests};
 use orders::follow;
 use std::rt::Files;
 use std::thread::Threads;
@@ -20,23 +25,29 @@ use std::{fs, io};
 
 // The files of cases, in the order in which they run.
 static LISTS: [&str; 9] = [
-    "flat.txt",
-    "kernels.txt",
-    "generated.txt",
-    "images.txt",
-    "modules.txt",
-    "texts.txt",
-    "policies.txt",
-    "snapshots.txt",
-    "remarks.txt",
+    "flat.cases",
+    "kernels.cases",
+    "generated.cases",
+    "images.cases",
+    "modules.cases",
+    "texts.cases",
+    "policies.cases",
+    "snapshots.cases",
+    "remarks.cases",
 ];
 
 fn main(rt: HostRuntime) -> io::Result<()> {
-    let parts = fs::read_to_string(&rt, "parts.txt")?;
+    run_guests(&rt, "runs.txt")?;
+    compare_policies(&rt, "policies.txt")?;
+    let parts = fs::read_to_string(&rt, "parts.cases")?;
     for list in &LISTS {
         run_list(&rt, parts.as_str(), list)?;
     }
-    refuse_endless(&rt, rt.clone()?)
+    println!(rt; "== files without end")?;
+    for words in &ENDLESS {
+        refuse_endless(&rt, rt.clone()?, words)?;
+    }
+    Ok(())
 }
 
 fn run_list<R: Threads + Sync + Files + AllocGlobal + Print>(

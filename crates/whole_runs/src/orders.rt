@@ -65,8 +65,8 @@ fn obey<R: Threads + Sync + AllocGlobal + Print>(
     }
 }
 
-fn begin<R: AllocGlobal + Print>(rt: &R, case: &mut Case, what: &str) -> io::Result<()> {
-    *case = Case::new(rt.alloc());
+fn begin<R: Print>(rt: &R, case: &mut Case, what: &str) -> io::Result<()> {
+    case.clear();
     println!(rt; "== {what}")
 }
 

@@ -1,45 +1,12 @@
-// Calls of the program over files and a sink in memory.
+// Files in memory, as they lie in the folder that the program is run in.
 ghost use Rattle.std.specs.Prelude.{◌≡◌, ◌<◌, ◌-◌, ◌^◌, ℕ, List, IsTrue, OnOk};
 
-use outside::{Files, MemFiles, MemSink};
-use secvisor_cli::{Bench, Status, secvisor};
+use outside::Files;
 use std::io::ErrorKind;
-use std::thread::Threads;
 use std::{fs, io};
 
-// The most files that a call reads and saves, and the most bytes of all of them.
-const FILES: usize = 8;
-
-const FILE_BYTES: usize = 65_536;
-
-// The most bytes that a call prints.
-const OUTPUT_BYTES: usize = 65_536;
-
-/// What a call left behind.
-#[derive(Drop)]
-pub struct Left {
-    pub status: Status,
-    pub files: MemFiles,
-    pub out: MemSink,
-}
-
-/// A call with these words, over the files that they name, with a new machine. The file that it is to make isn't there yet.
-pub fn call<R: Threads + Sync + std::rt::Files + AllocGlobal>(
-    rt: &R,
-    words: &[String],
-    made: &str,
-) -> io::Result<Left> {
-    let alloc = rt.alloc();
-    let mut files = MemFiles::new(alloc, &[], FILES, FILE_BYTES, &[], &[])?;
-    hold_named(rt, words, made, &mut files)?;
-    let mut out = MemSink::new(alloc, OUTPUT_BYTES, OUTPUT_BYTES, &[])?;
-    let mut bench = Bench { machine: None };
-    let status = secvisor(rt, alloc, words, &mut files, &mut out, &mut bench);
-    Ok(Left { status, files, out })
-}
-
-// Holds the files that words name, without the one that is to be made.
-fn hold_named<R: std::rt::Files + AllocGlobal, F: Files>(
+/// Holds the files that words name, without the one that is to be made.
+pub fn hold_named<R: std::rt::Files + AllocGlobal, F: Files>(
     rt: &R,
     words: &[String],
     made: &str,

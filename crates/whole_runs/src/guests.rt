@@ -1,22 +1,46 @@
-//! Runs the stored guests in memory, and prints of each its name, the status of its run and all that the run prints. Then
-//! it says of each stored policy whether it is what `measure` makes of its image. `data/runs.txt` and
-//! `data/policies.txt` hold the words, a call of the program a line, behind the name of the guest or the policy.
-#![tactic(auto)]
+// The guests of `guests/` and their policies. A line of `runs.txt` and of `policies.txt` is a name, and the words of a call
+// of the program.
 
-mod in_memory;
-
-use in_memory::{Left, call};
+use crate::held::hold_named;
+use memory_runs::{Answer, answer_on};
+use outside::{MemFiles, MemSink};
 use std::io::Write;
 use std::rt::Files;
 use std::thread::Threads;
 use std::{fs, io};
 
-fn main(rt: HostRuntime) -> io::Result<()> {
-    run_guests(&rt, "runs.txt")?;
-    compare_policies(&rt, "policies.txt")
+// The most files that a call reads and saves, and the most bytes of all of them.
+const FILES: usize = 8;
+
+const FILE_BYTES: usize = 65_536;
+
+// The most bytes that a call prints.
+const OUTPUT_BYTES: usize = 65_536;
+
+// What a call left behind.
+#[derive(Drop)]
+struct Left {
+    answer: Answer,
+    files: MemFiles,
+    out: MemSink,
 }
 
-fn run_guests<R: Threads + Sync + Files + AllocGlobal + Print>(
+// The call with these words, over the files that they name. The file that it is to make isn't there yet.
+fn call<R: Threads + Sync + Files + AllocGlobal>(
+    rt: &R,
+    words: &[String],
+    made: &str,
+) -> io::Result<Left> {
+    let alloc = rt.alloc();
+    let mut files = MemFiles::new(alloc, &[], FILES, FILE_BYTES, &[], &[])?;
+    hold_named(rt, words, made, &mut files)?;
+    let mut out = MemSink::new(alloc, OUTPUT_BYTES, OUTPUT_BYTES, &[])?;
+    let answer = answer_on(rt, alloc, words, &mut files, &mut out);
+    Ok(Left { answer, files, out })
+}
+
+/// Prints of each guest of a list its name, the status of its run and all that the run prints.
+pub fn run_guests<R: Threads + Sync + Files + AllocGlobal + Print>(
     rt: &R,
     list: &str,
 ) -> io::Result<()> {
@@ -29,7 +53,8 @@ fn run_guests<R: Threads + Sync + Files + AllocGlobal + Print>(
     Ok(())
 }
 
-fn compare_policies<R: Threads + Sync + Files + AllocGlobal + Print>(
+/// Says of each policy of a list whether it is what the call makes.
+pub fn compare_policies<R: Threads + Sync + Files + AllocGlobal + Print>(
     rt: &R,
     list: &str,
 ) -> io::Result<()> {
@@ -64,7 +89,7 @@ fn called<R: Threads + Sync + Files + AllocGlobal>(
 }
 
 fn print_run<R: Print>(rt: &R, name: &str, left: &Left) -> io::Result<()> {
-    println!(rt; "guest {name} status {}", left.status.number())?;
+    println!(rt; "guest {name} status {}", left.answer.status.number())?;
     io::writer(rt).write_all(left.out.taken())
 }
 
