@@ -1,4 +1,4 @@
-use Rattle.std.proofs.Common.{List, ◌∙◌, sym, ap, arith}
+use Rattle.std.proofs.Common.{ℕ, ◌+◌, List, length, ◌∙◌, sym, ap, arith}
 use Rattle.std.proofs.lemmas.Grind.{common_steps}
 use Rattle.std.proofs.lemmas.List.{at_drop_all, length_push}
 use Rattle.toml.specs.View.{view, items_view}
@@ -17,7 +17,7 @@ loop-item-preserved c =
     record {
       rest = rw c.in_ok-push.ensures.items (sym (each_item_next (site_of b.pages b.exports) l.sites.items c.args.items.now l.item-index v c.in_ok-site.site
           c.loop-item-test.true c.item-item.is good) ∙ l.invariant.rest);
-      count = rw (c.in_ok-push.ensures.items, length_push l.sites.items c.in_ok-site.site) (omega (arith, l.invariant.count));
+      count = ap (λ (sites : List Site). length sites) c.in_ok-push.ensures.items ∙ length_push l.sites.items c.in_ok-site.site ∙ ap (λ (n : ℕ). n + 1) l.invariant.count;
     }
 
 pub returns-clause-ok : goal.returns-clause-ok
