@@ -1,17 +1,18 @@
 -- Lists that grow by one step.
-use Rattle.std.proofs.Common.{◌≡◌, ℕ, suc, ◌+◌, ◌-◌, ◌<◌, ◌≤◌, Bool, true, false, cond, ◌≢◌, ◌%◌, ◌&&◌, ◌||◌, List, [], ◌∷◌, ◌++◌, length, drop, get_or, Option, Some, refl, ap, sym, ◌∙◌, arith, append_assoc}
+use Rattle.std.proofs.Common.{◌≡◌, ℕ, zero, suc, ◌+◌, ◌-◌, ◌<◌, ◌≤◌, Bool, true, false, cond, ◌≢◌, ◌%◌, ◌&&◌, ◌||◌, List, [], ◌∷◌, ◌++◌, length, drop, get_or, Option, Some, refl, ap, sym, ◌∙◌, arith, append_assoc}
 use Rattle.std.specs.Prelude.{◌==◌, nat_le, if◌then◌else◌, find}
 use Rattle.std.specs.BTreeMap.{insert_entry}
 use Rattle.std.specs.Ordering.{nat_cmp}
 use Rattle.std.proofs.lemmas.Bool.{and_parts, eqb-false}
 use Rattle.std.proofs.lemmas.Bool.Decides.{nat_tests}
-use Rattle.std.specs.List.{position_from}
+use Rattle.std.specs.List.{list_all, position_from}
 use Rattle.std.specs.Str.{bytes_eq}
 use Rattle.std.proofs.lemmas.List.{append-nil, drop_more}
 use Rattle.sv_types.specs.declared.policy.Export.{Export}
 use Rattle.sv_types.specs.declared.module.Site.{Site}
+use Rattle.elf64_sections.specs.declared.sections.SectionHeader.{SectionHeader}
 use Rattle.elf64_reloc.specs.Layouts.{padding, placed_sections}
-use Rattle.elf64_reloc.specs.Modules.{ordered_from, each_judged, is_high_at, sites_of}
+use Rattle.elf64_reloc.specs.Modules.{ordered_from, each_judged, is_high_at, sites_of, text_behind, text_from}
 use Rattle.elf64_reloc.specs.Objects.{Object}
 use Rattle.elf64_reloc.specs.Symbols.{export_base}
 use Rattle.elf64_reloc.specs.Relocations.{all_relocations, kept, kept_at, relocation_at, relocations_from}
@@ -57,6 +58,20 @@ pub order_more : (entries new : List (ℕ × Site)) (sites : List Site) (i : ℕ
 order_more entries new sites i d within now =
     ap (λ (es : List (ℕ × Site)). ordered_from es (drop (i + 1) sites)) now
     ∙ ap (λ (l : List Site). ordered_from entries l) (sym (drop_more sites i d within))
+
+-- what is true of all elements is true of one
+pub all_at : {A : Type 0} (test : A → Bool) (xs : List A) (i : ℕ) (d : A) → i < length xs → list_all test xs ≡ true → test (get_or xs i d) ≡ true
+all_at test [] i d within all = absurd (omega arith)
+all_at test (x ∷ xs) zero d within all = (and_parts (test x) (list_all test xs) all).0
+all_at test (x ∷ xs) (suc i) d within all = all_at test xs i d (omega arith) (and_parts (test x) (list_all test xs) all).1
+
+-- one section of text more
+pub text_more : (file text new : List ℕ) (sections : List SectionHeader) (i : ℕ) (d : SectionHeader) → i < length sections
+    → new ≡ text_behind file text (get_or sections i d)
+    → text_from file new (drop (i + 1) sections) ≡ text_from file text (drop i sections)
+text_more file text new sections i d within now =
+    ap (λ (t : List ℕ). text_from file t (drop (i + 1) sections)) now
+    ∙ ap (λ (l : List SectionHeader). text_from file text l) (sym (drop_more sections i d within))
 
 -- zeros in front of a section are at most a page
 small : (b : Bool) (a x : ℕ) → (a == 0) ≡ b → (b || (nat_le a 4096 && 4096 % a == 0)) ≡ true → (if b then 0 else x % a) ≤ 4096
