@@ -11,7 +11,7 @@ use Rattle.sv_types.specs.declared.relocation_kind.RelocationKind.{RelocationKin
 use Rattle.sv_types.specs.declared.policy.Export.{Export}
 use Rattle.policy.specs.Refusals.{◌>>=◌}
 use Rattle.policy.specs.Values.{required, integer_of, members_in, with_known, limited, number_of, natural_of, items_in, items_length, address_of, entry_of, name_of}
-use Rattle.policy.specs.Text.{kernel_of, key_name, key_pages, key_measure, key_harts, key_ram_pages, key_entries, known_keys, module_keys, module_pages_of, module_rule_of, format_number, format_of, each_entry, plain_entries, bound_entries, entries_by, entries_of, export_of_two, export_of, export_of_items, exports_of, unrepeated, page_span, page_address_of, page_count_of, init_of_two, init_of_items, init_of, kernel_rule, fitting, offset_of, kind_of, base_of, anchor_of, site_of_five, site_of_items, site_of, sites_in, module_of_members, module_of, modules_of, rules_of_members}
+use Rattle.policy.specs.Text.{kernel_of, key_name, key_pages, key_measure, key_harts, key_ram_pages, key_entries, known_keys, module_keys, module_pages_of, module_rule_of, format_number, format_of, each_entry, plain_entries, bound_entries, entries_by, entries_of, export_of_two, export_of, export_of_items, exports_of, unrepeated, page_span, page_address_of, page_count_of, init_of_two, init_of_items, init_of, kernel_rule, fitting, offset_of, kind_of, base_of, anchor_of, site_of_five, site_of_items, site_of, sites_in, module_of_members, module_of, modules_of, rules_behind, rules_of_members}
 use Rattle.policy.specs.Bindings.{each_binding, entries_in, bound_in}
 use Rattle.policy.proofs.ReadLists.{each_within_read, limited_read}
 use Rattle.policy.proofs.BindingsRead.{entry_read, bindings_read}
@@ -204,7 +204,7 @@ rules_true r format harts ram_pages entries exports bound init modules =
     (both_true (both_true (both_true (both_true entries.0 entries.1) exports.0) exports.1) bound)) init) modules.0) modules.1
 
 pub rules_read : (ms : Members) (r : Rules) → rules_of_members ms ≡ Ok r → rules_within r ≡ true
-unfolding rules_of_members
+unfolding rules_of_members rules_behind
 rules_read ms r read =
     after (format_of ms) _ r read λ format format_is read.
     after (known_keys ms) _ r read λ known known_is read.

@@ -234,6 +234,14 @@ kernel_rule ram_pages members = do
   init ← init_of ram_pages (get_member (codes "init") kernel)
   Ok (measure, init)
 
+-- behind the entries
+unfoldable pub rules_behind : (format harts ram_pages : ℕ) → List ℕ × List ℕ → Members → Judged Rules
+rules_behind format harts ram_pages entries known = do
+  exports ← exports_of (get_member (codes "exports") known)
+  kernel ← kernel_rule ram_pages known
+  modules ← modules_of (length exports) (get_member (codes "module") known)
+  Ok (record { format = format; harts = harts; ram_pages = ram_pages; entries = entries.0; bound = entries.1; exports = exports; kernel = kernel.0; init = kernel.1; modules = modules })
+
 unfoldable pub rules_of_members : Members → Judged Rules
 rules_of_members members = do
   format ← format_of members
@@ -241,10 +249,7 @@ rules_of_members members = do
   harts ← key_harts known
   ram_pages ← key_ram_pages known
   entries ← key_entries format ram_pages known
-  exports ← exports_of (get_member (codes "exports") known)
-  kernel ← kernel_rule ram_pages known
-  modules ← modules_of (length exports) (get_member (codes "module") known)
-  Ok (record { format = format; harts = harts; ram_pages = ram_pages; entries = entries.0; bound = entries.1; exports = exports; kernel = kernel.0; init = kernel.1; modules = modules })
+  rules_behind format harts ram_pages entries known
 
 -- the table of a text
 abbrev pub table_of_text : List ℕ → Judged Members

@@ -92,16 +92,20 @@ fn kernel_rule(ram_pages: u32, table: &Table) -> Result<(Digest, Option<Span>), 
     Ok((measure, init))
 }
 
-#[tactic(auto, unfolding(crate::specs::Text::rules_of_members), using(crate::proofs::Judging::refused_on))]
-fn read_table(alloc: Global, table: &Table) -> Result<Policy, PolicyRefusal>
-    ensures ok { IfOk result (λ policy. spec.rules_of_members (table_view table.now) ≡ Ok (rules_of policy)) }
-    ensures refused { IfErr result (Refuses (spec.rules_of_members (table_view table.now))) }
+// A policy, of what stands behind its entries.
+#[tactic(auto, unfolding(crate::specs::Text::rules_behind), using(crate::proofs::Judging::refused_on))]
+fn read_behind(
+    alloc: Global,
+    format: u8,
+    harts: u8,
+    ram_pages: u32,
+    entries: PermittedEntries,
+    table: &Table,
+) -> Result<Policy, PolicyRefusal>
+    ensures ok { IfOk result (λ policy.
+        spec.rules_behind format harts ram_pages (entries.list.items, entries.bound.items) (table_view table.now) ≡ Ok (rules_of policy)) }
+    ensures refused { IfErr result (Refuses (spec.rules_behind format harts ram_pages (entries.list.items, entries.bound.items) (table_view table.now))) }
 {
-    let format = format(table)?;
-    let table = known_keys(table)?;
-    let harts = harts(table)?;
-    let ram_pages = ram_pages(table)?;
-    let entries = key_entries(alloc, format, ram_pages, table)?;
     let exports = exports(alloc, optional(table, "exports"))?;
     let (kernel, init) = kernel_rule(ram_pages, table)?;
     let modules = modules(alloc, exports.len(), optional(table, "module"))?;
@@ -116,6 +120,19 @@ fn read_table(alloc: Global, table: &Table) -> Result<Policy, PolicyRefusal>
         init,
         modules,
     })
+}
+
+#[tactic(auto, unfolding(crate::specs::Text::rules_of_members), using(crate::proofs::Judging::refused_on))]
+fn read_table(alloc: Global, table: &Table) -> Result<Policy, PolicyRefusal>
+    ensures ok { IfOk result (λ policy. spec.rules_of_members (table_view table.now) ≡ Ok (rules_of policy)) }
+    ensures refused { IfErr result (Refuses (spec.rules_of_members (table_view table.now))) }
+{
+    let format = format(table)?;
+    let table = known_keys(table)?;
+    let harts = harts(table)?;
+    let ram_pages = ram_pages(table)?;
+    let entries = key_entries(alloc, format, ram_pages, table)?;
+    read_behind(alloc, format, harts, ram_pages, entries, table)
 }
 
 fn table(alloc: Global, bytes: &[u8]) -> Result<Table, PolicyRefusal>

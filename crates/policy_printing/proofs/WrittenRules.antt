@@ -17,7 +17,7 @@ use Rattle.sv_types.specs.declared.relocation_kind.RelocationKind.{RelocationKin
 use Rattle.sv_types.specs.declared.relocation_kind.RelocationKind.TheVariants.{Word64, Branch, Jal, PcrelHi20, PcrelLo12I, PcrelLo12S, Hi20, Lo12I, Lo12S}
 use Rattle.policy.specs.Values.{limited, entry_of, items_length}
 use Rattle.policy.specs.Bindings.{bindings_of, entries_in, bound_in}
-use Rattle.policy.specs.Text.{format_number, plain_entries, bound_entries, entries_of, export_of_two, export_of, some_exports_of, span_at, init_of_two, init_of, kernel_rule, site_of_five, site_of, sites_in, module_of_members, module_of, some_modules_of, rules_of_members, rules_of_text, table_of_text}
+use Rattle.policy.specs.Text.{format_number, plain_entries, bound_entries, entries_of, export_of_two, export_of, some_exports_of, span_at, init_of_two, init_of, kernel_rule, site_of_five, site_of, sites_in, module_of_members, module_of, some_modules_of, rules_behind, rules_of_members, rules_of_text, table_of_text}
 use Rattle.policy_printing.specs.Printed.{address_data, binding_data, entries_data, export_data, exports_data, span_data, site_data, sites_data, module_data, modules_data, kernel_data, rules_members}
 use Rattle.policy_printing.specs.Ranges.{IsAddress, IsDigest, IsExport, IsModule, IsPolicy}
 use Rattle.policy.proofs.Judging.{then_ok, limited_true}
@@ -206,7 +206,7 @@ rules_from format harts ram_pages entries bound exports kernel init modules = re
 lists_back : (format harts ram_pages : ℕ) (entries bound : List ℕ) (exports : List Export) (kernel : List ℕ) (init : Option Span) (modules : List ModuleRule) →
     Back (rules_from format harts ram_pages entries bound exports kernel init modules) →
     rules_of_members (rules_members (rules_from format harts ram_pages entries bound exports kernel init modules)) ≡ Ok (rules_from format harts ram_pages entries bound exports kernel init modules)
-unfolding rules_of_members rules_members
+unfolding rules_of_members rules_behind rules_members
 lists_back format harts ram_pages entries bound [] kernel init [] b = rw (b.format, b.harts, b.ram_pages, b.entries, b.kernel _ refl) refl
 lists_back format harts ram_pages entries bound [] kernel init (m ∷ ms) b = rw (b.format, b.harts, b.ram_pages, b.entries, b.kernel _ refl, b.modules) refl
 lists_back format harts ram_pages entries bound (e ∷ es) kernel init [] b = rw (b.format, b.harts, b.ram_pages, b.entries, b.exports, b.kernel _ refl) refl
