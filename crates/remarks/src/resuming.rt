@@ -7,7 +7,7 @@ ghost use Rattle.snapshot_form.specs.Snapshots as form;
 use crate::files::{Again, Found, MostBytes, read_part, said};
 use crate::running::{policy_file, script_file};
 use resumption::resume_refusal;
-use snapshot_form::Snapshot;
+use snapshot_form::{SnapRefusal, Snapshot};
 use snapshot_reader::ReadError;
 use std::alloc::Global;
 use std::thread::Threads;
@@ -46,13 +46,23 @@ pub(crate) fn snapshot_file<A: Again>(
     ensures { IfOk result (λ s. form.snapshot.has (form.contents s) ≡ true) }
 {
     let bytes = read_part(alloc, files, name, most)?;
-    match snapshot_reader::read(alloc, &bytes) {
+    snapshot_in(alloc, name, &bytes)
+}
+
+fn snapshot_in(alloc: Global, name: &str, bytes: &[u8]) -> Result<Snapshot, Found>
+    ensures { IfOk result (λ s. form.snapshot.has (form.contents s) ≡ true) }
+{
+    match snapshot_reader::read(alloc, bytes) {
         Ok(snapshot) => Ok(snapshot),
-        Err(ReadError::Refused(refusal)) => {
-            let what = format!(in alloc; "{refusal}")?;
-            Err(said(alloc, name, what.as_str()))
-        }
+        Err(ReadError::Refused(refusal)) => Err(snapshot_refused(alloc, name, refusal)),
         Err(ReadError::Memory) => Err(Found::Nothing),
+    }
+}
+
+fn snapshot_refused(alloc: Global, name: &str, refusal: SnapRefusal) -> Found {
+    match format!(in alloc; "{refusal}") {
+        Ok(what) => said(alloc, name, what.as_str()),
+        Err(_) => Found::Nothing,
     }
 }
 
