@@ -31,19 +31,44 @@ pub(crate) fn making_files<A: Again>(
     most: &MostBytes,
     names: &MakingNames<'_>,
 ) -> Result<(), Found> {
+    let exports = kernel_exports(alloc, files, most, names)?;
+    module_files(alloc, files, most.module, names.modules, &exports)?;
+    // Each file is good, so that the fields of all modules together are too many.
+    Err(said(alloc, names.out, policy_fault(PolicyFault::BeyondLimit)))
+}
+
+// The exports of the kernel's file that the modules want.
+fn kernel_exports<A: Again>(
+    alloc: Global,
+    files: &A,
+    most: &MostBytes,
+    names: &MakingNames<'_>,
+) -> Result<Vec<Export>, Found>
+    ensures { IfOk result (λ exports. length exports.items ≤ most_exports) }
+{
     let Some(ram_pages) = number_within(names.ram.as_bytes(), 0, u64::from(MOST_RAM_PAGES)) else {
         return Err(Found::Nothing);
     };
     let kernel = read_part(alloc, files, names.kernel, most.image)?;
     kernel_file(alloc, names.kernel, &kernel, ram_pages as u32)?;
     let wanted = all_wanted(alloc, files, most.module, names.modules)?;
-    let exports = exports_in(alloc, names.kernel, &kernel, &wanted)?;
-    for module in names.modules {
-        let object = read_part(alloc, files, module.as_str(), most.module)?;
-        module_file(alloc, module.as_str(), &object, &exports)?;
+    exports_in(alloc, names.kernel, &kernel, &wanted)
+}
+
+fn module_files<A: Again>(
+    alloc: Global,
+    files: &A,
+    most: usize,
+    modules: &[String],
+    exports: &[Export],
+) -> Result<(), Found>
+    requires { length exports.now ≤ most_exports }
+{
+    for module in modules {
+        let object = read_part(alloc, files, module.as_str(), most)?;
+        module_file(alloc, module.as_str(), &object, exports)?;
     }
-    // Each file is good, so that the fields of all modules together are too many.
-    Err(said(alloc, names.out, policy_fault(PolicyFault::BeyondLimit)))
+    Ok(())
 }
 
 // The names that the modules want of the kernel.
@@ -55,13 +80,24 @@ fn all_wanted<A: Again>(
 ) -> Result<Vec<Name>, Found> {
     let mut names = Vec::new(alloc);
     for module in modules {
-        let module = module.as_str();
-        let object = read_part(alloc, files, module, most)?;
-        if let Err(refusal) = want_names(alloc, &mut names, &object) {
-            return Err(making_fault(alloc, module, refusal));
-        }
+        want_of(alloc, files, most, module.as_str(), &mut names)?;
     }
     Ok(names)
+}
+
+// Adds the names that a module wants.
+fn want_of<A: Again>(
+    alloc: Global,
+    files: &A,
+    most: usize,
+    module: &str,
+    names: &mut Vec<Name>,
+) -> Result<(), Found> {
+    let object = read_part(alloc, files, module, most)?;
+    match want_names(alloc, names, &object) {
+        Ok(()) => Ok(()),
+        Err(refusal) => Err(making_fault(alloc, module, refusal)),
+    }
 }
 
 fn making_fault(alloc: Global, name: &str, refusal: MakingRefusal) -> Found {
@@ -87,13 +123,19 @@ fn exports_in(
     match wanted_exports(alloc, kernel, wanted) {
         Ok(exports) => Ok(exports),
         Err(refusal) => Err(match undefined(alloc, kernel, wanted) {
-            Some(undefined) => {
-                let symbol = format!(in alloc; "symbol {}", undefined.text())?;
-                let fault = image_fault(ImageFault::UndefinedName);
-                said_at(alloc, name, Some(symbol), fault)
-            }
+            Some(undefined) => undefined_name(alloc, name, &undefined),
             None => making_fault(alloc, name, refusal),
         }),
+    }
+}
+
+fn undefined_name(alloc: Global, name: &str, undefined: &Name) -> Found {
+    match format!(in alloc; "symbol {}", undefined.text()) {
+        Ok(symbol) => {
+            let fault = image_fault(ImageFault::UndefinedName);
+            said_at(alloc, name, Some(symbol), fault)
+        }
+        Err(_) => Found::Nothing,
     }
 }
 

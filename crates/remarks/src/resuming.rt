@@ -31,9 +31,23 @@ pub(crate) fn resume_files<R: Threads + Sync, A: Again>(
     names: &ResumeNames<'_>,
 ) -> Result<(), Found> {
     let snapshot = snapshot_file(alloc, files, most.snapshot, names.saved)?;
+    snapshot_under(rt, alloc, files, most, names, &snapshot)
+}
+
+// The policy and the script that a snapshot is resumed with.
+fn snapshot_under<R: Threads + Sync, A: Again>(
+    rt: &R,
+    alloc: Global,
+    files: &A,
+    most: &MostBytes,
+    names: &ResumeNames<'_>,
+    snapshot: &Snapshot,
+) -> Result<(), Found>
+    requires { form.snapshot.has (form.contents snapshot.now) ≡ true }
+{
     let policy = policy_file(alloc, files, most.policy, names.policy)?;
     script_file(alloc, files, most.script, names.script, policy.harts)?;
-    goes_on(rt, alloc, names.saved, &snapshot, &policy)
+    goes_on(rt, alloc, names.saved, snapshot, &policy)
 }
 
 /// A snapshot's file.

@@ -45,10 +45,20 @@ pub(crate) fn run_files<A: Again>(
     names: &RunNames<'_>,
 ) -> Result<(), Found> {
     let policy = policy_file(alloc, files, most.policy, names.policy)?;
-    let image = read_part(alloc, files, names.image, most.image)?;
-    kernel_file(alloc, names.image, &image, policy.ram_pages)?;
+    image_file(alloc, files, most.image, names.image, policy.ram_pages)?;
     disk_file(alloc, files, most.disk, names.disk)?;
     script_file(alloc, files, most.script, names.script, policy.harts)
+}
+
+fn image_file<A: Again>(
+    alloc: Global,
+    files: &A,
+    most: usize,
+    name: &str,
+    ram_pages: u32,
+) -> Result<(), Found> {
+    let image = read_part(alloc, files, name, most)?;
+    kernel_file(alloc, name, &image, ram_pages)
 }
 
 /// A policy's file.
@@ -63,14 +73,23 @@ pub(crate) fn policy_file<A: Again>(
     let text = read_part(alloc, files, name, most)?;
     match policy::read(alloc, &text) {
         Ok(policy) => Ok(policy),
-        Err(PolicyRefusal::Fault(fault)) => {
-            let place = policy::refused_place(alloc, &text)?;
-            match (fault, place) {
-                (PolicyFault::NotToml, Some(place)) => Err(said(alloc, name, place.as_str())),
-                (fault, place) => Err(said_at(alloc, name, place, policy_fault(fault))),
-            }
-        }
+        Err(PolicyRefusal::Fault(fault)) => Err(policy_refused(alloc, name, &text, fault)),
         Err(PolicyRefusal::Memory) => Err(Found::Nothing),
+    }
+}
+
+fn policy_refused(alloc: Global, name: &str, text: &[u8], fault: PolicyFault) -> Found {
+    match policy::refused_place(alloc, text) {
+        Ok(place) => policy_fault_at(alloc, name, place, fault),
+        Err(_) => Found::Nothing,
+    }
+}
+
+// Where a text isn't TOML, its place tells why.
+fn policy_fault_at(alloc: Global, name: &str, place: Option<String>, fault: PolicyFault) -> Found {
+    match (fault, place) {
+        (PolicyFault::NotToml, Some(place)) => said(alloc, name, place.as_str()),
+        (fault, place) => said_at(alloc, name, place, policy_fault(fault)),
     }
 }
 
@@ -114,12 +133,23 @@ pub(crate) fn script_file<A: Again>(
         return Ok(());
     }
     let text = read_part(alloc, files, name, most)?;
-    match script::read(alloc, &text, harts) {
-        Err(ScriptRefusal::Line { line }) => {
-            let what = format!(in alloc; "line {line} is of no form")?;
-            Err(said(alloc, name, what.as_str()))
-        }
+    script_in(alloc, name, &text, harts)
+}
+
+fn script_in(alloc: Global, name: &str, text: &[u8], harts: u8) -> Result<(), Found>
+    requires some { 0 < harts }
+    requires few { harts ≤ most_harts }
+{
+    match script::read(alloc, text, harts) {
+        Err(ScriptRefusal::Line { line }) => Err(line_refused(alloc, name, line)),
         Ok(_) | Err(ScriptRefusal::Memory) => Ok(()),
+    }
+}
+
+fn line_refused(alloc: Global, name: &str, line: u64) -> Found {
+    match format!(in alloc; "line {line} is of no form") {
+        Ok(what) => said(alloc, name, what.as_str()),
+        Err(_) => Found::Nothing,
     }
 }
 
