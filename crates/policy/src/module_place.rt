@@ -46,17 +46,38 @@ fn module_place(
     requires { exports ≤ most_exports }
 {
     let i = i.min(items.len());
-    let before = match each_module(alloc, exports, &items[..i]) {
-        Ok(before) => before,
-        Err(PolicyRefusal::Fault(_)) => return Ok(None),
-        Err(PolicyRefusal::Memory) => return Err(AllocError),
-    };
-    let Some(value) = items.get(i) else {
+    let Some(before) = sites_before(alloc, exports, &items[..i])? else {
         return Ok(None);
     };
+    match items.get(i) {
+        Some(value) => item_place(alloc, exports, before, i, value),
+        None => Ok(None),
+    }
+}
+
+// The sites of the modules of a list. None where it is refused.
+fn sites_before(alloc: Global, exports: usize, items: &[Value]) -> Result<Option<usize>, AllocError>
+    requires { exports ≤ most_exports }
+{
+    match each_module(alloc, exports, items) {
+        Ok(before) => Ok(Some(sites_of(&before))),
+        Err(PolicyRefusal::Fault(_)) => Ok(None),
+        Err(PolicyRefusal::Memory) => Err(AllocError),
+    }
+}
+
+fn item_place(
+    alloc: Global,
+    exports: usize,
+    sites_before: usize,
+    i: usize,
+    value: &Value,
+) -> Result<Option<String>, AllocError>
+    requires { exports ≤ most_exports }
+{
     match members(value) {
         Ok(table) => {
-            let key = key_place(alloc, exports, sites_of(&before), table)?;
+            let key = key_place(alloc, exports, sites_before, table)?;
             Ok(Some(format!(in alloc; "key module[{i}].{key}")?))
         }
         Err(_) => Ok(Some(format!(in alloc; "key module[{i}]")?)),
