@@ -75,12 +75,19 @@ fn relocation_place(
         },
         highs: &highs,
     };
-    for relocation in relocations.as_slice() {
-        if fields_judged(&judging, relocation).is_err() {
-            return Ok(Some(relocation_text(alloc, object, placed, relocation)?));
+    match first_refused(&judging, &relocations) {
+        Some(relocation) => Ok(Some(relocation_text(alloc, object, placed, &relocation)?)),
+        None => Ok(None),
+    }
+}
+
+fn first_refused(judging: &Judging, relocations: &[Relocation]) -> Option<Relocation> {
+    for relocation in relocations {
+        if fields_judged(judging, relocation).is_err() {
+            return Some(*relocation);
         }
     }
-    Ok(None)
+    None
 }
 
 // Whether the section holds the relocated field.
