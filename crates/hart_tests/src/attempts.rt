@@ -637,41 +637,85 @@ fn interrupts_come_before_fetches(rt: HostRuntime) -> Result<(), AllocError> {
     Ok(())
 }
 
+// A load of an address through the first stage of `SV39_WORDS`, and what comes of it.
+struct Load {
+    address: u64,
+    outcome: Outcome,
+}
+
 // The root of a first stage in page 1 maps page 0 for the fetches; the entries behind its entry 0 are each refused but
 // the last.
+static SV39_WORDS: [(usize, u64); 8] = [
+    (0, 0x0000_B183),
+    (0x1010, 0x2000_004B),
+    (0x1000, 0x2000_0801),
+    (0x2000, 0x2000_04CF),
+    (0x2008, 0x2000_0C01),
+    (0x3000, 0x0040_0000_2000_00CF),
+    (0x3008, 0x2000_008F),
+    (0x3010, 0x2000_00CF),
+];
+
+static LOADS: [Load; 5] = [
+    Load {
+        address: 0x40_0000_0000,
+        outcome: Outcome::GuestTrap,
+    },
+    Load {
+        address: 0,
+        outcome: Outcome::GuestTrap,
+    },
+    Load {
+        address: 0x20_0000,
+        outcome: Outcome::GuestTrap,
+    },
+    Load {
+        address: 0x20_1000,
+        outcome: Outcome::GuestTrap,
+    },
+    Load {
+        address: 0x20_2000,
+        outcome: DONE,
+    },
+];
+
+// After a load that trapped.
+fn check_trapped(rt: &impl Abort, core: &Core, address: u64) {
+    assert_eq!(rt;
+        (core.csrs.vscause, core.csrs.vstval),
+        (13, address),
+        "at {address:x}"
+    );
+    assert_eq!(rt; core.pc, 0x8000_0100);
+}
+
+// A core that loads from an address through the first stage.
+fn core_in_sv39(address: u64) -> Core
+    ensures { result.pc % 4 ≡ 0 }
+{
+    let mut core = core_with(address);
+    let regs = hypervisor_registers(Mode::Kernel);
+    let _satp = core.csrs.write(&regs, 0x180, 0x8000_0000_0008_0001);
+    core.pc = KERNEL_PC;
+    core
+}
+
+// The load of a row by itself.
+fn check_load(rt: &impl Abort, alloc: Global, row: &Load) -> Result<(), AllocError> {
+    let address = row.address;
+    let mut core = core_in_sv39(address);
+    let found = attempt_once(rt, alloc, &SV39_WORDS, &mut core, Mode::Kernel, &QUIET)?;
+    assert!(rt; found == row.outcome, "at {address:x}");
+    if found == Outcome::GuestTrap {
+        check_trapped(rt, &core, address);
+    }
+    Ok(())
+}
+
 #[test]
 fn loads_through_sv39_fault_by_the_entry(rt: HostRuntime) -> Result<(), AllocError> {
-    let words = [
-        (0, 0x0000_B183),
-        (0x1010, 0x2000_004B),
-        (0x1000, 0x2000_0801),
-        (0x2000, 0x2000_04CF),
-        (0x2008, 0x2000_0C01),
-        (0x3000, 0x0040_0000_2000_00CF),
-        (0x3008, 0x2000_008F),
-        (0x3010, 0x2000_00CF),
-    ];
-    for (address, want) in [
-        (0x40_0000_0000, Outcome::GuestTrap),
-        (0, Outcome::GuestTrap),
-        (0x20_0000, Outcome::GuestTrap),
-        (0x20_1000, Outcome::GuestTrap),
-        (0x20_2000, DONE),
-    ] {
-        let mut core = core_with(address);
-        let regs = hypervisor_registers(Mode::Kernel);
-        let _satp = core.csrs.write(&regs, 0x180, 0x8000_0000_0008_0001);
-        core.pc = KERNEL_PC;
-        let found = attempt_once(&rt, rt.alloc(), &words, &mut core, Mode::Kernel, &QUIET)?;
-        assert!(rt; found == want, "at {address:x}");
-        if found == Outcome::GuestTrap {
-            assert_eq!(rt;
-                (core.csrs.vscause, core.csrs.vstval),
-                (13, address),
-                "at {address:x}"
-            );
-            assert_eq!(rt; core.pc, 0x8000_0100);
-        }
+    for row in &LOADS {
+        check_load(&rt, rt.alloc(), row)?;
     }
     Ok(())
 }

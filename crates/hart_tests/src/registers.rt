@@ -2,8 +2,9 @@
 
 use csr_file::{CsrFault, Csrs};
 use processor::{HRegs, Lines, Mode};
+use std::process::Abort;
 
-const KERNEL: HRegs = HRegs {
+static KERNEL: HRegs = HRegs {
     mode: Mode::Kernel,
     hgatp: 0,
     hedeleg: 0xB1FF,
@@ -11,7 +12,7 @@ const KERNEL: HRegs = HRegs {
     vtsr: true,
 };
 
-const USER: HRegs = HRegs {
+static USER: HRegs = HRegs {
     mode: Mode::User,
     hgatp: 0,
     hedeleg: 0,
@@ -19,64 +20,186 @@ const USER: HRegs = HRegs {
     vtsr: true,
 };
 
-const LINES: Lines = Lines {
+static LINES: Lines = Lines {
     time: 7000,
     external: true,
     timer: false,
 };
 
-#[test]
-fn answers_each_access(rt: HostRuntime) {
-    let mut csrs = Csrs::at_boot();
-    for (regs, number, want) in [
-        (KERNEL, 0x200, Err(CsrFault::Virtual)),
-        (KERNEL, 0x680, Err(CsrFault::Virtual)),
-        (KERNEL, 0xC00, Err(CsrFault::Illegal)),
-        (KERNEL, 0xC01, Ok(7000)),
-        (KERNEL, 0x144, Ok(0x200)),
-        (USER, 0x100, Err(CsrFault::Virtual)),
-        (USER, 0x604, Err(CsrFault::Virtual)),
-        (USER, 0x300, Err(CsrFault::Illegal)),
-        (USER, 0xC01, Err(CsrFault::Virtual)),
-    ] {
-        assert!(rt;
-            csrs.read(&regs, &LINES, number) == want,
-            "read of {number:x}"
-        );
+fn registers_of(mode: Mode) -> &'static HRegs {
+    match mode {
+        Mode::Kernel => &KERNEL,
+        Mode::User => &USER,
     }
+}
+
+// A read in a mode at boot, and its answer.
+struct Read {
+    mode: Mode,
+    number: u16,
+    answer: Result<u64, CsrFault>,
+}
+
+static READS: [Read; 9] = [
+    Read {
+        mode: Mode::Kernel,
+        number: 0x200,
+        answer: Err(CsrFault::Virtual),
+    },
+    Read {
+        mode: Mode::Kernel,
+        number: 0x680,
+        answer: Err(CsrFault::Virtual),
+    },
+    Read {
+        mode: Mode::Kernel,
+        number: 0xC00,
+        answer: Err(CsrFault::Illegal),
+    },
+    Read {
+        mode: Mode::Kernel,
+        number: 0xC01,
+        answer: Ok(7000),
+    },
+    Read {
+        mode: Mode::Kernel,
+        number: 0x144,
+        answer: Ok(0x200),
+    },
+    Read {
+        mode: Mode::User,
+        number: 0x100,
+        answer: Err(CsrFault::Virtual),
+    },
+    Read {
+        mode: Mode::User,
+        number: 0x604,
+        answer: Err(CsrFault::Virtual),
+    },
+    Read {
+        mode: Mode::User,
+        number: 0x300,
+        answer: Err(CsrFault::Illegal),
+    },
+    Read {
+        mode: Mode::User,
+        number: 0xC01,
+        answer: Err(CsrFault::Virtual),
+    },
+];
+
+fn check_read(rt: &impl Abort, csrs: &Csrs, row: &Read) {
+    let number = row.number;
+    let answer = csrs.read(registers_of(row.mode), &LINES, number);
+    assert!(rt; answer == row.answer, "read of {number:x}");
+}
+
+// Writes that are refused leave all as it was.
+fn check_refusals(rt: &impl Abort, csrs: &mut Csrs) {
     assert!(rt; csrs.write(&KERNEL, 0xC01, 1) == Err(CsrFault::Illegal));
     assert!(rt; csrs.write(&USER, 0xC01, 1) == Err(CsrFault::Illegal));
     assert!(rt; csrs.write(&USER, 0x180, 0) == Err(CsrFault::Virtual));
-    assert!(rt; csrs == Csrs::at_boot());
+    assert!(rt; *csrs == Csrs::at_boot());
+}
+
+#[test]
+fn answers_each_access(rt: HostRuntime) {
+    let mut csrs = Csrs::at_boot();
+    for row in &READS {
+        check_read(&rt, &csrs, row);
+    }
+    check_refusals(&rt, &mut csrs);
     assert!(rt; csrs.write(&KERNEL, 0x106, 2) == Ok(()));
     assert!(rt; csrs.read(&USER, &LINES, 0xC01) == Ok(7000));
+}
+
+// A write of kernel mode, and what may stand of it.
+struct Write {
+    number: u16,
+    value: u64,
+    left: u64,
+}
+
+static WRITES: [Write; 12] = [
+    Write {
+        number: 0x100,
+        value: u64::MAX,
+        left: 0x2000C0122,
+    },
+    Write {
+        number: 0x104,
+        value: u64::MAX,
+        left: 0x222,
+    },
+    Write {
+        number: 0x105,
+        value: u64::MAX,
+        left: 0xFFFFFFFFFFFFFFFD,
+    },
+    Write {
+        number: 0x106,
+        value: u64::MAX,
+        left: 2,
+    },
+    Write {
+        number: 0x140,
+        value: u64::MAX,
+        left: u64::MAX,
+    },
+    Write {
+        number: 0x141,
+        value: u64::MAX,
+        left: 0xFFFFFFFFFFFFFFFC,
+    },
+    Write {
+        number: 0x142,
+        value: u64::MAX,
+        left: u64::MAX,
+    },
+    Write {
+        number: 0x143,
+        value: u64::MAX,
+        left: u64::MAX,
+    },
+    Write {
+        number: 0x144,
+        value: u64::MAX,
+        left: 0x202,
+    },
+    Write {
+        number: 0x180,
+        value: 0x8FFFFFFFFFFFFFFF,
+        left: 0x80000FFFFFFFFFFF,
+    },
+    Write {
+        number: 0x180,
+        value: 0x9000000000000000,
+        left: 0x80000FFFFFFFFFFF,
+    },
+    Write {
+        number: 0x180,
+        value: 5,
+        left: 5,
+    },
+];
+
+fn check_write(rt: &impl Abort, csrs: &mut Csrs, row: &Write) {
+    let number = row.number;
+    assert!(rt;
+        csrs.write(&KERNEL, number, row.value) == Ok(()),
+        "write of {number:x}"
+    );
+    assert!(rt;
+        csrs.read(&KERNEL, &LINES, number) == Ok(row.left),
+        "read of {number:x}"
+    );
 }
 
 #[test]
 fn keeps_the_bits_that_may_stand(rt: HostRuntime) {
     let mut csrs = Csrs::at_boot();
-    for (number, value, want) in [
-        (0x100, u64::MAX, 0x2000C0122),
-        (0x104, u64::MAX, 0x222),
-        (0x105, u64::MAX, 0xFFFFFFFFFFFFFFFD),
-        (0x106, u64::MAX, 2),
-        (0x140, u64::MAX, u64::MAX),
-        (0x141, u64::MAX, 0xFFFFFFFFFFFFFFFC),
-        (0x142, u64::MAX, u64::MAX),
-        (0x143, u64::MAX, u64::MAX),
-        (0x144, u64::MAX, 0x202),
-        (0x180, 0x8FFFFFFFFFFFFFFF, 0x80000FFFFFFFFFFF),
-        (0x180, 0x9000000000000000, 0x80000FFFFFFFFFFF),
-        (0x180, 5, 5),
-    ] {
-        assert!(rt;
-            csrs.write(&KERNEL, number, value) == Ok(()),
-            "write of {number:x}"
-        );
-        assert!(rt;
-            csrs.read(&KERNEL, &LINES, number) == Ok(want),
-            "read of {number:x}"
-        );
+    for row in &WRITES {
+        check_write(&rt, &mut csrs, row);
     }
     assert_eq!(rt; (csrs.hie, csrs.hvip), (0x444, 4));
 }
