@@ -1,25 +1,11 @@
 // The guest for some numbers of calls.
 
-ghost use Rattle.std.specs.Prelude.{◌≤◌};
-
 use guest_gen::*;
 use page_measure::page_digest;
 use std::alloc::{AllocError, Global};
 use std::process::Abort;
 use std::test::Fail;
-
-/// The bytes of a file, its SHA-256, and the measure in its policy.
-type Made = (usize, String, String);
-
-fn made(alloc: Global, calls: u64) -> Result<Made, AllocError>
-    requires some { 1 ≤ calls }
-    requires most { calls ≤ 1000000 }
-{
-    let (file, policy) = generate(alloc, calls)?;
-    let digest = hex::encode(alloc, page_digest(&file))?;
-    let measure = hex::encode(alloc, policy.kernel)?;
-    Ok((file.len(), digest, measure))
-}
+use sv_types::Digest;
 
 // Calls, and the digests of the file and of its text.
 static GUESTS: [(u64, &str, &str); 4] = [
@@ -45,6 +31,22 @@ static GUESTS: [(u64, &str, &str); 4] = [
     ),
 ];
 
+fn check_length(rt: &impl Abort, calls: u64, bytes: usize) {
+    assert!(rt; bytes == 8200, "of {calls} calls");
+}
+
+fn check_digest(
+    rt: &impl Abort,
+    alloc: Global,
+    calls: u64,
+    found: Digest,
+    wanted: &str,
+) -> Result<(), AllocError> {
+    let text = hex::encode(alloc, found)?;
+    assert!(rt; text.as_str() == wanted, "of {calls} calls");
+    Ok(())
+}
+
 fn check_guest(
     rt: &impl Abort,
     alloc: Global,
@@ -52,10 +54,10 @@ fn check_guest(
     digest: &str,
     measure: &str,
 ) -> Result<(), AllocError> {
-    let (bytes, found_digest, found_measure) = made(alloc, calls.clamp(1, 1_000_000))?;
-    assert!(rt; bytes == 8200, "of {calls} calls");
-    assert!(rt; found_digest.as_str() == digest, "of {calls} calls");
-    assert!(rt; found_measure.as_str() == measure, "of {calls} calls");
+    let (file, policy) = generate(alloc, calls.clamp(1, 1_000_000))?;
+    check_length(rt, calls, file.len());
+    check_digest(rt, alloc, calls, page_digest(&file), digest)?;
+    check_digest(rt, alloc, calls, policy.kernel, measure)?;
     Ok(())
 }
 

@@ -2,14 +2,12 @@
 
 ghost use Rattle.std.specs.Prelude.{◌≡◌, IfOk, vec_len};
 
+use crate::fields::{Field, NONE, number, put_all, put_bytes};
 use crate::same::same;
 use elf64_load::*;
 use std::alloc::{AllocError, Global};
 use std::process::Abort;
 use std::test::Fail;
-
-/// A field of an image: its place, its width in bytes and its value.
-type Field = (u16, u8, u64);
 
 /// The bytes of the generated guest's image.
 const IMAGE_BYTES: usize = 8200;
@@ -66,37 +64,20 @@ static LINKED_HEADERS: [u8; 176] = [
     0x30, 0x00, 0x00, 0x00, 0x00, 0x00, 0x00, 0x00, 0x00, 0x10, 0x00, 0x00, 0x00, 0x00, 0x00, 0x00,
 ];
 
-fn put(image: &mut [u8], field: Field) {
-    let (at, width, value) = field;
-    for (i, byte) in value.to_le_bytes().iter().enumerate() {
-        if i < width as usize
-            && let Some(slot) = image.get_mut(at as usize + i)
-        {
-            *slot = *byte;
-        }
-    }
-}
-
 // The generated guest's image, with byte i of its text (i mod 251).
 fn generated(alloc: Global) -> Result<Vec<u8>, AllocError>
     ensures { IfOk result (λ image. vec_len image ≡ IMAGE_BYTES) }
 {
     let mut image = vec![in alloc; 0; IMAGE_BYTES]?;
-    for field in FIELDS.iter() {
-        put(&mut image, *field);
-    }
-    for (i, slot) in image[0x1000..0x2000].iter_mut().enumerate() {
-        *slot = (i % 251) as u8;
-    }
+    put_all(&mut image, &FIELDS);
+    number(&mut image[0x1000..0x2000]);
     Ok(image)
 }
 
 // The image with fields changed, cut at a length.
 fn changed(alloc: Global, fields: &[Field], length: usize) -> Result<Vec<u8>, AllocError> {
     let mut image = generated(alloc)?;
-    for field in fields {
-        put(&mut image, *field);
-    }
+    put_all(&mut image, fields);
     image.truncate(length);
     Ok(image)
 }
@@ -118,9 +99,6 @@ struct FaultRow {
     ram_pages: u32,
     number: u8,
 }
-
-// A field of no bytes.
-const NONE: Field = (0, 0, 0);
 
 static FAULTS: [FaultRow; 47] = [
     FaultRow {
@@ -526,14 +504,23 @@ fn check_owners(rt: &impl Abort, owners: &[usize]) {
     assert!(rt; owners.starts_with(&[3, 1, 3, 3, 0, 0]));
 }
 
+fn check_kernel(
+    rt: &impl Abort,
+    alloc: Global,
+    kernel: &KernelImage<'_>,
+) -> Result<(), AllocError> {
+    same(rt, "entry", 0, kernel.entry, 0x8000_1000);
+    same(rt, "segments", 0, kernel.segments.len(), 3);
+    check_text(rt, &kernel.text(alloc)?);
+    check_owners(rt, &kernel.page_owners(alloc)?);
+    Ok(())
+}
+
 #[test]
 fn text_in_ascending_order(rt: HostRuntime) -> Result<(), Fail> {
     let image = changed(rt.alloc(), &TWO_TEXTS, IMAGE_BYTES)?;
     let kernel = read_kernel(rt.alloc(), &image, 64)?;
-    same(&rt, "entry", 0, kernel.entry, 0x8000_1000);
-    same(&rt, "segments", 0, kernel.segments.len(), 3);
-    check_text(&rt, &kernel.text(rt.alloc())?);
-    check_owners(&rt, &kernel.page_owners(rt.alloc())?);
+    check_kernel(&rt, rt.alloc(), &kernel)?;
     Ok(())
 }
 
@@ -545,9 +532,9 @@ static WORD: [u8; 8] = [0x88, 0x77, 0x66, 0x55, 0x44, 0x33, 0x22, 0x11];
 
 fn linked(alloc: Global) -> Result<Vec<u8>, AllocError> {
     let mut file = vec![in alloc; 0; IMAGE_BYTES]?;
-    file[..176].copy_from_slice(&LINKED_HEADERS);
-    file[0x1000..0x1010].copy_from_slice(&CODE);
-    file[0x2000..0x2008].copy_from_slice(&WORD);
+    put_bytes(&mut file, 0, &LINKED_HEADERS);
+    put_bytes(&mut file, 0x1000, &CODE);
+    put_bytes(&mut file, 0x2000, &WORD);
     Ok(file)
 }
 
@@ -569,15 +556,18 @@ fn check_segments(rt: &impl Abort, segments: &[Segment<'_>]) {
     assert!(rt; segments == [text, data].as_slice());
 }
 
+fn check_code(rt: &impl Abort, text: &[u8]) {
+    same(rt, "bytes of text", 0, text.len(), 0x1000);
+    assert!(rt; text.starts_with(&CODE));
+}
+
 #[test]
 fn a_linkers_file(rt: HostRuntime) -> Result<(), Fail> {
     let file = linked(rt.alloc())?;
     let kernel = read_kernel(rt.alloc(), &file, 16)?;
     same(&rt, "entry", 0, kernel.entry, 0x8000_0000);
     check_segments(&rt, &kernel.segments);
-    let text = kernel.text(rt.alloc())?;
-    same(&rt, "bytes of text", 0, text.len(), 0x1000);
-    assert!(rt; text.starts_with(&CODE));
+    check_code(&rt, &kernel.text(rt.alloc())?);
     Ok(())
 }
 
@@ -595,17 +585,16 @@ fn filled(alloc: Global, fields: &[Field], length: usize) -> Result<Vec<u8>, All
     Ok(file)
 }
 
+fn bytes_of_text(alloc: Global, kernel: &KernelImage<'_>) -> Result<usize, AllocError> {
+    Ok(kernel.text(alloc)?.len())
+}
+
 // An image of 64 MiB, half of it text.
 #[test]
 fn reads_the_largest_image(rt: HostRuntime) -> Result<(), Fail> {
     let file = filled(rt.alloc(), &HALF_TEXT, 64 << 20)?;
     let image = read_kernel(rt.alloc(), &file, 65_536)?;
-    same(
-        &rt,
-        "bytes of text",
-        0,
-        image.text(rt.alloc())?.len(),
-        0x0200_0000,
-    );
+    let bytes = bytes_of_text(rt.alloc(), &image)?;
+    same(&rt, "bytes of text", 0, bytes, 0x0200_0000);
     Ok(())
 }

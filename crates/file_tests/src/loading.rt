@@ -3,6 +3,7 @@
 ghost use Rattle.std.specs.Prelude.{◌≡◌, ◌*◌, ◌≤◌, length, IfOk};
 ghost use Rattle.processor.specs.Regions.{most_ram_pages};
 
+use crate::fields::put;
 use crate::same::same;
 use elf64_load::{ElfRefusal, read_kernel};
 use gstage_tables::Trees;
@@ -60,33 +61,43 @@ const NOTHING: Part = Part {
     memory: 0,
 };
 
-fn push_header(file: &mut Vec<u8>, part: &Part) -> Result<(), AllocError> {
-    let flags: u32 = if part.text { 5 } else { 6 };
+fn header_of(part: &Part) -> [u8; 56] {
+    let flags = if part.text { 5 } else { 6 };
     let place = 0x8000_0000 + part.place as u64;
-    file.extend_from_slice(&1u32.to_le_bytes())?;
-    file.extend_from_slice(&flags.to_le_bytes())?;
-    for field in [
-        BYTES_PLACE + part.from as u64,
-        place,
-        place,
-        part.filled,
-        part.memory,
-        4096,
-    ] {
-        file.extend_from_slice(&field.to_le_bytes())?;
+    let mut header = [0; 56];
+    put(&mut header, (0, 4, 1));
+    put(&mut header, (4, 4, flags));
+    put(&mut header, (8, 8, BYTES_PLACE + part.from as u64));
+    put(&mut header, (16, 8, place));
+    put(&mut header, (24, 8, place));
+    put(&mut header, (32, 8, part.filled));
+    put(&mut header, (40, 8, part.memory));
+    put(&mut header, (48, 8, 4096));
+    header
+}
+
+fn push_header(file: &mut Vec<u8>, part: &Part) -> Result<(), AllocError> {
+    file.extend_from_slice(&header_of(part))
+}
+
+// What a file begins with, whose header ends so.
+fn push_start(file: &mut Vec<u8>, header_end: &[u8; 8]) -> Result<(), AllocError> {
+    file.extend_from_slice(&HEADER)?;
+    file.extend_from_slice(header_end)?;
+    push_header(file, &TEXT)
+}
+
+fn push_parts(file: &mut Vec<u8>, parts: &[Part]) -> Result<(), AllocError> {
+    for part in parts {
+        push_header(file, part)?;
     }
-    Ok(())
+    file.extend_from_slice(&BYTES)
 }
 
 fn file_of(alloc: Global, parts: &[Part]) -> Result<Vec<u8>, AllocError> {
     let mut file = Vec::new(alloc);
-    file.extend_from_slice(&HEADER)?;
-    file.extend_from_slice(&HEADER_END)?;
-    push_header(&mut file, &TEXT)?;
-    for part in parts {
-        push_header(&mut file, part)?;
-    }
-    file.extend_from_slice(&BYTES)?;
+    push_start(&mut file, &HEADER_END)?;
+    push_parts(&mut file, parts)?;
     Ok(file)
 }
 
@@ -182,12 +193,20 @@ static ROWS: [Row; 4] = [
     },
 ];
 
+fn check_first_page(rt: &impl Abort, what: &str, ram: &[u8]) {
+    assert!(rt; ram.starts_with(&BYTES), "text: {what}");
+}
+
+fn check_second_page(rt: &impl Abort, what: &str, ram: &[u8], wanted: &[u8]) {
+    let page = ram.get(0x1000..).unwrap_or(&[]);
+    assert!(rt; page.starts_with(wanted), "{what}");
+}
+
 fn check_row(rt: &impl Abort, alloc: Global, row: &Row) -> Result<(), ElfRefusal> {
     let file = file_of(alloc, &row.parts)?;
     let mem = filled(alloc, &file, RAM_PAGES)?;
-    let what = row.what;
-    assert!(rt; mem.ram().starts_with(&BYTES), "text: {what}");
-    assert!(rt; mem.ram()[0x1000..].starts_with(&row.bytes), "{what}");
+    check_first_page(rt, row.what, mem.ram());
+    check_second_page(rt, row.what, mem.ram(), &row.bytes);
     Ok(())
 }
 
@@ -211,43 +230,42 @@ fn approving(rt: &impl Abort, alloc: Global, file: &[u8]) -> Result<Guard, ElfRe
     Ok(guard)
 }
 
+fn check_pages(rt: &impl Abort, pages: &[Protection]) {
+    let found = [pages.first().copied(), pages.get(1).copied()];
+    let wanted = [Some(Protection::Approved), Some(Protection::Free)];
+    same(rt, "pages", 0, found, wanted);
+}
+
 #[test]
 fn pages_of_text_are_approved(rt: HostRuntime) -> Result<(), Fail> {
     let file = file_of(rt.alloc(), &[NOTHING, NOTHING, NOTHING])?;
     let guard = approving(&rt, rt.alloc(), &file)?;
-    let pages = guard.protections();
-    same(
-        &rt,
-        "page",
-        0,
-        pages.first().copied(),
-        Some(Protection::Approved),
-    );
-    same(
-        &rt,
-        "page",
-        1,
-        pages.get(1).copied(),
-        Some(Protection::Free),
-    );
+    check_pages(&rt, guard.protections());
+    Ok(())
+}
+
+// Over all of the largest RAM but its first page.
+static BEHIND: Part = Part {
+    place: 0x1000,
+    filled: 16,
+    memory: 0x0FFF_F000,
+    ..NOTHING
+};
+
+static MOST_HEADERS: [u8; 8] = [0xFF, 0xFF, 0, 0, 0, 0, 0, 0];
+
+fn push_behind(file: &mut Vec<u8>) -> Result<(), AllocError> {
+    for _ in 1..0xFFFF {
+        push_header(file, &BEHIND)?;
+    }
     Ok(())
 }
 
 // As many segments as can be.
 fn largest(alloc: Global) -> Result<Vec<u8>, AllocError> {
-    let behind = Part {
-        place: 0x1000,
-        filled: 16,
-        memory: 0x0FFF_F000,
-        ..NOTHING
-    };
     let mut file = Vec::new(alloc);
-    file.extend_from_slice(&HEADER)?;
-    file.extend_from_slice(&[0xFF, 0xFF, 0, 0, 0, 0, 0, 0])?;
-    push_header(&mut file, &TEXT)?;
-    for _ in 1..0xFFFF {
-        push_header(&mut file, &behind)?;
-    }
+    push_start(&mut file, &MOST_HEADERS)?;
+    push_behind(&mut file)?;
     Ok(file)
 }
 
@@ -257,6 +275,6 @@ fn largest(alloc: Global) -> Result<Vec<u8>, AllocError> {
 fn as_many_segments_as_can_be(rt: HostRuntime) -> Result<(), Fail> {
     let file = largest(rt.alloc())?;
     let mem = filled(rt.alloc(), &file, 65_536)?;
-    assert!(rt; mem.ram()[0x1000..].starts_with(&[1, 0, 0, 0, 6]));
+    check_second_page(&rt, "most segments", mem.ram(), &[1, 0, 0, 0, 6]);
     Ok(())
 }

@@ -1,6 +1,7 @@
 // A kernel that defines `print`, and an object that clang 14 made of `call print; ret` for RV64IMA without relaxation, with
 // other bits in the call's fields.
 
+use crate::fields::{Field, put_all};
 use elf64_reloc::ObjectFault;
 use policy_making::*;
 use std::alloc::{AllocError, Global};
@@ -8,9 +9,6 @@ use std::process::Abort;
 use std::test::Fail;
 use std::thread::Threads;
 use sv_types::{Export, HeaderFault, ImageFault, ModulePolicy, Name, Policy};
-
-/// A field of a file: its place, its width in bytes and its value.
-type Field = (u16, u8, u64);
 
 /// The kernel's bytes, and its fields that aren't 0: the header, the program header, the symbol, its name, the headers of
 /// symbols and names, and the text.
@@ -108,17 +106,6 @@ static OBJECT: [Field; 46] = [
     (0x1F8, 8, 0x18),
 ];
 
-fn put(file: &mut [u8], field: Field) {
-    let (at, width, value) = field;
-    for (i, byte) in value.to_le_bytes().iter().enumerate() {
-        if i < width as usize
-            && let Some(slot) = file.get_mut(at as usize + i)
-        {
-            *slot = *byte;
-        }
-    }
-}
-
 // A file of so many bytes with these fields, of which only the first `length` bytes are kept.
 fn file(
     alloc: Global,
@@ -127,9 +114,7 @@ fn file(
     length: usize,
 ) -> Result<Vec<u8>, AllocError> {
     let mut file = vec![in alloc; 0; bytes]?;
-    for field in fields {
-        put(&mut file, *field);
-    }
+    put_all(&mut file, fields);
     file.truncate(length);
     Ok(file)
 }
@@ -154,6 +139,31 @@ fn objects_of(alloc: Global, lengths: &[usize]) -> Result<Vec<ObjectFile>, Makin
     Ok(objects)
 }
 
+fn names_of(alloc: Global, objects: &[ObjectFile]) -> Result<Vec<Name>, MakingRefusal> {
+    let mut names = Vec::new(alloc);
+    for object in objects {
+        want_names(alloc, &mut names, &object.bytes)?;
+    }
+    Ok(names)
+}
+
+fn policy_of<R: Threads + Sync>(
+    rt: &R,
+    alloc: Global,
+    kernel: &[u8],
+    objects: &[ObjectFile],
+) -> Result<Policy, MakingRefusal> {
+    let settings = Settings {
+        harts: 1,
+        ram_pages: 16,
+        entries: vec![in alloc; 0x8000_0000; 1]?,
+        init: None,
+    };
+    let digest = kernel_digest(rt, alloc, kernel, settings.ram_pages)?;
+    let names = names_of(alloc, objects)?;
+    policy_behind(rt, alloc, settings, kernel, digest, &names, objects)
+}
+
 // The policy of one hart and 16 pages for the kernel, cut to a length, and for objects of these lengths.
 fn made<R: Threads + Sync>(
     rt: &R,
@@ -163,18 +173,7 @@ fn made<R: Threads + Sync>(
 ) -> Result<Policy, MakingRefusal> {
     let kernel = file(alloc, &KERNEL, KERNEL_BYTES, kernel_length)?;
     let objects = objects_of(alloc, lengths)?;
-    let settings = Settings {
-        harts: 1,
-        ram_pages: 16,
-        entries: vec![in alloc; 0x8000_0000; 1]?,
-        init: None,
-    };
-    let digest = kernel_digest(rt, alloc, &kernel, settings.ram_pages)?;
-    let mut names = Vec::new(alloc);
-    for object in &objects {
-        want_names(alloc, &mut names, &object.bytes)?;
-    }
-    policy_behind(rt, alloc, settings, &kernel, digest, &names, &objects)
+    policy_of(rt, alloc, &kernel, &objects)
 }
 
 // The digests are those of Python's hashlib; the module's is that of its text with both fields of the call cleared.

@@ -2,15 +2,13 @@
 
 ghost use Rattle.std.specs.Prelude.{◌≡◌, ◌≤◌, IfOk, length, vec_len};
 
+use crate::fields::{Field, NONE, put_all};
 use crate::same::same;
 use elf64_reloc::*;
 use std::alloc::{AllocError, Global};
 use std::process::Abort;
 use std::test::Fail;
 use sv_types::{Export, Name, RelocationKind, Site};
-
-/// A field of an object: its place, its width in bytes and its value.
-type Field = (u16, u8, u64);
 
 /// The bytes of the object.
 const OBJECT_BYTES: usize = 512;
@@ -66,27 +64,12 @@ static FIELDS: [Field; 46] = [
     (0x1F8, 8, 0x18),
 ];
 
-fn put(object: &mut [u8], field: Field) {
-    let (at, width, value) = field;
-    for (i, byte) in value.to_le_bytes().iter().enumerate() {
-        if i < width as usize
-            && let Some(slot) = object.get_mut(at as usize + i)
-        {
-            *slot = *byte;
-        }
-    }
-}
-
 // The object with fields changed, cut or filled with zeros to a length.
 fn changed(alloc: Global, fields: &[Field], length: usize) -> Result<Vec<u8>, AllocError> {
     let mut object = vec![in alloc; 0; OBJECT_BYTES]?;
-    for field in FIELDS.iter() {
-        put(&mut object, *field);
-    }
+    put_all(&mut object, &FIELDS);
     object.resize(length, 0)?;
-    for field in fields {
-        put(&mut object, *field);
-    }
+    put_all(&mut object, fields);
     Ok(object)
 }
 
@@ -131,9 +114,6 @@ struct FaultRow {
     names: u8,
     number: u8,
 }
-
-// A field of no bytes.
-const NONE: Field = (0, 0, 0);
 
 static FAULTS: [FaultRow; 41] = [
     FaultRow {
@@ -508,14 +488,26 @@ fn check_text(rt: &impl Abort, text: &[u8]) {
     assert!(rt; text.starts_with(&[0x97, 0, 0, 0, 0xE7, 0x80, 0, 0, 0x67, 0x80, 0, 0, 0]));
 }
 
+fn check_module(
+    rt: &impl Abort,
+    alloc: Global,
+    object: &[u8],
+    exports: &[Export],
+) -> Result<(), RelocRefusal>
+    requires { length exports.now ≤ 4096 }
+{
+    let module = read_module(alloc, object, exports)?;
+    check_sites(rt, &module.sites, 3, 0);
+    check_text(rt, &module.text);
+    Ok(())
+}
+
 #[test]
 fn a_call_of_an_export(rt: HostRuntime) -> Result<(), Fail> {
     let object = changed(rt.alloc(), &[], OBJECT_BYTES)?;
     check_names(&rt, &undefined_names(rt.alloc(), &object)?);
     let exports = print_exported(rt.alloc())?;
-    let module = read_module(rt.alloc(), &object, &exports)?;
-    check_sites(&rt, &module.sites, 3, 0);
-    check_text(&rt, &module.text);
+    check_module(&rt, rt.alloc(), &object, &exports)?;
     Ok(())
 }
 
@@ -536,12 +528,16 @@ static LOW_BEFORE_HIGH: [Field; 14] = [
     (0x108, 8, 2),
 ];
 
+fn names_in(alloc: Global, object: &[u8]) -> Result<usize, RelocRefusal> {
+    Ok(undefined_names(alloc, object)?.len())
+}
+
 // A low part in front of its high part, which names data: text, data and zeros are laid out in their spaces.
 #[test]
 fn a_low_part_goes_by_its_high_part(rt: HostRuntime) -> Result<(), Fail> {
     let object = changed(rt.alloc(), &LOW_BEFORE_HIGH, 640)?;
-    let names = undefined_names(rt.alloc(), &object)?;
-    same(&rt, "names", 0, names.len(), 0);
+    let names = names_in(rt.alloc(), &object)?;
+    same(&rt, "names", 0, names, 0);
     let module = read_module(rt.alloc(), &object, &[])?;
     check_sites(&rt, &module.sites, 1, 47);
     Ok(())
@@ -576,6 +572,13 @@ static PLACES: [PlaceRow; 5] = [
     },
 ];
 
+fn check_told(rt: &impl Abort, place: &Option<String>, wanted: &str) {
+    match place {
+        Some(told) => assert!(rt; told.as_str() == wanted, "{told}, not {wanted}"),
+        None => assert!(rt; wanted.is_empty(), "{wanted}"),
+    }
+}
+
 fn check_place(
     rt: &impl Abort,
     alloc: Global,
@@ -585,11 +588,7 @@ fn check_place(
     let object = changed(alloc, &row.fields, OBJECT_BYTES)?;
     assert!(rt; exports.len() <= 4096);
     let place = refused_place(alloc, &object, exports)?;
-    let wanted = row.place;
-    match &place {
-        Some(told) => assert!(rt; told.as_str() == wanted, "{told}, not {wanted}"),
-        None => assert!(rt; wanted.is_empty(), "{wanted}"),
-    }
+    check_told(rt, &place, row.place);
     Ok(())
 }
 
