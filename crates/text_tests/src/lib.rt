@@ -10,6 +10,8 @@ mod numbers;
 #[cfg(test)]
 mod policies;
 #[cfg(test)]
+mod real;
+#[cfg(test)]
 mod reports;
 #[cfg(test)]
 mod same;

@@ -2,7 +2,7 @@
 
 use crate::answers::answer;
 use crate::case::Case;
-use memory_runs::{GOOD, Left, Outside, PRINTED_ROOM, hold, left_behind, line_of};
+use crate::memory::{GOOD, Left, Outside, PRINTED_ROOM, hold, left_behind, line_of};
 use outside::MemSink;
 use remarks::{MostBytes, remark};
 use secvisor_cli::{
@@ -20,8 +20,8 @@ fn spelled(word: &str) -> &str {
     if word == "{empty}" { "" } else { word }
 }
 
-// The words of a call. In them `{measure}` is the measure.
-fn line(alloc: Global, case: &Case, words: &str) -> Result<Vec<String>, AllocError> {
+/// The words of a call. In them `{measure}` is the measure.
+pub fn line(alloc: Global, case: &Case, words: &str) -> Result<Vec<String>, AllocError> {
     let words = words.replace(alloc, "{measure}", case.measure.as_str())?;
     let mut line: Vec<&str> = Vec::new(alloc);
     for word in words.as_str().split_whitespace() {
@@ -30,8 +30,8 @@ fn line(alloc: Global, case: &Case, words: &str) -> Result<Vec<String>, AllocErr
     line_of(alloc, &line)
 }
 
-// Makes the call with these words.
-fn called<R: Threads + Sync>(
+/// Makes the call with these words.
+pub fn called<R: Threads + Sync>(
     rt: &R,
     alloc: Global,
     case: &Case,
@@ -103,19 +103,30 @@ pub fn print_remark<R: Threads + Sync + AllocGlobal + Print>(
     }
 }
 
-// Makes a call, prints its words and its status, and keeps what it saved.
+/// Prints the words of a call and its status, and keeps what it saved.
+pub fn tell<R: AllocGlobal + Print>(
+    rt: &R,
+    case: &mut Case,
+    words: &str,
+    left: &Left,
+) -> io::Result<()> {
+    println!(rt; "secvisor {words}")?;
+    print_status(rt, case, left)?;
+    if let Some(saved) = &left.saved {
+        case.saved = saved.to_vec(rt.alloc())?;
+    }
+    Ok(())
+}
+
+// Makes a call, and tells of it.
 fn made<R: Threads + Sync + AllocGlobal + Print>(
     rt: &R,
     case: &mut Case,
     words: &str,
 ) -> io::Result<Left> {
     let line = line(rt.alloc(), case, words)?;
-    println!(rt; "secvisor {words}")?;
     let left = called(rt, rt.alloc(), case, &line, case.outside)?;
-    print_status(rt, case, &left)?;
-    if let Some(saved) = &left.saved {
-        case.saved = saved.to_vec(rt.alloc())?;
-    }
+    tell(rt, case, words, &left)?;
     Ok(left)
 }
 
@@ -184,7 +195,12 @@ fn is_same_in<R: Threads + Sync>(
     whole: &Left,
 ) -> Result<bool, AllocError> {
     let left = called(rt, alloc, case, line, Outside { piece, ..GOOD })?;
-    Ok(left.status == whole.status && left.taken.as_slice() == whole.taken.as_slice())
+    Ok(is_same(&left, whole))
+}
+
+/// Two calls end and print the same.
+pub fn is_same(left: &Left, other: &Left) -> bool {
+    left.status == other.status && left.taken.as_slice() == other.taken.as_slice()
 }
 
 /// Makes a call and prints its status; makes it over a sink that takes a byte at a time, each of whose writes fails in turn,

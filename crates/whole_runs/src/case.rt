@@ -1,6 +1,6 @@
 // What the orders of a case have made so far.
 
-use memory_runs::{GOOD, Handed, Outside};
+use crate::memory::{GOOD, Handed, Outside};
 use remarks::Again;
 use std::alloc::{AllocError, Global};
 

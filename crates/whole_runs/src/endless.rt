@@ -1,6 +1,7 @@
 // Files of the operating system that have no end.
 
-use memory_runs::{answer_on, line_of};
+use crate::answers::answer;
+use crate::memory::line_of;
 use outside::{MemSink, RealFiles};
 use std::io;
 use std::io::Write;
@@ -28,7 +29,7 @@ pub fn refuse_endless<
     let line = line_of(rt.alloc(), words)?;
     let mut out = MemSink::new(rt.alloc(), ROOM, ROOM, &[])?;
     let mut files = RealFiles::new(host, false);
-    let answer = answer_on(rt, rt.alloc(), &line, &mut files, &mut out);
+    let answer = answer(rt, rt.alloc(), &line, &mut files, &mut out);
     println!(rt; "status {}", answer.status.number())?;
     io::writer(rt).write_all(out.taken())
 }

@@ -1,8 +1,9 @@
 // The guests of `guests/` and their policies. A line of `runs.txt` and of `policies.txt` is a name, and the words of a call
 // of the program.
 
-use crate::held::hold_named;
-use memory_runs::{Answer, answer_on};
+use crate::answers::answer;
+use crate::folder::hold_named;
+use crate::memory::Answer;
 use outside::{MemFiles, MemSink};
 use std::io::Write;
 use std::rt::Files;
@@ -35,7 +36,7 @@ fn call<R: Threads + Sync + Files + AllocGlobal>(
     let mut files = MemFiles::new(alloc, &[], FILES, FILE_BYTES, &[], &[])?;
     hold_named(rt, words, made, &mut files)?;
     let mut out = MemSink::new(alloc, OUTPUT_BYTES, OUTPUT_BYTES, &[])?;
-    let answer = answer_on(rt, alloc, words, &mut files, &mut out);
+    let answer = answer(rt, alloc, words, &mut files, &mut out);
     Ok(Left { answer, files, out })
 }
 

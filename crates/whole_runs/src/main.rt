@@ -10,8 +10,10 @@ mod case;
 mod edits;
 mod endless;
 mod files;
+mod folder;
 mod guests;
-mod held;
+mod live;
+mod memory;
 mod orders;
 mod values;
 
@@ -20,11 +22,12 @@ use endless::{ENDLESS, refuse_endless};
 use guests::{compare_policies, run_guests};
 use orders::follow;
 use std::rt::Files;
+use std::sync::Wait;
 use std::thread::Threads;
 use std::{fs, io};
 
 // The files of cases, in the order in which they run.
-static LISTS: [&str; 9] = [
+static LISTS: [&str; 10] = [
     "flat.cases",
     "kernels.cases",
     "generated.cases",
@@ -34,6 +37,7 @@ static LISTS: [&str; 9] = [
     "policies.cases",
     "snapshots.cases",
     "remarks.cases",
+    "live.cases",
 ];
 
 fn main(rt: HostRuntime) -> io::Result<()> {
@@ -50,7 +54,7 @@ fn main(rt: HostRuntime) -> io::Result<()> {
     Ok(())
 }
 
-fn run_list<R: Threads + Sync + Files + AllocGlobal + Print>(
+fn run_list<R: Threads + Wait + Sync + Files + AllocGlobal + Print>(
     rt: &R,
     parts: &str,
     name: &str,

@@ -3,13 +3,15 @@
 use crate::calls::{count, print, print_lines, print_pieces, print_remark, print_writes};
 use crate::case::Case;
 use crate::files::make;
+use crate::live::{print_held, print_live};
+use crate::memory::Outside;
 use crate::values::{first_word, number};
-use memory_runs::Outside;
 use std::io;
+use std::sync::Wait;
 use std::thread::Threads;
 
 /// Follows an order. One to use a part is to follow the orders of that part.
-pub fn follow<R: Threads + Sync + AllocGlobal + Print>(
+pub fn follow<R: Threads + Wait + Sync + AllocGlobal + Print>(
     rt: &R,
     parts: &str,
     case: &mut Case,
@@ -24,7 +26,7 @@ pub fn follow<R: Threads + Sync + AllocGlobal + Print>(
 }
 
 // Follows the orders behind a part's name, up to an empty line.
-fn use_part<R: Threads + Sync + AllocGlobal + Print>(
+fn use_part<R: Threads + Wait + Sync + AllocGlobal + Print>(
     rt: &R,
     parts: &str,
     case: &mut Case,
@@ -42,7 +44,7 @@ fn use_part<R: Threads + Sync + AllocGlobal + Print>(
     Ok(())
 }
 
-fn obey<R: Threads + Sync + AllocGlobal + Print>(
+fn obey<R: Threads + Wait + Sync + AllocGlobal + Print>(
     rt: &R,
     case: &mut Case,
     order: &str,
@@ -60,6 +62,8 @@ fn obey<R: Threads + Sync + AllocGlobal + Print>(
         "saved" => print_lines(rt, &case.saved),
         "pieces" => print_pieces(rt, case, words),
         "remark" => print_remark(rt, case, words),
+        "live" => print_live(rt, case, words),
+        "held" => print_held(rt, case, words),
         "writes" => print_writes(rt, case, words),
         _ => make_or_tell(rt, case, order, words),
     }

@@ -1,5 +1,5 @@
 use Rattle.live_cli.proofs.AnswerLemmas.{live_follows}
-use Rattle.command_tests.proofs.live.answer_live_on.Goals as goal
+use Rattle.whole_runs.proofs.live.answer_live.Goals as goal
 
 pub secvisor_live-status-requires-clause-permitted : goal.secvisor_live-status-requires-clause-permitted
 secvisor_live-status-requires-clause-permitted g c = λ κs lives. live_follows _ _ c.requires.names c.requires.saving

@@ -1,5 +1,5 @@
 use Rattle.whole_runs.proofs.Permits.{still_permits}
-use Rattle.whole_runs.proofs.held.save.Goals as goal
+use Rattle.whole_runs.proofs.folder.save.Goals as goal
 
 pub returns-in-Ok-clause-permits : goal.returns-in-Ok-clause-permits
 returns-in-Ok-clause-permits g c =

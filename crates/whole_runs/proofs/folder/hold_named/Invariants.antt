@@ -1,5 +1,5 @@
 use Rattle.std.proofs.Common.{◌≡◌, ℕ, List, IsTrue}
-use Rattle.whole_runs.proofs.held.hold_named.Given as goal
+use Rattle.whole_runs.proofs.folder.hold_named.Given as goal
 
 -- any bytes may be saved, and neither a read nor a save failed
 abbrev pub invariant-loop-word : goal.invariant-loop-word
