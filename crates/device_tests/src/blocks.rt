@@ -154,28 +154,15 @@ struct Bench {
     mem: HostMem,
 }
 
-// Gives a command, and makes its beats.
-fn check_command(
-    rt: &impl Abort,
-    bench: &mut Bench,
-    block: &mut Block,
-    row: u64,
-    command: &Command,
-) {
+fn give(block: &mut Block, command: &Command) {
     block.store(SECTOR, 8, command.sector);
     block.store(ADDRESS, 8, command.gpa);
     block.store(COUNT, 4, command.count);
     block.store(COMMAND, 4, command.command);
-    same(
-        rt,
-        "first status of row",
-        row,
-        block.load(STATUS, 4),
-        Some(command.first),
-    );
-    for _ in 0..command.beats {
-        block.beat(&bench.guard, &mut bench.mem);
-    }
+}
+
+// The registers behind a command's beats.
+fn check_last(rt: &impl Abort, block: &Block, row: u64, command: &Command) {
     same(
         rt,
         "last status of row",
@@ -187,6 +174,28 @@ fn check_command(
     same(rt, "command of row", row, block.load(COMMAND, 4), Some(0));
 }
 
+// Gives a command, and makes its beats.
+fn check_command(
+    rt: &impl Abort,
+    bench: &mut Bench,
+    block: &mut Block,
+    row: u64,
+    command: &Command,
+) {
+    give(block, command);
+    same(
+        rt,
+        "first status of row",
+        row,
+        block.load(STATUS, 4),
+        Some(command.first),
+    );
+    for _ in 0..command.beats {
+        block.beat(&bench.guard, &mut bench.mem);
+    }
+    check_last(rt, block, row, command);
+}
+
 fn check_commands(rt: &impl Abort, alloc: Global, bench: &mut Bench) -> Result<(), AllocError> {
     for (row, command) in COMMANDS.iter().enumerate() {
         let mut block = numbered_disk(alloc)?;
@@ -195,17 +204,25 @@ fn check_commands(rt: &impl Abort, alloc: Global, bench: &mut Bench) -> Result<(
     Ok(())
 }
 
+fn protected_bench(alloc: Global) -> Result<Bench, AllocError> {
+    let mut guard = DmaGuard::new(alloc, 2)?;
+    guard.set(1, false);
+    let mem = HostMem::new(alloc, 0, 2)?;
+    Ok(Bench { guard, mem })
+}
+
+fn check_ram(rt: &impl Abort, mem: &HostMem) {
+    for (place, wanted) in [(1, 1), (511, 255), (513, 1)] {
+        let found = mem.ram().get(place).copied();
+        same(rt, "byte", place as u64, found, Some(wanted));
+    }
+}
+
 #[test]
 fn commands_and_their_beats(rt: HostRuntime) -> Result<(), Fail> {
-    let mut guard = DmaGuard::new(rt.alloc(), 2)?;
-    guard.set(1, false);
-    let mem = HostMem::new(rt.alloc(), 0, 2)?;
-    let mut bench = Bench { guard, mem };
+    let mut bench = protected_bench(rt.alloc())?;
     check_commands(&rt, rt.alloc(), &mut bench)?;
-    for (place, wanted) in [(1, 1), (511, 255), (513, 1)] {
-        let found = bench.mem.ram().get(place).copied();
-        same(&rt, "byte", place as u64, found, Some(wanted));
-    }
+    check_ram(&rt, &bench.mem);
     Ok(())
 }
 
@@ -228,22 +245,35 @@ fn check_ignored(rt: &impl Abort, bench: &mut Bench, block: &mut Block) {
     assert!(rt; block.store(ADDRESS, 8, 0x8000_0800));
     assert!(rt; block.store(STATUS, 4, 0));
     check_beat(rt, bench, block, 0x8000_0040);
+}
+
+fn check_widths(rt: &impl Abort, block: &mut Block) {
     assert!(rt; !block.store(SECTOR, 4, 0));
     assert!(rt; block.load(STATUS, 8).is_none());
 }
 
-#[test]
-fn stores_during_a_transfer_are_ignored(rt: HostRuntime) -> Result<(), Fail> {
-    let guard = DmaGuard::new(rt.alloc(), 1)?;
-    let mem = HostMem::new(rt.alloc(), 0, 1)?;
-    let mut bench = Bench { guard, mem };
-    let mut block = numbered_disk(rt.alloc())?;
-    check_ignored(&rt, &mut bench, &mut block);
+// Behind two beats of the transfer.
+fn check_busy(rt: &impl Abort, block: &Block) {
     let busy = BlockStatus::Busy {
         command: BlockCommand::DiskToMemory,
         done: 2,
     };
-    same(&rt, "status of block", 0, block.state().status, busy);
+    same(rt, "status of block", 0, block.state().status, busy);
     assert!(rt; block.disk().len() == 1024);
+}
+
+fn open_bench(alloc: Global) -> Result<Bench, AllocError> {
+    let guard = DmaGuard::new(alloc, 1)?;
+    let mem = HostMem::new(alloc, 0, 1)?;
+    Ok(Bench { guard, mem })
+}
+
+#[test]
+fn stores_during_a_transfer_are_ignored(rt: HostRuntime) -> Result<(), Fail> {
+    let mut bench = open_bench(rt.alloc())?;
+    let mut block = numbered_disk(rt.alloc())?;
+    check_ignored(&rt, &mut bench, &mut block);
+    check_widths(&rt, &mut block);
+    check_busy(&rt, &block);
     Ok(())
 }

@@ -1,4 +1,5 @@
 // A guest's accesses over a disk of one sector and one page of RAM.
+use crate::rows::at_boot;
 use crate::same::same;
 use devices::{Block, Devices};
 use dma_guard::{Beaten, DmaGuard};
@@ -35,12 +36,16 @@ fn store(devices: &mut Devices<Block>, journal: &mut Journal, gpa: u64) -> bool 
     journal.printed().len() < 4096 && devices.store(journal, gpa, 1, 0x142)
 }
 
+fn check_printed(rt: &impl Abort, journal: &Journal, wanted: &[u8]) {
+    assert!(rt; journal.printed() == wanted);
+}
+
 fn check_stores(rt: &impl Abort, devices: &mut Devices<Block>, journal: &mut Journal) {
-    assert!(rt; journal.printed().is_empty());
+    check_printed(rt, journal, b"");
     assert!(rt; store(devices, journal, 0x1000_0000));
-    assert!(rt; journal.printed() == b"B".as_slice());
+    check_printed(rt, journal, b"B");
     assert!(rt; !store(devices, journal, 0x1000_2000));
-    assert!(rt; journal.printed() == b"B".as_slice());
+    check_printed(rt, journal, b"B");
 }
 
 fn lines(time: u64, external: bool, timer: bool) -> Lines {
@@ -51,11 +56,8 @@ fn lines(time: u64, external: bool, timer: bool) -> Lines {
     }
 }
 
-// A key and the timer of hart 1.
-fn check_events(rt: &impl Abort, devices: &mut Devices<Block>) {
-    assert!(rt; devices.key(66));
-    devices.set_timer(1, 5);
-    devices.tick(5);
+// A key waits, and the timer of hart 1 is due.
+fn check_lines(rt: &impl Abort, devices: &Devices<Block>) {
     same(
         rt,
         "lines of hart",
@@ -71,6 +73,14 @@ fn check_events(rt: &impl Abort, devices: &mut Devices<Block>) {
         lines(5, false, true),
     );
     assert!(rt; devices.input() == [66].as_slice());
+}
+
+// A key and the timer of hart 1.
+fn check_events(rt: &impl Abort, devices: &mut Devices<Block>) {
+    assert!(rt; devices.key(66));
+    devices.set_timer(1, 5);
+    devices.tick(5);
+    check_lines(rt, devices);
     assert!(rt; devices.take_input() == Some(66));
     assert!(rt; devices.time() == 5 && devices.timer(1) == 5);
 }
@@ -82,12 +92,33 @@ fn beat(alloc: Global, devices: &mut Devices<Block>) -> Result<Beaten, AllocErro
     Ok(devices.beat(&guard, &mut mem))
 }
 
-fn check_accesses(rt: &impl Abort, devices: &mut Devices<Block>, journal: &mut Journal) {
-    assert!(rt; devices.key(65));
+fn check_beat(
+    rt: &impl Abort,
+    alloc: Global,
+    devices: &mut Devices<Block>,
+) -> Result<(), AllocError> {
+    let found = beat(alloc, devices)?;
+    same(rt, "beat", 0, found, Beaten::Idle);
+    Ok(())
+}
+
+// A count of one sector.
+fn check_count(rt: &impl Abort, devices: &mut Devices<Block>, journal: &mut Journal) {
     assert!(rt; journal.printed().len() < 4096);
     assert!(rt; devices.store(journal, 0x1000_1010, 4, 1));
+}
+
+fn check_accesses(
+    rt: &impl Abort,
+    alloc: Global,
+    devices: &mut Devices<Block>,
+) -> Result<(), AllocError> {
+    let mut journal = Journal::new(alloc)?;
+    assert!(rt; devices.key(65));
+    check_count(rt, devices, &mut journal);
     check_loads(rt, devices);
-    check_stores(rt, devices, journal);
+    check_stores(rt, devices, &mut journal);
+    Ok(())
 }
 
 fn check_disk(rt: &impl Abort, devices: &Devices<Block>) {
@@ -97,17 +128,9 @@ fn check_disk(rt: &impl Abort, devices: &Devices<Block>) {
 
 #[test]
 fn accesses_and_events(rt: HostRuntime) -> Result<(), Fail> {
-    let disk = vec![in rt.alloc(); 7u8; 512]?;
-    let mut devices = Devices::new(Block::new(disk));
-    let mut journal = Journal::new(rt.alloc())?;
-    check_accesses(&rt, &mut devices, &mut journal);
-    same(
-        &rt,
-        "beat",
-        0,
-        beat(rt.alloc(), &mut devices)?,
-        Beaten::Idle,
-    );
+    let mut devices = at_boot(rt.alloc())?;
+    check_accesses(&rt, rt.alloc(), &mut devices)?;
+    check_beat(&rt, rt.alloc(), &mut devices)?;
     check_events(&rt, &mut devices);
     check_disk(&rt, &devices);
     Ok(())

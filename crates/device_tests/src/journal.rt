@@ -5,27 +5,42 @@ use std::process::Abort;
 use std::test::Fail;
 use sv_types::{Note, Rule, Verdict};
 
-fn check_printed(rt: &impl Abort, journal: &mut Journal) {
-    assert!(rt; journal.printed().is_empty());
-    for value in [0x141, 0x0A] {
-        assert!(rt; journal.printed().len() < 4096);
-        journal.print(value);
-    }
-    assert!(rt; journal.printed() == b"A\n".as_slice());
-    journal.clear_printed();
-    assert!(rt; journal.printed().is_empty());
+fn check_text(rt: &impl Abort, journal: &Journal, wanted: &[u8]) {
+    assert!(rt; journal.printed() == wanted);
 }
 
-fn check_notes(rt: &impl Abort, journal: &mut Journal) {
-    for gpa in 0..4097 {
-        let counts = journal.counts();
-        assert!(rt; counts.notes < u64::MAX && counts.denied < u64::MAX);
-        journal.deny(gpa);
-    }
+fn print(rt: &impl Abort, journal: &mut Journal, value: u64) {
+    assert!(rt; journal.printed().len() < 4096);
+    journal.print(value);
+}
+
+fn check_printed(rt: &impl Abort, journal: &mut Journal) {
+    check_text(rt, journal, b"");
+    print(rt, journal, 0x141);
+    print(rt, journal, 0x0A);
+    check_text(rt, journal, b"A\n");
+    journal.clear_printed();
+    check_text(rt, journal, b"");
+}
+
+fn deny(rt: &impl Abort, journal: &mut Journal, gpa: u64) {
+    let counts = journal.counts();
+    assert!(rt; counts.notes < u64::MAX && counts.denied < u64::MAX);
+    journal.deny(gpa);
+}
+
+fn check_counts(rt: &impl Abort, journal: &Journal) {
     let counts = journal.counts();
     assert!(rt; counts.denied == 4097 && counts.notes == 4097);
     assert!(rt; journal.notes().len() == 4096);
     assert!(rt; journal.notes().last() == Some(&Note::Denied { gpa: 4095 }));
+}
+
+fn check_notes(rt: &impl Abort, journal: &mut Journal) {
+    for gpa in 0..4097 {
+        deny(rt, journal, gpa);
+    }
+    check_counts(rt, journal);
 }
 
 #[test]

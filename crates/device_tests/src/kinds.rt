@@ -2,6 +2,7 @@
 use crate::same::same;
 use disk_port::Port;
 use dma_guard::DiskPort;
+use std::alloc::{AllocError, Global};
 use std::process::Abort;
 use std::test::Fail;
 use sv_types::PortState;
@@ -14,13 +15,23 @@ fn check_port(rt: &impl Abort, port: &mut Port, reads: Option<u64>) {
     assert!(rt; port.disk().len() == 512);
 }
 
+fn check_block(rt: &impl Abort, alloc: Global) -> Result<(), AllocError> {
+    let mut block = Port::block(vec![in alloc; 7u8; 512]?);
+    assert!(rt; matches!(block.state(), PortState::Block(_)));
+    check_port(rt, &mut block, None);
+    Ok(())
+}
+
+fn check_virtio(rt: &impl Abort, alloc: Global) -> Result<(), AllocError> {
+    let mut virtio = Port::virtio(vec![in alloc; 7u8; 512]?);
+    assert!(rt; matches!(virtio.state(), PortState::Virtio(_)));
+    check_port(rt, &mut virtio, Some(2));
+    Ok(())
+}
+
 #[test]
 fn two_kinds(rt: HostRuntime) -> Result<(), Fail> {
-    let mut block = Port::block(vec![in rt.alloc(); 7u8; 512]?);
-    assert!(rt; matches!(block.state(), PortState::Block(_)));
-    check_port(&rt, &mut block, None);
-    let mut virtio = Port::virtio(vec![in rt.alloc(); 7u8; 512]?);
-    assert!(rt; matches!(virtio.state(), PortState::Virtio(_)));
-    check_port(&rt, &mut virtio, Some(2));
+    check_block(&rt, rt.alloc())?;
+    check_virtio(&rt, rt.alloc())?;
     Ok(())
 }

@@ -13,7 +13,7 @@ const CONSOLE: u64 = 0x1000_0000;
 const MOST: u64 = u64::MAX;
 
 // The devices at boot, with a disk of one sector.
-fn at_boot(alloc: Global) -> Result<Devices<Block>, AllocError> {
+pub(crate) fn at_boot(alloc: Global) -> Result<Devices<Block>, AllocError> {
     Ok(Devices::new(Block::new(vec![in alloc; 7u8; 512]?)))
 }
 
@@ -63,14 +63,18 @@ fn drain(rt: &impl Abort, devices: &mut Devices<Block>) {
     assert!(rt; devices.take_input().is_none());
 }
 
+fn check_input(rt: &impl Abort, devices: &Devices<Block>) {
+    assert!(rt; devices.lines(0).external);
+    assert!(rt; devices.input().first() == Some(&3));
+}
+
 fn check_console(rt: &impl Abort, devices: &mut Devices<Block>) {
     check_loads(rt, devices, &WITHOUT_INPUT);
     assert!(rt; !devices.lines(0).external);
     fill(rt, devices);
     assert!(rt; devices.take_input() == Some(0));
     check_loads(rt, devices, &WITH_INPUT);
-    assert!(rt; devices.lines(0).external);
-    assert!(rt; devices.input().first() == Some(&3));
+    check_input(rt, devices);
     drain(rt, devices);
 }
 
@@ -114,25 +118,33 @@ static TICKS: [(u64, u64, bool, bool); 3] = [
     (MOST, MOST, true, true),
 ];
 
+fn check_time(rt: &impl Abort, devices: &Devices<Block>, now: u64, first: bool, second: bool) {
+    same(rt, "time", now, devices.time(), now);
+    same(rt, "timer of hart 1 at", now, devices.lines(1).timer, first);
+    same(
+        rt,
+        "timer of hart 2 at",
+        now,
+        devices.lines(2).timer,
+        second,
+    );
+}
+
+// A timer of the most never is due.
+fn check_timers(rt: &impl Abort, devices: &Devices<Block>) {
+    assert!(rt; !devices.lines(0).timer);
+    same(rt, "timer", 0, devices.timer(0), MOST);
+    same(rt, "timer", 2, devices.timer(2), MOST - 1);
+}
+
 fn check_clock(rt: &impl Abort, devices: &mut Devices<Block>) {
     devices.set_timer(1, 5);
     devices.set_timer(2, MOST - 1);
     for &(ticks, now, first, second) in TICKS.iter() {
         devices.tick(ticks);
-        same(rt, "time", now, devices.time(), now);
-        same(rt, "timer of hart 1 at", now, devices.lines(1).timer, first);
-        same(
-            rt,
-            "timer of hart 2 at",
-            now,
-            devices.lines(2).timer,
-            second,
-        );
+        check_time(rt, devices, now, first, second);
     }
-    // A timer of the most never is due.
-    assert!(rt; !devices.lines(0).timer);
-    same(rt, "timer", 0, devices.timer(0), MOST);
-    same(rt, "timer", 2, devices.timer(2), MOST - 1);
+    check_timers(rt, devices);
 }
 
 #[test]

@@ -417,11 +417,17 @@ fn check_row(
     Ok(())
 }
 
+// The request of a row by itself.
+fn check_request(rt: &impl Abort, alloc: Global, row: u64, wanted: &Row) -> Result<(), Fail> {
+    let mut driver = Driver::new(alloc)?;
+    check_row(rt, &mut driver, row, wanted)?;
+    Ok(())
+}
+
 #[test]
 fn requests_and_their_ends(rt: HostRuntime) -> Result<(), Fail> {
     for (row, wanted) in ROWS.iter().enumerate() {
-        let mut driver = Driver::new(rt.alloc())?;
-        check_row(&rt, &mut driver, row as u64, wanted)?;
+        check_request(&rt, rt.alloc(), row as u64, wanted)?;
     }
     Ok(())
 }
@@ -487,13 +493,18 @@ fn check_moves(rt: &impl Abort, driver: &mut Driver) {
     }
 }
 
+fn check_changed_chain(rt: &impl Abort, driver: &mut Driver) -> Result<(), DmaRefused> {
+    write_sector(rt, driver)?;
+    check_disk(rt, driver);
+    read_by_changed_chain(rt, driver)?;
+    check_moves(rt, driver);
+    Ok(())
+}
+
 #[test]
 fn a_chain_that_changes_after_its_acceptance_changes_no_move(rt: HostRuntime) -> Result<(), Fail> {
     let mut driver = Driver::new(rt.alloc())?;
-    write_sector(&rt, &mut driver)?;
-    check_disk(&rt, &driver);
-    read_by_changed_chain(&rt, &mut driver)?;
-    check_moves(&rt, &mut driver);
+    check_changed_chain(&rt, &mut driver)?;
     Ok(())
 }
 
@@ -507,7 +518,7 @@ fn ask_in_parts(driver: &mut Driver, count: u8) -> Result<(), DmaRefused> {
     driver.describe(count, RESULT, 1, WRITE, 0)
 }
 
-fn check_longest_chain(rt: &impl Abort, driver: &mut Driver) -> Result<(), DmaRefused> {
+fn check_34_descriptors(rt: &impl Abort, driver: &mut Driver) -> Result<(), DmaRefused> {
     ask_in_parts(driver, 33)?;
     check_beat(rt, driver, 0, Beaten::Idle);
     driver.beats(36);
@@ -516,20 +527,29 @@ fn check_longest_chain(rt: &impl Abort, driver: &mut Driver) -> Result<(), DmaRe
     Ok(())
 }
 
-fn check_longer_chain(rt: &impl Abort, driver: &mut Driver) -> Result<(), DmaRefused> {
+fn check_35_descriptors(rt: &impl Abort, driver: &mut Driver) -> Result<(), DmaRefused> {
     ask_in_parts(driver, 34)?;
     check_beat(rt, driver, 0, Beaten::Range);
     check_register(rt, driver, STATUS, 79);
     Ok(())
 }
 
+fn check_longest_chain(rt: &impl Abort, alloc: Global) -> Result<(), Fail> {
+    let mut driver = Driver::new(alloc)?;
+    check_34_descriptors(rt, &mut driver)?;
+    Ok(())
+}
+
+fn check_longer_chain(rt: &impl Abort, alloc: Global) -> Result<(), Fail> {
+    let mut driver = Driver::new(alloc)?;
+    check_35_descriptors(rt, &mut driver)?;
+    Ok(())
+}
+
 #[test]
 fn a_chain_has_at_most_34_descriptors(rt: HostRuntime) -> Result<(), Fail> {
-    let mut driver = Driver::new(rt.alloc())?;
-    check_longest_chain(&rt, &mut driver)?;
-    let mut driver = Driver::new(rt.alloc())?;
-    check_longer_chain(&rt, &mut driver)?;
-    Ok(())
+    check_longest_chain(&rt, rt.alloc())?;
+    check_longer_chain(&rt, rt.alloc())
 }
 
 // Stores by a driver, each with a register that is read behind it.
@@ -576,6 +596,10 @@ fn check_registers(rt: &impl Abort, device: &mut Virtio) {
         );
         same(rt, "load", row as u64, device.load(read, 4), Some(wanted));
     }
+    check_refused(rt, device);
+}
+
+fn check_refused(rt: &impl Abort, device: &mut Virtio) {
     same(rt, "status of width", 8, device.load(STATUS, 8), None);
     same(rt, "load at", 0x108, device.load(0x108, 4), None);
     same(rt, "store of width", 1, device.store(STATUS, 1, 1), false);
@@ -615,10 +639,14 @@ fn check_ring_past_ram(rt: &impl Abort, driver: &mut Driver) -> Result<(), DmaRe
     Ok(())
 }
 
+fn check_breaks(rt: &impl Abort, driver: &mut Driver) -> Result<(), DmaRefused> {
+    check_broken(rt, driver)?;
+    check_ring_past_ram(rt, driver)
+}
+
 #[test]
 fn a_broken_device_needs_a_reset(rt: HostRuntime) -> Result<(), Fail> {
     let mut driver = Driver::new(rt.alloc())?;
-    check_broken(&rt, &mut driver)?;
-    check_ring_past_ram(&rt, &mut driver)?;
+    check_breaks(&rt, &mut driver)?;
     Ok(())
 }
