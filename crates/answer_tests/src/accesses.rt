@@ -1,8 +1,9 @@
 // A hart that reads and writes device registers.
-use crate::ground::{guarded, started};
+use crate::ground::{devices, guard_alone, started};
 use crate::same::same;
 use access_answers::{Load, Store, device_load, device_store};
 use devices::{Block, Devices};
+use hart::Core;
 use hart_answers::Seat;
 use journal_records::Journal;
 use page_guard::{Entries, Guard};
@@ -97,14 +98,15 @@ struct Bench {
 
 impl Bench {
     fn new(rt: &impl Abort, alloc: Global) -> Result<Bench, AllocError> {
-        let (_mem, guard) = guarded(rt, alloc)?;
+        let entries = Entries::new(alloc, &[], &[])?;
+        let devices = devices(alloc)?;
+        let guard = guard_alone(rt, alloc)?;
         let seat = started(&guard, 0, PC, 0);
-        let disk = vec![in alloc; 0u8; 512]?;
         Ok(Bench {
-            entries: Entries::new(alloc, &[], &[])?,
-            devices: Devices::new(Block::new(disk)),
             guard,
+            entries,
             seat,
+            devices,
         })
     }
 
@@ -175,10 +177,18 @@ fn check_access(
         Kind::Load { signed } => bench.load(rt, alloc, access.gpa, signed)?,
         Kind::Store => bench.store(rt, alloc, access.gpa)?,
     };
-    let core = &bench.seat.hart.core;
+    check_core(rt, &bench.seat.hart.core, row, access);
+    check_notes(rt, &notes, row, access);
+    Ok(())
+}
+
+fn check_core(rt: &impl Abort, core: &Core, row: u64, access: &Access) {
     same(rt, "pc of row", row, core.pc, access.pc);
     same(rt, "a0 of row", row, core.regs.get(A0), access.a0);
     same(rt, "cause of row", row, core.csrs.vscause, access.vscause);
+}
+
+fn check_notes(rt: &impl Abort, notes: &Journal, row: u64, access: &Access) {
     same(
         rt,
         "retired of row",
@@ -193,7 +203,6 @@ fn check_access(
         notes.printed().len(),
         access.printed,
     );
-    Ok(())
 }
 
 fn check_accesses(rt: &impl Abort, alloc: Global, bench: &mut Bench) -> Result<(), AllocError> {

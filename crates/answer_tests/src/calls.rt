@@ -1,5 +1,5 @@
 // Calls of a hart beside another one, on guarded memory.
-use crate::ground::{guarded, started};
+use crate::ground::{devices, guard_alone, started};
 use crate::same::same;
 use call_answers::{answer_of, give};
 use devices::{Block, Devices};
@@ -113,18 +113,19 @@ struct Bench {
 
 impl Bench {
     fn new(rt: &impl Abort, alloc: Global) -> Result<Bench, AllocError> {
-        let (_mem, guard) = guarded(rt, alloc)?;
+        let entries = Entries::new(alloc, &[ENTRY], &[])?;
+        let devices = devices(alloc)?;
+        let guard = guard_alone(rt, alloc)?;
         let caller = started(&guard, 0, 0x8000_0000, 0);
         let other = Seat {
             hart: Hart::at_boot(),
             side: Side::at_boot(&guard),
         };
-        let disk = vec![in alloc; 0u8; 512]?;
         Ok(Bench {
-            entries: Entries::new(alloc, &[ENTRY], &[])?,
-            devices: Devices::new(Block::new(disk)),
-            seats: [caller, other],
             guard,
+            entries,
+            seats: [caller, other],
+            devices,
         })
     }
 

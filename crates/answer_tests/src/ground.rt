@@ -1,4 +1,5 @@
 // Sixteen pages of RAM under a guard that binds no entry, and a hart that starts there.
+use devices::{Block, Devices};
 use gstage_tables::Trees;
 use hart::Hart;
 use hart_answers::{Seat, start};
@@ -14,6 +15,17 @@ pub(crate) fn guarded(rt: &impl Abort, alloc: Global) -> Result<(HostMem, Guard)
     assert!(rt; mem.ram_pages() == 16);
     let guard = Guard::new(alloc, &mut mem, &[])?;
     Ok((mem, guard))
+}
+
+// Where nothing looks at the memory behind it.
+pub(crate) fn guard_alone(rt: &impl Abort, alloc: Global) -> Result<Guard, AllocError> {
+    let (_mem, guard) = guarded(rt, alloc)?;
+    Ok(guard)
+}
+
+// The devices at boot, with a disk of one sector.
+pub(crate) fn devices(alloc: Global) -> Result<Devices<Block>, AllocError> {
+    Ok(Devices::new(Block::new(vec![in alloc; 0u8; 512]?)))
 }
 
 pub(crate) fn started(guard: &Guard, which: u8, pc: u64, opaque: u64) -> Seat {

@@ -1,5 +1,5 @@
 // One hart through all answers, and two harts that a write and an interrupt reach, on guarded memory.
-use crate::ground::{guarded, started};
+use crate::ground::{guard_alone, started};
 use crate::same::same;
 use hart::Hart;
 use hart_answers::{
@@ -73,20 +73,24 @@ fn return_to_user(rt: &impl Abort, seat: &mut Seat, guard: &Guard) {
     return_from_trap(&mut seat.hart, &mut seat.side, guard);
 }
 
+fn check_answers(rt: &impl Abort, seat: &mut Seat, guard: &Guard, entries: &Entries) {
+    let kernel = *seat.side.registers();
+    check_registers(rt, &mut seat.hart);
+    demote(&mut seat.hart, &mut seat.side, guard);
+    check_demoted(rt, seat);
+    check_traps(rt, seat, guard, entries, &kernel);
+    return_to_user(rt, seat, guard);
+    check_demoted(rt, seat);
+    stop(&mut seat.hart, &mut seat.side, guard);
+    assert!(rt; !seat.hart.started);
+}
+
 #[test]
 fn a_hart_through_all_answers(rt: HostRuntime) -> Result<(), Fail> {
-    let (_mem, guard) = guarded(&rt, rt.alloc())?;
     let entries = Entries::new(rt.alloc(), &[ENTRY], &[])?;
+    let guard = guard_alone(&rt, rt.alloc())?;
     let mut seat = started(&guard, 1, 0x8000_0000, 7);
-    let kernel = *seat.side.registers();
-    check_registers(&rt, &mut seat.hart);
-    demote(&mut seat.hart, &mut seat.side, &guard);
-    check_demoted(&rt, &seat);
-    check_traps(&rt, &mut seat, &guard, &entries, &kernel);
-    return_to_user(&rt, &mut seat, &guard);
-    check_demoted(&rt, &seat);
-    stop(&mut seat.hart, &mut seat.side, &guard);
-    assert!(rt; !seat.hart.started);
+    check_answers(&rt, &mut seat, &guard, &entries);
     Ok(())
 }
 
@@ -116,7 +120,7 @@ fn check_waiting(rt: &impl Abort, seats: &[Seat; 2]) {
 
 #[test]
 fn two_harts_behind_a_write_and_an_interrupt(rt: HostRuntime) -> Result<(), Fail> {
-    let (_mem, guard) = guarded(&rt, rt.alloc())?;
+    let guard = guard_alone(&rt, rt.alloc())?;
     let mut seats = [reserving(&guard, 0x2000), reserving(&guard, 0x2008)];
     forget(&mut seats, 0x2007, 1);
     interrupt(&mut seats, 1, 1);

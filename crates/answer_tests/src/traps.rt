@@ -80,26 +80,56 @@ fn trapped(
     Ok(notes.verdict())
 }
 
-#[test]
-fn demoted_and_then_stopped(rt: HostRuntime) -> Result<(), Fail> {
-    let (mem, guard) = guarded(&rt, rt.alloc())?;
-    let entries = Entries::new(rt.alloc(), &[0x8000_0104], &[])?;
-    let mut seat = started(&guard, 0, PC, 0);
-    let fetch = answer_to(&rt, &mem, &seat, &entries, &FETCH);
-    same(&rt, "answer", 0, fetch, ExitAnswer::Demotes { gpa: PC });
-    check_demotion(&rt, rt.alloc(), &mut seat, &guard)?;
-    let illegal = answer_to(&rt, &mem, &seat, &entries, &ILLEGAL);
+fn check_fetch(rt: &impl Abort, mem: &HostMem, seat: &Seat, entries: &Entries) {
+    let fetch = answer_to(rt, mem, seat, entries, &FETCH);
+    same(rt, "answer", 0, fetch, ExitAnswer::Demotes { gpa: PC });
+}
+
+fn check_illegal(rt: &impl Abort, mem: &HostMem, seat: &Seat, entries: &Entries) {
+    let illegal = answer_to(rt, mem, seat, entries, &ILLEGAL);
     let traps = ExitAnswer::Traps {
         cause: ILLEGAL.cause,
         tval: 0,
     };
-    same(&rt, "answer", 1, illegal, traps);
+    same(rt, "answer", 1, illegal, traps);
+}
+
+fn check_stop(
+    rt: &impl Abort,
+    alloc: Global,
+    seat: &mut Seat,
+    guard: &Guard,
+    entries: &Entries,
+) -> Result<(), AllocError> {
     let stopped = Verdict::Stopped {
         rule: Rule::Entry { target: 0 },
         hart: 0,
         turn: 0,
     };
-    let verdict = trapped(&rt, rt.alloc(), &mut seat, &guard, &entries)?;
-    same(&rt, "verdict of hart", 0, verdict, stopped);
+    let verdict = trapped(rt, alloc, seat, guard, entries)?;
+    same(rt, "verdict of hart", 0, verdict, stopped);
+    Ok(())
+}
+
+fn check_exits(
+    rt: &impl Abort,
+    alloc: Global,
+    mem: &HostMem,
+    seat: &mut Seat,
+    guard: &Guard,
+    entries: &Entries,
+) -> Result<(), AllocError> {
+    check_fetch(rt, mem, seat, entries);
+    check_demotion(rt, alloc, seat, guard)?;
+    check_illegal(rt, mem, seat, entries);
+    check_stop(rt, alloc, seat, guard, entries)
+}
+
+#[test]
+fn demoted_and_then_stopped(rt: HostRuntime) -> Result<(), Fail> {
+    let entries = Entries::new(rt.alloc(), &[0x8000_0104], &[])?;
+    let (mem, guard) = guarded(&rt, rt.alloc())?;
+    let mut seat = started(&guard, 0, PC, 0);
+    check_exits(&rt, rt.alloc(), &mem, &mut seat, &guard, &entries)?;
     Ok(())
 }
