@@ -11,11 +11,12 @@ use Rattle.std.proofs.lemmas.List.{append-nil, drop_more}
 use Rattle.sv_types.specs.declared.policy.Export.{Export}
 use Rattle.sv_types.specs.declared.module.Site.{Site}
 use Rattle.elf64_sections.specs.declared.sections.SectionHeader.{SectionHeader}
-use Rattle.elf64_reloc.specs.Layouts.{padding, placed_sections}
+use Rattle.elf64_reloc.specs.Layouts.{padding, placed_behind, placed_from, placed_sections, ends_behind, ends_from}
 use Rattle.elf64_reloc.specs.Modules.{ordered_from, each_judged, is_high_at, sites_of, text_behind, text_from}
 use Rattle.elf64_reloc.specs.Objects.{Object}
 use Rattle.elf64_reloc.specs.Symbols.{export_base}
 use Rattle.elf64_reloc.specs.Relocations.{all_relocations, kept, kept_at, relocation_at, relocations_from}
+use Rattle.elf64_reloc.specs.declared.layout.Ends.{Ends}
 use Rattle.elf64_reloc.specs.declared.layout.PlacedSection.{PlacedSection}
 use Rattle.elf64_reloc.specs.declared.relocations.Relocation.{Relocation}
 
@@ -64,6 +65,25 @@ pub all_at : {A : Type 0} (test : A → Bool) (xs : List A) (i : ℕ) (d : A) �
 all_at test [] i d within all = absurd (omega arith)
 all_at test (x ∷ xs) zero d within all = (and_parts (test x) (list_all test xs) all).0
 all_at test (x ∷ xs) (suc i) d within all = all_at test xs i d (omega arith) (and_parts (test x) (list_all test xs) all).1
+
+-- one section more behind those that have their places
+pub placed_more : (before new : List PlacedSection) (ends after : Ends) (placed : PlacedSection) (sections : List SectionHeader) (i : ℕ) (d : SectionHeader) → i < length sections
+    → new ≡ before ++ placed ∷ [] → placed ≡ placed_behind ends (get_or sections i d) → after ≡ ends_behind ends (get_or sections i d)
+    → new ++ placed_from after (drop (i + 1) sections) ≡ before ++ placed_from ends (drop i sections)
+placed_more before new ends after placed sections i d within now is moved =
+    let section = get_or sections i d in
+    let rest = drop (i + 1) sections in
+    ap (λ (ps : List PlacedSection). ps ++ placed_from after rest) (now ∙ ap (λ (p : PlacedSection). before ++ p ∷ []) is)
+    ∙ append_assoc before (placed_behind ends section ∷ []) (placed_from after rest)
+    ∙ ap (λ (e : Ends). before ++ placed_behind ends section ∷ placed_from e rest) moved
+    ∙ ap (λ (l : List SectionHeader). before ++ placed_from ends l) (sym (drop_more sections i d within))
+
+pub ends_more : (ends after : Ends) (sections : List SectionHeader) (i : ℕ) (d : SectionHeader) → i < length sections
+    → after ≡ ends_behind ends (get_or sections i d)
+    → ends_from after (drop (i + 1) sections) ≡ ends_from ends (drop i sections)
+ends_more ends after sections i d within moved =
+    ap (λ (e : Ends). ends_from e (drop (i + 1) sections)) moved
+    ∙ ap (λ (l : List SectionHeader). ends_from ends l) (sym (drop_more sections i d within))
 
 -- one section of text more
 pub text_more : (file text new : List ℕ) (sections : List SectionHeader) (i : ℕ) (d : SectionHeader) → i < length sections
