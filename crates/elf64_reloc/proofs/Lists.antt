@@ -1,5 +1,5 @@
 -- Lists that grow by one step.
-use Rattle.std.proofs.Common.{◌≡◌, ℕ, zero, suc, ◌+◌, ◌-◌, ◌<◌, ◌≤◌, Bool, true, false, cond, ◌≢◌, ◌%◌, ◌&&◌, ◌||◌, List, [], ◌∷◌, ◌++◌, length, drop, get_or, Option, Some, refl, ap, sym, ◌∙◌, arith, append_assoc}
+use Rattle.std.proofs.Common.{◌≡◌, ℕ, zero, suc, ◌+◌, ◌-◌, ◌<◌, ◌≤◌, Bool, true, false, cond, ◌≢◌, ◌%◌, ◌&&◌, ◌||◌, List, [], ◌∷◌, ◌++◌, length, drop, get_or, Option, Some, Ok, refl, ap, sym, ◌∙◌, arith, append_assoc}
 use Rattle.std.specs.Prelude.{◌==◌, nat_le, if◌then◌else◌, find}
 use Rattle.std.specs.BTreeMap.{insert_entry}
 use Rattle.std.specs.Ordering.{nat_cmp}
@@ -10,15 +10,18 @@ use Rattle.std.specs.Str.{bytes_eq}
 use Rattle.std.proofs.lemmas.List.{append-nil, drop_more}
 use Rattle.sv_types.specs.declared.policy.Export.{Export}
 use Rattle.sv_types.specs.declared.module.Site.{Site}
+use Rattle.elf64_sections.specs.Judged.{◌>>=◌}
 use Rattle.elf64_sections.specs.declared.sections.SectionHeader.{SectionHeader}
 use Rattle.elf64_reloc.specs.Layouts.{padding, placed_behind, placed_from, placed_sections, ends_behind, ends_from}
-use Rattle.elf64_reloc.specs.Modules.{ordered_from, each_judged, is_high_at, sites_of, text_behind, text_from}
+use Rattle.elf64_reloc.specs.Modules.{Judging, ordered_from, each_judged, fields_judged, found_sites, is_high_at, sites_of, text_behind, text_from}
 use Rattle.elf64_reloc.specs.Objects.{Object}
+use Rattle.elf64_reloc.specs.Refusals.{Judged}
 use Rattle.elf64_reloc.specs.Symbols.{export_base}
 use Rattle.elf64_reloc.specs.Relocations.{all_relocations, kept, kept_at, relocation_at, relocations_from}
 use Rattle.elf64_reloc.specs.declared.layout.Ends.{Ends}
 use Rattle.elf64_reloc.specs.declared.layout.PlacedSection.{PlacedSection}
 use Rattle.elf64_reloc.specs.declared.relocations.Relocation.{Relocation}
+use Rattle.elf64_reloc.specs.declared.sites.Found.{Found}
 
 relocations_more : (home : PlacedSection) (bytes : List ℕ) (i n m : ℕ) → n ≡ suc m → relocations_from home bytes i n ≡ kept_at home bytes i ++ relocations_from home bytes (i + 1) m
 relocations_more home bytes i n m more = rw more refl
@@ -92,6 +95,16 @@ pub text_more : (file text new : List ℕ) (sections : List SectionHeader) (i : 
 text_more file text new sections i d within now =
     ap (λ (t : List ℕ). text_from file t (drop (i + 1) sections)) now
     ∙ ap (λ (l : List SectionHeader). text_from file text l) (sym (drop_more sections i d within))
+
+-- one relocation more that is judged
+pub judged_more : (j : Judging) (sites new : List Site) (found : Found) (relocations : List Relocation) (i : ℕ) (d : Relocation) → i < length relocations
+    → fields_judged j (get_or relocations i d) ≡ Ok found → new ≡ sites ++ found_sites found
+    → each_judged j new (drop (i + 1) relocations) ≡ each_judged j sites (drop i relocations)
+judged_more j sites new found relocations i d within good now =
+    let rest = drop (i + 1) relocations in
+    ap (λ (ss : List Site). each_judged j ss rest) now
+    ∙ ap (λ (judged : Judged Found). judged >>= λ f. each_judged j (sites ++ found_sites f) rest) (sym good)
+    ∙ ap (λ (rs : List Relocation). each_judged j sites rs) (sym (drop_more relocations i d within))
 
 -- zeros in front of a section are at most a page
 small : (b : Bool) (a x : ℕ) → (a == 0) ≡ b → (b || (nat_le a 4096 && 4096 % a == 0)) ≡ true → (if b then 0 else x % a) ≤ 4096
