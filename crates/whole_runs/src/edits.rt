@@ -61,7 +61,7 @@ fn put_value(
 // Cuts a file, or fills it up with a byte, to so many bytes.
 fn fill(bytes: &mut Vec<u8>, words: &str) -> Result<(), AllocError> {
     let (count, byte) = first_word(words);
-    bytes.resize(number(count) as usize, number(byte) as u8)
+    bytes.resize(number(count) as usize, (number(byte) % 256) as u8)
 }
 
 // Puts a text behind the bytes, in which the measure stands for its name.
