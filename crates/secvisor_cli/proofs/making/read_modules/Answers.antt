@@ -1,5 +1,6 @@
-use Rattle.std.proofs.Common.{◌≡◌, ◌+◌, ◌++◌, List, [], ◌∷◌, ℕ, Bor, map, drop, get_or, ap, subst, ◌∙◌, arith, append_assoc}
+use Rattle.std.proofs.Common.{◌≡◌, ◌+◌, ◌++◌, List, [], ◌∷◌, ℕ, Bor, map, drop, get_or, ap, subst, ◌∙◌, arith, append_assoc, sym}
 use Rattle.std.proofs.lemmas.Grind.{common_steps}
+use Rattle.std.proofs.lemmas.List.{append-nil, at_drop_all}
 use Rattle.policy_making.specs.Making.{file_names}
 use Rattle.secvisor_cli.specs.declared.making.WantingModules.{WantingModules}
 use Rattle.secvisor_cli.specs.Plans.{modules_part, no_modules}
@@ -44,3 +45,18 @@ returns-in_err-read_module-clause-staged g c =
     (λ (ws : List (Bor (List ℕ))). GoesOn (modules_part (values c.args.words.now) no_modules) (modules_part (values ws) (modules_value c.words.modules))
     (g.F.Files.state c.args.files.now) (g.F.Files.state c.words.files)) at c.words.invariant.0)
     c.in_err-read_module.ensures.stopped)
+
+pub returns-clause-staged : goal.returns-clause-staged
+returns-clause-staged g c =
+    let none = at_drop_all (λ (ws : List (Bor (List ℕ))). ws) c.args.words.now c.words.word-index c.words-test.false in
+    let on =
+    subst
+    (λ (ws : List (Bor (List ℕ))). GoesOn (modules_part (values c.args.words.now) no_modules) (modules_part (values ws) (modules_value c.words.modules))
+    (g.F.Files.state c.args.files.now) (g.F.Files.state c.words.files)) none c.words.invariant.0 in
+    record { follows = on.follows; may = on.may; faults = on.faults }
+
+pub returns-clause-named : goal.returns-clause-named
+returns-clause-named g c =
+    let none = at_drop_all (λ (ws : List (Bor (List ℕ))). ws) c.args.words.now c.words.word-index c.words-test.false in
+    let before : List (List ℕ) = file_names (modules_value c.words.modules).objects in
+    sym (append-nil before) ∙ subst (λ (ws : List (Bor (List ℕ))). before ++ values ws ≡ values c.args.words.now) none c.words.invariant.1
