@@ -9,15 +9,14 @@ ghost use Rattle.standing_laws.specs.Starts.{IsGuarded};
 ghost use Rattle.resumption.specs.Judgements.{resume_refusal};
 ghost use Rattle.resumption.specs.ResumedStates.{resumed_state};
 ghost use Rattle.resumed_start.specs.Resuming.{resumed_machine};
+ghost use Rattle.resumed_parts.specs.Parts.{AreResumed};
 ghost use Rattle.machine.specs.Resumed.{RefusesSnapshot};
 ghost use Rattle.machine.specs.declared.resume.ResumeFailure.TheVariants.{Memory};
 
 use crate::image_start::bound_pages;
 use crate::machine::Machine;
 use crate::parts::Parts;
-use crate::start::empty_caches;
-use hart::Cpu;
-use quick_turns::Words;
+use crate::start::Idle;
 use resume_laws::law_resumed_sound;
 use resumed_parts::{ResumedParts, resume_parts};
 use resumed_start::law_resumed_start;
@@ -95,6 +94,21 @@ fn judge<R: Threads + Sync>(
     }
 }
 
+// What goes on of a snapshot that isn't refused.
+fn snapshot_parts(
+    alloc: Global,
+    snapshot: Snapshot,
+    policy: &Policy,
+) -> Result<ResumedParts, AllocError>
+    requires within { IsTrue (rules_within (rules_of policy.now)) }
+    requires form { form.snapshot.has (form.contents snapshot) ≡ true }
+    requires accepted { resume_refusal (rules_of policy.now) (form.contents snapshot) ≡ None }
+    ensures { IfOk result (AreResumed (rules_of policy.now) (form.contents snapshot)) }
+{
+    let bound = bound_pages(alloc, policy)?;
+    resume_parts(alloc, snapshot, policy, &bound)
+}
+
 impl Parts {
     /// The parts that go on of a snapshot that isn't refused, with empty caches, before the first attempt.
     pub(crate) fn resume(
@@ -108,10 +122,7 @@ impl Parts {
         ensures made { IfOk result (λ p. p ≡ resumed_machine p.region.tables (rules_of policy) (form.contents snapshot)) }
         ensures guarded { IfOk result IsGuarded }
     {
-        let bound = bound_pages(alloc, &policy)?;
-        let caches = empty_caches(alloc, policy.harts)?;
-        let cpu = Cpu::new(alloc)?;
-        let words = Words::new(alloc)?;
+        let Idle { caches, cpu, words } = Idle::new(alloc, policy.harts)?;
         let ResumedParts {
             mem,
             guard,
@@ -120,7 +131,7 @@ impl Parts {
             modules,
             devices,
             journal,
-        } = resume_parts(alloc, snapshot, &policy, &bound)?;
+        } = snapshot_parts(alloc, snapshot, &policy)?;
         let _tables = mem.table_bytes();
         Ok(Parts {
             policy,

@@ -144,10 +144,8 @@ impl Begun {
     {
         let entries = Entries::new(alloc, &policy.entries, &policy.bound)?;
         let seats = seats_at_boot(alloc, guard, policy.harts, entry)?;
-        let caches = empty_caches(alloc, policy.harts)?;
         let journal = Journal::new(alloc)?;
-        let cpu = Cpu::new(alloc)?;
-        let words = Words::new(alloc)?;
+        let Idle { caches, cpu, words } = Idle::new(alloc, policy.harts)?;
         let modules = Modules::new(alloc)?;
         Ok(Begun {
             entries,
@@ -158,6 +156,26 @@ impl Begun {
             cpu,
             words,
         })
+    }
+}
+
+/// What a machine makes its attempts with, before the first of them.
+pub(crate) struct Idle {
+    pub(crate) caches: Vec<HartCaches>,
+    pub(crate) cpu: Cpu,
+    pub(crate) words: Words,
+}
+
+impl Idle {
+    /// Nothing is kept for any hart, and no attempt is counted.
+    pub(crate) fn new(alloc: Global, harts: u8) -> Result<Idle, AllocError>
+        ensures caches { IfOk result (λ idle. idle.caches.items ≡ replicate harts nothing_kept) }
+        ensures attempts { IfOk result (λ idle. idle.cpu ≡ 0) }
+    {
+        let caches = empty_caches(alloc, harts)?;
+        let cpu = Cpu::new(alloc)?;
+        let words = Words::new(alloc)?;
+        Ok(Idle { caches, cpu, words })
     }
 }
 
@@ -202,8 +220,8 @@ fn seats_at_boot(
     Ok(seats)
 }
 
-/// Nothing is kept for any hart.
-pub(crate) fn empty_caches(alloc: Global, harts: u8) -> Result<Vec<HartCaches>, AllocError>
+// Nothing is kept for any hart.
+fn empty_caches(alloc: Global, harts: u8) -> Result<Vec<HartCaches>, AllocError>
     ensures { IfOk result (λ caches. caches.items ≡ replicate harts nothing_kept) }
 {
     let mut caches = Vec::new(alloc);

@@ -17,13 +17,13 @@ invariant_of-result c =
       bound = sym (ap (λ (e : Permitted). e.bound) k.entries);
       places = k.bound;
       few = omega (arith, number, most);
-      caches = length_empty c.args.policy.harts c.in_ok-caches.caches.items c.in_ok-caches.ensures ∙ sym k.number;
+      caches = length_empty c.args.policy.harts c.in_ok-caches.field-0.caches.items c.in_ok-caches.ensures.caches ∙ sym k.number;
       theirs = k.theirs;
-      usable = empty_usable c.in_ok-mem.field-0.mem.tables c.args.policy.harts c.in_ok-caches.caches.items c.in_ok-caches.ensures;
+      usable = empty_usable c.in_ok-mem.field-0.mem.tables c.args.policy.harts c.in_ok-caches.field-0.caches.items c.in_ok-caches.ensures.caches;
       pages = k.pages;
       modules = k.joined;
     }
 
 pub returns-clause-made : goal.returns-clause-made
 returns-clause-made c =
-    parts_resumed (rules_of c.args.policy) (contents c.args.snapshot) c.in_ok-mem.field-0 (0 + c.in_ok-cpu.cpu) c.in_ok-mem.ensures (ap (λ (n : ℕ). 0 + n) c.in_ok-cpu.ensures)
+    parts_resumed (rules_of c.args.policy) (contents c.args.snapshot) c.in_ok-mem.field-0 (0 + c.in_ok-caches.field-0.cpu) c.in_ok-mem.ensures (ap (λ (n : ℕ). 0 + n) c.in_ok-caches.ensures.attempts)
