@@ -25,7 +25,7 @@ pub fn follow<R: Threads + Wait + Sync + AllocGlobal + Print>(
     }
 }
 
-// Follows the orders behind a part's name, up to an empty line.
+// Follows the orders behind a part's name, up to the next part.
 fn use_part<R: Threads + Wait + Sync + AllocGlobal + Print>(
     rt: &R,
     parts: &str,
