@@ -10,15 +10,12 @@ ghost use Rattle.hart_answers.specs.Hosts.{hosts_of};
 ghost use Rattle.call_answers.specs.Known.{StartsOneOf};
 
 use crate::places::{reply_at, start_at};
-use devices::Devices;
+use devices::{Devices, NEVER};
 use dma_guard::DiskPort;
 use hart_answers::{Seat, interrupt};
 use journal_records::Journal;
 use page_guard::Guard;
 use reference::{Answer, Beside};
-
-/// The timer that never is due.
-const NEVER: u64 = u64::MAX;
 
 // What happens to other harts; the hart that called may be among those that are interrupted.
 #[tactic(auto, using(hart_answers::proofs::Hosts::hosts_length), unfolding(machine_model::specs::HostCalls::hosts_beside))]

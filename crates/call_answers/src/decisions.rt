@@ -33,6 +33,14 @@ const GET_VENDOR: u64 = 4;
 
 const GET_MACHINE: u64 = 6;
 
+// Those of the timer, of interrupts between harts, and of remote fences: FENCE.I and the two SFENCE.VMA, from 0 on.
+
+const SET_TIMER: u64 = 0;
+
+const SEND_IPI: u64 = 0;
+
+const LAST_FENCE: u64 = 2;
+
 // The functions of hart state management.
 
 const START: u64 = 0;
@@ -40,6 +48,14 @@ const START: u64 = 0;
 const STOP: u64 = 1;
 
 const STATUS: u64 = 2;
+
+// That of reset, and its types: a shutdown, a cold and a warm reboot.
+
+const SYSTEM_RESET: u64 = 0;
+
+const SHUTDOWN: u64 = 0;
+
+const LAST_RESET_TYPE: u64 = 2;
 
 // The next byte of input, or the code for none.
 #[tactic(auto, using(crate::proofs::Inputs::input_there, crate::proofs::Inputs::no_input_there))]
@@ -71,7 +87,7 @@ fn timer_call(asked: &Asked) -> Answer
     ensures answer { result ≡ timer_call asked.now }
     ensures starts { (n : ℕ) → StartsOneOf n result.beside }
 {
-    if asked.function == 0 {
+    if asked.function == SET_TIMER {
         Answer {
             reply: Reply::of_code(SbiCode::Success),
             beside: Beside::SetsTimer { at: asked.a0 },
@@ -86,7 +102,7 @@ fn ipi_call(harts: u64, asked: &Asked) -> Answer
     ensures answer { (f : Facts) → length f.started ≡ harts → result ≡ ipi_call f asked.now }
     ensures starts { (n : ℕ) → StartsOneOf n result.beside }
 {
-    if asked.function != 0 {
+    if asked.function != SEND_IPI {
         Answer::plain(Reply::of_code(SbiCode::NotSupported))
     } else if mask_exists(harts, asked.a0, asked.a1) {
         Answer {
@@ -105,7 +121,7 @@ fn ipi_call(harts: u64, asked: &Asked) -> Answer
 fn fence_call(harts: u64, asked: &Asked) -> Reply
     ensures { (f : Facts) → length f.started ≡ harts → result ≡ fence_call f asked.now }
 {
-    if asked.function > 2 {
+    if asked.function > LAST_FENCE {
         Reply::of_code(SbiCode::NotSupported)
     } else if mask_exists(harts, asked.a0, asked.a1) {
         Reply::of_code(SbiCode::Success)
@@ -189,11 +205,11 @@ fn reset_call(asked: &Asked) -> Answer
     ensures answer { result ≡ reset_call asked.now }
     ensures starts { (n : ℕ) → StartsOneOf n result.beside }
 {
-    if asked.function != 0 {
+    if asked.function != SYSTEM_RESET {
         Answer::plain(Reply::of_code(SbiCode::NotSupported))
-    } else if asked.a0 == 0 {
+    } else if asked.a0 == SHUTDOWN {
         shut_down()
-    } else if asked.a0 <= 2 {
+    } else if asked.a0 <= LAST_RESET_TYPE {
         Answer::plain(Reply::of_code(SbiCode::NotSupported))
     } else {
         Answer::plain(Reply::of_code(SbiCode::InvalidParameter))

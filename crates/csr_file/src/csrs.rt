@@ -47,7 +47,9 @@ impl Model for Csrs {
     ghost inverse = { fields_of };
 }
 
-/// Whether a number is one of the VS registers' or of the hypervisor's.
+/// Whether a number is one of the VS registers' (`vsstatus`, `vsie`, `vstvec`, `vsscratch`, `vsepc`, `vscause`, `vstval`,
+/// `vsip`, `vsatp`) or of the hypervisor's (`hstatus`, `hedeleg`, `hideleg`, `hie`, `hcounteren`, `htval`, `hip`, `hvip`,
+/// `htinst`, `hgatp`).
 #[tactic(auto, unfolding(processor::specs::HypervisorRegisters::is_hypervisor_number))]
 fn is_hypervisor_number(number: u16) -> bool
     ensures { result ≡ is_hypervisor_number number }

@@ -11,7 +11,7 @@ use sv_types::MOST_HARTS;
 pub(crate) const HARTS: usize = MOST_HARTS as usize;
 
 /// A timer that never is due.
-const NEVER: u64 = u64::MAX;
+pub const NEVER: u64 = u64::MAX;
 
 /// The time and the timers of four harts, in ticks.
 #[derive(Drop)]

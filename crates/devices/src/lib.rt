@@ -9,4 +9,5 @@ mod ports;
 
 pub use block::Block;
 pub use bus::Devices;
+pub use clock::NEVER;
 pub use sv_types::SECTOR_BYTES;

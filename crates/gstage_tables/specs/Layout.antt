@@ -45,7 +45,7 @@ sight_in bound tree =
 
 -- the last page of a block, as they are counted from 0
 abbrev pub last_in_block : ℕ
-last_in_block = 511
+last_in_block = block_pages - 1
 
 -- the level-0 tables of one tree
 abbrev pub leaf_tables : ℕ → ℕ

@@ -25,7 +25,7 @@ use host_mem::{HostMem, Steps};
 use processor::PAGE_SIZE;
 use std::marker::{Brand, Model};
 use std::sync::ledger::{Blank, Ledger};
-use sv_types::{Protection, View};
+use sv_types::{MOST_ENTRIES, Protection, View};
 
 /// The blocks of a gigabyte: one for each word of a level-1 table.
 const MOST_BLOCKS: usize = TABLE_WORDS as usize;
@@ -47,7 +47,7 @@ const FIRST_ENTRY_HGATP: u64 = USER_HGATP + NEXT_TREE;
 #[derive(Drop)]
 pub struct Trees {
     ram_pages: u64,
-    bound: ArrayVec<u32, 64>,
+    bound: ArrayVec<u32, MOST_ENTRIES>,
     counts: [u16; MOST_BLOCKS],
 }
 

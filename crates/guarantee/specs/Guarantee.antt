@@ -2,7 +2,7 @@
 -- This project's own.
 use Rattle.std.specs.Prelude.{◌≡◌, ℕ, Bool, true, false, List, [], ◌∷◌, Option, Some, None, slice_get}
 use Rattle.sv_types.specs.ApprovedPages.{approved_bytes}
-use Rattle.processor.specs.Bytes.{word, page_bytes, page_of, place_in_page}
+use Rattle.processor.specs.Bytes.{word, page_bytes, page_of, place_in_page, instruction_size}
 use Rattle.processor.specs.Translation.{At}
 use Rattle.processor.specs.Requests.{Writes}
 use Rattle.processor.specs.Traps.{trap_target, mode_at_return}
@@ -34,7 +34,7 @@ pub record IsMeasuredWord (s r : State) (hart : Hart) (w : ℕ) : Type 0 where
   pub approved : approved_bytes r.approved (page_of gpa) ≡ Some bytes
   pub kept : page_bytes r.ram (page_of gpa) ≡ bytes
   pub origin : HasOrigin s r (page_of gpa)
-  pub word : w ≡ word bytes (place_in_page gpa) 4
+  pub word : w ≡ word bytes (place_in_page gpa) instruction_size
 
 -- q is r with the turn counted
 pub data KernelTurn (s r q : State) (h : ℕ) (hart : Hart) (next : State) : Type 0 where

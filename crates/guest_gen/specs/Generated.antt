@@ -1,6 +1,7 @@
 -- The generated guest as a file, and its policy. This project's own.
 use Rattle.std.specs.Prelude.{ℕ, ◌+◌, List, [], ◌∷◌, ◌++◌, None}
 use Rattle.processor.specs.Bytes.{padded, page_size}
+use Rattle.sv_types.specs.Limits.{plain_format}
 use Rattle.sv_types.specs.Measure.{measure}
 use Rattle.sv_types.specs.Policies.{Rules}
 use Rattle.guest_gen.specs.Images.{code_bytes, laid_out, text_address}
@@ -20,7 +21,7 @@ guest_pages = 64
 -- one hart; the kernel may be entered at its begin and at its trap vector
 unfoldable pub policy_of_text : List ℕ → Rules
 policy_of_text text = record {
-  format = 1;
+  format = plain_format;
   harts = 1;
   ram_pages = guest_pages;
   entries = text_address ∷ (text_address + trap_place) ∷ [];

@@ -13,7 +13,7 @@ use crate::fields::{pad, push_code};
 use page_measure::{join_digests, page_digest};
 use processor::PAGE_SIZE;
 use std::alloc::{AllocError, Global};
-use sv_types::{Digest, Policy};
+use sv_types::{Digest, PLAIN_FORMAT, Policy};
 
 /// The pages of the guest's RAM.
 const RAM_PAGES: u32 = 64;
@@ -52,7 +52,7 @@ fn policy(alloc: Global, text: &[u8]) -> Result<Policy, AllocError>
     entries.push(TEXT_ADDRESS)?;
     entries.push(TEXT_ADDRESS + TRAP_PLACE as u64)?;
     Ok(Policy {
-        format: 1,
+        format: PLAIN_FORMAT,
         harts: 1,
         ram_pages: RAM_PAGES,
         entries,

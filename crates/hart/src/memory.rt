@@ -60,6 +60,24 @@ pub(crate) struct Request {
     pub(crate) htinst: u32,
 }
 
+// The fields of an instruction's word.
+const OPCODE_FIELD: u32 = 0x0000_007F;
+
+const RD_FIELD: u32 = 0x0000_0F80;
+
+const FUNCT3_FIELD: u32 = 0x0000_7000;
+
+const RS2_FIELD: u32 = 0x01F0_0000;
+
+const FUNCT7_FIELD: u32 = 0xFE00_0000;
+
+// Those that htinst has of a load, a store and an atomic instruction.
+const LOAD_FIELDS: u32 = FUNCT3_FIELD + RD_FIELD + OPCODE_FIELD;
+
+const STORE_FIELDS: u32 = RS2_FIELD + FUNCT3_FIELD + OPCODE_FIELD;
+
+const ATOMIC_FIELDS: u32 = FUNCT7_FIELD + RS2_FIELD + FUNCT3_FIELD + RD_FIELD + OPCODE_FIELD;
+
 impl Request {
     pub(crate) fn fetch(pc: u64) -> Request
         ensures { result ≡ record { access = Access.Fetch; address = pc; htinst = 0 } }
@@ -78,7 +96,7 @@ impl Request {
         Request {
             access: Access::Load,
             address,
-            htinst: word & 0x0000_7FFF,
+            htinst: word & LOAD_FIELDS,
         }
     }
 
@@ -89,7 +107,7 @@ impl Request {
         Request {
             access: Access::Store,
             address,
-            htinst: word & 0x01F0_707F,
+            htinst: word & STORE_FIELDS,
         }
     }
 
@@ -100,7 +118,7 @@ impl Request {
         Request {
             access,
             address,
-            htinst: word & 0xFFF0_7FFF,
+            htinst: word & ATOMIC_FIELDS,
         }
     }
 }

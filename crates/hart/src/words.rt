@@ -10,7 +10,7 @@ use rv64_decode::decode;
 use std::alloc::{AllocError, Global};
 
 /// The places for words: one for each place of an instruction modulo 256 KiB.
-const PLACES: usize = 65536;
+pub const PLACES: usize = 65536;
 
 /// A word and its instruction, none where no row of the instruction table has the word.
 #[derive(Clone, Copy, Drop)]

@@ -35,10 +35,10 @@ use processor::{PAGE_SIZE, RAM_BASE};
 use quick_turns::Words;
 use std::alloc::{AllocError, Global};
 use std::thread::Threads;
-use sv_types::{Digest, FLAT_PAGES, Policy, Span};
+use sv_types::{Digest, FLAT_PAGES, FLAT_TRAP_PLACE, PLAIN_FORMAT, Policy, Span};
 
 /// The permitted entries of a machine of plain pages.
-const FLAT_ENTRIES: [u64; 2] = [0x8000_0000, 0x8000_0100];
+const FLAT_ENTRIES: [u64; 2] = [RAM_BASE, RAM_BASE + FLAT_TRAP_PLACE];
 
 impl Parts {
     /// A machine under a policy, with pages that are guarded already and a disk behind its device: hart 0 begins at an entry, the others are stopped.
@@ -278,7 +278,7 @@ fn flat_policy(alloc: Global, wanted: Digest) -> Result<Policy, AllocError>
 {
     let entries = FLAT_ENTRIES.as_slice().to_vec(alloc)?;
     Ok(Policy {
-        format: 1,
+        format: PLAIN_FORMAT,
         harts: 1,
         ram_pages: FLAT_PAGES as u32,
         entries,

@@ -31,7 +31,8 @@ abbrev pub kernel_view : (entry : Option ℕ) → Root
 kernel_view None = View.Kernel
 kernel_view (Some i) = View.Entry i
 
--- the exceptions that kernel mode takes itself; in an entry all of these but the page fault of a fetch
+-- the exceptions that kernel mode takes itself, a bit for each cause: 0 to 8, 12, 13 and 15, so all but its own calls and what
+-- SecVisor answers; in an entry all of these but 12, the page fault of a fetch
 abbrev pub kernel_hedeleg : (entry : Option ℕ) → ℕ
 kernel_hedeleg None = 0xB1FF
 kernel_hedeleg (Some i) = 0xA1FF

@@ -15,13 +15,14 @@ use processor::{HRegs, Mode};
 use std::marker::Model;
 use sv_types::View;
 
-/// The exceptions that go straight to the kernel: all but ECALL from VS mode and what the hypervisor handles.
+/// The exceptions that go straight to the kernel, a bit for each cause: 0 to 8, 12, 13 and 15, so all but ECALL from VS mode
+/// and what the hypervisor handles.
 const DELEGATED_EXCEPTIONS: u64 = 0xB1FF;
 
-/// Those of a hart in an entry: its fetch page faults don't, since they may mean that it is to leave the entry.
+/// Those of a hart in an entry: its fetch page faults, cause 12, don't, since they may mean that it is to leave the entry.
 const ENTRY_EXCEPTIONS: u64 = 0xA1FF;
 
-/// The interrupts that go straight to the kernel: VS software, timer and external.
+/// The interrupts that go straight to the kernel, a bit for each number: VS software (2), timer (6) and external (10).
 const DELEGATED_INTERRUPTS: u64 = 0x444;
 
 /// The side of a hart, which owns its hypervisor registers: they are those of the view that it looks through, and can't be

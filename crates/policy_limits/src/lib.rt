@@ -7,10 +7,10 @@ mod places;
 mod policy_fault;
 
 pub use limits::{
-    BOUND_FORMAT, FEWEST_RAM_PAGES, MOST_ENTRIES, MOST_EXPORTS, MOST_MODULE_PAGES,
-    MOST_MODULE_SITES, MOST_MODULES, MOST_RAM_PAGES, MOST_SITES, PLAIN_FORMAT, within,
+    FEWEST_RAM_PAGES, MOST_EXPORTS, MOST_MODULE_PAGES, MOST_MODULE_SITES, MOST_MODULES,
+    MOST_RAM_PAGES, MOST_SITES, within,
 };
 pub use names::is_module;
 pub use places::{bound_fits, is_aligned, is_anchor, is_behind, is_low_part, is_place, site_size};
 pub use policy_fault::PolicyFault;
-pub use sv_types::MOST_HARTS;
+pub use sv_types::{BOUND_FORMAT, MOST_ENTRIES, MOST_HARTS, PLAIN_FORMAT};

@@ -7,22 +7,16 @@ ghost use Rattle.sv_types.specs.Policies as limits;
 
 use crate::names::{is_exported, is_module};
 use crate::places::{bound_fits, is_aligned, is_anchor, is_behind, is_place};
-use sv_types::{Export, FIRST_EXPORT_BASE, MOST_HARTS, ModulePolicy, Policy, Site, Span};
-
-/// The format that lists entries alone.
-pub const PLAIN_FORMAT: u8 = 1;
-
-/// The format that binds each entry to a guest-physical address.
-pub const BOUND_FORMAT: u8 = 2;
+use sv_types::{
+    BOUND_FORMAT, Export, FIRST_EXPORT_BASE, MOST_ENTRIES, MOST_HARTS, ModulePolicy, PLAIN_FORMAT,
+    Policy, Site, Span,
+};
 
 /// The fewest pages of RAM.
 pub const FEWEST_RAM_PAGES: u32 = 16;
 
 /// The most pages of RAM.
 pub const MOST_RAM_PAGES: u32 = 262_144;
-
-/// The most permitted entries.
-pub const MOST_ENTRIES: usize = 64;
 
 /// The most exports.
 pub const MOST_EXPORTS: usize = 4096;

@@ -6,7 +6,7 @@ use Rattle.std.specs.BTreeSet.{replace_key}
 use Rattle.std.specs.Cmp.Lexicographic.{slice_cmp}
 use Rattle.std.specs.Ordering.{nat_cmp}
 use Rattle.sv_types.specs.Kernel.{kernel_refusal, kernel_segments, text_of}
-use Rattle.sv_types.specs.Limits.{most_sites}
+use Rattle.sv_types.specs.Limits.{most_sites, plain_format}
 use Rattle.sv_types.specs.Measure.{measure}
 use Rattle.sv_types.specs.Policies.{Rules, ModuleRule, sites_of}
 use Rattle.sv_types.specs.declared.image_fault.ImageFault.{ImageFault}
@@ -98,7 +98,7 @@ modules_made exports objects = each (module_made exports) [] objects
 
 abbrev pub rules_with : Terms → List ℕ → List Export → List ModuleRule → Rules
 rules_with s digest exports modules = record {
-  format = 1;
+  format = plain_format;
   harts = s.harts;
   ram_pages = s.ram_pages;
   entries = s.entries;

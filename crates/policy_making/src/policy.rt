@@ -14,7 +14,7 @@ use crate::refusal::{MakingFault, MakingRefusal};
 use policy_limits::MOST_SITES;
 use std::alloc::Global;
 use std::thread::Threads;
-use sv_types::{Digest, ModulePolicy, Name, Policy, Span};
+use sv_types::{Digest, ModulePolicy, Name, PLAIN_FORMAT, Policy, Span};
 
 /// What a policy says beside its files.
 #[derive(Drop)]
@@ -76,7 +76,7 @@ pub fn policy_behind<R: Threads + Sync>(
         init,
     } = settings;
     if_few_sites(Policy {
-        format: 1,
+        format: PLAIN_FORMAT,
         harts,
         ram_pages,
         entries,

@@ -128,7 +128,7 @@ after_word r core lines w = after_instruction r core lines w (instruction_of w)
 
 -- the word of the instruction is read at the place that the pc reached
 unfoldable pub after_fetch : Region → Core → Lines → Result ℕ Exception → Attempted
-after_fetch r core lines (Ok hpa) = after_word r core lines (host_word r hpa 4)
+after_fetch r core lines (Ok hpa) = after_word r core lines (host_word r hpa instruction_size)
 after_fetch r core lines (Err e) = with_region r (raise core e)
 
 unfoldable pub after_pending : Region → Core → Lines → Option Interrupt → Attempted

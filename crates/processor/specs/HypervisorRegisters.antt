@@ -115,7 +115,8 @@ pub record IsLegal (c : HypervisorRegisters) : Type 0 where
 
 -- ---- which register an access with V = 1 reaches, or its fault
 
--- the numbers of the VS registers and of the hypervisor's
+-- the numbers of the VS registers (vsstatus, vsie, vstvec, vsscratch, vsepc, vscause, vstval, vsip, vsatp) and of the
+-- hypervisor's (hstatus, hedeleg, hideleg, hie, hcounteren, htval, hip, hvip, htinst, hgatp)
 abbrev pub hypervisor_numbers : List ℕ
 hypervisor_numbers = 0x200 ∷ 0x204 ∷ 0x205 ∷ 0x240 ∷ 0x241 ∷ 0x242 ∷ 0x243 ∷ 0x244 ∷ 0x280
     ∷ 0x600 ∷ 0x602 ∷ 0x603 ∷ 0x604 ∷ 0x606 ∷ 0x643 ∷ 0x644 ∷ 0x645 ∷ 0x64A ∷ 0x680 ∷ []

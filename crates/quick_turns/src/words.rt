@@ -4,10 +4,8 @@ ghost use Rattle.std.specs.Prelude.{◌≡◌, ◌^◌, IfOk, length};
 
 use crate::flat::Flat;
 use crate::flatten::flatten;
+use hart::PLACES;
 use std::alloc::{AllocError, Global};
-
-/// The places for words: one for each place of an instruction modulo 256 KiB.
-const PLACES: usize = 65536;
 
 /// Words in their flat form, each kept where its place leads until another one comes there. Contracts see nothing of it.
 #[derive(Drop)]

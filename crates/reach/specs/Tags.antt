@@ -1,5 +1,6 @@
 -- One number for all by which a kept translation is found beside the roots. This project's own.
 use Rattle.std.specs.Prelude.{ℕ, ◌+◌, ◌*◌, Bool, true, false}
+use Rattle.processor.specs.Bytes.{page_size}
 use Rattle.processor.specs.declared.access.Access.{Access}
 use Rattle.processor.specs.declared.access.Access.TheVariants.{Fetch, Load, Store}
 use Rattle.processor.specs.declared.mode.Mode.{Mode}
@@ -19,6 +20,6 @@ abbrev pub bit_number : Bool → ℕ
 bit_number false = 0
 bit_number true = 1
 
--- the page's number, and in the twelve places behind it the kind of access, the privilege, MXR and SUM
+-- the first address of the page, and in the twelve places of an address within it the kind of access, the privilege, MXR and SUM
 abbrev pub tag_of : Regime → Access → (page : ℕ) → ℕ
-tag_of regime access page = 4096 * page + (8 * kind_number access + (4 * mode_number regime.mode + (2 * bit_number regime.mxr + bit_number regime.sum)))
+tag_of regime access page = page_size * page + (8 * kind_number access + (4 * mode_number regime.mode + (2 * bit_number regime.mxr + bit_number regime.sum)))

@@ -15,6 +15,7 @@ use Rattle.sv_types.specs.declared.saved.SavedModule.{SavedModule}
 use Rattle.sv_types.specs.declared.sbi.SbiCode.{SbiCode}
 use Rattle.sv_types.specs.declared.sbi.SbiCode.TheVariants.{Success, NoInput, NotSupported, InvalidParameter, InvalidAddress, Already}
 use Rattle.processor.specs.declared.mode.Mode.TheVariants.{Kernel}
+use Rattle.reference.specs.SbiFunctions.{get_specification, get_implementation, get_version, probe, get_machine, set_the_timer, send_ipi, last_fence, mask_width, hart_start, hart_stop, hart_status, is_started, is_stopped, system_reset, shutdown_type, last_reset_type}
 use Rattle.reference.specs.States.{State, Hart, has_number, is_protected}
 use Rattle.reference.specs.declared.answers.Answer.{Answer}
 use Rattle.reference.specs.declared.answers.Beside.TheVariants.{Nothing, SetsTimer, Prints, TakesInput, ShutsDown, SendsInterrupts, StartsHart}
@@ -126,32 +127,32 @@ implementation_version = 1
 
 unfoldable pub base_call : Asked → Reply
 base_call ask =
-    if ask.function == 0 then value sbi_version
-    else if ask.function == 1 then value implementation_number
-    else if ask.function == 2 then value implementation_version
-    else if ask.function == 3 then value (if is_some (extension_of ask.a0) then 1 else 0)
-    else if nat_le ask.function 6 then value 0
+    if ask.function == get_specification then value sbi_version
+    else if ask.function == get_implementation then value implementation_number
+    else if ask.function == get_version then value implementation_version
+    else if ask.function == probe then value (if is_some (extension_of ask.a0) then 1 else 0)
+    else if nat_le ask.function get_machine then value 0
     else refused
 
 unfoldable pub timer_call : Asked → Answer
-timer_call ask = if ask.function == 0 then record { reply = code Success; beside = SetsTimer ask.a0 } else plain refused
+timer_call ask = if ask.function == set_the_timer then record { reply = code Success; beside = SetsTimer ask.a0 } else plain refused
 
 abbrev pub all_harts : ℕ
 all_harts = 2 ^ 64 - 1
 
 -- each hart that is named exists
 unfoldable pub mask_exists : (harts mask base : ℕ) → Bool
-mask_exists harts mask base = base == all_harts || list_all (λ i. not (bit mask i) || nat_lt (base + i) harts) (numbers_from 0 64)
+mask_exists harts mask base = base == all_harts || list_all (λ i. not (bit mask i) || nat_lt (base + i) harts) (numbers_from 0 mask_width)
 
 unfoldable pub ipi_call : Facts → Asked → Answer
 ipi_call f ask =
-    if not (ask.function == 0) then plain refused
+    if not (ask.function == send_ipi) then plain refused
     else if mask_exists (length f.started) ask.a0 ask.a1 then record { reply = code Success; beside = SendsInterrupts ask.a0 ask.a1 }
     else plain (code InvalidParameter)
 
 unfoldable pub fence_call : Facts → Asked → Reply
 fence_call f ask =
-    if not (nat_le ask.function 2) then refused
+    if not (nat_le ask.function last_fence) then refused
     else if mask_exists (length f.started) ask.a0 ask.a1 then code Success
     else code InvalidParameter
 
@@ -166,20 +167,20 @@ start_other f ask (Some false) =
 
 abbrev pub status_of_hart : Option Bool → Reply
 status_of_hart None = code InvalidParameter
-status_of_hart (Some started) = value (if started then 0 else 1)
+status_of_hart (Some started) = value (if started then is_started else is_stopped)
 
 unfoldable pub hart_call : Facts → Asked → Answer
 hart_call f ask =
-    if ask.function == 0 then start_other f ask (slice_get f.started ask.a0)
-    else if ask.function == 1 then plain Stops
-    else if ask.function == 2 then plain (status_of_hart (slice_get f.started ask.a0))
+    if ask.function == hart_start then start_other f ask (slice_get f.started ask.a0)
+    else if ask.function == hart_stop then plain Stops
+    else if ask.function == hart_status then plain (status_of_hart (slice_get f.started ask.a0))
     else plain refused
 
 unfoldable pub reset_call : Asked → Answer
 reset_call ask =
-    if not (ask.function == 0) then plain refused
-    else if ask.a0 == 0 then shut_down
-    else if nat_le ask.a0 2 then plain refused
+    if not (ask.function == system_reset) then plain refused
+    else if ask.a0 == shutdown_type then shut_down
+    else if nat_le ask.a0 last_reset_type then plain refused
     else plain (code InvalidParameter)
 
 -- ---- harts that begin
@@ -213,7 +214,7 @@ started_hart h pc opaque = hart_at pc (set_register (set_register registers_at_b
 
 -- hart base + i for each bit i, or all of them
 unfoldable pub mask_names : (mask base h : ℕ) → Bool
-mask_names mask base h = base == all_harts || (nat_le base h && (nat_lt (h - base) 64 && bit mask (h - base)))
+mask_names mask base h = base == all_harts || (nat_le base h && (nat_lt (h - base) mask_width && bit mask (h - base)))
 
 abbrev pub with_software : Hart → Hart
 with_software hart = record hart { supervisor = record hart.supervisor { software = true } }

@@ -6,8 +6,8 @@ pub mod Move
 pub mod BlockDisk
 pub mod VirtioRegisters
 pub mod VirtioStores
-pub mod VirtioQueue
 pub mod VirtioChain
+pub mod VirtioQueue
 pub mod VirtioRequests
 pub mod VirtioBeats
 pub mod Disk
@@ -15,6 +15,7 @@ pub mod Devices
 pub mod Trapping
 pub mod Requests
 pub mod Relocations
+pub mod SbiFunctions
 pub mod Calls
 pub mod ModuleCalls
 pub mod Answers

@@ -9,6 +9,7 @@ use Rattle.sv_types.specs.declared.module.Span.{Span}
 use Rattle.sv_types.specs.declared.saved.SavedModule.{SavedModule}
 use Rattle.sv_types.specs.declared.sbi.SbiCode.{SbiCode}
 use Rattle.sv_types.specs.declared.sbi.SbiCode.TheVariants.{Success, InvalidParameter, RefusedByMeasure, InvalidAddress, Already, UnderWay}
+use Rattle.reference.specs.SbiFunctions.{module_load, module_unload, init_retire}
 use Rattle.reference.specs.States.{find_module}
 use Rattle.reference.specs.Calls.{Asked, Facts, code, plain, refused, extension_of, set_timer, put_char, get_char, shut_down, base_call, timer_call, ipi_call, fence_call, hart_call, reset_call}
 use Rattle.reference.specs.declared.answers.Answer.{Answer}
@@ -64,9 +65,9 @@ retire_call f (Some span) = if f.retired then retire_refused Already else record
 
 unfoldable pub module_call : Facts → Asked → Answer
 module_call f ask =
-    if ask.function == 0 then load_call f ask (slice_get f.rules.modules ask.a0)
-    else if ask.function == 1 then unload_call f ask.a0 (find_module f.loaded ask.a0)
-    else if ask.function == 2 then retire_call f f.rules.init
+    if ask.function == module_load then load_call f ask (slice_get f.rules.modules ask.a0)
+    else if ask.function == module_unload then unload_call f ask.a0 (find_module f.loaded ask.a0)
+    else if ask.function == init_retire then retire_call f f.rules.init
     else plain refused
 
 -- ---- one line for each extension

@@ -59,10 +59,11 @@ in_field SField v = 2 ^ 7 * bits v 0 5 + 2 ^ 25 * bits v 5 12
 abbrev pub from_to : ℤ → ℤ → ℕ → Bool
 from_to low high v = int_le low (signed v) && int_le (signed v) high
 
--- 32 signed bits, less what the upper part of two is rounded by
+-- 32 signed bits, less what the upper part of two is rounded by: from -2^31 - 2^11 to 2^31 - 2^11 - 1. `negsuc n` is -n - 1
 abbrev pub fits_in_parts : ℕ → Bool
 fits_in_parts v = from_to (negsuc 2147485695) (pos 2147481599) v
 
+-- a branch has 13 signed bits, from -2^12 to 2^12 - 2, and a jump 21, from -2^20 to 2^20 - 2: they are even
 abbrev pub value_fits : Field → ℕ → Bool
 value_fits DoubleWord v = true
 value_fits BField v = from_to (negsuc 4095) (pos 4094) v && v % 2 == 0

@@ -1,9 +1,10 @@
 -- The state in which a machine starts. This project's own.
-use Rattle.std.specs.Prelude.{◌≡◌, ℕ, ◌-◌, ◌*◌, ◌/◌, ◌^◌, ◌<◌, ◌≤◌, ◌⊎◌, List, [], ◌∷◌, length, replicate, None, true, false, IsTrue}
-use Rattle.sv_types.specs.Boot.{no_counts, flat_ram_pages}
+use Rattle.std.specs.Prelude.{◌≡◌, ℕ, ◌+◌, ◌-◌, ◌*◌, ◌/◌, ◌^◌, ◌<◌, ◌≤◌, ◌⊎◌, List, [], ◌∷◌, length, replicate, None, true, false, IsTrue}
+use Rattle.sv_types.specs.Boot.{no_counts, flat_ram_pages, flat_trap_place}
 use Rattle.processor.specs.Bytes.{padded, page_size, ram_base}
 use Rattle.sv_types.specs.Clock.{clock_at_boot}
 use Rattle.sv_types.specs.Kernel.{header_entry, kernel_refusal, kernel_segments, segments_ram, text_pages}
+use Rattle.sv_types.specs.Limits.{plain_format}
 use Rattle.sv_types.specs.Policies.{Rules, rules_within}
 use Rattle.sv_types.specs.ApprovedPages.{approved_pages, numbers_from}
 use Rattle.sv_types.specs.declared.event.Verdict.TheVariants.{Running}
@@ -48,10 +49,10 @@ start rules ram text entry disk = record {
 -- one hart, no modules, and two permitted entries; the digest is the one that is wanted
 abbrev pub flat_rules : List ℕ → Rules
 flat_rules digest = record {
-  format = 1;
+  format = plain_format;
   harts = 1;
   ram_pages = flat_ram_pages;
-  entries = 0x80000000 ∷ 0x80000100 ∷ [];
+  entries = ram_base ∷ (ram_base + flat_trap_place) ∷ [];
   bound = [];
   exports = [];
   kernel = digest;

@@ -2,7 +2,7 @@
 -- RISC-V Unprivileged manual, "RV32I", "A", "Zicsr"; Privileged manual, "Supervisor Instructions", "Supervisor Cause
 -- Register" (the priority of exceptions). Demotion is this project's own.
 use Rattle.std.specs.Prelude.{ℕ, Bool, true, false, ◌&&◌, List, ◌==◌, if◌then◌else◌, Option, Some, None, option_map, slice_get}
-use Rattle.processor.specs.Bytes.{word, in_ram, ram_place, page_of, place_in_page}
+use Rattle.processor.specs.Bytes.{word, in_ram, ram_place, page_of, place_in_page, instruction_size}
 use Rattle.processor.specs.Effects.{effect_of, set_register}
 use Rattle.processor.specs.Instructions.{instruction_of}
 use Rattle.sv_types.specs.ApprovedPages.{ApprovedPage, approved_bytes}
@@ -91,16 +91,16 @@ pub data Fetched : Type 0 where
 
 -- kernel mode fetches from approved pages alone, as they were approved, and user mode from the others alone
 unfoldable pub fetched_in : List ℕ → Mode → ℕ → Option (List ℕ) → Fetched
-fetched_in ram Kernel gpa (Some bytes) = Word (word bytes (place_in_page gpa) 4)
+fetched_in ram Kernel gpa (Some bytes) = Word (word bytes (place_in_page gpa) instruction_size)
 fetched_in ram Kernel gpa None = Stray gpa
 fetched_in ram User gpa (Some bytes) = NoWord Cause.InstrAccess
-fetched_in ram User gpa None = Word (word ram (ram_place gpa) 4)
+fetched_in ram User gpa None = Word (word ram (ram_place gpa) instruction_size)
 
 unfoldable pub fetched_at : List ℕ → List ApprovedPage → Mode → Destination → Fetched
 fetched_at ram approved mode PageFault = NoWord Cause.InstrPage
 fetched_at ram approved mode (Unreadable entry) = NoWord Cause.InstrAccess
 fetched_at ram approved mode (At gpa) =
-    if in_ram ram gpa 4 then fetched_in ram mode gpa (approved_bytes approved (page_of gpa)) else NoWord Cause.InstrAccess
+    if in_ram ram gpa instruction_size then fetched_in ram mode gpa (approved_bytes approved (page_of gpa)) else NoWord Cause.InstrAccess
 
 unfoldable pub fetch : List ℕ → List ApprovedPage → Settings → Mode → ℕ → Fetched
 fetch ram approved settings mode pc = fetched_at ram approved mode (place ram settings mode pc Access.Fetch)
@@ -133,13 +133,13 @@ place_of_pc r hart = place r.ram (settings_of hart.supervisor) hart.mode hart.pc
 unfoldable pub leads_into : State → (page : ℕ) → Destination → Bool
 leads_into r page PageFault = false
 leads_into r page (Unreadable entry) = false
-leads_into r page (At gpa) = in_ram r.ram gpa 4 && is_approved_in r.approved (page_of gpa) && page_of gpa == page
+leads_into r page (At gpa) = in_ram r.ram gpa instruction_size && is_approved_in r.approved (page_of gpa) && page_of gpa == page
 
 -- the address in RAM that a note names, 0 where there is none
 unfoldable pub noted_gpa : List ℕ → Destination → ℕ
 noted_gpa ram PageFault = 0
 noted_gpa ram (Unreadable entry) = 0
-noted_gpa ram (At gpa) = if in_ram ram gpa 4 then gpa else 0
+noted_gpa ram (At gpa) = if in_ram ram gpa instruction_size then gpa else 0
 
 -- the entry is left, and nothing else changes
 abbrev pub outside : Hart → Hart

@@ -4,7 +4,7 @@
 use Rattle.std.specs.Prelude.{ℕ, ◌+◌, ◌%◌, ◌^◌, Bool, true, false, not, ◌&&◌, ◌==◌, bit_or, List, [], ◌∷◌, ◌++◌, length, filter, nat_lt, if◌then◌else◌, Option, Some, None}
 use Rattle.processor.specs.Bytes.{part, overwrite, low_bytes, in_ram, ram_place, page_of}
 use Rattle.reference.specs.Move.{Move, Idle, FromRam, IntoRam, DeniedAt, OutsideRam}
-use Rattle.reference.specs.VirtioDevice.{VirtioDevice, Request, driver_ok, is_broken, index_values}
+use Rattle.reference.specs.VirtioDevice.{VirtioDevice, Request, driver_ok, failed, is_broken, index_values, request_done, state_changed}
 use Rattle.reference.specs.VirtioStores.{needs_reset}
 use Rattle.reference.specs.VirtioQueue.{rings_in_ram, available_index, next_head, waiting}
 use Rattle.reference.specs.VirtioChain.{chain, most_parts, is_good, data_of, result_of}
@@ -23,7 +23,7 @@ nothing d = record { device = d; move = Idle }
 -- the device is broken until its reset, which the driver is told by an interrupt; no request is under way any more
 abbrev pub broken : VirtioDevice → Move → VirtioBeat
 broken d move = record {
-  device = record d { status = bit_or d.status needs_reset; interrupt = bit_or d.interrupt 2; request = None };
+  device = record d { status = bit_or d.status needs_reset; interrupt = bit_or d.interrupt state_changed; request = None };
   move = move;
 }
 
@@ -39,7 +39,7 @@ is_last _ = true
 
 -- a request whose data may not be written makes its last moves alone
 abbrev pub refused : Request → Request
-refused q = record q { moves = filter is_last q.moves; result = 1 }
+refused q = record q { moves = filter is_last q.moves; result = failed }
 
 abbrev pub with_written : Request → ℕ → Request
 with_written q size = record q { written = (q.written + size) % 2 ^ 32 }
@@ -70,7 +70,7 @@ put_last d next gpa bytes ram may_write =
 
 -- the request is done, which the driver is told by an interrupt
 abbrev pub finished : VirtioDevice → VirtioDevice
-finished d = record d { request = None; interrupt = bit_or d.interrupt 1 }
+finished d = record d { request = None; interrupt = bit_or d.interrupt request_done }
 
 -- a move, where the request has the moves behind it
 unfoldable pub make : VirtioDevice → Request → VirtioMove → List ℕ → (ℕ → Bool) → VirtioBeat

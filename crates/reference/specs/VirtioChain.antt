@@ -1,18 +1,40 @@
 -- Chains of descriptors. VIRTIO 1.2, "The Virtqueue Descriptor Table": a descriptor has an address (8 bytes), a length
--- (4), flags (2: NEXT 1, WRITE 2, INDIRECT 4) and the next one's place in the table (2).
+-- (4), flags (2) and the next one's place in the table (2).
 use Rattle.std.specs.Prelude.{ℕ, zero, suc, ◌+◌, ◌-◌, ◌*◌, Bool, false, not, ◌&&◌, ◌==◌, List, [], ◌∷◌, length, take, drop, get_or, nat_le, nat_lt, if◌then◌else◌, Option, Some, None, option_map}
 use Rattle.processor.specs.Bits.{bit}
 use Rattle.processor.specs.Bytes.{word, in_ram}
 use Rattle.sv_types.specs.declared.virtio.VirtioDescriptor.{VirtioDescriptor}
 use Rattle.sv_types.specs.declared.virtio.VirtioPart.{VirtioPart}
 
+-- what a descriptor has behind its address, and the places of its flags
+abbrev pub descriptor_size : ℕ
+descriptor_size = 16
+
+abbrev pub length_place : ℕ
+length_place = 8
+
+abbrev pub flags_place : ℕ
+flags_place = 12
+
+abbrev pub follower_place : ℕ
+follower_place = 14
+
+abbrev pub next_flag : ℕ
+next_flag = 0
+
+abbrev pub write_flag : ℕ
+write_flag = 1
+
+abbrev pub indirect_flag : ℕ
+indirect_flag = 2
+
 -- the descriptor at a place in RAM
 unfoldable pub descriptor_at : List ℕ → ℕ → VirtioDescriptor
 descriptor_at ram at = record {
-  part = record { gpa = word ram at 8; len = word ram (at + 8) 4; write = bit (word ram (at + 12) 2) 1 };
-  goes_on = bit (word ram (at + 12) 2) 0;
-  is_indirect = bit (word ram (at + 12) 2) 2;
-  next = word ram (at + 14) 2;
+  part = record { gpa = word ram at 8; len = word ram (at + length_place) 4; write = bit (word ram (at + flags_place) 2) write_flag };
+  goes_on = bit (word ram (at + flags_place) 2) next_flag;
+  is_indirect = bit (word ram (at + flags_place) 2) indirect_flag;
+  next = word ram (at + follower_place) 2;
 }
 
 -- ---- chains
@@ -30,7 +52,7 @@ unfoldable pub chain : ℕ → List ℕ → (table size index : ℕ) → Option 
 chain zero ram table size index = None
 chain (suc n) ram table size index =
     if nat_lt index size
-    then with_rest (descriptor_at ram (table + 16 * index)) (chain n ram table size (descriptor_at ram (table + 16 * index)).next)
+    then with_rest (descriptor_at ram (table + descriptor_size * index)) (chain n ram table size (descriptor_at ram (table + descriptor_size * index)).next)
     else None
 
 -- the header, at most 32 descriptors of data, and the result
@@ -55,12 +77,18 @@ between parts from to = take (to - from) (drop from parts)
 abbrev pub data_of : List VirtioPart → List VirtioPart
 data_of parts = between parts 1 (length parts - 1)
 
--- the header has 16 bytes that the device reads, the result 1 that it writes
+-- the header, which the device reads, and the result, which it writes
+abbrev pub header_size : ℕ
+header_size = 16
+
+abbrev pub result_size : ℕ
+result_size = 1
+
 abbrev pub is_header : List ℕ → VirtioPart → Bool
-is_header ram part = part.len == 16 && not part.write && in_ram ram part.gpa 16
+is_header ram part = part.len == header_size && not part.write && in_ram ram part.gpa header_size
 
 abbrev pub is_result : VirtioPart → Bool
-is_result part = part.len == 1 && part.write
+is_result part = part.len == result_size && part.write
 
 unfoldable pub is_good : List ℕ → List VirtioPart → Bool
 is_good ram parts = nat_le 2 (length parts) && is_header ram (header_of parts) && is_result (result_of parts)

@@ -12,11 +12,24 @@ most_places = 64
 abbrev pub index_values : ℕ
 index_values = 2 ^ 16
 
+-- ---- the result of a request, "Device Operation" of the block device
+
+abbrev pub done : ℕ
+done = 0
+
+abbrev pub failed : ℕ
+failed = 1
+
+-- the request is of a type that isn't known
+abbrev pub unknown_type : ℕ
+unknown_type = 2
+
+-- ---- requests and registers
+
 -- a request that was accepted and whose moves aren't all made
 pub record Request : Type 0 where
   -- the moves that are left, the next one first
   pub moves : List VirtioMove
-  -- 0 done, 1 failed, 2 of a type that isn't known
   pub result : ℕ
   -- the bytes that its moves wrote into the driver's data, modulo 2^32
   pub written : ℕ
@@ -50,13 +63,26 @@ pub record VirtioDevice : Type 0 where
 abbrev pub cleared : ℕ → ℕ → ℕ
 cleared register mask = bit_and register (2 ^ 32 - 1 - mask)
 
+abbrev pub driver_ok_place : ℕ
+driver_ok_place = 2
+
+abbrev pub needs_reset_place : ℕ
+needs_reset_place = 6
+
+-- the interrupts: the device used a part of the queue, or its state changed
+abbrev pub request_done : ℕ
+request_done = 1
+
+abbrev pub state_changed : ℕ
+state_changed = 2
+
 -- the driver is ready to drive the device
 abbrev pub driver_ok : VirtioDevice → Bool
-driver_ok d = bit d.status 2
+driver_ok d = bit d.status driver_ok_place
 
 -- the device needs a reset
 abbrev pub is_broken : VirtioDevice → Bool
-is_broken d = bit d.status 6
+is_broken d = bit d.status needs_reset_place
 
 -- the queue's registers speak of the one queue
 abbrev pub is_selected : VirtioDevice → Bool

@@ -1,22 +1,42 @@
--- The queue's three parts in guest memory. VIRTIO 1.2, "Split Virtqueues": the descriptor table has 16 bytes for each
--- place of the queue, the available ring 4 bytes and 2 for each place, the used ring 4 bytes and 8 for each place.
+-- The queue's three parts in guest memory: the descriptor table has a descriptor for each place of the queue; each ring has
+-- its flags and its index, and then a place for each of the queue's. VIRTIO 1.2, "Split Virtqueues".
 use Rattle.std.specs.Prelude.{ℕ, ◌+◌, ◌-◌, ◌*◌, ◌%◌, Bool, ◌&&◌, List}
 use Rattle.processor.specs.Bytes.{word, in_ram, ram_place}
+use Rattle.reference.specs.VirtioChain.{descriptor_size}
 use Rattle.reference.specs.VirtioDevice.{VirtioDevice, index_values}
+
+-- the flags and the index of a ring, and one place of each
+abbrev pub ring_header_size : ℕ
+ring_header_size = 4
+
+abbrev pub ring_index_place : ℕ
+ring_index_place = 2
+
+abbrev pub available_entry_size : ℕ
+available_entry_size = 2
+
+abbrev pub used_entry_size : ℕ
+used_entry_size = 8
+
+-- where the length stands in a place of the used ring
+abbrev pub used_length_place : ℕ
+used_length_place = 4
 
 -- the three parts lie in RAM
 unfoldable pub rings_in_ram : VirtioDevice → List ℕ → Bool
 rings_in_ram d ram =
-    in_ram ram d.descriptors (16 * d.size) && in_ram ram d.available (4 + 2 * d.size) && in_ram ram d.used (4 + 8 * d.size)
+    in_ram ram d.descriptors (descriptor_size * d.size)
+    && in_ram ram d.available (ring_header_size + available_entry_size * d.size)
+    && in_ram ram d.used (ring_header_size + used_entry_size * d.size)
 
 -- ---- the available ring: flags, index, heads
 
 abbrev pub available_index : VirtioDevice → List ℕ → ℕ
-available_index d ram = word ram (ram_place d.available + 2) 2
+available_index d ram = word ram (ram_place d.available + ring_index_place) 2
 
 -- the head that stands where the next request is expected
 abbrev pub next_head : VirtioDevice → List ℕ → ℕ
-next_head d ram = word ram (ram_place d.available + 4 + 2 * (d.accepted % d.size)) 2
+next_head d ram = word ram (ram_place d.available + ring_header_size + available_entry_size * (d.accepted % d.size)) 2
 
 -- how many requests wait by the index, which counts modulo `index_values`
 abbrev pub waiting : VirtioDevice → List ℕ → ℕ
@@ -25,8 +45,8 @@ waiting d ram = (available_index d ram + index_values - d.accepted) % index_valu
 -- ---- the used ring: flags, index, and for each place a head and a length
 
 abbrev pub used_index_gpa : ℕ → ℕ
-used_index_gpa used = used + 2
+used_index_gpa used = used + ring_index_place
 
 -- the place for a request, by the count of requests with it
 abbrev pub used_gpa : (used size accepted : ℕ) → ℕ
-used_gpa used size accepted = used + 4 + 8 * ((accepted + (index_values - 1)) % index_values % size)
+used_gpa used size accepted = used + ring_header_size + used_entry_size * ((accepted + (index_values - 1)) % index_values % size)

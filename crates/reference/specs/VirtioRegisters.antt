@@ -47,11 +47,22 @@ register_at offset width = if width == 4 then register_named offset else None
 abbrev pub sectors : VirtioDevice → ℕ
 sectors d = length d.bytes / sector_size
 
+-- "virt", and the device's number: a block device
+abbrev pub magic_value : ℕ
+magic_value = 0x74726976
+
+abbrev pub block_device : ℕ
+block_device = 2
+
+-- the version of the registers
+abbrev pub mmio_version : ℕ
+mmio_version = 2
+
 -- the one feature that is offered is bit 32: a device of version 1
 unfoldable pub register_value : VirtioDevice → VirtioRegister → ℕ
-register_value d VirtioRegister.MagicValue = 0x74726976
-register_value d VirtioRegister.Version = 2
-register_value d VirtioRegister.DeviceId = 2
+register_value d VirtioRegister.MagicValue = magic_value
+register_value d VirtioRegister.Version = mmio_version
+register_value d VirtioRegister.DeviceId = block_device
 register_value d VirtioRegister.VendorId = implementation_number
 register_value d VirtioRegister.DeviceFeatures = flag (d.device_select == 1)
 register_value d VirtioRegister.DeviceFeaturesSelect = 0

@@ -1,15 +1,21 @@
--- What a chain asks for, and the moves that it makes. VIRTIO 1.2, "Device Operation" of the block device: the type is 0
--- to read the disk and 1 to write it; the result is 0, or 1 where the request failed, or 2 where its type isn't known.
+-- What a chain asks for, and the moves that it makes. VIRTIO 1.2, "Device Operation" of the block device.
 use Rattle.std.specs.Prelude.{ℕ, zero, suc, ◌+◌, ◌-◌, ◌*◌, ◌%◌, Bool, not, ◌&&◌, ◌||◌, ◌==◌, List, [], ◌∷◌, ◌++◌, nat_le, if◌then◌else◌, min}
 use Rattle.std.specs.List.{list_all}
 use Rattle.processor.specs.Bytes.{word, in_ram, ram_place, page_size}
 use Rattle.reference.specs.BlockDisk.{sector_size, beat_size}
-use Rattle.reference.specs.VirtioQueue.{used_gpa, used_index_gpa}
+use Rattle.reference.specs.VirtioDevice.{done, failed, unknown_type}
+use Rattle.reference.specs.VirtioQueue.{used_gpa, used_index_gpa, used_length_place}
 use Rattle.reference.specs.VirtioChain.{header_of}
 use Rattle.sv_types.specs.declared.virtio.VirtioMove.{VirtioMove}
 use Rattle.sv_types.specs.declared.virtio.VirtioPart.{VirtioPart}
 
 -- ---- the header: a type, 4 bytes that nothing reads, a sector
+
+abbrev pub read_disk : ℕ
+read_disk = 0
+
+abbrev pub write_disk : ℕ
+write_disk = 1
 
 abbrev pub type_of : List ℕ → List VirtioPart → ℕ
 type_of ram parts = word ram (ram_place (header_of parts).gpa) 4
@@ -30,7 +36,7 @@ lies_in ram part = part.len == 0 || in_ram ram part.gpa part.len
 
 -- the device writes the data of a request that reads the disk, and no other
 abbrev pub fits_type : ℕ → VirtioPart → Bool
-fits_type kind part = if kind == 0 then part.write else not part.write
+fits_type kind part = if kind == read_disk then part.write else not part.write
 
 -- there are sectors, and all of them lie on the disk
 abbrev pub are_sectors : (disk_size sector size : ℕ) → Bool
@@ -42,9 +48,9 @@ can_move ram disk_size kind sector parts =
 
 unfoldable pub result_by : List ℕ → (disk_size kind sector : ℕ) → List VirtioPart → ℕ
 result_by ram disk_size kind sector parts =
-    if kind == 0 || kind == 1
-    then (if can_move ram disk_size kind sector parts then 0 else 1)
-    else 2
+    if kind == read_disk || kind == write_disk
+    then (if can_move ram disk_size kind sector parts then done else failed)
+    else unknown_type
 
 -- ---- the moves
 
@@ -73,10 +79,10 @@ abbrev pub last_moves : (result_gpa used size head accepted : ℕ) → List Virt
 last_moves result_gpa used size head accepted =
     VirtioMove.PutResult result_gpa
     ∷ VirtioMove.PutHead (used_gpa used size accepted) head
-    ∷ VirtioMove.PutLength (used_gpa used size accepted + 4)
+    ∷ VirtioMove.PutLength (used_gpa used size accepted + used_length_place)
     ∷ VirtioMove.PutIndex (used_index_gpa used) accepted
     ∷ []
 
--- a request makes its data's moves only where its result is 0 as it is accepted
+-- a request makes its data's moves only where it is done as far as it was judged
 abbrev pub moves_by : ℕ → (sector : ℕ) → List VirtioPart → List VirtioMove
-moves_by result sector parts = if result == 0 then data_moves (sector_size * sector) parts else []
+moves_by result sector parts = if result == done then data_moves (sector_size * sector) parts else []

@@ -1,7 +1,7 @@
 -- What stores into the registers do. VIRTIO 1.2, "MMIO Device Register Layout", "Device Status Field", "Feature Bits".
 -- A store to a register that is only read has no effect.
 use Rattle.std.specs.Prelude.{ℕ, ◌+◌, ◌*◌, ◌/◌, ◌%◌, ◌^◌, Bool, false, not, ◌&&◌, ◌||◌, bit_or, List, ◌==◌, if◌then◌else◌, Option, None, option_map}
-use Rattle.reference.specs.VirtioDevice.{VirtioDevice, cleared, is_broken, is_selected, most_places}
+use Rattle.reference.specs.VirtioDevice.{VirtioDevice, cleared, is_broken, is_selected, most_places, needs_reset_place}
 use Rattle.reference.specs.VirtioRegisters.{register_at}
 use Rattle.sv_types.specs.declared.virtio.VirtioRegister.{VirtioRegister}
 
@@ -45,7 +45,7 @@ abbrev pub features_ok : ℕ
 features_ok = 8
 
 abbrev pub needs_reset : ℕ
-needs_reset = 64
+needs_reset = 2 ^ needs_reset_place
 
 -- FEATURES_OK stays where the features fit
 abbrev pub judged_status : VirtioDevice → ℕ → ℕ
@@ -70,8 +70,18 @@ abbrev pub is_size : ℕ → Bool
 is_size size = size == 1 || size == 2 || size == 4 || size == 8 || size == 16 || size == 32 || size == most_places
 
 -- "Split Virtqueues": the alignments of the three parts
+abbrev pub descriptors_alignment : ℕ
+descriptors_alignment = 16
+
+abbrev pub available_alignment : ℕ
+available_alignment = 2
+
+abbrev pub used_alignment : ℕ
+used_alignment = 4
+
 abbrev pub is_aligned : VirtioDevice → Bool
-is_aligned d = d.descriptors % 16 == 0 && d.available % 2 == 0 && d.used % 4 == 0
+is_aligned d =
+    d.descriptors % descriptors_alignment == 0 && d.available % available_alignment == 0 && d.used % used_alignment == 0
 
 abbrev pub can_be_used : VirtioDevice → Bool
 can_be_used d = is_size d.size && is_aligned d

@@ -9,13 +9,10 @@ ghost use Rattle.disk_port.specs.Ports.{port_disk};
 ghost use Rattle.resumption.specs.ResumedStates.{timers_of};
 ghost use Rattle.resumed_parts.specs.Timing.{timer_in};
 
-use devices::{Block, Devices};
+use devices::{Block, Devices, NEVER};
 use disk_port::Port;
 use saved_machine::SavedHart;
-use sv_types::PortState;
-
-/// A timer that never is due.
-const NEVER: u64 = u64::MAX;
+use sv_types::{MOST_HARTS, PortState};
 
 /// The devices as a snapshot has them: its port with the disk, the input that waits, the time, and the timers of its harts. No
 /// other hart has a timer set.
@@ -60,7 +57,7 @@ fn put_input(devices: &mut Devices<Port>, input: &[u8])
 // ---- timers
 
 #[tactic(auto, using(crate::proofs::DeviceParts::timers_are))]
-fn timers_of(harts: &[SavedHart]) -> [u64; 4]
+fn timers_of(harts: &[SavedHart]) -> [u64; MOST_HARTS as usize]
     requires { length harts.now ≤ most_harts }
     ensures { result ≡ timers_of harts.now }
 {

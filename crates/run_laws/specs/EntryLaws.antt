@@ -2,7 +2,7 @@
 use Rattle.std.specs.Prelude.{◌≡◌, ℕ, ◌⊎◌, Bool, true, false, List, [], ◌∷◌, ◌==◌, Some, None, slice_get}
 use Rattle.sv_types.specs.ApprovedPages.{approved_bytes}
 use Rattle.processor.specs.Bits.{bit}
-use Rattle.processor.specs.Bytes.{word, page_of, place_in_page}
+use Rattle.processor.specs.Bytes.{word, page_of, place_in_page, instruction_size}
 use Rattle.processor.specs.Translation.{At}
 use Rattle.processor.specs.Traps.{trap_target, deliverable}
 use Rattle.sv_types.specs.declared.event.Event.{Event}
@@ -41,7 +41,7 @@ pub record ReadsBound (r : State) (h : ℕ) (hart : Hart) (entry : Binding) (nex
   pub bytes : List ℕ
   pub place : place_of_pc r hart ≡ At entry.gpa
   pub approved : approved_bytes r.approved (page_of entry.gpa) ≡ Some bytes
-  pub same : next ≡ carry_out_word r h hart (word bytes (place_in_page entry.gpa) 4)
+  pub same : next ≡ carry_out_word r h hart (word bytes (place_in_page entry.gpa) instruction_size)
 
 abbrev pub DemotesOrReads : State → ℕ → Hart → Binding → Type 0
 DemotesOrReads r h hart entry =

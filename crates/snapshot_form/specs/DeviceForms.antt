@@ -40,7 +40,7 @@ StatusParts = ℕ × (ℕ × ℕ)
 
 unfoldable pub transfer : (gpa count : ℕ) → Form StatusParts
 transfer gpa count =
-    and_then (within (λ n. nat_le n 2) number) (λ command.
+    and_then (within (λ n. nat_le n (command_number BlockCommand.MemoryToDisk)) number) (λ command.
     and_then (within (goes_with gpa count command) number) (λ now. within (has_beats count now) number))
 
 -- a status from its parts, and its parts: 0 is the command where no transfer is under way

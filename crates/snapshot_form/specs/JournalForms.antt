@@ -100,12 +100,27 @@ hart_number harts = within (λ n. nat_lt n harts) number
 
 -- ---- notes: a kind, and the fields of each
 
+abbrev pub demote_kind : ℕ
+demote_kind = 1
+
+abbrev pub denied_kind : ℕ
+denied_kind = 2
+
+abbrev pub load_kind : ℕ
+load_kind = 3
+
+abbrev pub unload_kind : ℕ
+unload_kind = 4
+
+abbrev pub retire_kind : ℕ
+retire_kind = 5
+
 abbrev pub kind_of : Note → ℕ
-kind_of (Note.Demote h turn pc gpa) = 1
-kind_of (Note.Denied gpa) = 2
-kind_of (Note.Load h turn id c) = 3
-kind_of (Note.Unload h turn id c) = 4
-kind_of (Note.Retire h turn c) = 5
+kind_of (Note.Demote h turn pc gpa) = demote_kind
+kind_of (Note.Denied gpa) = denied_kind
+kind_of (Note.Load h turn id c) = load_kind
+kind_of (Note.Unload h turn id c) = unload_kind
+kind_of (Note.Retire h turn c) = retire_kind
 
 abbrev pub is_kind : ℕ → Note → Bool
 is_kind kind n = kind_of n == kind
@@ -121,7 +136,7 @@ demote_parts (Note.Unload h turn id c) = (0, (0, (0, 0)))
 demote_parts (Note.Retire h turn c) = (0, (0, (0, 0)))
 
 unfoldable pub demote : ℕ → Form Note
-demote harts = made demote_of demote_parts (is_kind 1) (hart_number harts ⨾ (number ⨾ (aligned 4 ⨾ number)))
+demote harts = made demote_of demote_parts (is_kind demote_kind) (hart_number harts ⨾ (number ⨾ (aligned 4 ⨾ number)))
 
 abbrev pub denied_of : ℕ → Note
 denied_of gpa = Note.Denied gpa
@@ -134,7 +149,7 @@ denied_parts (Note.Unload h turn id c) = 0
 denied_parts (Note.Retire h turn c) = 0
 
 unfoldable pub denied : Form Note
-denied = made denied_of denied_parts (is_kind 2) number
+denied = made denied_of denied_parts (is_kind denied_kind) number
 
 -- a module's load or unload
 abbrev pub AnswerParts : Type 0
@@ -154,7 +169,7 @@ load_note_parts (Note.Unload h turn id c) = (0, (0, (0, SbiCode.Success)))
 load_note_parts (Note.Retire h turn c) = (0, (0, (0, SbiCode.Success)))
 
 unfoldable pub load_note : ℕ → Form Note
-load_note harts = made load_note_of load_note_parts (is_kind 3) (answer harts)
+load_note harts = made load_note_of load_note_parts (is_kind load_kind) (answer harts)
 
 abbrev pub unload_of : AnswerParts → Note
 unload_of x = Note.Unload x.0 x.1.0 x.1.1.0 x.1.1.1
@@ -167,7 +182,7 @@ unload_parts (Note.Unload h turn id c) = (h, (turn, (id, c)))
 unload_parts (Note.Retire h turn c) = (0, (0, (0, SbiCode.Success)))
 
 unfoldable pub unload : ℕ → Form Note
-unload harts = made unload_of unload_parts (is_kind 4) (answer harts)
+unload harts = made unload_of unload_parts (is_kind unload_kind) (answer harts)
 
 abbrev pub retire_of : ℕ × (ℕ × SbiCode) → Note
 retire_of x = Note.Retire x.0 x.1.0 x.1.1
@@ -180,31 +195,43 @@ retire_parts (Note.Unload h turn id c) = (0, (0, SbiCode.Success))
 retire_parts (Note.Retire h turn c) = (h, (turn, c))
 
 unfoldable pub retire : ℕ → Form Note
-retire harts = made retire_of retire_parts (is_kind 5) (hart_number harts ⨾ (number ⨾ code))
+retire harts = made retire_of retire_parts (is_kind retire_kind) (hart_number harts ⨾ (number ⨾ code))
 
 -- the fields behind a kind
 unfoldable pub note_behind : ℕ → ℕ → Form Note
 note_behind harts kind =
-    if kind == 1 then demote harts
-    else if kind == 2 then denied
-    else if kind == 3 then load_note harts
-    else if kind == 4 then unload harts
+    if kind == demote_kind then demote harts
+    else if kind == denied_kind then denied
+    else if kind == load_kind then load_note harts
+    else if kind == unload_kind then unload harts
     else retire harts
 
 unfoldable pub note : ℕ → Form Note
-note harts = made (λ x. x.1) (λ n. (kind_of n, n)) always (and_then (within (is_between 1 5) number) (note_behind harts))
+note harts = made (λ x. x.1) (λ n. (kind_of n, n)) always (and_then (within (is_between demote_kind retire_kind) number) (note_behind harts))
 
 -- those that a journal keeps, or all of them
 unfoldable pub notes : ℕ → ℕ → Form (List Note)
 notes harts all = counted (λ n. n == min most_notes all) (λ before. note harts)
 
--- ---- the verdict: 0 running, 1 shut down, 2 stopped by an entry, 3 by a write
+-- ---- the verdict: a kind, and the fields of each
+
+abbrev pub running_kind : ℕ
+running_kind = 0
+
+abbrev pub shutdown_kind : ℕ
+shutdown_kind = 1
+
+abbrev pub entry_kind : ℕ
+entry_kind = 2
+
+abbrev pub write_kind : ℕ
+write_kind = 3
 
 abbrev pub verdict_kind : Verdict → ℕ
-verdict_kind Verdict.Running = 0
-verdict_kind Verdict.Shutdown = 1
-verdict_kind (Verdict.Stopped (Rule.Entry target) h turn) = 2
-verdict_kind (Verdict.Stopped (Rule.Write pc gpa) h turn) = 3
+verdict_kind Verdict.Running = running_kind
+verdict_kind Verdict.Shutdown = shutdown_kind
+verdict_kind (Verdict.Stopped (Rule.Entry target) h turn) = entry_kind
+verdict_kind (Verdict.Stopped (Rule.Write pc gpa) h turn) = write_kind
 
 abbrev pub is_verdict : ℕ → Verdict → Bool
 is_verdict kind v = verdict_kind v == kind
@@ -219,7 +246,7 @@ entry_parts (Verdict.Stopped (Rule.Entry target) h turn) = (target, (h, turn))
 entry_parts (Verdict.Stopped (Rule.Write pc gpa) h turn) = (0, (0, 0))
 
 unfoldable pub stopped_entry : ℕ → Form Verdict
-stopped_entry harts = made entry_of entry_parts (is_verdict 2) (number ⨾ (hart_number harts ⨾ number))
+stopped_entry harts = made entry_of entry_parts (is_verdict entry_kind) (number ⨾ (hart_number harts ⨾ number))
 
 abbrev pub write_of : ℕ × (ℕ × (ℕ × ℕ)) → Verdict
 write_of x = Verdict.Stopped (Rule.Write x.0 x.1.0) x.1.1.0 x.1.1.1
@@ -231,17 +258,17 @@ write_parts (Verdict.Stopped (Rule.Entry target) h turn) = (0, (0, (0, 0)))
 write_parts (Verdict.Stopped (Rule.Write pc gpa) h turn) = (pc, (gpa, (h, turn)))
 
 unfoldable pub stopped_write : ℕ → Form Verdict
-stopped_write harts = made write_of write_parts (is_verdict 3) (aligned 4 ⨾ (number ⨾ (hart_number harts ⨾ number)))
+stopped_write harts = made write_of write_parts (is_verdict write_kind) (aligned 4 ⨾ (number ⨾ (hart_number harts ⨾ number)))
 
 unfoldable pub verdict_behind : ℕ → ℕ → Form Verdict
 verdict_behind harts kind =
-    if kind == 0 then nothing Verdict.Running (is_verdict 0)
-    else if kind == 1 then nothing Verdict.Shutdown (is_verdict 1)
-    else if kind == 2 then stopped_entry harts
+    if kind == running_kind then nothing Verdict.Running (is_verdict running_kind)
+    else if kind == shutdown_kind then nothing Verdict.Shutdown (is_verdict shutdown_kind)
+    else if kind == entry_kind then stopped_entry harts
     else stopped_write harts
 
 unfoldable pub verdict : ℕ → Form Verdict
-verdict harts = made (λ x. x.1) (λ v. (verdict_kind v, v)) always (and_then (within (λ n. nat_le n 3) number) (verdict_behind harts))
+verdict harts = made (λ x. x.1) (λ v. (verdict_kind v, v)) always (and_then (within (λ n. nat_le n write_kind) number) (verdict_behind harts))
 
 -- ---- counts, notes and verdict
 

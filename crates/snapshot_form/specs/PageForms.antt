@@ -21,11 +21,11 @@ protection_number Held = 1
 protection_number Approved = 2
 
 abbrev pub protection_of : ℕ → Protection
-protection_of n = if n == 0 then Free else if n == 1 then Held else Approved
+protection_of n = if n == protection_number Free then Free else if n == protection_number Held then Held else Approved
 
--- one byte: 0 free, 1 held, 2 approved
+-- one byte, its number
 unfoldable pub protection : Form Protection
-protection = made protection_of protection_number always (within (λ n. nat_le n 2) byte)
+protection = made protection_of protection_number always (within (λ n. nat_le n (protection_number Approved)) byte)
 
 unfoldable pub protections : ℕ → Form (List Protection)
 protections ram_pages = listed (λ before. protection) [] ram_pages

@@ -7,12 +7,10 @@ ghost use Rattle.snapshot_reader.specs.Reading.{Gives, Reads};
 use crate::read_error::ReadError;
 use crate::supervisor::read_status;
 use crate::values::{in_range, read_flag, read_number, read_pc, read_place};
-use processor::{Mode, PAGE_BYTES, RAM_BASE, REGISTERS};
+use processor::{Mode, PAGE_BYTES, RAM_BASE, REGISTERS, RESERVED_BYTES};
 use saved_machine::SavedHart;
 use snapshot_form::SnapRefusal;
 use std::alloc::Global;
-
-const RESERVED_BYTES: u64 = 8;
 
 /// So many harts.
 pub(crate) fn read_harts(
@@ -112,7 +110,7 @@ fn read_registers(bytes: &[u8]) -> Result<([u64; REGISTERS], &[u8]), SnapRefusal
 {
     let mut registers = [0; REGISTERS];
     let mut rest = bytes;
-    'registers: for i in 0..31 {
+    'registers: for i in 0..REGISTERS - 1 {
         let (value, after) = read_number(rest)?;
         registers[i + 1] = value;
         rest = after;

@@ -4,7 +4,7 @@ ghost use Rattle.std.specs.Prelude.{◌≡◌, ℕ, ◌++◌, true, OnOk};
 ghost use Rattle.std.specs.List.{list_all};
 ghost use Rattle.sv_types.specs.SbiCodes.{code_word};
 ghost use Rattle.snapshot_form.specs.Forms.{spell_number};
-ghost use Rattle.snapshot_form.specs.JournalForms.{note, notes};
+ghost use Rattle.snapshot_form.specs.JournalForms.{demote_kind, denied_kind, note, notes, retire_kind};
 ghost use Rattle.snapshot_form.specs.Typed.{is_typed_note};
 
 use crate::values::write_number;
@@ -53,7 +53,7 @@ fn write_note(out: &mut Vec<u8>, n: Note) -> Result<(), AllocError>
 }
 
 fn write_demote(out: &mut Vec<u8>, hart: u8, turn: u64, pc: u64, gpa: u64) -> Result<(), AllocError>
-    ensures { OnOk result (out.new.items ≡ out.old.items ++ (spell_number 1 ++ (spell_number hart ++ (spell_number turn ++ (spell_number pc ++ spell_number gpa))))) }
+    ensures { OnOk result (out.new.items ≡ out.old.items ++ (spell_number demote_kind ++ (spell_number hart ++ (spell_number turn ++ (spell_number pc ++ spell_number gpa))))) }
 {
     write_number(out, DEMOTE)?;
     write_number(out, u64::from(hart))?;
@@ -63,7 +63,7 @@ fn write_demote(out: &mut Vec<u8>, hart: u8, turn: u64, pc: u64, gpa: u64) -> Re
 }
 
 fn write_denied(out: &mut Vec<u8>, gpa: u64) -> Result<(), AllocError>
-    ensures { OnOk result (out.new.items ≡ out.old.items ++ (spell_number 2 ++ spell_number gpa)) }
+    ensures { OnOk result (out.new.items ≡ out.old.items ++ (spell_number denied_kind ++ spell_number gpa)) }
 {
     write_number(out, DENIED)?;
     write_number(out, gpa)
@@ -88,7 +88,7 @@ fn write_answer(
 }
 
 fn write_retire(out: &mut Vec<u8>, hart: u8, turn: u64, code: SbiCode) -> Result<(), AllocError>
-    ensures { OnOk result (out.new.items ≡ out.old.items ++ (spell_number 5 ++ (spell_number hart ++ (spell_number turn ++ spell_number (code_word code))))) }
+    ensures { OnOk result (out.new.items ≡ out.old.items ++ (spell_number retire_kind ++ (spell_number hart ++ (spell_number turn ++ spell_number (code_word code))))) }
 {
     write_number(out, RETIRE)?;
     write_number(out, u64::from(hart))?;

@@ -2,7 +2,7 @@
 
 ghost use Rattle.std.specs.Prelude.{◌≡◌, ℕ, ◌++◌, true, OnOk};
 ghost use Rattle.snapshot_form.specs.Forms.{spell_number};
-ghost use Rattle.snapshot_form.specs.JournalForms.{verdict};
+ghost use Rattle.snapshot_form.specs.JournalForms.{entry_kind, verdict, write_kind};
 ghost use Rattle.snapshot_form.specs.Typed.{are_words, verdict_numbers};
 
 use crate::values::write_number;
@@ -37,7 +37,7 @@ fn write_stopped_entry(
     hart: u8,
     turn: u64,
 ) -> Result<(), AllocError>
-    ensures { OnOk result (out.new.items ≡ out.old.items ++ (spell_number 2 ++ (spell_number target ++ (spell_number hart ++ spell_number turn)))) }
+    ensures { OnOk result (out.new.items ≡ out.old.items ++ (spell_number entry_kind ++ (spell_number target ++ (spell_number hart ++ spell_number turn)))) }
 {
     write_number(out, STOPPED_ENTRY)?;
     write_number(out, target)?;
@@ -52,7 +52,7 @@ fn write_stopped_write(
     hart: u8,
     turn: u64,
 ) -> Result<(), AllocError>
-    ensures { OnOk result (out.new.items ≡ out.old.items ++ (spell_number 3 ++ (spell_number pc ++ (spell_number gpa ++ (spell_number hart ++ spell_number turn))))) }
+    ensures { OnOk result (out.new.items ≡ out.old.items ++ (spell_number write_kind ++ (spell_number pc ++ (spell_number gpa ++ (spell_number hart ++ spell_number turn))))) }
 {
     write_number(out, STOPPED_WRITE)?;
     write_number(out, pc)?;

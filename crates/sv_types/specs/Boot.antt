@@ -26,6 +26,10 @@ no_counts = record {
 abbrev pub flat_ram_pages : ℕ
 flat_ram_pages = 16
 
+-- where its kernel may be entered beside its begin, from the start of RAM on
+abbrev pub flat_trap_place : ℕ
+flat_trap_place = 0x100
+
 -- the bytes of these pages
 abbrev pub most_flat_bytes : ℕ
 most_flat_bytes = page_size * flat_ram_pages

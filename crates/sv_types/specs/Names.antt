@@ -21,5 +21,5 @@ pub record IsName (name : Inside) : Type 0 where
 
 pub name_inside-name_bytes : (name : Inside) → IsName name → name_inside (name_bytes name) ≡ name
 name_inside-name_bytes name is =
-    ap (λ (n : ℕ). let inside : Inside = record { bytes = padded (name_bytes name) 64; length = n } in inside) is.length_is
+    ap (λ (n : ℕ). let inside : Inside = record { bytes = padded (name_bytes name) most_name_bytes; length = n } in inside) is.length_is
     ∙ ap (λ (bytes : List ℕ). let inside : Inside = record { bytes = bytes; length = name.length } in inside) is.zeros

@@ -9,6 +9,7 @@ use Rattle.sv_types.specs.declared.event.Rule.{Rule}
 use Rattle.sv_types.specs.declared.event.Rule.TheVariants.{Entry, Write}
 use Rattle.sv_types.specs.declared.status.Status.{Status}
 
+-- ISO/IEC 646 (ASCII)
 abbrev pub line_feed : List ℕ
 line_feed = 10 ∷ []
 

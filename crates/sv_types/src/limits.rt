@@ -21,6 +21,18 @@ pub const MOST_NOTES: usize = 4096;
 /// The pages of RAM of a machine that is made from plain pages.
 pub const FLAT_PAGES: usize = 16;
 
+/// Where the kernel of such a machine may be entered beside its begin, from the start of RAM on.
+pub const FLAT_TRAP_PLACE: u64 = 0x100;
+
+/// The format of a policy that lists entries alone.
+pub const PLAIN_FORMAT: u8 = 1;
+
+/// The format of a policy that binds each entry to a guest-physical address.
+pub const BOUND_FORMAT: u8 = 2;
+
+/// The most permitted entries.
+pub const MOST_ENTRIES: usize = 64;
+
 /// The most harts of a machine.
 pub const MOST_HARTS: u8 = 4;
 

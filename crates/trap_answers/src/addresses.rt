@@ -27,6 +27,7 @@ pub(crate) fn gpa_in_ram(mem: &HostMem, exit: &Exit, width: u64) -> Option<u64>
     ensures { result ≡ (if in_ram mem.now.ram (exit_gpa exit.now) width then Some (exit_gpa exit.now) else None) }
 {
     let _pages = mem.ram_pages();
+    // (four times as much is past every place in RAM, and within 64 bits below it)
     if exit.htval >= 1 << 40 {
         return None;
     }

@@ -2,9 +2,10 @@
 use Rattle.std.specs.Prelude.{◌≡◌, ℕ, ◌+◌, ◌-◌, ◌*◌, ◌%◌, ◌^◌, ◌<◌, ◌≤◌, true, false, ◌==◌, if◌then◌else◌, List, [], ◌∷◌, ◌++◌, length, replicate, Option, Some, None, IfSome}
 use Rattle.processor.specs.Bytes.{page_size, ram_base, ram_place}
 use Rattle.reference.specs.BlockDisk.{beat_size}
-use Rattle.reference.specs.VirtioDevice.{VirtioDevice, index_values, most_places}
-use Rattle.reference.specs.VirtioStores.{is_size}
-use Rattle.reference.specs.VirtioChain.{no_part, most_parts, header_of}
+use Rattle.reference.specs.VirtioDevice.{VirtioDevice, done, index_values, most_places}
+use Rattle.reference.specs.VirtioQueue.{ring_header_size, available_entry_size, used_entry_size}
+use Rattle.reference.specs.VirtioStores.{is_size, descriptors_alignment, available_alignment, used_alignment}
+use Rattle.reference.specs.VirtioChain.{descriptor_size, header_size, no_part, most_parts, header_of}
 use Rattle.reference.specs.VirtioRequests.{bytes_in}
 use Rattle.saved_machine.specs.VirtioStates.{last_place, part_at, data_left, disk_place, moves_left, virtio_of}
 use Rattle.sv_types.specs.declared.virtio.VirtioMove.{VirtioMove}
@@ -57,7 +58,7 @@ pub record IsPlaced (q : VirtioRequest) : Type 0 where
   pub addresses : (k : ℕ) → q.part ≤ k → k < last_place q → 0 < (part_at q k).len → (part_at q k).gpa + (part_at q k).len < 2 ^ 63
   pub size_some : 1 ≤ q.size
   pub size_most : q.size ≤ most_places
-  pub aligned : q.used % 4 ≡ 0
+  pub aligned : q.used % used_alignment ≡ 0
   pub used : q.used < 2 ^ 63
 
 -- the data that is left lies on the disk
@@ -68,9 +69,9 @@ IsOnDisk disk_size q = q.part < last_place q → disk_place q + bytes_in (data_l
 pub record IsSound (h : Held) : Type 0 where
   pub accepted : h.state.accepted < index_values
   pub size : h.state.ready ≡ true → is_size h.state.size ≡ true
-  pub descriptors : h.state.ready ≡ true → h.state.descriptors % 16 ≡ 0
-  pub available : h.state.ready ≡ true → h.state.available % 2 ≡ 0
-  pub used : h.state.ready ≡ true → h.state.used % 4 ≡ 0
+  pub descriptors : h.state.ready ≡ true → h.state.descriptors % descriptors_alignment ≡ 0
+  pub available : h.state.ready ≡ true → h.state.available % available_alignment ≡ 0
+  pub used : h.state.ready ≡ true → h.state.used % used_alignment ≡ 0
   pub placed : IfSome h.state.request IsPlaced
   pub on_disk : IfSome h.state.request (IsOnDisk (length h.bytes))
 
@@ -104,15 +105,15 @@ padded_parts parts = parts ++ replicate (most_parts - length parts) no_part
 -- the three parts of the queue lie in RAM
 pub record HaveRings (d : VirtioDevice) (ram : List ℕ) : Type 0 where
   pub descriptors : ram_base ≤ d.descriptors
-  pub descriptors_end : ram_place d.descriptors + 16 * d.size ≤ length ram
+  pub descriptors_end : ram_place d.descriptors + descriptor_size * d.size ≤ length ram
   pub available : ram_base ≤ d.available
-  pub available_end : ram_place d.available + (4 + 2 * d.size) ≤ length ram
+  pub available_end : ram_place d.available + (ring_header_size + available_entry_size * d.size) ≤ length ram
   pub used : ram_base ≤ d.used
-  pub used_end : ram_place d.used + (4 + 8 * d.size) ≤ length ram
+  pub used_end : ram_place d.used + (ring_header_size + used_entry_size * d.size) ≤ length ram
 
--- a request whose result is 0 begins with its data, any other with its last moves
+-- a request that is done as far as it was judged begins with its data, any other with its last moves
 abbrev pub first_part : (result last : ℕ) → ℕ
-first_part result last = if result == 0 then 1 else last
+first_part result last = if result == done then 1 else last
 
 -- the request that a chain asks for, at its first move
 abbrev pub new_of : (head sector size used result : ℕ) → List VirtioPart → VirtioRequest
@@ -134,4 +135,4 @@ new_of head sector size used result parts = record {
 pub record HasHeader (ram : List ℕ) (parts : List VirtioPart) : Type 0 where
   pub few : 2 ≤ length parts
   pub begins : ram_base ≤ (header_of parts).gpa
-  pub ends : ram_place (header_of parts).gpa + 16 ≤ length ram
+  pub ends : ram_place (header_of parts).gpa + header_size ≤ length ram

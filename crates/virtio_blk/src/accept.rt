@@ -21,6 +21,8 @@ use host_mem::{HostMem, word_at};
 use processor::ram_place;
 use sv_types::{MOST_VIRTIO_PARTS, VirtioPart, VirtioRequest};
 
+/// Where a request's header has its sector.
+const SECTOR_PLACE: usize = 8;
 /// An index of a ring, and a head, is a number of 16 bits.
 pub(crate) const INDICES: u64 = 1 << 16;
 /// The flags and the index of a ring. Virtio 1.2, 2.7.6 and 2.7.8.
@@ -69,7 +71,7 @@ fn new_request(
 {
     let last = parts.len() - 1;
     let header = ram_place(parts[0].gpa) as usize;
-    let sector = word_at(ram, header + 8, 8);
+    let sector = word_at(ram, header + SECTOR_PLACE, 8);
     let result = result_by(
         ram,
         disk_size,

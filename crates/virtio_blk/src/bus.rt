@@ -11,6 +11,8 @@ use crate::Virtio;
 use processor::has_bit;
 use sv_types::{IMPLEMENTATION, SECTOR_BYTES, VirtioRegister, VirtioState};
 
+/// What tells that this is a virtio device: "virt".
+const MAGIC_VALUE: u64 = 0x7472_6976;
 /// The most places of the queue.
 const MOST_PLACES: u64 = 64;
 /// The alignment of the table of descriptors. Virtio 1.2, 2.7.
@@ -94,7 +96,7 @@ impl Virtio {
         ensures { result ≡ register_value (device_of self.now) register }
     {
         match register {
-            VirtioRegister::MagicValue => 0x7472_6976,
+            VirtioRegister::MagicValue => MAGIC_VALUE,
             VirtioRegister::Version | VirtioRegister::DeviceId => 2,
             VirtioRegister::VendorId => IMPLEMENTATION,
             VirtioRegister::DeviceFeatures => u64::from(self.state.device_select == 1),

@@ -1,7 +1,7 @@
 // Chains of descriptors, read from guest memory.
 
 ghost use Rattle.std.specs.Prelude.{◌≡◌, ◌+◌, ◌*◌, ◌≤◌, length, option_map};
-ghost use Rattle.reference.specs.VirtioChain.{descriptor_at, chain, most_parts};
+ghost use Rattle.reference.specs.VirtioChain.{chain, descriptor_at, descriptor_size, most_parts};
 
 use arrayvec::ArrayVec;
 use host_mem::word_at;
@@ -10,6 +10,13 @@ use sv_types::{MOST_VIRTIO_PARTS, VirtioDescriptor, VirtioPart};
 
 /// The bytes of a descriptor. Virtio 1.2, 2.7.5.
 pub const DESCRIPTOR_BYTES: usize = 16;
+/// Where it has a part's length, its flags, and the place of the one that follows.
+const LENGTH_PLACE: usize = 8;
+
+const FLAGS_PLACE: usize = 12;
+
+const FOLLOWER_PLACE: usize = 14;
+
 /// The flag that says that a chain goes on.
 const NEXT_PLACE: u8 = 0;
 /// The flag that says that the device writes a part.
@@ -20,18 +27,18 @@ const INDIRECT_PLACE: u8 = 2;
 // The descriptor at a place in RAM.
 #[tactic(auto, unfolding(reference::specs::VirtioChain::descriptor_at))]
 fn descriptor_at(ram: &[u8], at: usize) -> VirtioDescriptor
-    requires { at + 16 ≤ length ram.now }
+    requires { at + descriptor_size ≤ length ram.now }
     ensures { result ≡ descriptor_at ram.now at }
 {
-    let flags = word_at(ram, at + 12, 2);
+    let flags = word_at(ram, at + FLAGS_PLACE, 2);
     VirtioDescriptor {
         part: VirtioPart {
             gpa: word_at(ram, at, 8),
-            len: word_at(ram, at + 8, 4) as u32,
+            len: word_at(ram, at + LENGTH_PLACE, 4) as u32,
             write: has_bit(flags, WRITE_PLACE),
         },
         goes_on: has_bit(flags, NEXT_PLACE),
-        next: word_at(ram, at + 14, 2),
+        next: word_at(ram, at + FOLLOWER_PLACE, 2),
         is_indirect: has_bit(flags, INDIRECT_PLACE),
     }
 }
@@ -45,7 +52,7 @@ pub fn read_chain(
     size: u64,
     head: u64,
 ) -> Option<ArrayVec<VirtioPart, MOST_VIRTIO_PARTS>>
-    requires { table + 16 * size ≤ length ram.now }
+    requires { table + descriptor_size * size ≤ length ram.now }
     ensures { option_map (λ parts. parts.items) result ≡ chain most_parts ram.now table size head }
 {
     let mut parts = ArrayVec::new();

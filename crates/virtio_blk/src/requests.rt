@@ -3,7 +3,7 @@
 ghost use Rattle.std.specs.Prelude.{◌≡◌, ◌+◌, ◌*◌, ◌≤◌, IsTrue, length};
 ghost use Rattle.std.specs.List.{list_all};
 ghost use Rattle.processor.specs.Bytes.{in_ram, ram_base, ram_place};
-ghost use Rattle.reference.specs.VirtioChain.{is_header, is_good, most_parts};
+ghost use Rattle.reference.specs.VirtioChain.{header_size, is_header, is_good, most_parts};
 ghost use Rattle.virtio_blk.specs.Held.{HasHeader};
 ghost use Rattle.reference.specs.VirtioRequests.{bytes_in, lies_in, fits_type, are_sectors, can_move, result_by};
 
@@ -114,7 +114,7 @@ pub fn result_by(ram: &[u8], disk_size: usize, kind: u64, sector: u64, parts: &[
 fn is_header(ram: &[u8], part: &VirtioPart) -> bool
     ensures value { result ≡ is_header ram.now part.now }
     ensures begins { IsTrue result → ram_base ≤ part.now.gpa }
-    ensures ends { IsTrue result → ram_place part.now.gpa + 16 ≤ length ram.now }
+    ensures ends { IsTrue result → ram_place part.now.gpa + header_size ≤ length ram.now }
 {
     part.len == HEADER_BYTES && !part.write && lies_in_ram(ram, part.gpa, HEADER_BYTES as u64)
 }
