@@ -1,5 +1,7 @@
 // Bits of the supervisor registers. Privileged manual, "Supervisor CSRs" and "Hypervisor and Virtual Supervisor CSRs".
 
+use processor::{EXTERNAL_PLACE, ROOT_MODE_PLACE, ROOT_PAGE_BITS, SOFTWARE_PLACE, TIMER_PLACE};
+
 /// SIE of a status: kernel mode takes interrupts.
 pub const SIE: u64 = 1 << SIE_PLACE;
 /// The place of SIE.
@@ -25,11 +27,11 @@ pub const STATUS_BITS: u64 = SIE | SPIE | SPP | SUM | MXR;
 /// UXL of `vsstatus`, as it is read: user mode has 64-bit registers.
 pub(crate) const UXL: u64 = 2 << 32;
 /// The guest's software interrupt in `sie` and `sip`.
-pub const SOFTWARE_INTERRUPT: u64 = 1 << 1;
+pub const SOFTWARE_INTERRUPT: u64 = 1 << SOFTWARE_PLACE;
 /// The guest's timer interrupt there.
-const TIMER_INTERRUPT: u64 = 1 << 5;
+const TIMER_INTERRUPT: u64 = 1 << TIMER_PLACE;
 /// The guest's external interrupt there.
-const EXTERNAL_INTERRUPT: u64 = 1 << 9;
+const EXTERNAL_INTERRUPT: u64 = 1 << EXTERNAL_PLACE;
 /// The three together.
 pub const INTERRUPT_BITS: u64 = SOFTWARE_INTERRUPT | TIMER_INTERRUPT | EXTERNAL_INTERRUPT;
 /// The same interrupts in `hie`, `hip` and `hideleg`.
@@ -49,4 +51,4 @@ pub(crate) const TIME_ENABLE_PLACE: u8 = 1;
 /// Instructions lie at multiples of 4.
 pub const MISALIGNED: u64 = 3;
 /// The mode and the root's page of `satp`.
-pub const SATP_BITS: u64 = 15 << 60 | (1 << 44) - 1;
+pub const SATP_BITS: u64 = 15 << ROOT_MODE_PLACE | (1 << ROOT_PAGE_BITS) - 1;

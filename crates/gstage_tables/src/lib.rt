@@ -22,7 +22,7 @@ use crate::words::{
 };
 use arrayvec::ArrayVec;
 use host_mem::{HostMem, Steps};
-use processor::PAGE_SIZE;
+use processor::{PAGE_SIZE, ROOT_MODE_PLACE, ROOT_PAGE_BITS};
 use std::marker::{Brand, Model};
 use std::sync::ledger::{Blank, Ledger};
 use sv_types::{MOST_ENTRIES, Protection, View};
@@ -30,14 +30,16 @@ use sv_types::{MOST_ENTRIES, Protection, View};
 /// The blocks of a gigabyte: one for each word of a level-1 table.
 const MOST_BLOCKS: usize = TABLE_WORDS as usize;
 
-/// The mode Sv39x4 of `hgatp`, whose VMID begins at bit 44, and the page of the root at bit 0.
-const SV39X4: u64 = 8 << 60;
+/// The mode Sv39x4 of `hgatp`, whose VMID begins behind the number of the root's page.
+const SV39X4: u64 = 8 << ROOT_MODE_PLACE;
+
+const NEXT_VMID: u64 = 1 << ROOT_PAGE_BITS;
 
 /// How the value of `hgatp` grows from one tree to the next: by a VMID and the pages of a root.
-const NEXT_TREE: u64 = (1 << 44) + ROOT_PAGES;
+const NEXT_TREE: u64 = NEXT_VMID + ROOT_PAGES;
 
 /// The values of `hgatp` of the kernel view, of the user view, and of the first entry's. VMIDs begin with 1.
-const KERNEL_HGATP: u64 = SV39X4 + (1 << 44);
+const KERNEL_HGATP: u64 = SV39X4 + NEXT_VMID;
 
 const USER_HGATP: u64 = KERNEL_HGATP + NEXT_TREE;
 

@@ -6,7 +6,7 @@ use Rattle.std.specs.Prelude.{◌≡◌, ℕ, ◌+◌, ◌*◌, ◌/◌, ◌^◌
 use Rattle.std.specs.List.{list_any}
 use Rattle.processor.specs.Bits.{bit, flag, without}
 use Rattle.processor.specs.Causes.{cause_number}
-use Rattle.processor.specs.Registers.{csr_named, legal_status, uxl, legal_interrupts, legal_tvec, time_place, legal_counteren, legal_epc, legal_satp}
+use Rattle.processor.specs.Registers.{csr_named, software_bit, timer_bit, external_bit, legal_status, uxl, legal_interrupts, legal_tvec, time_place, legal_counteren, legal_epc, legal_satp}
 use Rattle.processor.specs.Traps.{trap_cause, status_at_trap, status_at_return, takes_interrupts, interrupt_number, is_interrupt, first_interrupt}
 use Rattle.processor.specs.declared.csr.Csr.{Csr}
 use Rattle.processor.specs.declared.csr.CsrFault.{CsrFault}
@@ -55,7 +55,7 @@ registers_at_boot = record {
   htinst = 0;
 }
 
--- ---- interrupts: 2, 6 and 10 of the hypervisor are the guest's 1, 5 and 9
+-- ---- interrupts: those of the hypervisor are the guest's, one place higher
 
 -- the place of a guest's interrupt in hip, hie and hideleg
 abbrev pub virtual_number : Interrupt → ℕ
@@ -63,13 +63,13 @@ virtual_number interrupt = interrupt_number interrupt + 1
 
 -- the guest's software interrupt is the only one that is stored; the others are lines
 abbrev pub virtual_software_bit : ℕ
-virtual_software_bit = 2 ^ 2
+virtual_software_bit = 2 * software_bit
 
 abbrev pub virtual_timer_bit : ℕ
-virtual_timer_bit = 2 ^ 6
+virtual_timer_bit = 2 * timer_bit
 
 abbrev pub virtual_external_bit : ℕ
-virtual_external_bit = 2 ^ 10
+virtual_external_bit = 2 * external_bit
 
 abbrev pub virtual_interrupt_bits : ℕ
 virtual_interrupt_bits = virtual_software_bit + virtual_timer_bit + virtual_external_bit

@@ -3,7 +3,7 @@
 -- time.
 use Rattle.std.specs.Prelude.{◌≡◌, ℕ, ◌+◌, ◌-◌, ◌*◌, ◌/◌, ◌^◌, Bool, true, false, ◌||◌, ◌==◌, if◌then◌else◌, bit_and, Option, Some, None}
 use Rattle.processor.specs.Bits.{bit, flag}
-use Rattle.processor.specs.Roots.{root_mode, bare_mode, sv39_mode}
+use Rattle.processor.specs.Roots.{root_mode, root_mode_place, root_page_bits, bare_mode, sv39_mode}
 use Rattle.processor.specs.declared.csr.Csr.{Csr}
 use Rattle.processor.specs.declared.mode.Mode.{Mode}
 use Rattle.processor.specs.declared.mode.Mode.TheVariants.{Kernel, User}
@@ -80,15 +80,24 @@ legal_status value = bit_and value status_bits
 abbrev pub uxl : ℕ
 uxl = 2 * 2 ^ 32
 
--- the software, the timer and the external interrupt
+-- the numbers of the software, the timer and the external interrupt, which are their places
+abbrev pub software_place : ℕ
+software_place = 1
+
+abbrev pub timer_place : ℕ
+timer_place = 5
+
+abbrev pub external_place : ℕ
+external_place = 9
+
 abbrev pub software_bit : ℕ
-software_bit = 2 ^ 1
+software_bit = 2 ^ software_place
 
 abbrev pub timer_bit : ℕ
-timer_bit = 2 ^ 5
+timer_bit = 2 ^ timer_place
 
 abbrev pub external_bit : ℕ
-external_bit = 2 ^ 9
+external_bit = 2 ^ external_place
 
 abbrev pub interrupt_bits : ℕ
 interrupt_bits = software_bit + timer_bit + external_bit
@@ -113,7 +122,7 @@ legal_epc value = bit_and value (2 ^ 64 - 2 ^ 2)
 
 -- the modes are Bare and Sv39, there are no ASIDs, and any other mode leaves the register
 abbrev pub satp_bits : ℕ
-satp_bits = 15 * 2 ^ 60 + (2 ^ 44 - 1)
+satp_bits = 15 * 2 ^ root_mode_place + (2 ^ root_page_bits - 1)
 
 abbrev pub is_satp_mode : ℕ → Bool
 is_satp_mode mode = mode == bare_mode || mode == sv39_mode
@@ -167,7 +176,7 @@ write_csr s Csr.Sscratch value = record s { sscratch = value }
 write_csr s Csr.Sepc value = record s { sepc = legal_epc value }
 write_csr s Csr.Scause value = record s { scause = value }
 write_csr s Csr.Stval value = record s { stval = value }
-write_csr s Csr.Sip value = record s { software = bit value 1 }
+write_csr s Csr.Sip value = record s { software = bit value software_place }
 write_csr s Csr.Satp value = record s { satp = legal_satp s.satp value }
 write_csr s Csr.Time value = s
 

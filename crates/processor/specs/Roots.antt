@@ -3,9 +3,15 @@
 -- Address Translation and Protection (hgatp) Register".
 use Rattle.std.specs.Prelude.{◌≡◌, ◌⊎◌, ℕ, ◌/◌, ◌^◌}
 
--- the mode stands in the highest four bits
+-- the mode stands in the highest four bits, and the number of the root's page in the lowest 44
+abbrev pub root_mode_place : ℕ
+root_mode_place = 60
+
+abbrev pub root_page_bits : ℕ
+root_page_bits = 44
+
 abbrev pub root_mode : ℕ → ℕ
-root_mode root = root / 2 ^ 60
+root_mode root = root / 2 ^ root_mode_place
 
 -- every address is left as it is
 abbrev pub bare_mode : ℕ

@@ -5,7 +5,7 @@ use Rattle.std.specs.Prelude.{ℕ, ◌+◌, ◌*◌, ◌/◌, ◌%◌, ◌^◌, 
 use Rattle.processor.specs.Bits.{bit}
 use Rattle.processor.specs.Bytes.{word, in_ram, ram_place, page_size}
 use Rattle.processor.specs.Instructions.{bits}
-use Rattle.processor.specs.Roots.{root_mode, bare_mode}
+use Rattle.processor.specs.Roots.{root_mode, root_page_bits, bare_mode}
 use Rattle.processor.specs.declared.access.Access.{Access}
 use Rattle.processor.specs.declared.access.Access.TheVariants.{Fetch, Load, Store}
 use Rattle.processor.specs.declared.mode.Mode.{Mode}
@@ -112,7 +112,7 @@ permits_access s mode access e = entry_accessed e && right_for s access e && mod
 
 -- the root that satp or hgatp names
 abbrev pub root_of : ℕ → ℕ
-root_of atp = page_size * bits atp 0 44
+root_of atp = page_size * bits atp 0 root_page_bits
 
 -- a first stage over whatever gives its entries
 unfoldable pub first_stage : (ℕ → Option ℕ) → Settings → Mode → ℕ → Access → Destination

@@ -5,7 +5,7 @@
 use Rattle.std.specs.Prelude.{ℕ, ◌+◌, ◌*◌, ◌%◌, ◌^◌, Bool, true, false, ◌&&◌, if◌then◌else◌, bit_or, Option, Some, None}
 use Rattle.processor.specs.Bits.{bit, with_bits}
 use Rattle.processor.specs.Causes.{cause_number}
-use Rattle.processor.specs.Registers.{Supervisor, sie_place, spie_place, spp_place, legal_epc, sip_value}
+use Rattle.processor.specs.Registers.{Supervisor, sie_place, spie_place, spp_place, software_place, timer_place, external_place, legal_epc, sip_value}
 use Rattle.processor.specs.declared.exit.ExitCause.{ExitCause}
 use Rattle.processor.specs.declared.mode.Mode.{Mode}
 use Rattle.processor.specs.declared.mode.Mode.TheVariants.{Kernel, User}
@@ -20,9 +20,9 @@ is_kernel User = false
 -- ---- the cause of a trap
 
 abbrev pub interrupt_number : Interrupt → ℕ
-interrupt_number External = 9
-interrupt_number Software = 1
-interrupt_number Timer = 5
+interrupt_number External = external_place
+interrupt_number Software = software_place
+interrupt_number Timer = timer_place
 
 abbrev pub is_interrupt : ExitCause → Bool
 is_interrupt (ExitCause.Exception cause) = false

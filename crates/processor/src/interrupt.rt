@@ -3,6 +3,13 @@
 ghost use Rattle.std.specs.Prelude.{◌≡◌};
 ghost use Rattle.processor.specs.Traps.{interrupt_number};
 
+/// The places of the interrupts in `sip` and `sie`, which are their numbers.
+pub const SOFTWARE_PLACE: u64 = 1;
+
+pub const TIMER_PLACE: u64 = 5;
+
+pub const EXTERNAL_PLACE: u64 = 9;
+
 /// An interrupt of the guest.
 #[derive(Clone, Copy, PartialEq, Eq, Drop)]
 pub enum Interrupt {
@@ -17,9 +24,9 @@ impl Interrupt {
         ensures { result ≡ interrupt_number self }
     {
         match self {
-            Interrupt::External => 9,
-            Interrupt::Software => 1,
-            Interrupt::Timer => 5,
+            Interrupt::External => EXTERNAL_PLACE,
+            Interrupt::Software => SOFTWARE_PLACE,
+            Interrupt::Timer => TIMER_PLACE,
         }
     }
 }

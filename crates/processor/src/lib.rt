@@ -32,11 +32,11 @@ pub use instruction::{
     AmoOp, BranchOp, CsrOp, EBREAK, ECALL, HyperOp, INSTRUCTION_BYTES, Instr, LoadOp, Op32Op,
     OpImm32Op, OpImmOp, OpOp, SRET, StoreOp, WFI,
 };
-pub use interrupt::Interrupt;
+pub use interrupt::{EXTERNAL_PLACE, Interrupt, SOFTWARE_PLACE, TIMER_PLACE};
 pub use lines::Lines;
 pub use memory::{PAGE_BYTES, PAGE_SIZE, RAM_BASE, RESERVED_BYTES, is_in_ram, page_of, ram_place};
 pub use mode::Mode;
 pub use outcome::{Exception, Outcome, Wrote};
 pub use pte_bits::PteBits;
 pub use registers::{A0, A1, A2, A3, A6, A7, REGISTERS, S0, S1, T0, T1, T2, T3, T4, X0};
-pub use translation::{BARE, Fault, GuestFault, Place, ROOT_MODE_PLACE, SV39};
+pub use translation::{BARE, Fault, GuestFault, Place, ROOT_MODE_PLACE, ROOT_PAGE_BITS, SV39};

@@ -3,6 +3,9 @@
 /// The place of the mode in `satp`, `vsatp` and `hgatp`. Privileged manual, "satp Register" and "hgatp Register".
 pub const ROOT_MODE_PLACE: u32 = 60;
 
+/// The bits of the number of the root's page there, which is that of a page in an entry too.
+pub const ROOT_PAGE_BITS: u32 = 44;
+
 /// The mode of `satp` and `vsatp` in which an address is left as it is.
 pub const BARE: u64 = 0;
 
