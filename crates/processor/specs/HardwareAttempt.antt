@@ -2,6 +2,7 @@
 -- RISC-V Privileged manual, "Supervisor Cause (scause) Register" for the order of exceptions, "Supervisor Instructions",
 -- and H extension: "Trap Cause Codes", "Virtual-Instruction Exceptions"; Unprivileged manual, "Zicsr".
 use Rattle.std.specs.Prelude.{◌≡◌, ℕ, Bool, if◌then◌else◌, Option, Some, None, Result, Ok, Err}
+use Rattle.processor.specs.Bytes.{instruction_size}
 use Rattle.processor.specs.Regions.{Region, host_word, write_host}
 use Rattle.processor.specs.Instructions.{instruction_of}
 use Rattle.processor.specs.Effects.{effect_of, set_register}

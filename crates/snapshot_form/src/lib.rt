@@ -5,6 +5,7 @@
 ghost use Rattle.snapshot_form.specs.SnapshotLaw.{SnapshotLaw};
 
 pub mod note_kind;
+pub mod protection_number;
 mod refusal;
 pub mod verdict_kind;
 mod whole;

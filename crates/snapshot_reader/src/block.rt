@@ -1,18 +1,12 @@
 // The bytes of the block device.
 
-ghost use Rattle.std.specs.Prelude.{◌≡◌, ◌<◌, ◌^◌};
+ghost use Rattle.std.specs.Prelude.{◌≡◌, ◌<◌, ◌==◌, ◌^◌};
 ghost use Rattle.snapshot_reader.specs.Reading.{Gives};
-ghost use Rattle.snapshot_form.specs.DeviceForms.{block, goes_with, has_beats, holds_transfer, standing, status_of, transfer};
+ghost use Rattle.snapshot_form.specs.DeviceForms.{block, busy, goes_with, has_beats, holds_transfer, standing, status_of, transfer};
 
 use crate::values::{in_range, read_number};
 use snapshot_form::SnapRefusal;
 use sv_types::{BEAT_BYTES, BlockCommand, BlockState, BlockStatus, MOST_DISK_BYTES, SECTOR_BYTES};
-
-const BUSY: u64 = 1;
-
-const LAST_STATUS: u64 = 4;
-
-const LAST_COMMAND: u64 = 2;
 
 #[tactic(auto, unfolding(snapshot_form::specs::DeviceForms::block))]
 pub(crate) fn read_block(bytes: &[u8]) -> Result<(BlockState, &[u8]), SnapRefusal>
@@ -79,7 +73,7 @@ fn read_transfer(bytes: &[u8], gpa: u64, count: u64) -> Result<(Transfer, &[u8])
     ensures { Gives (λ x. ((x.0.command, (x.0.status, x.0.done)), x.1.now)) result ((transfer gpa count).taken bytes.now) }
 {
     let (command, rest) = read_number(bytes)?;
-    in_range(command <= LAST_COMMAND)?;
+    in_range(command <= u64::from(BlockCommand::MemoryToDisk.number()))?;
     let (status, rest) = read_number(rest)?;
     in_range(goes_with(gpa, count, command, status))?;
     let (done, rest) = read_number(rest)?;
@@ -94,14 +88,25 @@ fn read_transfer(bytes: &[u8], gpa: u64, count: u64) -> Result<(Transfer, &[u8])
     ))
 }
 
+// The status of a transfer under way has one number, whichever transfer it is.
+fn is_busy(status: u64) -> bool
+    ensures { result ≡ (status == busy) }
+{
+    let busy = BlockStatus::Busy {
+        command: BlockCommand::DiskToMemory,
+        done: 0,
+    };
+    status == u64::from(busy.number())
+}
+
 // A transfer under way has a command that was taken, and beats left; else there is neither.
 fn goes_with(gpa: u64, count: u64, command: u64, status: u64) -> bool
     ensures { result ≡ goes_with gpa count command status }
 {
-    if status == BUSY {
+    if is_busy(status) {
         BlockCommand::of(command).is_some() && 0 < count && gpa % BEAT_BYTES == 0
     } else {
-        status <= LAST_STATUS && command == 0
+        status <= u64::from(BlockStatus::OutOfRange.number()) && command == 0
     }
 }
 
@@ -109,7 +114,7 @@ fn has_beats(count: u64, status: u64, done: u64) -> bool
     requires { count < 2 ^ 32 }
     ensures { result ≡ has_beats count status done }
 {
-    if status == BUSY {
+    if is_busy(status) {
         done < SECTOR_BYTES / BEAT_BYTES * count
     } else {
         done == 0

@@ -8,6 +8,7 @@ ghost use Rattle.snapshot_reader.specs.Views.{pages_parts};
 
 use crate::read_error::ReadError;
 use crate::values::{in_range, read_byte, read_number};
+use snapshot_form::protection_number::{APPROVED, FREE, HELD};
 use snapshot_form::{SnapRefusal, TextPage};
 use std::alloc::Global;
 use sv_types::{DIGEST_BYTES, Protection};
@@ -55,9 +56,9 @@ fn read_protection(bytes: &[u8]) -> Result<(Protection, &[u8]), SnapRefusal>
 {
     let (n, rest) = read_byte(bytes)?;
     match n {
-        0 => Ok((Protection::Free, rest)),
-        1 => Ok((Protection::Held, rest)),
-        2 => Ok((Protection::Approved, rest)),
+        FREE => Ok((Protection::Free, rest)),
+        HELD => Ok((Protection::Held, rest)),
+        APPROVED => Ok((Protection::Approved, rest)),
         _ => Err(SnapRefusal::OutOfRange),
     }
 }

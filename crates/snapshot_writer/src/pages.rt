@@ -7,6 +7,7 @@ ghost use Rattle.snapshot_form.specs.Typed.{is_typed_page};
 
 use crate::values::write_number;
 use snapshot_form::TextPage;
+use snapshot_form::protection_number::{APPROVED, FREE, HELD};
 use std::alloc::AllocError;
 use sv_types::Protection;
 
@@ -36,9 +37,9 @@ fn protection_byte(protection: Protection) -> u8
     ensures { result ≡ protection_number protection }
 {
     match protection {
-        Protection::Free => 0,
-        Protection::Held => 1,
-        Protection::Approved => 2,
+        Protection::Free => FREE,
+        Protection::Held => HELD,
+        Protection::Approved => APPROVED,
     }
 }
 
