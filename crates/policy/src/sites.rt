@@ -86,7 +86,7 @@ fn in_order(before: &[Site], site: Site) -> Result<Site, PolicyFault>
     }
 }
 
-// A field of its five values, each of which is judged by itself.
+// A field of its five values, each of which is judged by itself. They come one by one, as the list's pattern binds them.
 #[tactic(auto, unfolding(crate::specs::Text::site_of_five))]
 fn site_of_five(
     bounds: Bounds,

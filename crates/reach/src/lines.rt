@@ -164,7 +164,8 @@ impl Reach {
         }
     }
 
-    // Keeps where an address was led, with the entries that its first stage reads, if it has one.
+    // Keeps where an address was led, with the entries that its first stage reads, if it has one. It takes what the walk took,
+    // and where that led.
     fn keep_walk(
         &mut self,
         cache: &mut Cache,
