@@ -1,4 +1,4 @@
-// The bytes of the files that tests make: fields, texts and numbered bytes at their places.
+// The fields of the files that tests make.
 
 /// A field of a file: its place, its width in bytes and its value.
 pub(crate) type Field = (u16, u8, u64);
@@ -7,7 +7,7 @@ pub(crate) type Field = (u16, u8, u64);
 pub(crate) const NONE: Field = (0, 0, 0);
 
 // Bytes at a place, as far as they lie in the file.
-pub(crate) fn put_bytes(file: &mut [u8], place: u16, bytes: &[u8]) {
+fn put_bytes(file: &mut [u8], place: u16, bytes: &[u8]) {
     for (i, byte) in bytes.iter().enumerate() {
         if let Some(slot) = file.get_mut(place as usize + i) {
             *slot = *byte;
@@ -15,7 +15,7 @@ pub(crate) fn put_bytes(file: &mut [u8], place: u16, bytes: &[u8]) {
     }
 }
 
-pub(crate) fn put(file: &mut [u8], field: Field) {
+fn put(file: &mut [u8], field: Field) {
     let (place, width, value) = field;
     let bytes = value.to_le_bytes();
     put_bytes(file, place, bytes.get(..width as usize).unwrap_or(&[]));
@@ -24,12 +24,5 @@ pub(crate) fn put(file: &mut [u8], field: Field) {
 pub(crate) fn put_all(file: &mut [u8], fields: &[Field]) {
     for field in fields {
         put(file, *field);
-    }
-}
-
-// Byte i is i mod 251.
-pub(crate) fn number(bytes: &mut [u8]) {
-    for (i, slot) in bytes.iter_mut().enumerate() {
-        *slot = (i % 251) as u8;
     }
 }

@@ -31,10 +31,6 @@ static GUESTS: [(u64, &str, &str); 4] = [
     ),
 ];
 
-fn check_length(rt: &impl Abort, calls: u64, bytes: usize) {
-    assert!(rt; bytes == 8200, "of {calls} calls");
-}
-
 fn check_digest(
     rt: &impl Abort,
     alloc: Global,
@@ -55,7 +51,6 @@ fn check_guest(
     measure: &str,
 ) -> Result<(), AllocError> {
     let (file, policy) = generate(alloc, calls.clamp(1, 1_000_000))?;
-    check_length(rt, calls, file.len());
     check_digest(rt, alloc, calls, page_digest(&file), digest)?;
     check_digest(rt, alloc, calls, policy.kernel, measure)?;
     Ok(())

@@ -1,4 +1,4 @@
-//! Tests of measures, of kernel images and module objects, of what is made of them, and of the generated guest.
+//! Tests of measures, of kernel images and module objects, and of the generated guest.
 #![tactic(auto)]
 
 #[cfg(test)]
@@ -10,10 +10,6 @@ mod images;
 #[cfg(test)]
 mod loading;
 #[cfg(test)]
-mod making;
-#[cfg(test)]
 mod measures;
 #[cfg(test)]
 mod objects;
-#[cfg(test)]
-mod same;
