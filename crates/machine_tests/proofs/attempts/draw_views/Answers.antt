@@ -1,7 +1,7 @@
 use Rattle.std.proofs.Common.{◌≡◌, ℕ, ◌*◌, List, length, ◌∙◌, ap, subst, arith}
 use Rattle.sv_types.specs.Views.{AreViews, protect, all_free}
 use Rattle.sv_types.specs.declared.protection.Protection.TheVariants.{Approved}
-use Rattle.hart_tests.proofs.attempts.draw_views.Goals as goal
+use Rattle.machine_tests.proofs.attempts.draw_views.Goals as goal
 
 pub returns-clause-views : goal.returns-clause-views
 returns-clause-views c =
