@@ -14,7 +14,7 @@ use std::marker::Model;
 
 /// The registers of one hart: those of the virtual supervisor, `scounteren`, the interrupts, and, from `sepc` on, those
 /// that an exit writes. Each holds only bits that may stand in it; bits 33 and 32 of `vsstatus` are kept as 0.
-#[derive(Clone, Copy, PartialEq, Eq, Drop)]
+#[derive(Clone, Copy, Drop)]
 pub struct Csrs {
     pub vsstatus: u64,
     pub vstvec: u64,
