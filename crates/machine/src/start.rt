@@ -193,13 +193,10 @@ fn seat_at_boot(guard: &Guard) -> Seat
 fn first_seat(guard: &Guard, entry: u64) -> Seat
     ensures { host_at result ≡ host_at_boot entry true }
 {
-    let mut hart = Hart::at_boot();
-    hart.core.pc = entry;
-    hart.started = true;
-    Seat {
-        hart,
-        side: Side::at_boot(guard),
-    }
+    let mut seat = seat_at_boot(guard);
+    seat.hart.core.pc = entry;
+    seat.hart.started = true;
+    seat
 }
 
 fn seats_at_boot(
