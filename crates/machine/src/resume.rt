@@ -1,22 +1,27 @@
 // A machine that goes on from a snapshot.
 
-ghost use Rattle.std.specs.Prelude.{◌≡◌, None, IfErr, IfOk, IsTrue, OnOk, true};
+ghost use Rattle.std.specs.Prelude.{◌≡◌, None, IfErr, IfOk, IsTrue, OnOk, true, replicate};
 ghost use Rattle.sv_types.specs.Policies.{rules_of, rules_within};
 ghost use Rattle.reference.specs.Start.{AreWords};
 ghost use Rattle.machine_model.specs.Reaches.{IsNew};
+ghost use Rattle.machine_model.specs.StandsFor.{bound_pages};
 ghost use Rattle.snapshot_form.specs.Snapshots as form;
 ghost use Rattle.standing_laws.specs.Starts.{IsGuarded};
 ghost use Rattle.resumption.specs.Judgements.{resume_refusal};
 ghost use Rattle.resumption.specs.ResumedStates.{resumed_state};
 ghost use Rattle.resumed_start.specs.Resuming.{resumed_machine};
 ghost use Rattle.resumed_parts.specs.Parts.{AreResumed};
+ghost use Rattle.machine.specs.Attempts.{nothing_kept};
 ghost use Rattle.machine.specs.Resumed.{RefusesSnapshot};
 ghost use Rattle.machine.specs.declared.resume.ResumeFailure.TheVariants.{Memory};
 
+use crate::caches::HartCaches;
 use crate::image_start::bound_pages;
 use crate::machine::Machine;
 use crate::parts::Parts;
 use crate::start::Idle;
+use hart::Cpu;
+use quick_turns::Words;
 use resume_laws::law_resumed_sound;
 use resumed_parts::{ResumedParts, resume_parts};
 use resumed_start::law_resumed_start;
@@ -94,19 +99,30 @@ fn judge<R: Threads + Sync>(
     }
 }
 
-// What goes on of a snapshot that isn't refused.
-fn snapshot_parts(
-    alloc: Global,
-    snapshot: Snapshot,
-    policy: &Policy,
-) -> Result<ResumedParts, AllocError>
-    requires within { IsTrue (rules_within (rules_of policy.now)) }
-    requires form { form.snapshot.has (form.contents snapshot) ≡ true }
-    requires accepted { resume_refusal (rules_of policy.now) (form.contents snapshot) ≡ None }
-    ensures { IfOk result (AreResumed (rules_of policy.now) (form.contents snapshot)) }
-{
-    let bound = bound_pages(alloc, policy)?;
-    resume_parts(alloc, snapshot, policy, &bound)
+// What goes on beside the parts of a snapshot: nothing is kept for any hart, and each entry of a policy has its page.
+struct Beside {
+    caches: Vec<HartCaches>,
+    cpu: Cpu,
+    words: Words,
+    bound: Vec<u32>,
+}
+
+impl Beside {
+    fn new(alloc: Global, policy: &Policy) -> Result<Beside, AllocError>
+        requires { IsTrue (rules_within (rules_of policy.now)) }
+        ensures caches { IfOk result (λ beside. beside.caches.items ≡ replicate policy.now.harts nothing_kept) }
+        ensures attempts { IfOk result (λ beside. beside.cpu ≡ 0) }
+        ensures bound { IfOk result (λ beside. beside.bound.items ≡ bound_pages (rules_of policy.now)) }
+    {
+        let bound = bound_pages(alloc, policy)?;
+        let Idle { caches, cpu, words } = Idle::new(alloc, policy.harts)?;
+        Ok(Beside {
+            caches,
+            cpu,
+            words,
+            bound,
+        })
+    }
 }
 
 impl Parts {
@@ -122,7 +138,12 @@ impl Parts {
         ensures made { IfOk result (λ p. p ≡ resumed_machine p.region.tables (rules_of policy) (form.contents snapshot)) }
         ensures guarded { IfOk result IsGuarded }
     {
-        let Idle { caches, cpu, words } = Idle::new(alloc, policy.harts)?;
+        let Beside {
+            caches,
+            cpu,
+            words,
+            bound,
+        } = Beside::new(alloc, &policy)?;
         let ResumedParts {
             mem,
             guard,
@@ -131,7 +152,7 @@ impl Parts {
             modules,
             devices,
             journal,
-        } = snapshot_parts(alloc, snapshot, &policy)?;
+        } = resume_parts(alloc, snapshot, &policy, &bound)?;
         let _tables = mem.table_bytes();
         Ok(Parts {
             policy,
