@@ -1,23 +1,15 @@
 -- The pages that a policy within its limits binds its entries to.
 use Rattle.std.proofs.Common.{◌≡◌, ℕ, zero, suc, ◌^◌, ◌<◌, ◌≤◌, IsTrue, List, [], ◌∷◌, ◌++◌, length, arith, get_or}
-use Rattle.std.specs.Prelude.{Bool, true, false, ◌&&◌, ◌==◌, not, if◌then◌else◌}
-use Rattle.std.specs.List.{list_any}
-use Rattle.std.proofs.lemmas.Bool.{eqb-true, and_parts}
+use Rattle.std.specs.Prelude.{Bool, true, false, ◌==◌, if◌then◌else◌}
+use Rattle.std.proofs.lemmas.Bool.{eqb-true}
 use Rattle.std.proofs.lemmas.Bool.Decides.{nat_tests}
 use Rattle.processor.specs.Bytes.{page_of}
 use Rattle.processor.specs.Regions.{most_ram_pages}
+use Rattle.gstage_tables.specs.Layout.{most_bound}
 use Rattle.sv_types.specs.Policies.{Rules, rules_within, bound_fits, all_bound}
-use Rattle.resumed_parts.proofs.Seated.{bound_rules}
-use Rattle.machine.proofs.ImageStarting.{pages_within}
+use Rattle.sv_types.proofs.PolicyLimits.{bound_rules, few_entries, few_pages, first_bound}
 
 -- ---- what the limits say
-
--- an entry and its address fit, and so do the others
-first_fits : (n : ℕ) (before : List ℕ) (va gpa : ℕ) (entries bound : List ℕ) → all_bound n before (va ∷ entries) (gpa ∷ bound) ≡ true
-    → (bound_fits n va gpa ≡ true) × (all_bound n (before ++ va ∷ []) entries bound ≡ true)
-first_fits n before va gpa entries bound within =
-    let parts = and_parts (bound_fits n va gpa && not (list_any (λ e. e == va) before)) (all_bound n (before ++ va ∷ []) entries bound) within in
-    ((and_parts (bound_fits n va gpa) (not (list_any (λ e. e == va) before)) parts.0).0, parts.1)
 
 small_page : (n va gpa : ℕ) → bound_fits n va gpa ≡ true → n ≤ most_ram_pages → page_of gpa < 2 ^ 32
 small_page n va gpa fits most = grind (arith, nat_tests)
@@ -27,9 +19,9 @@ page_within : (n : ℕ) (before entries bound : List ℕ) (i d : ℕ) → all_bo
 page_within n before [] [] i d within most below = absurd (omega (arith, below))
 page_within n before [] (gpa ∷ bound) i d within most below = absurd (cc)
 page_within n before (va ∷ entries) [] i d within most below = absurd (omega (arith, below))
-page_within n before (va ∷ entries) (gpa ∷ bound) zero d within most below = small_page n va gpa (first_fits n before va gpa entries bound within).0 most
+page_within n before (va ∷ entries) (gpa ∷ bound) zero d within most below = small_page n va gpa (first_bound n before va gpa entries bound within).0 most
 page_within n before (va ∷ entries) (gpa ∷ bound) (suc i) d within most below =
-    page_within n (before ++ va ∷ []) entries bound i d (first_fits n before va gpa entries bound within).1 most (omega (arith, below))
+    page_within n (before ++ va ∷ []) entries bound i d (first_bound n before va gpa entries bound within).1 most (omega (arith, below))
 
 page_by : (rules : Rules) (i d : ℕ) (b : Bool) → IsTrue (if b then length rules.bound == 0 else all_bound rules.ram_pages [] rules.entries rules.bound)
     → rules.ram_pages ≤ most_ram_pages → i < length rules.bound → page_of (get_or rules.bound i d) < 2 ^ 32
@@ -40,4 +32,29 @@ page_by rules i d false each most below = page_within rules.ram_pages [] rules.e
 -- the number of each page is one of 32 bits
 pub page_fits : (rules : Rules) (i d : ℕ) → IsTrue (rules_within rules) → i < length rules.bound → page_of (get_or rules.bound i d) < 2 ^ 32
 page_fits rules i d within below =
-    page_by rules i d (rules.format == 1) (bound_rules rules within) (pages_within rules within) below
+    page_by rules i d (rules.format == 1) (bound_rules rules within) (few_pages rules within) below
+
+-- ---- how many
+
+within_entries : (n : ℕ) (before entries bound : List ℕ) → all_bound n before entries bound ≡ true → length bound ≤ length entries
+within_entries n before [] [] within = omega arith
+within_entries n before [] (gpa ∷ bound) within = absurd cc
+within_entries n before (va ∷ entries) [] within = absurd cc
+within_entries n before (va ∷ entries) (gpa ∷ bound) within =
+    let rest = within_entries n (before ++ va ∷ []) entries bound (first_bound n before va gpa entries bound within).1 in
+    omega (arith, rest)
+
+along_by : (rules : Rules) (b : Bool) → IsTrue (if b then length rules.bound == 0 else all_bound rules.ram_pages [] rules.entries rules.bound)
+    → length rules.bound ≤ length rules.entries
+along_by rules true none = let empty : length rules.bound ≡ 0 = eqb-true (length rules.bound) 0 none in omega (arith, empty)
+along_by rules false each = within_entries rules.ram_pages [] rules.entries rules.bound each
+
+-- no more are bound than there are
+pub bound_along : (rules : Rules) → IsTrue (rules_within rules) → length rules.bound ≤ length rules.entries
+bound_along rules within = along_by rules (rules.format == 1) (bound_rules rules within)
+
+pub bound_few : (rules : Rules) → IsTrue (rules_within rules) → length rules.bound ≤ most_bound
+bound_few rules within =
+    let along = bound_along rules within in
+    let entries = few_entries rules within in
+    omega (arith, along, entries)

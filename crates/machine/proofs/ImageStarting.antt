@@ -53,11 +53,8 @@ image_refused image rules text Memory is refused = refused
 
 -- ---- limits
 
-pub harts_within : (rules : Rules) → IsTrue (rules_within rules) → (1 ≤ rules.harts) × (rules.harts ≤ 4)
-harts_within rules within = grind (arith, nat_tests)
-
-pub pages_within : (rules : Rules) → IsTrue (rules_within rules) → rules.ram_pages ≤ most_ram_pages
-pages_within rules within = grind (arith, nat_tests)
+pub some_hart : (rules : Rules) → IsTrue (rules_within rules) → 1 ≤ rules.harts
+some_hart rules within = grind (arith, nat_tests)
 
 word_at : (entries : List ℕ) (entry : ℕ) → ((i : ℕ) → get_or entries i 0 < 2 ^ 64) → has_number entries entry ≡ true → entry < 2 ^ 64
 word_at [] entry fits there = absurd (cc there)

@@ -3,6 +3,7 @@ use Rattle.std.proofs.Common.{◌≡◌, ℕ, ◌*◌, ◌^◌, ◌≤◌, List,
 use Rattle.std.specs.Prelude.{Option, Some, None, IsTrue, option_map}
 use Rattle.processor.specs.Bytes.{page_size}
 use Rattle.processor.specs.Regions.{Region}
+use Rattle.sv_types.proofs.PolicyLimits.{few_pages}
 use Rattle.sv_types.specs.Policies.{Rules, rules_within}
 use Rattle.sv_types.specs.Views.{with_ram}
 use Rattle.sv_types.specs.declared.protection.Protection.{Protection}
@@ -20,9 +21,7 @@ use Rattle.resumed_parts.specs.Parts.{AreResumed}
 use Rattle.resumed_parts.specs.declared.parts.ResumedParts.{ResumedParts}
 use Rattle.hart_answers.specs.Hosts.{hosts_of}
 use Rattle.module_answers.specs.Parts.{loading_of}
-use Rattle.resumed_start.proofs.SnapHolds.{nothing_printed}
 use Rattle.machine.specs.Machines.{HasAddress, HaveAddresses, IsFit}
-use Rattle.machine.proofs.ImageStarting.{pages_within}
 use Rattle.machine.proofs.NewFit.{unnoted}
 
 -- ---- reservations
@@ -39,9 +38,13 @@ rules_are : (rules : Rules) (s : Contents) → (resumed_state rules s).rules ≡
 unfolding resumed_state
 rules_are rules s = refl
 
+nothing_printed : (rules : Rules) (s : Contents) → (resumed_state rules s).journal.printed ≡ []
+unfolding resumed_state
+nothing_printed rules s = refl
+
 small_ram : (rules : Rules) → IsTrue (rules_within rules) → page_size * rules.ram_pages ≤ 2 ^ 60
 small_ram rules within =
-    let most = pages_within rules within in omega (arith, most)
+    let most = few_pages rules within in omega (arith, most)
 
 pub resumed_journal : (tables : List ℕ) (rules : Rules) (s : Contents) → (resumed_machine tables rules s).journal ≡ (resumed_state rules s).journal
 unfolding resumed_machine

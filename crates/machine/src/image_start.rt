@@ -107,7 +107,7 @@ fn is_permitted(entries: &[u64], entry: u64) -> bool
     entries.contains(&entry)
 }
 
-#[tactic(auto, using(crate::proofs::ImageStarting::image_made, crate::proofs::ImageStarting::harts_within, crate::proofs::ImageStarting::pages_within))]
+#[tactic(auto, using(crate::proofs::ImageStarting::image_made))]
 fn assemble(
     alloc: Global,
     image: &KernelImage,

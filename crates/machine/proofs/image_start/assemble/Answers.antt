@@ -4,8 +4,9 @@ use Rattle.standing_laws.specs.Starts.{machine_at_boot, image_machine}
 use Rattle.elf64_load.specs.Images.{segments_of}
 use Rattle.disk_port.specs.Ports.{port_disk}
 use Rattle.sv_types.specs.Policies.{rules_of}
-use Rattle.resumed_parts.proofs.Accepted.{bound_along, bound_few}
-use Rattle.machine.proofs.ImageStarting.{image_made}
+use Rattle.sv_types.proofs.PolicyLimits.{few_harts, few_pages}
+use Rattle.machine.proofs.BoundPages.{bound_along, bound_few}
+use Rattle.machine.proofs.ImageStarting.{image_made, some_hart}
 use Rattle.machine.proofs.image_start.assemble.Goals as goal
 
 pub returns-clause-made : goal.returns-clause-made
@@ -29,3 +30,12 @@ image_region-requires-clause-bound c =
 pub image_guard-requires-clause-few : goal.image_guard-requires-clause-few
 image_guard-requires-clause-few c =
     let few = bound_few (rules_of c.args.policy) c.requires.within in omega (arith, few, c.in_ok-bound.ensures.number, c.deref.ensures.len)
+
+pub at_boot-requires-clause-one : goal.at_boot-requires-clause-one
+at_boot-requires-clause-one c = some_hart (rules_of c.args.policy) c.requires.within
+
+pub at_boot-requires-clause-four : goal.at_boot-requires-clause-four
+at_boot-requires-clause-four c = few_harts (rules_of c.args.policy) c.requires.within
+
+pub image_region-requires-clause-few : goal.image_region-requires-clause-few
+image_region-requires-clause-few c = few_pages (rules_of c.args.policy) c.requires.within

@@ -1,8 +1,8 @@
 use Rattle.std.proofs.Common.{◌+◌, ◌∙◌, ℕ, ap, arith, sym}
+use Rattle.sv_types.proofs.PolicyLimits.{few_harts}
 use Rattle.sv_types.specs.Policies.{rules_of}
 use Rattle.page_guard.specs.Permitted.{Permitted}
 use Rattle.snapshot_form.specs.Snapshots.{contents}
-use Rattle.machine.proofs.ImageStarting.{harts_within}
 use Rattle.machine.proofs.Resuming.{parts_resumed}
 use Rattle.machine.proofs.Starting.{empty_usable, length_empty}
 use Rattle.machine.proofs.parts.Parts.resume.Goals as goal
@@ -10,7 +10,7 @@ use Rattle.machine.proofs.parts.Parts.resume.Goals as goal
 pub invariant_of-result : goal.invariant_of-result
 invariant_of-result c =
     let k = c.in_ok-mem.ensures in
-    let most = (harts_within (rules_of c.args.policy) c.requires.within).1 in
+    let most = few_harts (rules_of c.args.policy) c.requires.within in
     let number = k.number in
     record {
       entries = sym (ap (λ (e : Permitted). e.entries) k.entries);
