@@ -1,5 +1,5 @@
 -- What the registers of a hart ask, and what its call is answered.
-use Rattle.std.proofs.Common.{◌≡◌, ℕ, ◌<◌, List, length, sym, ◌∙◌, ap, subst}
+use Rattle.std.proofs.Common.{◌≡◌, ℕ, ◌<◌, List, length, vec_len, sym, ◌∙◌, ap, subst}
 use Rattle.std.specs.Prelude.{slice_index_or}
 use Rattle.reference.specs.Calls.{Asked, asked_by}
 use Rattle.reference.specs.ModuleCalls.{answer_of}
@@ -31,3 +31,10 @@ answered_there p h d ask answer now is same below asks made =
     let here : h < length p.seats.items = subst (λ (n : ℕ). h < n) (harts_number p now same) below in
     subst (λ (m : Machine). answer ≡ answer_of (host_facts m) (asked_by (hart_in m.harts h).core.registers)) same
     (made ∙ ap (λ (x : Asked). answer_of (host_facts (machine_of_parts p)) x) (asks ∙ sym (registers_there p.seats.items h d here is)))
+
+-- and a hart that is there has one
+pub seat_below : (p : Inside) (h : ℕ) (now : Machine) → machine_of_parts p ≡ now → h < length now.harts → h < length p.seats.items
+seat_below p h now same below = subst (λ (n : ℕ). h < n) (harts_number p now same) below
+
+pub seat_indexed : (p : Inside) (h : ℕ) (now : Machine) → machine_of_parts p ≡ now → h < length now.harts → h < vec_len p.seats
+seat_indexed p h now same below = subst (λ (n : ℕ). h < n) (sym p.seats.ok.0) (seat_below p h now same below)

@@ -1,5 +1,5 @@
 -- An answer on one hart is the machine's.
-use Rattle.std.proofs.Common.{◌≡◌, ℕ, ◌<◌, true, false, List, length, refl, sym, ◌∙◌, ap, subst}
+use Rattle.std.proofs.Common.{◌≡◌, ℕ, ◌<◌, ◌%◌, true, false, List, length, refl, sym, ◌∙◌, ap, subst}
 use Rattle.std.specs.Prelude.{slice_index_or, slice_set}
 use Rattle.sv_types.specs.Policies.{rules_of}
 use Rattle.processor.specs.declared.exit.Exit.{Exit}
@@ -43,6 +43,12 @@ module _ (p : Inside) (h : ℕ) (old : Seat) (is : old ≡ slice_index_or p.seat
 
   pub below_there : (now : Machine) → whole ≡ now → h < length p.seats.items → h < length now.harts
   below_there now same below = subst (λ (m : Machine). h < length m.harts) same (subst (λ (n : ℕ). h < n) (sym (hosts_length p.seats.items)) below)
+
+  -- it stands at an instruction's address
+  pub aligned_there : (now : Machine) → whole ≡ now → h < length now.harts → (hart_in now.harts h).core.pc % 4 ≡ 0 → old.hart.core.pc % 4 ≡ 0
+  aligned_there now same below aligned =
+      subst (λ (host : HostHart). host.core.pc % 4 ≡ 0) (sym (mine (subst (λ (m : Machine). h < length m.harts) (sym same) below)))
+      (subst (λ (m : Machine). (hart_in m.harts h).core.pc % 4 ≡ 0) (sym same) aligned)
 
   -- it makes an attempt
   pub attempts_there : (now : Machine) → whole ≡ now → h < length p.seats.items → old.hart.started ≡ true → is_loading now.loading h ≡ false → Attempts now h

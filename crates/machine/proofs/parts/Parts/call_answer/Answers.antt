@@ -2,7 +2,7 @@ use Rattle.std.proofs.Common.{length, sym, ◌∙◌, subst}
 use Rattle.call_answers.specs.Known.{StartsOneOf}
 use Rattle.machine_model.specs.HostCalls.{host_facts}
 use Rattle.reference.specs.declared.answers.Answer.{Answer}
-use Rattle.machine.proofs.Called.{answered_there}
+use Rattle.machine.proofs.Called.{answered_there, seat_indexed}
 use Rattle.machine.specs.Parts.{machine_of_parts}
 use Rattle.machine.proofs.parts.Parts.call_answer.Goals as goal
 
@@ -18,3 +18,6 @@ returns-then-is_about_modules-clause-starts c =
     let facts = host_facts (machine_of_parts c.self.inside) in
     subst (λ (answer : Answer). StartsOneOf (length c.args.self.now.harts) answer.beside) (sym (c.module_answer.ensures facts.started facts.input))
     (c.law_starts.ensures.calls facts c.by-asked.result (length c.args.self.now.harts))
+
+pub index-requires : goal.index-requires
+index-requires c = seat_indexed c.self.inside c.args.which c.args.self.now c.self.view_is c.requires.there

@@ -1,4 +1,5 @@
 use Rattle.sv_types.specs.Policies.{rules_of}
+use Rattle.machine.proofs.Called.{seat_indexed}
 use Rattle.machine.proofs.Seated.{possible_there, seen_there}
 use Rattle.machine.proofs.parts.Parts.exit_answer.Goals as goal
 
@@ -11,3 +12,6 @@ pub returns-clause-possible : goal.returns-clause-possible
 returns-clause-possible c =
     possible_there c.self.inside c.args.which c.index.result.now c.index.ensures c.exit_answer.result c.args.self.now c.self.view_is
     c.requires.hart.there c.exit_answer.ensures.possible
+
+pub index-requires : goal.index-requires
+index-requires c = seat_indexed c.self.inside c.args.which c.args.self.now c.self.view_is c.requires.hart.there

@@ -1,12 +1,16 @@
-use Rattle.std.proofs.Common.{ℕ, ◌≤◌, List, length, sym, ◌∙◌, ap, subst}
+use Rattle.std.proofs.Common.{ℕ, ◌<◌, ◌≤◌, IsTrue, List, length, sym, ◌∙◌, ap, subst}
 use Rattle.std.proofs.lemmas.List.{with_items_is}
 use Rattle.call_answers.specs.Known.{StartsOneOf}
 use Rattle.hart_answers.specs.Hosts.{hosts_of}
 use Rattle.hart_answers.specs.declared.seats.Seat.{Seat}
 use Rattle.machine_model.specs.HostCalls.{host_given, host_replied, hosts_beside}
-use Rattle.machine_model.specs.Machine.{update}
+use Rattle.machine_model.specs.Machine.{Machine, update}
 use Rattle.machine_model.specs.Steps.{WithTables}
-use Rattle.machine.proofs.Called.{harts_number}
+use Rattle.module_answers.specs.Conditions.{AreGuarded}
+use Rattle.reference.specs.Counting.{MayCount}
+use Rattle.sv_types.specs.Limits.{most_printed}
+use Rattle.sv_types.specs.Policies.{rules_within}
+use Rattle.machine.proofs.Called.{harts_number, seat_below}
 use Rattle.machine.proofs.Emptied.{usable_after}
 use Rattle.machine.proofs.Given.{given_in, gives, left_parts}
 use Rattle.machine.specs.Attempts.{AreUsable}
@@ -55,3 +59,30 @@ returns c =
     (c.give.ensures.hosts ∙ ap (λ (seats : List Seat). hosts_beside answer.beside (update (hosts_of seats) c.args.which (host_replied answer.reply))) c.deref_mut.ensures.value)
     c.give.ensures.devices c.give.ensures.journal (pages.ensures.machine (machine_of_parts c.self.inside))
     c.self.invariant.theirs pages.ensures.theirs c.self.invariant.pages c.self.invariant.places)
+
+pub give-requires-clause-there : goal.give-requires-clause-there
+give-requires-clause-there c =
+    subst (λ (seats : List Seat). c.args.which < length seats) (sym c.deref_mut.ensures.value)
+    (seat_below c.self.inside c.args.which c.args.self.now c.self.view_is c.requires.there)
+
+pub give-requires-clause-few : goal.give-requires-clause-few
+give-requires-clause-few c = subst (λ (seats : List Seat). length seats ≤ 4) (sym c.deref_mut.ensures.value) c.self.invariant.few
+
+pub give-requires-clause-room : goal.give-requires-clause-room
+give-requires-clause-room c = subst (λ (m : Machine). length m.journal.printed < most_printed) (sym c.self.view_is) c.requires.may.room
+
+pub give-requires-clause-counts : goal.give-requires-clause-counts
+give-requires-clause-counts c = subst (λ (m : Machine). MayCount m.journal.counts) (sym c.self.view_is) c.requires.may.counts
+
+pub give_pages-changed-requires-clause-within : goal.give_pages-changed-requires-clause-within
+give_pages-changed-requires-clause-within c = subst (λ (m : Machine). IsTrue (rules_within m.rules)) (sym c.self.view_is) c.requires.may.guarded.within
+
+pub give_pages-changed-requires-clause-theirs : goal.give_pages-changed-requires-clause-theirs
+give_pages-changed-requires-clause-theirs c = c.self.invariant.theirs
+
+pub give_pages-changed-requires-clause-joined : goal.give_pages-changed-requires-clause-joined
+give_pages-changed-requires-clause-joined c = c.self.invariant.modules
+
+pub give_pages-changed-requires-clause-guarded : goal.give_pages-changed-requires-clause-guarded
+give_pages-changed-requires-clause-guarded c =
+    subst (λ (m : Machine). AreGuarded m.rules m.protections m.loaded m.loading) (sym c.self.view_is) c.requires.may.guarded.modules

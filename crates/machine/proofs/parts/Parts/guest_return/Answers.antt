@@ -1,5 +1,7 @@
+use Rattle.std.proofs.Common.{ℕ, ◌≤◌, ◌∙◌, sym, subst, length-set}
 use Rattle.machine_model.specs.HostExits.{host_exit_answered}
 use Rattle.machine_model.specs.declared.exits.ExitAnswer.TheVariants.{Returns}
+use Rattle.machine.proofs.Called.{seat_indexed}
 use Rattle.machine.proofs.Seated.{answers}
 use Rattle.machine.specs.Parts.{machine_of_parts}
 use Rattle.machine.proofs.parts.Parts.guest_return.Goals as goal
@@ -12,3 +14,21 @@ returns c =
     c.guest_return.new.seat c.self.inside.devices c.guest_return.new.journal c.args.self.now c.self.view_is c.requires.there c.self.invariant.theirs
     c.self.invariant.pages c.self.invariant.places
     (c.guest_return.ensures.machine (machine_of_parts c.self.inside) c.args.which)
+
+pub index_mut-seat-requires : goal.index_mut-seat-requires
+index_mut-seat-requires c = seat_indexed c.self.inside c.args.which c.args.self.now c.self.view_is c.requires.there
+
+pub invariant_of-self : goal.invariant_of-self
+invariant_of-self c =
+    let number = length-set c.self.inside.seats.items c.args.which c.guest_return.new.seat in
+    record {
+      entries = c.self.invariant.entries;
+      bound = c.self.invariant.bound;
+      places = c.self.invariant.places;
+      few = subst (λ (n : ℕ). n ≤ 4) (sym number) c.self.invariant.few;
+      caches = c.self.invariant.caches ∙ sym number;
+      theirs = c.self.invariant.theirs;
+      usable = c.self.invariant.usable;
+      pages = c.self.invariant.pages;
+      modules = c.self.invariant.modules;
+    }

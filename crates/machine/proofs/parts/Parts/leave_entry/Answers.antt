@@ -1,8 +1,9 @@
-use Rattle.std.proofs.Common.{length, ap, ◌∙◌}
+use Rattle.std.proofs.Common.{length, ap, ◌∙◌, ℕ, ◌≤◌, sym, subst, length-set}
 use Rattle.machine_model.specs.HostExits.{host_exit_answered}
 use Rattle.machine_model.specs.HostHarts.{host_outside}
 use Rattle.machine_model.specs.Machine.{Machine}
 use Rattle.machine_model.specs.declared.exits.ExitAnswer.TheVariants.{LeavesEntry}
+use Rattle.machine.proofs.Called.{seat_indexed}
 use Rattle.machine.proofs.Seated.{answers, leaves}
 use Rattle.machine.proofs.Turns.{length_update}
 use Rattle.machine.specs.Parts.{machine_of_parts}
@@ -28,3 +29,21 @@ returns-clause-number c =
     (leaves c.self.inside c.args.which c.index_mut-seat.result.now c.index_mut-seat.ensures.value c.leave_entry.new.seat c.args.self.now c.self.view_is
     (c.leave_entry.ensures.machine (machine_of_parts c.self.inside) c.args.which c.self.inside.journal))
     ∙ length_update c.args.self.now.harts c.args.which host_outside
+
+pub index_mut-seat-requires : goal.index_mut-seat-requires
+index_mut-seat-requires c = seat_indexed c.self.inside c.args.which c.args.self.now c.self.view_is c.requires.there
+
+pub invariant_of-self : goal.invariant_of-self
+invariant_of-self c =
+    let number = length-set c.self.inside.seats.items c.args.which c.leave_entry.new.seat in
+    record {
+      entries = c.self.invariant.entries;
+      bound = c.self.invariant.bound;
+      places = c.self.invariant.places;
+      few = subst (λ (n : ℕ). n ≤ 4) (sym number) c.self.invariant.few;
+      caches = c.self.invariant.caches ∙ sym number;
+      theirs = c.self.invariant.theirs;
+      usable = c.self.invariant.usable;
+      pages = c.self.invariant.pages;
+      modules = c.self.invariant.modules;
+    }

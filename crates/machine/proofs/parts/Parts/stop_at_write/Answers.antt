@@ -1,5 +1,6 @@
 use Rattle.machine_model.specs.HostExits.{host_exit_answered}
 use Rattle.machine_model.specs.declared.exits.ExitAnswer.TheVariants.{StopsAtWrite}
+use Rattle.machine.proofs.Called.{seat_indexed}
 use Rattle.machine.proofs.Seated.{journal_answers}
 use Rattle.machine.specs.Parts.{machine_of_parts}
 use Rattle.machine.proofs.parts.Parts.stop_at_write.Goals as goal
@@ -11,3 +12,6 @@ returns c =
     (λ m host mode. host_exit_answered m c.args.which host mode (StopsAtWrite c.args.gpa))
     c.stop_at_write.new.journal c.args.self.now c.self.view_is c.requires.there c.self.invariant.theirs c.self.invariant.pages c.self.invariant.places
     (c.stop_at_write.ensures.machine (machine_of_parts c.self.inside))
+
+pub index-requires : goal.index-requires
+index-requires c = seat_indexed c.self.inside c.args.which c.args.self.now c.self.view_is c.requires.there
