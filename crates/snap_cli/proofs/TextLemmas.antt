@@ -9,7 +9,7 @@ use Rattle.reference.specs.Soundness.{IsSound}
 use Rattle.reference.specs.States.{State, protection}
 use Rattle.saved_machine.specs.SavedStates.{IsSaved}
 use Rattle.saved_machine.specs.declared.whole.Saved.{Saved}
-use Rattle.machine.proofs.ImageStarting.{pages_within}
+use Rattle.sv_types.proofs.PolicyLimits.{few_pages}
 
 numbers_count : (first n : ℕ) → length (numbers_from first n) ≡ n
 numbers_count first zero = refl
@@ -25,4 +25,4 @@ ram_saved r s sound saved =
     ap (λ (bytes : List ℕ). length bytes) saved.ram ∙ sound.size ∙ ap (λ (n : ℕ). page_size * n) (sym (pages_saved r s saved))
 
 pub few_saved : (r : State) (s : Saved) → IsSound r → IsSaved r s → length s.protection.items ≤ most_ram_pages
-few_saved r s sound saved = subst (λ (n : ℕ). n ≤ most_ram_pages) (sym (pages_saved r s saved)) (pages_within r.rules sound.within)
+few_saved r s sound saved = subst (λ (n : ℕ). n ≤ most_ram_pages) (sym (pages_saved r s saved)) (few_pages r.rules sound.within)
