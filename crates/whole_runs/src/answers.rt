@@ -1,140 +1,58 @@
-// Calls of the program by their first word, over files that may be asked for any name and save under any.
-ghost use Rattle.std.specs.Prelude.{◌<◌, ◌-◌, ◌^◌, ℕ, List, IsTrue};
+// Calls of the program by their first word, over files and a sink in memory.
+ghost use Rattle.std.specs.Prelude.{◌<◌, ◌-◌, ◌^◌};
 
 use crate::memory::Answer;
-use outside::{Files, Sink};
+use outside::{MemFiles, MemSink};
 use resume_cli::secvisor_resume;
-use secvisor_cli::{Bench, secvisor};
+use secvisor_cli::{Bench, Status, secvisor};
 use show_cli::secvisor_show;
 use snap_cli::secvisor_snap;
 use std::alloc::Global;
 use std::thread::Threads;
 
 /// What the call with these words answers.
-pub fn answer<R: Threads + Sync, F: Files, O: Sink>(
+pub fn answer<R: Threads + Sync>(
     rt: &R,
     alloc: Global,
     line: &[String],
-    files: &mut F,
-    out: &mut O,
+    files: &mut MemFiles,
+    out: &mut MemSink,
 ) -> Answer
-    requires names { (asked : List (List ℕ × ℕ)) → IsTrue ((F.state files.old).permits asked) }
-    requires saving { (saves : List (List ℕ × List ℕ)) → IsTrue ((F.state files.old).permits_save saves) }
-    requires is_open { IsTrue (O.state out.old).is_open }
-    requires reads { (F.state files.old).read_faults < 2 ^ 64 - 1 }
-    requires saves { (F.state files.old).save_faults < 2 ^ 64 - 1 }
-    requires writes { (O.state out.old).faults < 2 ^ 64 - 1 }
+    requires reads { files.old.read_faults < 2 ^ 64 - 1 }
+    requires saves { files.old.save_faults < 2 ^ 64 - 1 }
+    requires writes { out.old.faults < 2 ^ 64 - 1 }
 {
-    match command_of(line) {
-        Command::Snap => answer_snap(rt, alloc, line, files, out),
-        Command::Resume => answer_resume(rt, alloc, line, files, out),
-        Command::Show => answer_show(alloc, line, files, out),
-        Command::Other => answer_other(rt, alloc, line, files, out),
+    let mut bench = Bench { machine: None };
+    let status = status(rt, alloc, line, files, out, &mut bench);
+    Answer {
+        status,
+        is_booted: bench.machine.is_some(),
     }
 }
 
-// Which of the program's calls answers.
-#[derive(Clone, Copy)]
-enum Command {
-    Snap,
-    Resume,
-    Show,
-    Other,
+fn status<R: Threads + Sync>(
+    rt: &R,
+    alloc: Global,
+    line: &[String],
+    files: &mut MemFiles,
+    out: &mut MemSink,
+    bench: &mut Bench,
+) -> Status
+    requires reads { files.old.read_faults < 2 ^ 64 - 1 }
+    requires saves { files.old.save_faults < 2 ^ 64 - 1 }
+    requires writes { out.old.faults < 2 ^ 64 - 1 }
+{
+    match first(line) {
+        "snap" => secvisor_snap(rt, alloc, line, files, out, bench),
+        "resume" => secvisor_resume(rt, alloc, line, files, out, bench),
+        "show" => secvisor_show(alloc, line, files, out),
+        _ => secvisor(rt, alloc, line, files, out, bench),
+    }
 }
 
-fn command_of(line: &[String]) -> Command {
-    let name = match line {
+fn first(line: &[String]) -> &str {
+    match line {
         [name, ..] => name.as_str(),
         [] => "",
-    };
-    match name {
-        "snap" => Command::Snap,
-        "resume" => Command::Resume,
-        "show" => Command::Show,
-        _ => Command::Other,
-    }
-}
-
-fn answer_snap<R: Threads + Sync, F: Files, O: Sink>(
-    rt: &R,
-    alloc: Global,
-    line: &[String],
-    files: &mut F,
-    out: &mut O,
-) -> Answer
-    requires names { (asked : List (List ℕ × ℕ)) → IsTrue ((F.state files.old).permits asked) }
-    requires saving { (saves : List (List ℕ × List ℕ)) → IsTrue ((F.state files.old).permits_save saves) }
-    requires is_open { IsTrue (O.state out.old).is_open }
-    requires reads { (F.state files.old).read_faults < 2 ^ 64 - 1 }
-    requires saves { (F.state files.old).save_faults < 2 ^ 64 - 1 }
-    requires writes { (O.state out.old).faults < 2 ^ 64 - 1 }
-{
-    let mut bench = Bench { machine: None };
-    let status = secvisor_snap(rt, alloc, line, files, out, &mut bench);
-    Answer {
-        status,
-        is_booted: bench.machine.is_some(),
-    }
-}
-
-fn answer_resume<R: Threads + Sync, F: Files, O: Sink>(
-    rt: &R,
-    alloc: Global,
-    line: &[String],
-    files: &mut F,
-    out: &mut O,
-) -> Answer
-    requires names { (asked : List (List ℕ × ℕ)) → IsTrue ((F.state files.old).permits asked) }
-    requires saving { (saves : List (List ℕ × List ℕ)) → IsTrue ((F.state files.old).permits_save saves) }
-    requires is_open { IsTrue (O.state out.old).is_open }
-    requires reads { (F.state files.old).read_faults < 2 ^ 64 - 1 }
-    requires saves { (F.state files.old).save_faults < 2 ^ 64 - 1 }
-    requires writes { (O.state out.old).faults < 2 ^ 64 - 1 }
-{
-    let mut bench = Bench { machine: None };
-    let status = secvisor_resume(rt, alloc, line, files, out, &mut bench);
-    Answer {
-        status,
-        is_booted: bench.machine.is_some(),
-    }
-}
-
-fn answer_show<F: Files, O: Sink>(
-    alloc: Global,
-    line: &[String],
-    files: &mut F,
-    out: &mut O,
-) -> Answer
-    requires names { (asked : List (List ℕ × ℕ)) → IsTrue ((F.state files.old).permits asked) }
-    requires is_open { IsTrue (O.state out.old).is_open }
-    requires reads { (F.state files.old).read_faults < 2 ^ 64 - 1 }
-    requires writes { (O.state out.old).faults < 2 ^ 64 - 1 }
-{
-    Answer {
-        status: secvisor_show(alloc, line, files, out),
-        is_booted: false,
-    }
-}
-
-// Any call but those.
-fn answer_other<R: Threads + Sync, F: Files, O: Sink>(
-    rt: &R,
-    alloc: Global,
-    line: &[String],
-    files: &mut F,
-    out: &mut O,
-) -> Answer
-    requires names { (asked : List (List ℕ × ℕ)) → IsTrue ((F.state files.old).permits asked) }
-    requires saving { (saves : List (List ℕ × List ℕ)) → IsTrue ((F.state files.old).permits_save saves) }
-    requires is_open { IsTrue (O.state out.old).is_open }
-    requires reads { (F.state files.old).read_faults < 2 ^ 64 - 1 }
-    requires saves { (F.state files.old).save_faults < 2 ^ 64 - 1 }
-    requires writes { (O.state out.old).faults < 2 ^ 64 - 1 }
-{
-    let mut bench = Bench { machine: None };
-    let status = secvisor(rt, alloc, line, files, out, &mut bench);
-    Answer {
-        status,
-        is_booted: bench.machine.is_some(),
     }
 }

@@ -2,7 +2,8 @@
 
 use crate::answers::answer;
 use crate::case::Case;
-use crate::memory::{GOOD, Left, Outside, PRINTED_ROOM, hold, left_behind, line_of};
+use crate::memory::{GOOD, Left, Outside, PRINTED_ROOM, hold, left_behind};
+use crate::values::line_of;
 use outside::MemSink;
 use remarks::{MostBytes, remark};
 use secvisor_cli::{
@@ -15,19 +16,10 @@ use std::io;
 use std::io::Write;
 use std::thread::Threads;
 
-// A word, in which `{empty}` is no letter.
-fn spelled(word: &str) -> &str {
-    if word == "{empty}" { "" } else { word }
-}
-
 /// The words of a call. In them `{measure}` is the measure.
 pub fn line(alloc: Global, case: &Case, words: &str) -> Result<Vec<String>, AllocError> {
     let words = words.replace(alloc, "{measure}", case.measure.as_str())?;
-    let mut line: Vec<&str> = Vec::new(alloc);
-    for word in words.as_str().split_whitespace() {
-        line.push(spelled(word))?;
-    }
-    line_of(alloc, &line)
+    line_of(alloc, words.as_str())
 }
 
 /// Makes the call with these words.
@@ -165,9 +157,6 @@ pub fn print<R: Threads + Sync + AllocGlobal + Print>(
     }
 }
 
-// How many bytes a sink takes at a time, beside all.
-static PIECES: [usize; 2] = [1, 7];
-
 /// Makes a call, prints its status and all that it prints, and says where that is other where the sink takes little at a time.
 pub fn print_pieces<R: Threads + Sync + AllocGlobal + Print>(
     rt: &R,
@@ -177,25 +166,24 @@ pub fn print_pieces<R: Threads + Sync + AllocGlobal + Print>(
     let whole = made(rt, case, words)?;
     print_lines(rt, &whole.taken)?;
     let line = line(rt.alloc(), case, words)?;
-    for piece in &PIECES {
-        if !is_same_in(rt, rt.alloc(), case, &line, *piece, &whole)? {
-            println!(rt; "other bytes in pieces of {piece}")?;
-        }
-    }
-    Ok(())
+    compare(rt, case, &line, 1, &whole)?;
+    compare(rt, case, &line, 7, &whole)
 }
 
-// The call prints the same where the sink takes so many bytes at a time.
-fn is_same_in<R: Threads + Sync>(
+// Says where the call prints something else if the sink takes so many bytes at a time.
+fn compare<R: Threads + Sync + AllocGlobal + Print>(
     rt: &R,
-    alloc: Global,
     case: &Case,
     line: &[String],
     piece: usize,
     whole: &Left,
-) -> Result<bool, AllocError> {
-    let left = called(rt, alloc, case, line, Outside { piece, ..GOOD })?;
-    Ok(is_same(&left, whole))
+) -> io::Result<()> {
+    let left = called(rt, rt.alloc(), case, line, Outside { piece, ..GOOD })?;
+    if is_same(&left, whole) {
+        Ok(())
+    } else {
+        println!(rt; "other bytes in pieces of {piece}")
+    }
 }
 
 /// Two calls end and print the same.
@@ -213,27 +201,36 @@ pub fn print_writes<R: Threads + Sync + AllocGlobal + Print>(
     let whole = made(rt, case, words)?;
     let line = line(rt.alloc(), case, words)?;
     for before in 0..whole.taken.len() {
-        if !stops_behind(rt, rt.alloc(), case, &line, &whole.taken[..before])? {
-            println!(rt; "goes on behind {before} bytes")?;
-        }
+        stop_behind(rt, case, &line, &whole.taken[..before])?;
     }
     Ok(())
 }
 
-// The call ends where the write behind these bytes fails.
-fn stops_behind<R: Threads + Sync>(
+// Says where the call goes on when the write behind these bytes fails.
+fn stop_behind<R: Threads + Sync + AllocGlobal + Print>(
     rt: &R,
-    alloc: Global,
     case: &Case,
     line: &[String],
     before: &[u8],
-) -> Result<bool, AllocError> {
+) -> io::Result<()> {
+    let count = before.len();
     let outside = Outside {
-        failing_write: (before.len() as u64).saturating_add(1),
+        failing_write: (count as u64).saturating_add(1),
         piece: 1,
         ..GOOD
     };
-    let left = called(rt, alloc, case, line, outside)?;
-    let is_kept = left.taken.as_slice() == before && left.is_booted && left.saved.is_none();
-    Ok(is_kept && left.status == Status::WriteFault)
+    let left = called(rt, rt.alloc(), case, line, outside)?;
+    if has_stopped(&left, before) {
+        Ok(())
+    } else {
+        println!(rt; "goes on behind {count} bytes")
+    }
+}
+
+// The call has ended with a write that failed behind these bytes.
+fn has_stopped(left: &Left, before: &[u8]) -> bool {
+    left.status == Status::WriteFault
+        && left.taken.as_slice() == before
+        && left.is_booted
+        && left.saved.is_none()
 }

@@ -4,6 +4,7 @@
 use crate::answers::answer;
 use crate::folder::hold_named;
 use crate::memory::Answer;
+use crate::values::line_of;
 use outside::{MemFiles, MemSink};
 use std::io::Write;
 use std::rt::Files;
@@ -82,10 +83,7 @@ fn called<R: Threads + Sync + Files + AllocGlobal>(
     name: &str,
     words: &str,
 ) -> io::Result<Left> {
-    let mut line = Vec::new(rt.alloc());
-    for word in words.split_whitespace() {
-        line.push(String::from_str(rt.alloc(), word)?)?;
-    }
+    let line = line_of(rt.alloc(), words)?;
     call(rt, &line, name)
 }
 

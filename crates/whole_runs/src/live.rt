@@ -1,5 +1,5 @@
 // Live runs, whose keys a second thread reads.
-ghost use Rattle.std.specs.Prelude.{◌≡◌, ◌<◌, ◌-◌, ◌^◌, ℕ, List, IfOk, IsTrue};
+ghost use Rattle.std.specs.Prelude.{◌≡◌, ◌<◌, ◌-◌, ◌^◌, IfOk};
 
 use crate::calls::{called, is_same, line, print_lines, tell};
 use crate::case::Case;
@@ -7,7 +7,7 @@ use crate::memory::{Answer, GOOD, Left, PRINTED_ROOM, hold, left_behind};
 use crate::values::{first_word, number};
 use live_cli::secvisor_live;
 use live_keys::{Keys, MemKeys, Pace, Still};
-use outside::{Failed, Files, MemSink, Sink};
+use outside::{Failed, MemFiles, MemSink};
 use secvisor_cli::Bench;
 use std::alloc::{AllocError, Global};
 use std::io;
@@ -15,24 +15,20 @@ use std::sync::Wait;
 use std::sync::atomic::{AtomicU64, Ordering};
 use std::thread::Threads;
 
-// The call with these words, over files that may be asked for any name and save under any. Each parameter is a thing of its
-// own outside of the program.
-fn answer_live<R: Threads + Wait + Sync, F: Files, K: Keys + Send, O: Sink + Send, P: Pace + Sync>(
+// The call with these words. Each parameter is a thing of its own outside of the program.
+fn answer_live<R: Threads + Wait + Sync, K: Keys + Send, P: Pace + Sync>(
     rt: &R,
     alloc: Global,
     line: &[String],
-    files: &mut F,
+    files: &mut MemFiles,
     keys: &mut K,
-    out: &mut O,
+    out: &mut MemSink,
     pace: &P,
 ) -> Answer
-    requires names { (asked : List (List ℕ × ℕ)) → IsTrue ((F.state files.old).permits asked) }
-    requires saving { (saves : List (List ℕ × List ℕ)) → IsTrue ((F.state files.old).permits_save saves) }
-    requires is_open { IsTrue (O.state out.old).is_open }
-    requires reads { (F.state files.old).read_faults < 2 ^ 64 - 1 }
-    requires saves { (F.state files.old).save_faults < 2 ^ 64 - 1 }
+    requires reads { files.old.read_faults < 2 ^ 64 - 1 }
+    requires saves { files.old.save_faults < 2 ^ 64 - 1 }
     requires keys { (K.state keys.old).faults < 2 ^ 64 - 1 }
-    requires writes { (O.state out.old).faults < 2 ^ 64 - 1 }
+    requires writes { out.old.faults < 2 ^ 64 - 1 }
 {
     let mut bench = Bench { machine: None };
     let status = secvisor_live(rt, alloc, line, files, keys, out, pace, &mut bench);

@@ -90,15 +90,6 @@ pub fn hold(alloc: Global, handed: &Handed, outside: Outside) -> Result<MemFiles
     Ok(files)
 }
 
-/// The words of a call.
-pub fn line_of(alloc: Global, words: &[&str]) -> Result<Vec<String>, AllocError> {
-    let mut line = Vec::new(alloc);
-    for word in words {
-        line.push(String::from_str(alloc, word)?)?;
-    }
-    Ok(line)
-}
-
 /// What is left of a call in its files and its sink.
 pub fn left_behind(
     alloc: Global,

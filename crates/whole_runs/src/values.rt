@@ -1,5 +1,6 @@
-// Numbers in the words of an order.
+// Words: numbers in those of an order, and those of a call.
 
+use std::alloc::{AllocError, Global};
 use text_numbers::{address_of, number_within};
 
 /// The number that a word writes, in decimal digits or in hexadecimal ones behind `0x`; 0 where it writes none.
@@ -13,4 +14,13 @@ pub fn number(word: &str) -> u64 {
 /// The first word of a line, and what stands behind it.
 pub fn first_word(line: &str) -> (&str, &str) {
     line.split_once(' ').unwrap_or((line, ""))
+}
+
+/// The words of a call. In them `{empty}` is no letter.
+pub fn line_of(alloc: Global, words: &str) -> Result<Vec<String>, AllocError> {
+    let mut line = Vec::new(alloc);
+    for word in words.split_whitespace() {
+        line.push(word.replace(alloc, "{empty}", "")?)?;
+    }
+    Ok(line)
 }

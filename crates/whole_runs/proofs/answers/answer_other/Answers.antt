@@ -1,5 +1,0 @@
-use Rattle.secvisor_cli.proofs.TopLemmas.{words_follow}
-use Rattle.whole_runs.proofs.answers.answer_other.Goals as goal
-
-pub secvisor-status-requires-clause-permitted : goal.secvisor-status-requires-clause-permitted
-secvisor-status-requires-clause-permitted g c = λ κs lives. words_follow _ _ c.requires.names c.requires.saving
