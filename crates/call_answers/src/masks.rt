@@ -3,8 +3,9 @@
 ghost use Rattle.std.specs.Prelude.{◌≡◌, ◌<◌};
 ghost use Rattle.reference.specs.Calls.{mask_exists};
 ghost use Rattle.call_answers.specs.Masks.{all_exist, exists_one};
+ghost use Rattle.reference.specs.SbiFunctions.{mask_width};
 
-use hart_answers::ALL_HARTS;
+use hart_answers::{ALL_HARTS, MASK_WIDTH};
 use processor::has_bit;
 
 /// Whether each hart that a mask and a base name exists.
@@ -18,9 +19,9 @@ pub fn mask_exists(harts: u64, mask: u64, base: u64) -> bool
 // Each hart that a bit names exists.
 #[tactic(auto, using(crate::proofs::Bits::next_exists, crate::proofs::Bits::none_exists, crate::proofs::Bits::none_left))]
 fn each_exists(harts: u64, mask: u64, base: u64) -> bool
-    ensures { result ≡ all_exist harts mask base 0 64 }
+    ensures { result ≡ all_exist harts mask base 0 mask_width }
 {
-    'bits: for i in 0..64u8 {
+    'bits: for i in 0..MASK_WIDTH {
         if !exists_one(harts, mask, base, i) {
             return false;
         }
@@ -30,7 +31,7 @@ fn each_exists(harts: u64, mask: u64, base: u64) -> bool
 
 // The hart that a bit names exists, or the bit names none.
 fn exists_one(harts: u64, mask: u64, base: u64, i: u8) -> bool
-    requires { i < 64 }
+    requires { i < mask_width }
     ensures { result ≡ exists_one harts mask base i }
 {
     !has_bit(mask, i) || base < harts && u64::from(i) < harts - base

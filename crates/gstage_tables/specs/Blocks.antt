@@ -3,10 +3,11 @@
 use Rattle.std.specs.Prelude.{◌≡◌, ℕ, zero, suc, ◌+◌, ◌-◌, ◌*◌, ◌≤◌, min, Bool, true, false, ◌&&◌, ◌==◌, if◌then◌else◌, nat_le, List, slice_index_or}
 use Rattle.sv_types.specs.declared.protection.Protection.{Protection}
 use Rattle.sv_types.specs.declared.protection.Protection.TheVariants.{Free, Held, Approved}
+use Rattle.processor.specs.Translation.{table_entries}
 
--- the words of a table, each an entry of 8 bytes
+-- the words of a table, each an entry
 abbrev pub table_words : ℕ
-table_words = 512
+table_words = table_entries
 
 -- the pages of a block: one for each word of a level-0 table
 abbrev pub block_pages : ℕ

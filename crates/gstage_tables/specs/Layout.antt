@@ -6,13 +6,14 @@
 use Rattle.std.specs.Prelude.{◌≡◌, ℕ, ◌+◌, ◌-◌, ◌*◌, ◌/◌, ◌^◌, ◌<◌, ◌≤◌, ◌==◌, Bool, if◌then◌else◌, nat_lt, List, length, slice_index_or}
 use Rattle.processor.specs.Bytes.{word, page_size}
 use Rattle.processor.specs.Regions.{most_ram_pages}
-use Rattle.processor.specs.Translation.{is_leaf}
+use Rattle.processor.specs.Translation.{is_leaf, entry_size}
 use Rattle.sv_types.specs.Views.{Sight, OfKernel, OfUser, OfEntry, view_permits}
 use Rattle.processor.specs.declared.access.Access.TheVariants.{Fetch, Store}
 use Rattle.sv_types.specs.Limits.{most_entries}
 use Rattle.sv_types.specs.declared.protection.Protection.{Protection}
 use Rattle.sv_types.specs.declared.protection.Protection.TheVariants.{Free}
 use Rattle.gstage_tables.specs.Blocks.{is_whole, taken_pages, CountsTaken, table_words, block_pages}
+use Rattle.processor.specs.Roots.{root_pages}
 
 -- ---- the trees
 
@@ -51,10 +52,7 @@ last_in_block = block_pages - 1
 abbrev pub leaf_tables : ℕ → ℕ
 leaf_tables ram_pages = (ram_pages + last_in_block) / block_pages
 
--- the pages of a root, and its words
-abbrev pub root_pages : ℕ
-root_pages = 4
-
+-- the words of a root
 abbrev pub root_words : ℕ
 root_words = root_pages * table_words
 
@@ -135,19 +133,19 @@ pub record HoldsTrees (tables : List ℕ) (ram_pages : ℕ) (bound : List ℕ) (
   pub most : ram_pages ≤ most_ram_pages
   pub few : length bound ≤ most_bound
   pub roots : (tree i : ℕ) → tree < tree_count (length bound) → i < root_words
-      → word tables (8 * (table_words * root_table tree + i)) 8 ≡ root_word (tree_count (length bound)) tree i
+      → word tables (entry_size * (table_words * root_table tree + i)) entry_size ≡ root_word (tree_count (length bound)) tree i
   pub middles : (tree i : ℕ) → tree < tree_count (length bound) → i < table_words
-      → word tables (8 * (table_words * middle_table (tree_count (length bound)) tree + i)) 8
+      → word tables (entry_size * (table_words * middle_table (tree_count (length bound)) tree + i)) entry_size
       ≡ middle_word (tree_count (length bound)) (leaf_tables ram_pages) (table_pages ram_pages (length bound)) (sight_in bound tree) tree i
       (is_whole ram_pages protections i)
   pub leaves : (tree p : ℕ) → tree < tree_count (length bound) → p < block_pages * leaf_tables ram_pages
-      → word tables (8 * (table_words * leaf_table (tree_count (length bound)) (leaf_tables ram_pages) tree + p)) 8
+      → word tables (entry_size * (table_words * leaf_table (tree_count (length bound)) (leaf_tables ram_pages) tree + p)) entry_size
       ≡ leaf_word ram_pages (table_pages ram_pages (length bound)) (sight_in bound tree) protections p
 
 -- each block that lies in RAM is one leaf of level 1 in each tree exactly where all its pages are free
 pub record MapsBlocks (tables : List ℕ) (ram_pages : ℕ) (bound : List ℕ) (protections : ℕ → Protection) : Type 0 where
   pub each : (tree block : ℕ) → tree < tree_count (length bound) → block_pages * block + block_pages ≤ ram_pages
-      → is_leaf 1 (word tables (8 * (table_words * middle_table (tree_count (length bound)) tree + block)) 8) ≡ (taken_pages protections block == 0)
+      → is_leaf 1 (word tables (entry_size * (table_words * middle_table (tree_count (length bound)) tree + block)) entry_size) ≡ (taken_pages protections block == 0)
 
 -- the trees for these protections lie in the tables, and count the pages that are taken
 pub record AreDrawn (tables : List ℕ) (trees : Shape) (protections : ℕ → Protection) : Type 0 where

@@ -4,37 +4,39 @@ ghost use Rattle.std.specs.Prelude.{◌≡◌, ◌+◌, ◌*◌, ◌/◌, ◌%�
 ghost use Rattle.processor.specs.Bytes.{word, write_word, page_size};
 ghost use Rattle.gstage_tables.specs.Layout.{root_word, root_words, root_pages, most_trees};
 ghost use Rattle.gstage_tables.specs.Written.{Wrote};
+ghost use Rattle.processor.specs.Translation.{entry_size};
 
 use crate::words::{ROOT_WORDS, root_word};
 use host_mem::{HostMem, Steps};
+use processor::{ENTRY_BYTES, ENTRY_WIDTH};
 use std::sync::ledger::Ledger;
 
 /// Word `k` of the table part.
 pub(crate) fn entry_at(mem: &HostMem, k: u64) -> u64
-    requires { 8 * k + 8 ≤ length mem.now.tables }
-    ensures { result ≡ word mem.now.tables (8 * k) 8 }
+    requires { entry_size * k + entry_size ≤ length mem.now.tables }
+    ensures { result ≡ word mem.now.tables (entry_size * k) entry_size }
 {
     let _table_bytes = mem.table_bytes();
-    mem.read((8 * k) as usize, 8)
+    mem.read((ENTRY_BYTES * k) as usize, ENTRY_WIDTH)
 }
 
 /// Writes word `k` of the table part.
 pub(crate) fn put(mem: &mut HostMem, k: u64, value: u64)
-    requires { 8 * k + 8 ≤ length mem.old.tables }
-    ensures { mem.new ≡ record mem.old { tables = write_word mem.old.tables (8 * k) 8 value } }
+    requires { entry_size * k + entry_size ≤ length mem.old.tables }
+    ensures { mem.new ≡ record mem.old { tables = write_word mem.old.tables (entry_size * k) entry_size value } }
 {
     let _table_bytes = mem.table_bytes();
-    mem.write((8 * k) as usize, 8, value);
+    mem.write((ENTRY_BYTES * k) as usize, ENTRY_WIDTH, value);
 }
 
 /// `put`, which counts one step.
 pub(crate) fn put_counted<L: Ledger>(mem: &mut HostMem, k: u64, value: u64, steps: &mut Steps<L>)
-    requires { 8 * k + 8 ≤ length mem.old.tables }
-    ensures memory { mem.new ≡ record mem.old { tables = write_word mem.old.tables (8 * k) 8 value } }
+    requires { entry_size * k + entry_size ≤ length mem.old.tables }
+    ensures memory { mem.new ≡ record mem.old { tables = write_word mem.old.tables (entry_size * k) entry_size value } }
     ensures step { steps.new ≡ steps.old + 1 }
 {
     let _table_bytes = mem.table_bytes();
-    mem.set_word((8 * k) as usize, value, steps);
+    mem.set_word((ENTRY_BYTES * k) as usize, value, steps);
 }
 
 /// Writes the roots.

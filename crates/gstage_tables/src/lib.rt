@@ -11,6 +11,7 @@ ghost use Rattle.sv_types.specs.declared.protection.Protection.{Protection as Ki
 ghost use Rattle.gstage_tables.specs.Blocks.{is_free, lies_in_ram, is_whole_by, recounted, table_words, block_pages};
 ghost use Rattle.gstage_tables.specs.Layout.{most_bound, tree_count, sight_in, leaf_tables, middle_table, leaf_table, table_pages, table_size, leaf, middle_word, leaf_word, HoldsTrees, AreDrawn, MapsBlocks, root_words, most_trees, most_table_pages, most_block_pages, upper_words};
 ghost use Rattle.gstage_tables.specs.Written.{Wrote};
+ghost use Rattle.processor.specs.Translation.{entry_size};
 
 mod fill;
 mod words;
@@ -22,7 +23,7 @@ use crate::words::{
 };
 use arrayvec::ArrayVec;
 use host_mem::{HostMem, Steps};
-use processor::{PAGE_SIZE, ROOT_MODE_PLACE, ROOT_PAGE_BITS};
+use processor::{PAGE_SIZE, ROOT_MODE_PLACE, ROOT_PAGE_BITS, SV39X4};
 use std::marker::{Brand, Model};
 use std::sync::ledger::{Blank, Ledger};
 use sv_types::{MOST_ENTRIES, Protection, View};
@@ -30,8 +31,8 @@ use sv_types::{MOST_ENTRIES, Protection, View};
 /// The blocks of a gigabyte: one for each word of a level-1 table.
 const MOST_BLOCKS: usize = TABLE_WORDS as usize;
 
-/// The mode Sv39x4 of `hgatp`, whose VMID begins behind the number of the root's page.
-const SV39X4: u64 = 8 << ROOT_MODE_PLACE;
+/// The mode of `hgatp`, whose VMID begins behind the number of the root's page.
+const GUEST_MODE: u64 = SV39X4 << ROOT_MODE_PLACE;
 
 const NEXT_VMID: u64 = 1 << ROOT_PAGE_BITS;
 
@@ -39,7 +40,7 @@ const NEXT_VMID: u64 = 1 << ROOT_PAGE_BITS;
 const NEXT_TREE: u64 = NEXT_VMID + ROOT_PAGES;
 
 /// The values of `hgatp` of the kernel view, of the user view, and of the first entry's. VMIDs begin with 1.
-const KERNEL_HGATP: u64 = SV39X4 + NEXT_VMID;
+const KERNEL_HGATP: u64 = GUEST_MODE + NEXT_VMID;
 
 const USER_HGATP: u64 = KERNEL_HGATP + NEXT_TREE;
 
@@ -370,9 +371,9 @@ impl Trees {
         requires size { length mem.old.tables ≡ table_size self.now.ram_pages (length self.now.bound) }
         ensures ram { mem.new.ram ≡ mem.old.ram }
         ensures size { length mem.new.tables ≡ length mem.old.tables }
-        ensures below { (k : ℕ) → k < upper_words * tree_count (length self.now.bound) → word mem.new.tables (8 * k) 8 ≡ word mem.old.tables (8 * k) 8 }
+        ensures below { (k : ℕ) → k < upper_words * tree_count (length self.now.bound) → word mem.new.tables (entry_size * k) entry_size ≡ word mem.old.tables (entry_size * k) entry_size }
         ensures leaves { (tree p : ℕ) → tree < tree_count (length self.now.bound) → p < block_pages * leaf_tables self.now.ram_pages
-            → word mem.new.tables (8 * (table_words * leaf_table (tree_count (length self.now.bound)) (leaf_tables self.now.ram_pages) tree + p)) 8
+            → word mem.new.tables (entry_size * (table_words * leaf_table (tree_count (length self.now.bound)) (leaf_tables self.now.ram_pages) tree + p)) entry_size
             ≡ leaf_word self.now.ram_pages (table_pages self.now.ram_pages (length self.now.bound)) (sight_in self.now.bound tree) all_free p }
     {
         for tree in 0..self.count() {

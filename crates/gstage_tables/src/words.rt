@@ -4,12 +4,13 @@ ghost use Rattle.std.specs.Prelude.{◌≡◌, ◌+◌, ◌*◌, ◌/◌, ◌<�
 ghost use Rattle.processor.specs.Regions.{most_ram_pages};
 ghost use Rattle.gstage_tables.specs.Blocks.{table_words, block_pages};
 ghost use Rattle.gstage_tables.specs.Layout.{leaf_tables, leaf_table, pointer, flags, root_word, last_in_block, most_trees, most_table_pages, most_block_pages, page_number_unit};
+ghost use Rattle.processor.specs.Roots.{root_page_bits};
 
 use bitflags::Flags;
-use processor::PteBits;
+use processor::{PteBits, TABLE_ENTRIES};
 
 /// The words of a table.
-pub(crate) const TABLE_WORDS: u64 = 512;
+pub(crate) const TABLE_WORDS: u64 = TABLE_ENTRIES;
 
 /// The pages of a block of 2 MiB, which one level-0 table maps, or one leaf of level 1.
 pub(crate) const BLOCK_PAGES: u64 = TABLE_WORDS;
@@ -87,7 +88,7 @@ fn flags(store: bool, fetch: bool) -> PteBits
 
 /// The entry that maps a host page.
 pub(crate) fn mapping(host: u64, store: bool, fetch: bool) -> u64
-    requires { host < 2 ^ 44 }
+    requires { host < 2 ^ root_page_bits }
     ensures { result ≡ page_number_unit * host + flags store fetch }
 {
     PAGE_NUMBER_UNIT * host + flags(store, fetch).bits()
@@ -95,7 +96,7 @@ pub(crate) fn mapping(host: u64, store: bool, fetch: bool) -> u64
 
 /// The entry that names the next table.
 pub(crate) fn pointer(page: u64) -> u64
-    requires { page < 2 ^ 44 }
+    requires { page < 2 ^ root_page_bits }
     ensures { result ≡ pointer page }
 {
     PAGE_NUMBER_UNIT * page + PteBits::VALID.bits()

@@ -8,6 +8,7 @@ use Rattle.processor.specs.declared.cached.CacheLine.{CacheLine}
 use Rattle.processor.specs.declared.hregs.HRegs.{HRegs}
 use Rattle.processor.specs.declared.mode.Mode.TheVariants.{User}
 use Rattle.hart.specs.declared.hart.Core.{Core as Kept}
+use Rattle.processor.specs.Bytes.{instruction_size}
 
 -- ---- what is asked
 
@@ -19,7 +20,7 @@ pub record KeepsMode (regs : HRegs) : Type 0 where
 
 -- a core stands at an instruction, in a mode that it keeps
 pub record MayStep (core : Kept) (regs : HRegs) : Type 0 where
-  pub aligned : core.pc % 4 ≡ 0
+  pub aligned : core.pc % instruction_size ≡ 0
   pub mode : KeepsMode regs
 
 -- the second stage is Sv39x4, its walks read the tables alone and lead to RAM, and every line of the cache agrees with the tables
@@ -41,6 +42,6 @@ pub record Walked (tables : List ℕ) (hgatp : ℕ) (before after : List (Option
 
 -- the pc is again that of an instruction, the tables are as they were, and the cache agrees with them
 pub record StaysReady (before after : Region) (core : Kept) (regs : HRegs) (lines held : List (Option CacheLine)) : Type 0 where
-  pub pc : core.pc % 4 ≡ 0
+  pub pc : core.pc % instruction_size ≡ 0
   pub tables : after.tables ≡ before.tables
   pub walked : Walked before.tables regs.hgatp lines held

@@ -17,4 +17,4 @@ pub use memory::{IMPLICIT_READ, regime};
 pub use processor::{Outcome, Wrote};
 pub use system::csr_value;
 pub use wires::Wires;
-pub use words::{Decoded, PLACES, Words};
+pub use words::{Decoded, WORD_PLACES, Words};

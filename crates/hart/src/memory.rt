@@ -16,7 +16,9 @@ use crate::trap::plain_exception;
 use csr_file::{MXR_PLACE, SUM_PLACE};
 use gstage_cache::Cache;
 use host_mem::HostMem;
-use processor::{Access, BARE, Cause, Exception, Fault, HRegs, ROOT_MODE_PLACE, has_bit};
+use processor::{
+    Access, BARE, Cause, Exception, Fault, HRegs, HTVAL_UNIT, ROOT_MODE_PLACE, has_bit,
+};
 use sv39_walk::{Regime, translate_through};
 
 /// `htinst` of a guest-page fault at an entry of the first stage: a read of 64 bits for its translation.
@@ -132,7 +134,7 @@ fn fault_exception(request: Request, fault: Fault) -> Exception
         Fault::Guest { gpa, implicit } => Exception {
             cause: guest_page_fault(request.access),
             tval: request.address,
-            htval: gpa >> 2,
+            htval: gpa / HTVAL_UNIT,
             htinst: if implicit {
                 IMPLICIT_READ
             } else {

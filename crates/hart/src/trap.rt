@@ -55,7 +55,7 @@ pub(crate) fn interrupt(core: &mut Core, regs: &HRegs, interrupt: Interrupt) -> 
     ensures pc { core.new.pc % 4 ≡ 0 }
 {
     let cause = ExitCause::Interrupt(interrupt);
-    if has_bit(regs.hideleg, interrupt.number() as u8 + 1) {
+    if has_bit(regs.hideleg, interrupt.virtual_place()) {
         guest_trap(core, regs, cause, 0)
     } else {
         let exit = Exit {

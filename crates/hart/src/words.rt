@@ -5,12 +5,12 @@ ghost use Rattle.std.specs.Option.{ForSome};
 ghost use Rattle.processor.specs.Encoding.{fits};
 ghost use Rattle.processor.specs.Instructions.{instruction_of};
 
-use processor::Instr;
+use processor::{INSTRUCTION_BYTES, Instr};
 use rv64_decode::decode;
 use std::alloc::{AllocError, Global};
 
 /// The places for words: one for each place of an instruction modulo 256 KiB.
-pub const PLACES: usize = 65536;
+pub const WORD_PLACES: usize = 65536;
 
 /// A word and its instruction, none where no row of the instruction table has the word.
 #[derive(Clone, Copy, Drop)]
@@ -41,7 +41,7 @@ pub struct Words {
 impl Words {
     /// No word was decoded. Want of memory is the one refusal.
     pub fn new(alloc: Global) -> Result<Words, AllocError> {
-        let places = zero_words(alloc, PLACES)?;
+        let places = zero_words(alloc, WORD_PLACES)?;
         Ok(Words { places })
     }
 
@@ -50,7 +50,7 @@ impl Words {
     pub fn decoded(&mut self, pc: u64, word: u32) -> &Decoded
         ensures { result.now.word ≡ word }
     {
-        let place = (pc / 4) as usize % PLACES;
+        let place = (pc / INSTRUCTION_BYTES) as usize % WORD_PLACES;
         if self.places[place].word != word {
             self.places[place] = Decoded::of(word);
         }

@@ -9,4 +9,4 @@ pub use answers::{
     Trap, answer, demote, pass, return_from_trap, send_again, set, start, stay, stop, take_trap,
 };
 pub use asked::Asked;
-pub use seats::{ALL_HARTS, Seat, forget, interrupt};
+pub use seats::{ALL_HARTS, MASK_WIDTH, Seat, forget, interrupt};

@@ -16,6 +16,9 @@ use processor::has_bit;
 /// The base that names all harts, whatever the mask is.
 pub const ALL_HARTS: u64 = u64::MAX;
 
+/// The bits of a mask of harts.
+pub const MASK_WIDTH: u8 = 64;
+
 /// A hart and the side that it is on.
 #[derive(Drop)]
 pub struct Seat {
@@ -74,5 +77,5 @@ fn is_named(mask: u64, base: u64, which: u64) -> bool
     if base == ALL_HARTS {
         return true;
     }
-    base <= which && which - base < 64 && has_bit(mask, (which - base) as u8)
+    base <= which && which - base < u64::from(MASK_WIDTH) && has_bit(mask, (which - base) as u8)
 }

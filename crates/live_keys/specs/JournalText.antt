@@ -1,8 +1,9 @@
 -- The text of a journal, as a script: a line for each key, and one for each run of other events.
 use Rattle.std.specs.Prelude.{ℕ, zero, suc, ◌-◌, List, [], ◌∷◌, ◌++◌, flat_map, codes}
-use Rattle.sv_types.specs.Schedule.{blank, line_feed}
+use Rattle.sv_types.specs.Schedule.{blank}
 use Rattle.std.specs.Fmt.{decimal}
 use Rattle.live_keys.specs.declared.live_key.LiveKey.{LiveKey}
+use Rattle.sv_types.specs.Output.{line_end}
 
 abbrev pub key_line : ℕ → List ℕ
 key_line byte = codes "key" ++ blank ∷ decimal byte
@@ -21,7 +22,7 @@ journal_lines first [] last = auto_lines (last - first)
 journal_lines first (key ∷ keys) last = auto_lines (key.before - first) ++ key_line key.byte ∷ journal_lines key.before keys last
 
 abbrev pub ended_line : List ℕ → List ℕ
-ended_line line = line ++ line_feed ∷ []
+ended_line line = line ++ line_end
 
 abbrev pub text_of : List (List ℕ) → List ℕ
 text_of all = flat_map ended_line all

@@ -15,6 +15,7 @@ use Rattle.machine_model.specs.Machine.{HostHart}
 use Rattle.machine_model.specs.StandsFor.{hregs_in}
 use Rattle.reach.specs.Kept.{no_lines as none_led, ReachAgrees}
 use Rattle.machine.specs.declared.caches.HartCaches.{HartCaches}
+use Rattle.processor.specs.Bytes.{instruction_size}
 
 -- a stopped hart, past the end of all harts
 abbrev pub nobody : HostHart
@@ -36,7 +37,7 @@ hart_in harts h = slice_index_or harts h nobody
 -- a hart may make an attempt, whose walks lead to RAM and which writes no byte behind it
 pub record IsReady (region : Region) (host : HostHart) (lines : Lines) : Type 0 where
   pub started : host.started ≡ true
-  pub aligned : host.core.pc % 4 ≡ 0
+  pub aligned : host.core.pc % instruction_size ≡ 0
   pub keeps : KeepsMode host.core.hregs
   pub stage : IsSv39x4 host.core.hregs.hgatp
   pub apart : WalksApart region host.core.hregs.hgatp

@@ -24,6 +24,7 @@ use Rattle.quick_turns.specs.declared.leaving.Leaving.{Leaving}
 use Rattle.quick_turns.specs.declared.leaving.Leaving.TheVariants.{Stays, Calls, Returns}
 use Rattle.machine.specs.Attempts.{hart_in}
 use Rattle.machine.specs.Turns.{Attempts, answered_exit}
+use Rattle.processor.specs.Bytes.{instruction_size}
 
 -- no hart has a reservation
 abbrev pub AreFree : List HostHart → Type 0
@@ -43,7 +44,7 @@ reserves_nothing (Tick n) = true
 
 -- a hart stands at an instruction, and its walks lead to RAM
 pub record WalksUnderRoot (region : Region) (host : HostHart) : Type 0 where
-  pub aligned : host.core.pc % 4 ≡ 0
+  pub aligned : host.core.pc % instruction_size ≡ 0
   pub keeps : KeepsMode host.core.hregs
   pub stage : IsSv39x4 host.core.hregs.hgatp
   pub apart : WalksApart region host.core.hregs.hgatp

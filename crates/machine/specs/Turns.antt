@@ -16,6 +16,7 @@ use Rattle.machine_model.specs.Steps.{AttemptServed, WithTables}
 use Rattle.machine_model.specs.declared.exits.ExitAnswer.{ExitAnswer}
 use Rattle.module_answers.specs.Conditions.{AreGuarded}
 use Rattle.machine.specs.Attempts.{hart_in, IsReady}
+use Rattle.processor.specs.Bytes.{instruction_size}
 
 -- host memory and protections stay
 pub record HasPagesOf (before after : Machine) : Type 0 where
@@ -38,7 +39,7 @@ pub record IsGuarded (m : Machine) : Type 0 where
 -- there is such a hart, and it stands at an instruction's address
 pub record MayTrap (harts : List HostHart) (h : ℕ) : Type 0 where
   pub there : h < length harts
-  pub aligned : (hart_in harts h).core.pc % 4 ≡ 0
+  pub aligned : (hart_in harts h).core.pc % instruction_size ≡ 0
 
 -- the machine may count, print a byte and answer about modules
 pub record MayServe (m : Machine) : Type 0 where

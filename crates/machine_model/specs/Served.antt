@@ -21,6 +21,7 @@ use Rattle.reference.specs.Answers.{call}
 use Rattle.reference.specs.Turn.{demote, bound_entry, leave_entry, turn}
 use Rattle.machine_model.specs.declared.exits.ExitAnswer.{ExitAnswer}
 use Rattle.machine_model.specs.declared.exits.ExitAnswer.TheVariants.{Traps, Returns, Demotes, LeavesEntry, StopsAtWrite, LoadsDevice, StoresDevice, Calls}
+use Rattle.processor.specs.SecondStage.{htval_unit}
 
 -- ---- what an exit tells
 
@@ -30,7 +31,7 @@ is_implicit exit = exit.htinst == implicit_read
 
 -- htval has the address without its two low bits, which are those of stval, or 0 for an implicit read
 abbrev pub exit_gpa : Exit → ℕ
-exit_gpa exit = 4 * exit.htval + (if is_implicit exit then 0 else exit.stval % 4)
+exit_gpa exit = htval_unit * exit.htval + (if is_implicit exit then 0 else exit.stval % htval_unit)
 
 -- a device is asked by an address of 64 bits: the last one stands for all beyond, and no register lies at any of them
 abbrev pub device_gpa : Exit → ℕ

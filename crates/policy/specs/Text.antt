@@ -5,7 +5,7 @@ use Rattle.std.specs.Prelude.{ℕ, ◌-◌, ◌/◌, ◌%◌, ℤ, pos, negsuc, 
 use Rattle.std.specs.Str.{is_utf8}
 use Rattle.toml.specs.Data.{Data, Items, no_items, item, Members, get_member}
 use Rattle.toml.specs.Parse.{parse_document}
-use Rattle.processor.specs.Bytes.{page_size, ram_base}
+use Rattle.processor.specs.Bytes.{page_size, ram_base, page_of}
 use Rattle.sv_types.specs.Limits.{plain_format}
 use Rattle.sv_types.specs.Policies.{Rules, ModuleRule, format_within, harts_within, ram_pages_within, entries_count_within, exports_count_within, modules_count_within, module_pages_within, sites_count_within, is_exported, span_within, place_within, is_aligned, base_within, anchor_within, is_behind, is_module, sites_of}
 use Rattle.sv_types.specs.RelocationKinds as kinds
@@ -77,12 +77,8 @@ exports_of (Some d) = some_exports_of d
 
 -- ---- the kernel
 
--- the RAM page that begins at an address
-abbrev pub page_at : ℕ → ℕ
-page_at address = (address - ram_base) / page_size
-
 abbrev pub page_span : ℕ → ℕ → Span
-page_span address count = record { first = page_at address; count = count }
+page_span address count = record { first = page_of address; count = count }
 
 abbrev pub page_address_of : Data → Judged ℕ
 page_address_of d = address_of d >>= λ address. limited (address % page_size == 0) address

@@ -5,7 +5,7 @@ use Rattle.std.specs.Option.{option_map_or}
 use Rattle.std.specs.Str.{bytes_eq}
 use Rattle.sv_types.specs.Limits.{most_name_bytes}
 use Rattle.sv_types.specs.Numbers.{number_within}
-use Rattle.processor.specs.Bytes.{page_size, ram_base}
+use Rattle.processor.specs.Bytes.{page_size, ram_base, page_of}
 use Rattle.sv_types.specs.Policies.{each_within, entries_count_within, entry_within, modules_count_within, span_within}
 use Rattle.sv_types.specs.declared.module.Span.{Span}
 use Rattle.text_numbers.specs.Addresses.{address_of}
@@ -36,7 +36,7 @@ entries_of word = map address_or_zero (parts word)
 -- ---- init pages
 
 abbrev pub span_from : (address count : ℕ) → Span
-span_from address count = record { first = (address - ram_base) / page_size; count = count }
+span_from address count = record { first = page_of address; count = count }
 
 -- whole pages, all of them in RAM
 abbrev pub span_at : (ram_pages address count : ℕ) → Option Span

@@ -1,7 +1,7 @@
 -- Bytes, words and pages of guest memory. A byte is a number below 256, memory is a list of bytes.
 -- RISC-V Unprivileged manual, "Memory" and "Base Instruction-Length Encoding": bytes, little-endian words.
 -- RISC-V Privileged manual, "Sv39": pages of 4,096 bytes.
-use Rattle.std.specs.Prelude.{ℕ, zero, suc, ◌+◌, ◌-◌, ◌*◌, ◌/◌, ◌%◌, Bool, ◌&&◌, List, [], ◌∷◌, ◌++◌, length, take, drop, replicate, nat_le}
+use Rattle.std.specs.Prelude.{ℕ, zero, suc, ◌+◌, ◌-◌, ◌*◌, ◌/◌, ◌%◌, Bool, ◌&&◌, List, [], ◌∷◌, ◌++◌, length, take, drop, replicate, nat_le, nat_lt}
 
 -- the number that the bytes write, the lowest byte first
 abbrev pub little_endian : List ℕ → ℕ
@@ -54,9 +54,16 @@ page_of gpa = ram_place gpa / page_size
 abbrev pub place_in_page : ℕ → ℕ
 place_in_page gpa = ram_place gpa % page_size
 
--- all n bytes at a guest-physical address lie in RAM
+-- all n bytes at a guest-physical address lie in RAM of a size in bytes
+abbrev pub is_in_ram : (gpa n ram_size : ℕ) → Bool
+is_in_ram gpa n ram_size = nat_le ram_base gpa && nat_le (ram_place gpa + n) ram_size
+
 abbrev pub in_ram : List ℕ → ℕ → ℕ → Bool
-in_ram ram gpa n = nat_le ram_base gpa && nat_le (ram_place gpa + n) (length ram)
+in_ram ram gpa n = is_in_ram gpa n (length ram)
+
+-- the address lies in RAM of so many pages
+abbrev pub is_ram_address : (ram_pages gpa : ℕ) → Bool
+is_ram_address ram_pages gpa = nat_le ram_base gpa && nat_lt gpa (ram_base + page_size * ram_pages)
 
 -- the bytes of a page
 abbrev pub page_bytes : List ℕ → ℕ → List ℕ

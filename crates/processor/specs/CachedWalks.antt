@@ -4,7 +4,7 @@
 use Rattle.std.specs.Prelude.{◌≡◌, ℕ, ◌+◌, ◌*◌, ◌^◌, ◌<◌, ◌⊎◌, Bool, if◌then◌else◌, List, replicate, Option, Some, None, slice_index_or}
 use Rattle.processor.specs.Bytes.{page_size}
 use Rattle.processor.specs.Translation.{Destination, At, PageFault}
-use Rattle.processor.specs.SecondStage.{entry_in_tables, guest_destination}
+use Rattle.processor.specs.SecondStage.{entry_in_tables, guest_destination, guest_pages}
 use Rattle.processor.specs.declared.cached.CacheLine.{CacheLine}
 use Rattle.processor.specs.declared.access.Access.{Access}
 use Rattle.processor.specs.declared.access.Access.TheVariants.{Fetch, Load, Store}
@@ -23,7 +23,7 @@ line_leads line access place = if line_permits line access then At (line.host + 
 -- its page is within reach of the second stage, and from each place in it every access leads where a walk of the tables
 -- under the line's hgatp leads
 pub record LineAgrees (tables : List ℕ) (line : CacheLine) : Type 0 where
-  pub reach : line.page < 2 ^ 29
+  pub reach : line.page < guest_pages
   pub leads : (place : ℕ) (access : Access) → place < page_size
       → guest_destination (entry_in_tables tables) line.hgatp (page_size * line.page + place) access ≡ line_leads line access place
 

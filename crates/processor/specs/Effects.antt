@@ -257,7 +257,7 @@ next_pc pc = plus pc instruction_size
 
 -- a jump that leaves a link in rd
 abbrev pub jump : ℕ → ℕ → ℕ → Effect
-jump rd link target = if target % 4 == 0 then Effect.Set rd link target else Effect.MisalignedJump target
+jump rd link target = if target % instruction_size == 0 then Effect.Set rd link target else Effect.MisalignedJump target
 
 -- a branch sets no register
 abbrev pub branch : Bool → ℕ → ℕ → Effect

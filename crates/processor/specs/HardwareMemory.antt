@@ -6,7 +6,7 @@ use Rattle.processor.specs.Bits.{bit}
 use Rattle.processor.specs.Regions.{Region, host_word, write_host}
 use Rattle.processor.specs.Registers.{sum_place, mxr_place}
 use Rattle.processor.specs.Translation.{Settings}
-use Rattle.processor.specs.SecondStage.{two_stages}
+use Rattle.processor.specs.SecondStage.{two_stages, htval_unit}
 use Rattle.processor.specs.Effects.{set_register, next_pc, amo_value}
 use Rattle.processor.specs.Requests.{loaded_value, reserved_at, covers, after_write}
 use Rattle.processor.specs.Hardware.{Core, Step, Attempted, with_region, plain_exception, raise}
@@ -71,7 +71,7 @@ implicit_read = 0x3000
 abbrev pub fault_exception : Access → (va htinst : ℕ) → Fault → Exception
 fault_exception access va htinst Fault.Page = plain_exception (page_fault access) va
 fault_exception access va htinst (Fault.Guest gpa implicit) =
-    record { cause = guest_page_fault access; tval = va; htval = gpa / 4; htinst = if implicit then implicit_read else htinst }
+    record { cause = guest_page_fault access; tval = va; htval = gpa / htval_unit; htinst = if implicit then implicit_read else htinst }
 
 -- ---- where an access goes
 

@@ -11,6 +11,7 @@ use Rattle.processor.specs.Regions.{IsWidth}
 use Rattle.processor.specs.declared.effect.Effect.{Effect}
 use Rattle.processor.specs.declared.instruction.CsrOp.{CsrOp}
 use Rattle.processor.specs.declared.instruction.CsrOp.TheVariants.{Csrrw, Csrrs, Csrrc, Csrrwi, Csrrsi, Csrrci}
+use Rattle.processor.specs.Bytes.{instruction_size}
 
 -- ---- loaded words
 
@@ -61,7 +62,7 @@ after_write place width (Some reserved) = if touches reserved place width then N
 
 -- the register exists, the next pc is a multiple of 4, and the width is one of memory's
 abbrev pub IsRequest : Effect → Type 0
-IsRequest (Effect.Set rd value next) = (rd < register_count) × (next % 4 ≡ 0)
+IsRequest (Effect.Set rd value next) = (rd < register_count) × (next % instruction_size ≡ 0)
 IsRequest (Effect.Load rd address width signed) = (rd < register_count) × IsWidth width
 IsRequest (Effect.Store address width value) = IsWidth width
 IsRequest (Effect.LoadReserved rd address width) = (rd < register_count) × IsWidth width

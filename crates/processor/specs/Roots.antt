@@ -1,7 +1,7 @@
 -- The modes of translation that a root chooses: satp and vsatp for the first stage, hgatp for the second one.
 -- RISC-V Privileged manual, "Supervisor Address Translation and Protection (satp) Register"; H extension, "Hypervisor Guest
 -- Address Translation and Protection (hgatp) Register".
-use Rattle.std.specs.Prelude.{◌≡◌, ◌⊎◌, ℕ, ◌/◌, ◌^◌}
+use Rattle.std.specs.Prelude.{◌≡◌, ◌⊎◌, ℕ, ◌+◌, ◌*◌, ◌/◌, ◌^◌}
 
 -- the mode stands in the highest four bits, and the number of the root's page in the lowest 44
 abbrev pub root_mode_place : ℕ
@@ -24,6 +24,14 @@ sv39_mode = 8
 -- three levels, the first of which is four tables in one, lead a guest-physical address of 41 bits
 abbrev pub sv39x4_mode : ℕ
 sv39x4_mode = 8
+
+-- the pages of such a root
+abbrev pub root_pages : ℕ
+root_pages = 4
+
+-- the value of hgatp for a root of this mode, by its VMID and the number of the root's page
+abbrev pub guest_root : (vmid page : ℕ) → ℕ
+guest_root vmid page = sv39x4_mode * 2 ^ root_mode_place + (vmid * 2 ^ root_page_bits + page)
 
 abbrev pub IsBare : ℕ → Type 0
 IsBare root = root_mode root ≡ bare_mode

@@ -5,7 +5,7 @@ use Rattle.std.specs.Prelude.{◌≡◌, ℕ, ◌+◌, ◌/◌, ◌^◌, ◌<◌
 use Rattle.processor.specs.Bytes.{word}
 use Rattle.processor.specs.Regions.{Region, host_word}
 use Rattle.processor.specs.Instructions.{bits}
-use Rattle.processor.specs.Translation.{Destination, At, PageFault, Unreadable, Settings, walk, root_of, first_stage, entry_user, entry_accessed, entry_dirty, entry_readable, entry_writable, entry_executable}
+use Rattle.processor.specs.Translation.{Destination, At, PageFault, Unreadable, Settings, walk, root_of, first_stage, entry_user, entry_accessed, entry_dirty, entry_readable, entry_writable, entry_executable, entry_size}
 use Rattle.processor.specs.declared.access.Access.{Access}
 use Rattle.processor.specs.declared.access.Access.TheVariants.{Fetch, Load, Store}
 use Rattle.processor.specs.declared.mode.Mode.{Mode}
@@ -13,6 +13,18 @@ use Rattle.processor.specs.declared.translation.Place.{Place}
 use Rattle.processor.specs.declared.translation.Fault.{Fault}
 
 -- ---- the second stage
+
+-- the bits of a guest-physical address
+abbrev pub guest_address_bits : ℕ
+guest_address_bits = 41
+
+-- what htval counts such addresses in: their two lowest bits aren't kept
+abbrev pub htval_unit : ℕ
+htval_unit = 4
+
+-- the pages that such an address can name
+abbrev pub guest_pages : ℕ
+guest_pages = 2 ^ 29
 
 -- the indices of a guest-physical address: the root has four tables in one
 abbrev pub sv39x4_indices : ℕ → List ℕ
@@ -29,7 +41,7 @@ permits_guest access e = entry_user e && entry_accessed e && guest_right access 
 
 -- the entry at a host place. One that isn't whole in the region counts as one with V clear
 unfoldable pub host_entry : Region → ℕ → ℕ
-host_entry r at = if nat_le (at + 8) (length r.tables + length r.ram) then host_word r at 8 else 0
+host_entry r at = if nat_le (at + entry_size) (length r.tables + length r.ram) then host_word r at entry_size else 0
 
 abbrev pub entry_in_region : Region → ℕ → Option ℕ
 entry_in_region r at = Some (host_entry r at)
@@ -43,7 +55,7 @@ address_at (Unreadable entry) = None
 -- the host place of a guest-physical address, none where the access faults
 unfoldable pub walk_guest : Region → ℕ → ℕ → Access → Option ℕ
 walk_guest r hgatp gpa access =
-    if gpa / 2 ^ 41 == 0
+    if gpa / 2 ^ guest_address_bits == 0
     then address_at (walk (entry_in_region r) (permits_guest access) (sv39x4_indices gpa) (root_of hgatp) gpa)
     else None
 
@@ -52,7 +64,7 @@ walk_guest r hgatp gpa access =
 -- the entry at the host place of a guest-physical address, if it has one
 abbrev pub entry_there : Region → Option ℕ → Option ℕ
 entry_there r None = None
-entry_there r (Some at) = Some (host_word r at 8)
+entry_there r (Some at) = Some (host_word r at entry_size)
 
 -- a first-stage entry is read where the second stage leads as a load
 unfoldable pub entry_through : Region → ℕ → ℕ → Option ℕ
@@ -80,7 +92,7 @@ pub record WalksInside (r : Region) (hgatp : ℕ) : Type 0 where
 
 -- the entry at a host place in the tables, none elsewhere
 unfoldable pub entry_in_tables : List ℕ → ℕ → Option ℕ
-entry_in_tables tables at = if nat_le (at + 8) (length tables) then Some (word tables at 8) else None
+entry_in_tables tables at = if nat_le (at + entry_size) (length tables) then Some (word tables at entry_size) else None
 
 -- where a second-stage walk over a reader of entries leads
 abbrev pub guest_destination : (ℕ → Option ℕ) → ℕ → ℕ → Access → Destination
@@ -93,5 +105,5 @@ ReadsTablesAlone r hgatp gpa access =
 
 -- every walk under a root reads the tables alone, and leads to RAM
 pub record WalksApart (r : Region) (hgatp : ℕ) : Type 0 where
-  pub reads : (gpa : ℕ) (access : Access) → gpa < 2 ^ 41 → ReadsTablesAlone r hgatp gpa access
+  pub reads : (gpa : ℕ) (access : Access) → gpa < 2 ^ guest_address_bits → ReadsTablesAlone r hgatp gpa access
   pub leads : (gpa hpa : ℕ) (access : Access) → walk_guest r hgatp gpa access ≡ Some hpa → (length r.tables ≤ hpa) × (hpa < length r.tables + length r.ram)

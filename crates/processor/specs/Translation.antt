@@ -24,6 +24,15 @@ pub record Settings : Type 0 where
   pub sum : Bool
   pub mxr : Bool
 
+-- ---- table entries
+
+-- the bytes of an entry, and the entries of a table
+abbrev pub entry_size : ℕ
+entry_size = 8
+
+abbrev pub table_entries : ℕ
+table_entries = 512
+
 -- ---- the bits of a table entry
 
 abbrev pub entry_valid : ℕ → Bool
@@ -47,9 +56,12 @@ entry_accessed e = bit e 6
 abbrev pub entry_dirty : ℕ → Bool
 entry_dirty e = bit e 7
 
--- the page that an entry names
+-- the number of the page that an entry names, and the page
+abbrev pub entry_page_number : ℕ → ℕ
+entry_page_number e = bits e 10 54
+
 abbrev pub entry_page : ℕ → ℕ
-entry_page e = page_size * bits e 10 54
+entry_page e = page_size * entry_page_number e
 
 -- V is set, W comes with R, and the reserved bits are 0
 unfoldable pub well_formed : ℕ → Bool
@@ -62,11 +74,11 @@ is_pointer e = well_formed e && not (entry_readable e) && not (entry_executable 
 
 -- it maps a page, or a larger block with so many levels below it
 unfoldable pub is_leaf : ℕ → ℕ → Bool
-is_leaf below e = well_formed e && (entry_readable e || entry_executable e) && bits e 10 54 % 512 ^ below == 0
+is_leaf below e = well_formed e && (entry_readable e || entry_executable e) && entry_page_number e % table_entries ^ below == 0
 
 -- the address that a leaf gives
 abbrev pub leaf_address : ℕ → ℕ → ℕ → ℕ
-leaf_address below e address = entry_page e + address % (page_size * 512 ^ below)
+leaf_address below e address = entry_page e + address % (page_size * table_entries ^ below)
 
 -- ---- the walk
 
@@ -85,7 +97,7 @@ at_entry grants below at deeper address (Some e) =
 unfoldable pub walk : (ℕ → Option ℕ) → (ℕ → Bool) → List ℕ → ℕ → ℕ → Destination
 walk read grants [] table address = PageFault
 walk read grants (index ∷ indices) table address =
-    at_entry grants (length indices) (table + 8 * index) (λ next. walk read grants indices next address) address (read (table + 8 * index))
+    at_entry grants (length indices) (table + entry_size * index) (λ next. walk read grants indices next address) address (read (table + entry_size * index))
 
 -- the indices of a virtual address, of the root first
 abbrev pub sv39_indices : ℕ → List ℕ
@@ -125,7 +137,7 @@ first_stage read s mode va access =
 
 -- the entry at a guest-physical address, none outside RAM
 unfoldable pub entry_in_ram : List ℕ → ℕ → Option ℕ
-entry_in_ram ram gpa = if in_ram ram gpa 8 then Some (word ram (ram_place gpa) 8) else None
+entry_in_ram ram gpa = if in_ram ram gpa entry_size then Some (word ram (ram_place gpa) entry_size) else None
 
 unfoldable pub place : List ℕ → Settings → Mode → ℕ → Access → Destination
 place ram s mode va access = first_stage (entry_in_ram ram) s mode va access

@@ -2,6 +2,7 @@
 
 ghost use Rattle.std.specs.Prelude.{◌≡◌};
 ghost use Rattle.processor.specs.Traps.{interrupt_number};
+ghost use Rattle.processor.specs.HypervisorRegisters.{virtual_number};
 
 /// The places of the interrupts in `sip` and `sie`, which are their numbers.
 pub const SOFTWARE_PLACE: u64 = 1;
@@ -28,5 +29,12 @@ impl Interrupt {
             Interrupt::Software => SOFTWARE_PLACE,
             Interrupt::Timer => TIMER_PLACE,
         }
+    }
+
+    /// The interrupt's place in `hip`, `hie` and `hideleg`, which is one higher than the guest's.
+    pub fn virtual_place(self) -> u8
+        ensures { result ≡ virtual_number self }
+    {
+        self.number() as u8 + 1
     }
 }

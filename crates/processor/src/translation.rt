@@ -12,6 +12,15 @@ pub const BARE: u64 = 0;
 /// The mode of `satp` and `vsatp` in which three levels of tables lead a virtual address of 39 bits.
 pub const SV39: u64 = 8;
 
+/// The mode of `hgatp` in which three levels, the first of which is four tables in one, lead a guest-physical address.
+pub const SV39X4: u64 = 8;
+
+/// The bits of a guest-physical address under Sv39x4.
+pub const GUEST_ADDRESS_BITS: u32 = 41;
+
+/// What `htval` counts guest-physical addresses in: the bytes of a word, since the two lowest bits aren't kept.
+pub const HTVAL_UNIT: u64 = 4;
+
 /// Where a virtual address leads: its guest-physical address and its host place.
 #[derive(Clone, Copy, PartialEq, Eq, Drop)]
 pub struct Place {

@@ -18,7 +18,7 @@ use Rattle.quick_turns.specs.declared.tried.Tried.TheVariants.{Stopped, Retired,
 -- instructions at the addresses of a page are fetched at the same places of a page of host memory
 pub record Leads (r : Region) (core : Core) (page host : ℕ) : Type 0 where
   pub fetches : (va : ℕ) → va < 2 ^ 64 → va / page_size ≡ page → translated r core Fetch va 0 ≡ Ok (host + va % page_size)
-  pub places : (va : ℕ) → va < 2 ^ 64 → va / page_size ≡ page → va % 4 ≡ 0 → IsHostPlace r (host + va % page_size) instruction_size
+  pub places : (va : ℕ) → va < 2 ^ 64 → va / page_size ≡ page → va % instruction_size ≡ 0 → IsHostPlace r (host + va % page_size) instruction_size
 
 -- what became of a turn: it wasn't made and left all as it was, or its attempt carried out the instruction. Only a store
 -- changes the region

@@ -4,7 +4,8 @@ ghost use Rattle.std.specs.Prelude.{◌≡◌, ◌^◌, IfOk, length};
 
 use crate::flat::Flat;
 use crate::flatten::flatten;
-use hart::PLACES;
+use hart::WORD_PLACES;
+use processor::INSTRUCTION_BYTES;
 use std::alloc::{AllocError, Global};
 
 /// Words in their flat form, each kept where its place leads until another one comes there. Contracts see nothing of it.
@@ -17,7 +18,7 @@ pub struct Words {
 impl Words {
     /// No word was met. Want of memory is the one refusal.
     pub fn new(alloc: Global) -> Result<Words, AllocError> {
-        let places = zero_words(alloc, PLACES)?;
+        let places = zero_words(alloc, WORD_PLACES)?;
         Ok(Words { places })
     }
 
@@ -26,7 +27,7 @@ impl Words {
     pub(crate) fn flat(&mut self, pc: u64, word: u32) -> &Flat
         ensures { result.now.word ≡ word }
     {
-        let place = (pc / 4) as usize % PLACES;
+        let place = (pc / INSTRUCTION_BYTES) as usize % WORD_PLACES;
         if self.places[place].word != word {
             keep(&mut self.places[place], word);
         }

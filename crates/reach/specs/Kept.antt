@@ -2,7 +2,7 @@
 use Rattle.std.specs.Prelude.{◌≡◌, ℕ, zero, suc, ◌+◌, ◌*◌, ◌/◌, ◌%◌, ◌<◌, Bool, List, length, replicate, Option, Some, None, Result, Ok, Err, slice_index_or, slice_set}
 use Rattle.processor.specs.Bytes.{page_size}
 use Rattle.processor.specs.Regions.{Region, host_word}
-use Rattle.processor.specs.Translation.{walk, at_leaf}
+use Rattle.processor.specs.Translation.{walk, at_leaf, entry_size}
 use Rattle.processor.specs.SecondStage.{walk_guest, entry_through, two_stages}
 use Rattle.processor.specs.declared.access.Access.{Access}
 use Rattle.processor.specs.declared.access.Access.TheVariants.{Fetch, Load, Store}
@@ -32,14 +32,14 @@ Above (suc (suc (suc n))) holds entries = Unit {0}
 
 -- the word that was read stands there
 abbrev pub IsThere : Region → Entry → Type 0
-IsThere r seen = host_word r seen.at 8 ≡ seen.word
+IsThere r seen = host_word r seen.at entry_size ≡ seen.word
 
 abbrev pub AreThere : Region → Entries → Type 0
 AreThere r entries = Above 0 (IsThere r) entries
 
 -- the second stage of these tables leads the load of an entry there
 abbrev pub IsPlace : List ℕ → (hgatp : ℕ) → Entry → Type 0
-IsPlace tables hgatp seen = (gpa : ℕ) × ((gpa % 8 ≡ 0) × ((r : Region) → r.tables ≡ tables → walk_guest r hgatp gpa Load ≡ Some seen.at))
+IsPlace tables hgatp seen = (gpa : ℕ) × ((gpa % entry_size ≡ 0) × ((r : Region) → r.tables ≡ tables → walk_guest r hgatp gpa Load ≡ Some seen.at))
 
 abbrev pub ArePlaces : List ℕ → (hgatp : ℕ) → Entries → Type 0
 ArePlaces tables hgatp entries = Above 0 (IsPlace tables hgatp) entries

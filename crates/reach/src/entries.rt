@@ -4,8 +4,10 @@ ghost use Rattle.std.specs.Prelude.{◌≡◌, ◌<◌, true};
 ghost use Rattle.processor.specs.Regions.{IsHostPlace};
 ghost use Rattle.processor.specs.SecondStage.{WalksApart};
 ghost use Rattle.reach.specs.Kept.{with_entry, IsThere, AreThere, ArePlaces};
+ghost use Rattle.processor.specs.Translation.{entry_size};
 
 use host_mem::HostMem;
+use processor::ENTRY_WIDTH;
 
 /// An entry of a table that a walk read: its host place, and the word that stood there.
 #[derive(Clone, Copy, Drop)]
@@ -18,11 +20,11 @@ impl Entry {
     // Whether the word that was read still stands there.
     #[inline(always)]
     fn is_there(self, mem: &HostMem) -> bool
-        requires { IsHostPlace mem.now self.at 8 }
+        requires { IsHostPlace mem.now self.at entry_size }
         ensures yes { result ≡ true → IsThere mem.now self }
         ensures no { IsThere mem.now self → result ≡ true }
     {
-        mem.read(self.at as usize, 8) == self.word
+        mem.read(self.at as usize, ENTRY_WIDTH) == self.word
     }
 }
 

@@ -8,11 +8,12 @@ ghost use Rattle.processor.specs.Roots.{IsSv39x4};
 ghost use Rattle.processor.specs.declared.access.Access.TheVariants as Access;
 ghost use Rattle.sv39_walk.specs.Levels.{IsTable};
 ghost use Rattle.reach.specs.Kept.{IsThere, AreThere, ArePlaces, EndsAt};
+ghost use Rattle.processor.specs.Translation.{entry_size};
 
 use crate::entries::{Entries, Entry};
 use gstage_cache::Cache;
 use host_mem::HostMem;
-use processor::{Access, PteBits};
+use processor::{Access, ENTRY_BYTES, ENTRY_WIDTH, PteBits};
 use sv39_walk::{SecondStage, entry_page, index, is_pointer};
 
 // The entry at a guest-physical address, read where the second stage leads as a load.
@@ -20,7 +21,7 @@ fn read_entry(cache: &mut Cache, mem: &HostMem, hgatp: u64, gpa: u64) -> Option<
     requires second { IsSv39x4 hgatp }
     requires apart { WalksApart mem.now hgatp }
     requires agrees { CacheAgrees mem.now.tables cache.old }
-    requires aligned { gpa % 8 ≡ 0 }
+    requires aligned { gpa % entry_size ≡ 0 }
     ensures there { IfSome result (λ seen. IsThere mem.now seen) }
     ensures leads { IfSome result (λ seen. (r : Region) → r.tables ≡ mem.now.tables → walk_guest r hgatp gpa Access.Load ≡ Some seen.at) }
     ensures agrees { CacheAgrees mem.now.tables cache.new }
@@ -32,7 +33,7 @@ fn read_entry(cache: &mut Cache, mem: &HostMem, hgatp: u64, gpa: u64) -> Option<
     let _table_bytes = mem.table_bytes();
     Some(Entry {
         at,
-        word: mem.read(at as usize, 8),
+        word: mem.read(at as usize, ENTRY_WIDTH),
     })
 }
 
@@ -58,7 +59,8 @@ pub(crate) fn read_entries(
     let mut table = root;
     let mut entries = Entries::none();
     'levels: for below in (0..3).rev() {
-        let Some(seen) = read_entry(cache, mem, hgatp, table + 8 * index(va, below)) else {
+        let Some(seen) = read_entry(cache, mem, hgatp, table + ENTRY_BYTES * index(va, below))
+        else {
             return None;
         };
         entries = entries.with_entry(below, seen);

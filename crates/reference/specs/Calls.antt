@@ -15,7 +15,7 @@ use Rattle.sv_types.specs.declared.saved.SavedModule.{SavedModule}
 use Rattle.sv_types.specs.declared.sbi.SbiCode.{SbiCode}
 use Rattle.sv_types.specs.declared.sbi.SbiCode.TheVariants.{Success, NoInput, NotSupported, InvalidParameter, InvalidAddress, Already}
 use Rattle.processor.specs.declared.mode.Mode.TheVariants.{Kernel}
-use Rattle.reference.specs.SbiFunctions.{get_specification, get_implementation, get_version, probe, get_machine, set_the_timer, send_ipi, last_fence, mask_width, hart_start, hart_stop, hart_status, is_started, is_stopped, system_reset, shutdown_type, last_reset_type}
+use Rattle.reference.specs.SbiFunctions.{get_specification, get_implementation, get_version, probe, get_machine, set_the_timer, send_ipi, last_fence, mask_width, hart_start, hart_stop, hart_status, state_started, state_stopped, system_reset, shutdown_type, last_reset_type}
 use Rattle.reference.specs.States.{State, Hart, has_number, is_protected}
 use Rattle.reference.specs.declared.answers.Answer.{Answer}
 use Rattle.reference.specs.declared.answers.Beside.TheVariants.{Nothing, SetsTimer, Prints, TakesInput, ShutsDown, SendsInterrupts, StartsHart}
@@ -167,7 +167,7 @@ start_other f ask (Some false) =
 
 abbrev pub status_of_hart : Option Bool → Reply
 status_of_hart None = code InvalidParameter
-status_of_hart (Some started) = value (if started then is_started else is_stopped)
+status_of_hart (Some started) = value (if started then state_started else state_stopped)
 
 unfoldable pub hart_call : Facts → Asked → Answer
 hart_call f ask =

@@ -48,11 +48,11 @@ hart_stop = 1
 abbrev pub hart_status : ℕ
 hart_status = 2
 
-abbrev pub is_started : ℕ
-is_started = 0
+abbrev pub state_started : ℕ
+state_started = 0
 
-abbrev pub is_stopped : ℕ
-is_stopped = 1
+abbrev pub state_stopped : ℕ
+state_stopped = 1
 
 -- ---- reset
 

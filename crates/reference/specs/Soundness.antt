@@ -1,6 +1,6 @@
 -- Which states of the reference machine are sound: each state that a run reaches is. This project's own.
 use Rattle.std.specs.Prelude.{◌≡◌, ℕ, ◌+◌, ◌*◌, ◌%◌, ◌^◌, ◌<◌, ◌≤◌, true, false, List, [], ◌∷◌, length, Option, Some, None, slice_get, IsTrue}
-use Rattle.processor.specs.Bytes.{page_size, page_bytes, ram_place, ram_base}
+use Rattle.processor.specs.Bytes.{page_size, page_bytes, ram_place, ram_base, instruction_size}
 use Rattle.sv_types.specs.Policies.{Rules, rules_within}
 use Rattle.sv_types.specs.ApprovedPages.{ApprovedPage, approved_bytes}
 use Rattle.processor.specs.Registers.{IsLegalSupervisor}
@@ -14,6 +14,7 @@ use Rattle.reference.specs.BlockDisk.{is_busy, beat_size}
 use Rattle.reference.specs.VirtioDevice.{VirtioDevice, Request}
 use Rattle.reference.specs.Origins.{OwnsPages, IsMeasured, Ascends, ownership}
 use Rattle.reference.specs.Start.{AreWords}
+use Rattle.reference.specs.VirtioStores.{used_alignment}
 
 -- a hart in an entry is in kernel mode, and the entry is bound
 abbrev pub IsSoundEntry : Rules → Mode → Option ℕ → Type 0
@@ -27,7 +28,7 @@ pub record IsStill (hart : Hart) : Type 0 where
   pub entry : hart.entry ≡ None
 
 pub record IsSoundHart (rules : Rules) (hart : Hart) : Type 0 where
-  pub aligned : hart.pc % 4 ≡ 0
+  pub aligned : hart.pc % instruction_size ≡ 0
   pub small : hart.pc < 2 ^ 64
   pub legal : IsLegalSupervisor hart.supervisor
   pub entry : IsSoundEntry rules hart.mode hart.entry
@@ -81,7 +82,7 @@ IsSoundRequest (Some q) = AreSoundMoves q.moves
 
 -- the used ring of a queue in use is aligned, and each move that is left of a request stays in a page
 pub record IsSoundVirtio (d : VirtioDevice) : Type 0 where
-  pub aligned : d.ready ≡ true → d.used % 4 ≡ 0
+  pub aligned : d.ready ≡ true → d.used % used_alignment ≡ 0
   pub moves : IsSoundRequest d.request
 
 abbrev pub IsSoundDisk : Disk → Type 0

@@ -4,13 +4,15 @@
 use Rattle.std.specs.Prelude.{ℕ, ◌+◌, ◌%◌, ◌^◌, Bool, true, false, not, ◌&&◌, ◌==◌, bit_or, List, [], ◌∷◌, ◌++◌, length, filter, nat_lt, if◌then◌else◌, Option, Some, None}
 use Rattle.processor.specs.Bytes.{part, overwrite, low_bytes, in_ram, ram_place, page_of}
 use Rattle.reference.specs.Move.{Move, Idle, FromRam, IntoRam, DeniedAt, OutsideRam}
-use Rattle.reference.specs.VirtioDevice.{VirtioDevice, Request, driver_ok, failed, is_broken, index_values, request_done, state_changed}
+use Rattle.reference.specs.VirtioDevice.{VirtioDevice, Request, driver_ok, is_broken, index_values, request_done, state_changed}
 use Rattle.reference.specs.VirtioStores.{needs_reset}
 use Rattle.reference.specs.VirtioQueue.{rings_in_ram, available_index, next_head, waiting}
 use Rattle.reference.specs.VirtioChain.{chain, most_parts, is_good, data_of, result_of}
 use Rattle.reference.specs.VirtioRequests.{type_of, sector_of, result_by, moves_by, last_moves}
 use Rattle.sv_types.specs.declared.virtio.VirtioMove.{VirtioMove}
 use Rattle.sv_types.specs.declared.virtio.VirtioPart.{VirtioPart}
+use Rattle.sv_types.specs.declared.virtio.VirtioResult.{VirtioResult}
+use Rattle.sv_types.specs.VirtioResults.{result_number}
 
 -- the device after a beat, and what it moved
 pub record VirtioBeat : Type 0 where
@@ -39,7 +41,7 @@ is_last _ = true
 
 -- a request whose data may not be written makes its last moves alone
 abbrev pub refused : Request → Request
-refused q = record q { moves = filter is_last q.moves; result = failed }
+refused q = record q { moves = filter is_last q.moves; result = VirtioResult.Failed }
 
 abbrev pub with_written : Request → ℕ → Request
 with_written q size = record q { written = (q.written + size) % 2 ^ 32 }
@@ -76,7 +78,7 @@ finished d = record d { request = None; interrupt = bit_or d.interrupt request_d
 unfoldable pub make : VirtioDevice → Request → VirtioMove → List ℕ → (ℕ → Bool) → VirtioBeat
 make d q (VirtioMove.ToMemory gpa place size) ram may_write = to_memory d q gpa place size ram may_write
 make d q (VirtioMove.ToDisk gpa place size) ram may_write = to_disk d q gpa place size ram
-make d q (VirtioMove.PutResult gpa) ram may_write = put_last d (with_request d q) gpa (low_bytes 1 q.result) ram may_write
+make d q (VirtioMove.PutResult gpa) ram may_write = put_last d (with_request d q) gpa (low_bytes 1 (result_number q.result)) ram may_write
 make d q (VirtioMove.PutHead gpa head) ram may_write = put_last d (with_request d q) gpa (low_bytes 4 head) ram may_write
 make d q (VirtioMove.PutLength gpa) ram may_write = put_last d (with_request d q) gpa (low_bytes 4 (q.written + 1)) ram may_write
 make d q (VirtioMove.PutIndex gpa index) ram may_write = put_last d (finished d) gpa (low_bytes 2 index) ram may_write
@@ -89,7 +91,7 @@ make_first d q (move ∷ moves) ram may_write = make d (record q { moves = moves
 -- ---- the next request
 
 -- the request that a chain asks for, as the device accepts it
-abbrev pub request_by : (result sector : ℕ) → VirtioDevice → (head accepted : ℕ) → List VirtioPart → Request
+abbrev pub request_by : VirtioResult → (sector : ℕ) → VirtioDevice → (head accepted : ℕ) → List VirtioPart → Request
 request_by result sector d head accepted parts = record {
   moves = moves_by result sector (data_of parts) ++ last_moves (result_of parts).gpa d.used d.size head accepted;
   result = result;
@@ -99,7 +101,7 @@ request_by result sector d head accepted parts = record {
 abbrev pub next_count : VirtioDevice → ℕ
 next_count d = (d.accepted + 1) % index_values
 
-abbrev pub result_in : VirtioDevice → List ℕ → List VirtioPart → ℕ
+abbrev pub result_in : VirtioDevice → List ℕ → List VirtioPart → VirtioResult
 result_in d ram parts = result_by ram (length d.bytes) (type_of ram parts) (sector_of ram parts) (data_of parts)
 
 unfoldable pub accepted : VirtioDevice → List ℕ → (head : ℕ) → List VirtioPart → VirtioDevice

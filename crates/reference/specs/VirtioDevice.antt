@@ -3,6 +3,7 @@
 use Rattle.std.specs.Prelude.{ℕ, ◌-◌, ◌^◌, Bool, ◌==◌, bit_and, List, Option}
 use Rattle.processor.specs.Bits.{bit}
 use Rattle.sv_types.specs.declared.virtio.VirtioMove.{VirtioMove}
+use Rattle.sv_types.specs.declared.virtio.VirtioResult.{VirtioResult}
 
 -- the most places of the queue
 abbrev pub most_places : ℕ
@@ -12,25 +13,13 @@ most_places = 64
 abbrev pub index_values : ℕ
 index_values = 2 ^ 16
 
--- ---- the result of a request, "Device Operation" of the block device
-
-abbrev pub done : ℕ
-done = 0
-
-abbrev pub failed : ℕ
-failed = 1
-
--- the request is of a type that isn't known
-abbrev pub unknown_type : ℕ
-unknown_type = 2
-
 -- ---- requests and registers
 
 -- a request that was accepted and whose moves aren't all made
 pub record Request : Type 0 where
   -- the moves that are left, the next one first
   pub moves : List VirtioMove
-  pub result : ℕ
+  pub result : VirtioResult
   -- the bytes that its moves wrote into the driver's data, modulo 2^32
   pub written : ℕ
 

@@ -3,11 +3,12 @@ use Rattle.std.specs.Prelude.{ℕ, zero, suc, ◌+◌, ◌-◌, ◌*◌, ◌%◌
 use Rattle.std.specs.List.{list_all}
 use Rattle.processor.specs.Bytes.{word, in_ram, ram_place, page_size}
 use Rattle.reference.specs.BlockDisk.{sector_size, beat_size}
-use Rattle.reference.specs.VirtioDevice.{done, failed, unknown_type}
 use Rattle.reference.specs.VirtioQueue.{used_gpa, used_index_gpa, used_length_place}
 use Rattle.reference.specs.VirtioChain.{header_of}
 use Rattle.sv_types.specs.declared.virtio.VirtioMove.{VirtioMove}
 use Rattle.sv_types.specs.declared.virtio.VirtioPart.{VirtioPart}
+use Rattle.sv_types.specs.declared.virtio.VirtioResult.{VirtioResult}
+use Rattle.sv_types.specs.VirtioResults.{is_done}
 
 -- ---- the header: a type, 4 bytes that nothing reads, a sector
 
@@ -46,11 +47,11 @@ unfoldable pub can_move : List ℕ → (disk_size kind sector : ℕ) → List Vi
 can_move ram disk_size kind sector parts =
     are_sectors disk_size sector (bytes_in parts) && list_all (lies_in ram) parts && list_all (fits_type kind) parts
 
-unfoldable pub result_by : List ℕ → (disk_size kind sector : ℕ) → List VirtioPart → ℕ
+unfoldable pub result_by : List ℕ → (disk_size kind sector : ℕ) → List VirtioPart → VirtioResult
 result_by ram disk_size kind sector parts =
     if kind == read_disk || kind == write_disk
-    then (if can_move ram disk_size kind sector parts then done else failed)
-    else unknown_type
+    then (if can_move ram disk_size kind sector parts then VirtioResult.Done else VirtioResult.Failed)
+    else VirtioResult.Unsupported
 
 -- ---- the moves
 
@@ -84,5 +85,5 @@ last_moves result_gpa used size head accepted =
     ∷ []
 
 -- a request makes its data's moves only where it is done as far as it was judged
-abbrev pub moves_by : ℕ → (sector : ℕ) → List VirtioPart → List VirtioMove
-moves_by result sector parts = if result == done then data_moves (sector_size * sector) parts else []
+abbrev pub moves_by : VirtioResult → (sector : ℕ) → List VirtioPart → List VirtioMove
+moves_by result sector parts = if is_done result then data_moves (sector_size * sector) parts else []

@@ -15,6 +15,7 @@ use Rattle.reference.specs.Turn.{demote}
 use Rattle.machine_model.specs.Served.{Seen, exit_answer, serve_exit}
 use Rattle.machine_model.specs.declared.exits.ExitAnswer.TheVariants.{Calls, Demotes, LeavesEntry, Traps}
 use Rattle.reference_rows.specs.Guests.{small, hart_in, with_two}
+use Rattle.processor.specs.SecondStage.{htval_unit}
 
 abbrev pub before : State
 before = small 0x13 0x13
@@ -27,7 +28,7 @@ of_user = hart_in User 0x80001000 (with_two 0x10000000 65)
 
 -- what an exit by an exception tells: the guest-physical address, and the transformed instruction
 abbrev pub by_cause : Cause → (stval gpa htinst : ℕ) → Exit
-by_cause cause stval gpa htinst = record { cause = ExitCause.Exception cause; pc = 0; stval = stval; htval = gpa / 4; htinst = htinst }
+by_cause cause stval gpa htinst = record { cause = ExitCause.Exception cause; pc = 0; stval = stval; htval = gpa / htval_unit; htinst = htinst }
 
 abbrev pub by_interrupt : Interrupt → Exit
 by_interrupt interrupt = record { cause = ExitCause.Interrupt interrupt; pc = 0; stval = 0; htval = 0; htinst = 0 }

@@ -2,7 +2,7 @@
 use Rattle.std.specs.Prelude.{ℕ, List, [], ◌∷◌, ◌++◌, replicate, Option, Some, None, slice_get, true}
 use Rattle.processor.specs.Bytes.{low_bytes, padded}
 use Rattle.processor.specs.Effects.{register}
-use Rattle.sv_types.specs.Output.{line_feed}
+use Rattle.sv_types.specs.Output.{line_end}
 use Rattle.sv_types.specs.Policies.{Rules}
 use Rattle.processor.specs.Registers.{Supervisor}
 use Rattle.sv_types.specs.declared.event.Event.TheVariants.{Turn}
@@ -34,7 +34,7 @@ flat bytes n = run (flat_start (page bytes) []) (replicate n (Turn 0))
 -- lines, each with its line feed
 abbrev pub said : List (List ℕ) → List ℕ
 said [] = []
-said (line ∷ lines) = line ++ line_feed ++ said lines
+said (line ∷ lines) = line ++ line_end ++ said lines
 
 -- ---- a machine of two harts and four pages: the first page is approved, and the others are free
 

@@ -1,6 +1,6 @@
 -- What each machine that runs keeps so that a snapshot of it can be written and read, beside its soundness. This project's own.
 use Rattle.std.specs.Prelude.{◌≡◌, ℕ, ◌+◌, ◌*◌, ◌%◌, ◌<◌, ◌≤◌, true, List, [], ◌∷◌, length, min, Option, Some, None, slice_get}
-use Rattle.processor.specs.Bytes.{page_size}
+use Rattle.processor.specs.Bytes.{page_size, instruction_size}
 use Rattle.processor.specs.Requests.{reserved_bytes}
 use Rattle.processor.specs.declared.mode.Mode.TheVariants.{Kernel}
 use Rattle.sv_types.specs.Limits.{most_notes, most_harts}
@@ -42,7 +42,7 @@ AreKeepable size (hart ∷ harts) = IsKeepableHart size hart × AreKeepable size
 
 -- the hart of a note is there, and its pc is an instruction's address
 abbrev pub IsKeepableNote : (harts : ℕ) → Note → Type 0
-IsKeepableNote harts (Demote h turn pc gpa) = (h < harts) × (pc % 4 ≡ 0)
+IsKeepableNote harts (Demote h turn pc gpa) = (h < harts) × (pc % instruction_size ≡ 0)
 IsKeepableNote harts (Denied gpa) = Unit {0}
 IsKeepableNote harts (Load h turn id code) = h < harts
 IsKeepableNote harts (Unload h turn id code) = h < harts
@@ -56,7 +56,7 @@ abbrev pub IsKeepableVerdict : (harts : ℕ) → Verdict → Type 0
 IsKeepableVerdict harts Running = Unit {0}
 IsKeepableVerdict harts Shutdown = Unit {0}
 IsKeepableVerdict harts (Stopped (Entry target) h turn) = h < harts
-IsKeepableVerdict harts (Stopped (Write pc gpa) h turn) = (h < harts) × (pc % 4 ≡ 0)
+IsKeepableVerdict harts (Stopped (Write pc gpa) h turn) = (h < harts) × (pc % instruction_size ≡ 0)
 
 -- of all that was noted the first 4,096 are kept
 pub record IsKeepableJournal (harts : ℕ) (notes : List Note) (all : ℕ) (verdict : Verdict) : Type 0 where

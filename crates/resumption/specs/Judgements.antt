@@ -3,7 +3,7 @@
 use Rattle.std.specs.Prelude.{ℕ, ◌+◌, ◌*◌, List, [], ◌∷◌, ◌++◌, length, map, filter, replicate, Bool, true, false, not, ◌&&◌, ◌||◌, Option, Some, None, slice_get, slice_set, is_some, nat_lt, nat_le, ◌==◌, if◌then◌else◌}
 use Rattle.std.specs.List.{list_all, list_any}
 use Rattle.std.specs.Str.{bytes_eq}
-use Rattle.processor.specs.Bytes.{page_size, page_bytes, ram_base, ram_place}
+use Rattle.processor.specs.Bytes.{page_size, page_bytes, ram_base, ram_place, is_in_ram}
 use Rattle.sv_types.specs.Measure.{page_digest, joined_digests}
 use Rattle.sv_types.specs.Policies.{Rules}
 use Rattle.sv_types.specs.declared.protection.Protection.{Protection}
@@ -53,8 +53,8 @@ is_bound rules (Some i) = is_some (binding_at rules i)
 -- a module of the policy, whose pages lie in RAM
 abbrev pub fits : Rules → SavedModule → Bool
 fits rules m =
-    nat_lt m.id (length rules.modules) && nat_le ram_base m.gpa &&
-    nat_le (ram_place m.gpa + page_size * pages_in_rule (slice_get rules.modules m.id)) (page_size * rules.ram_pages)
+    nat_lt m.id (length rules.modules) &&
+    is_in_ram m.gpa (page_size * pages_in_rule (slice_get rules.modules m.id)) (page_size * rules.ram_pages)
 
 -- a module of an id is loaded
 abbrev pub is_loaded : List SavedModule → ℕ → Bool

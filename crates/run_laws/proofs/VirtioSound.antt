@@ -12,6 +12,8 @@ use Rattle.reference.specs.VirtioQueue.{used_gpa, used_index_gpa}
 use Rattle.reference.specs.VirtioRequests.{piece_size, piece, pieces, data_moves, last_moves, moves_by}
 use Rattle.reference.specs.VirtioBeats.{is_last}
 use Rattle.reference.specs.Soundness.{IsSoundMove, AreSoundMoves, IsSoundVirtio, StaysInPage}
+use Rattle.sv_types.specs.declared.virtio.VirtioResult.{VirtioResult}
+use Rattle.sv_types.specs.VirtioResults.{is_done}
 
 -- ---- stores
 
@@ -193,9 +195,9 @@ lasts_sound result_gpa used size head accepted aligned =
     )
 
 -- the moves of a request as it is accepted
-pub request_sound : (result sector : ℕ) (parts : List VirtioPart) (result_gpa used size head accepted : ℕ) → used % 4 ≡ 0
+pub request_sound : (result : VirtioResult) (sector : ℕ) (parts : List VirtioPart) (result_gpa used size head accepted : ℕ) → used % 4 ≡ 0
     → AreSoundMoves (moves_by result sector parts ++ last_moves result_gpa used size head accepted)
 request_sound result sector parts result_gpa used size head accepted aligned =
     sound_append (moves_by result sector parts) (last_moves result_gpa used size head accepted)
-    (chosen_sound (result == 0) (data_moves (512 * sector) parts) (data_sound (512 * sector) parts))
+    (chosen_sound (is_done result) (data_moves (512 * sector) parts) (data_sound (512 * sector) parts))
     (lasts_sound result_gpa used size head accepted aligned)

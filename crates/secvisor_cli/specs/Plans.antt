@@ -16,7 +16,7 @@ use Rattle.sv_types.specs.Kernel.{header_entry, kernel_refusal, kernel_segments,
 use Rattle.sv_types.specs.Policies.{Rules}
 use Rattle.reference.specs.Start.{flat_start, boot_start, virtio_start}
 use Rattle.sv_types.specs.Measure.{measure}
-use Rattle.sv_types.specs.Output.{run_status, line_feed, hexadecimal_bytes}
+use Rattle.sv_types.specs.Output.{run_status, line_end, hexadecimal_bytes}
 use Rattle.reference.specs.BlockDisk.{sector_size}
 use Rattle.reference.specs.Disk.{disk_bytes}
 use Rattle.reference.specs.Report.{output}
@@ -51,11 +51,11 @@ pub data Due : Type 0 where
   Make : (name : List ℕ) → (rules : Rules) → (line : List ℕ) → Due
 
 abbrev pub measured_line : List ℕ → List ℕ
-measured_line digest = codes "measured " ++ (hexadecimal_bytes digest ++ line_feed)
+measured_line digest = codes "measured " ++ (hexadecimal_bytes digest ++ line_end)
 
 -- the number of entries
 abbrev pub converted_line : ℕ → List ℕ
-converted_line entries = codes "converted " ++ (decimal entries ++ line_feed)
+converted_line entries = codes "converted " ++ (decimal entries ++ line_end)
 
 -- the line of the kernel's digest
 abbrev pub measured : (name : List ℕ) → Rules → Due

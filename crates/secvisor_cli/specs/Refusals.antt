@@ -1,7 +1,7 @@
 -- The line and the status of a refusal. This project's own.
 use Rattle.std.specs.Prelude.{ℕ, List, ◌++◌, Bool, true, false, codes}
 use Rattle.std.specs.Fmt.{decimal}
-use Rattle.sv_types.specs.Output.{line_feed, hexadecimal_bytes, address_text}
+use Rattle.sv_types.specs.Output.{line_end, hexadecimal_bytes, address_text}
 use Rattle.sv_types.specs.declared.status.Status.{Status}
 use Rattle.sv_types.specs.ImageFaults.{image_fault_number}
 use Rattle.policy_limits.specs.PolicyFaults.{policy_fault_number}
@@ -63,14 +63,14 @@ fault_number (FileFault.Snapshot refusal) = form.refusal_number refusal
 fault_number (FileFault.Resume refusal) = resuming.refusal_number refusal
 
 unfoldable pub refusal_line : Refusal → List ℕ
-refusal_line NoCommand = codes "usage" ++ line_feed
-refusal_line (OutOfRange word) = codes "usage " ++ (word_name word ++ line_feed)
-refusal_line (ReadFault part) = codes "read fault " ++ (part_name part ++ line_feed)
+refusal_line NoCommand = codes "usage" ++ line_end
+refusal_line (OutOfRange word) = codes "usage " ++ (word_name word ++ line_end)
+refusal_line (ReadFault part) = codes "read fault " ++ (part_name part ++ line_end)
 refusal_line (File fault) =
-    codes "refused " ++ (part_name (fault_part fault) ++ (codes " " ++ (decimal (fault_number fault) ++ line_feed)))
+    codes "refused " ++ (part_name (fault_part fault) ++ (codes " " ++ (decimal (fault_number fault) ++ line_end)))
 refusal_line (Measure found wanted) =
-    codes "refused measure found " ++ (hexadecimal_bytes found ++ (codes " wanted " ++ (hexadecimal_bytes wanted ++ line_feed)))
-refusal_line (Entry entry) = codes "refused entry " ++ (address_text entry ++ line_feed)
+    codes "refused measure found " ++ (hexadecimal_bytes found ++ (codes " wanted " ++ (hexadecimal_bytes wanted ++ line_end)))
+refusal_line (Entry entry) = codes "refused entry " ++ (address_text entry ++ line_end)
 
 abbrev pub refusal_status : Refusal → Status
 refusal_status NoCommand = Status.Usage

@@ -2,7 +2,7 @@
 -- project's own.
 use Rattle.std.specs.Prelude.{ℕ, ◌&&◌, not, List, [], ◌∷◌, ◌++◌, Option, Some, None, Result, Ok, Err, codes, if◌then◌else◌}
 use Rattle.std.specs.Str.{bytes_eq}
-use Rattle.sv_types.specs.Output.{line_feed}
+use Rattle.sv_types.specs.Output.{line_end}
 use Rattle.sv_types.specs.declared.status.Status.{Status}
 use Rattle.snapshot_form.specs.Snapshots.{Contents, snapshot_read}
 use Rattle.snapshot_form.specs.declared.refusal.SnapRefusal.{SnapRefusal}
@@ -43,14 +43,14 @@ held_shown (Some bytes) = shown bytes
 
 -- a snapshot's refusal by its number
 unfoldable pub no_snapshot_line : SnapRefusal → List ℕ
-no_snapshot_line SnapRefusal.TooLong = codes "refused snapshot 0" ++ line_feed
-no_snapshot_line SnapRefusal.OtherLength = codes "refused snapshot 1" ++ line_feed
-no_snapshot_line SnapRefusal.OtherBeginning = codes "refused snapshot 2" ++ line_feed
-no_snapshot_line SnapRefusal.OutOfRange = codes "refused snapshot 3" ++ line_feed
+no_snapshot_line SnapRefusal.TooLong = codes "refused snapshot 0" ++ line_end
+no_snapshot_line SnapRefusal.OtherLength = codes "refused snapshot 1" ++ line_end
+no_snapshot_line SnapRefusal.OtherBeginning = codes "refused snapshot 2" ++ line_end
+no_snapshot_line SnapRefusal.OutOfRange = codes "refused snapshot 3" ++ line_end
 
 unfoldable pub refusal_line : ShowRefusal → List ℕ
-refusal_line NoCommand = codes "usage" ++ line_feed
-refusal_line ReadFault = codes "read fault snapshot" ++ line_feed
+refusal_line NoCommand = codes "usage" ++ line_end
+refusal_line ReadFault = codes "read fault snapshot" ++ line_end
 refusal_line (NoSnapshot refusal) = no_snapshot_line refusal
 
 abbrev pub refusal_status : ShowRefusal → Status

@@ -2,7 +2,7 @@
 use Rattle.std.specs.Prelude.{ℕ, ◌+◌, ◌-◌, ◌*◌, ◌%◌, List, [], ◌∷◌, drop, Bool, true, false, not, ◌&&◌, ◌||◌, Option, Some, None, nat_lt, nat_le, ◌==◌, if◌then◌else◌}
 use Rattle.saved_machine.specs.declared.harts.SavedHart.{SavedHart}
 use Rattle.snapshot_form.specs.Forms.{Form, number, within, and_then, ◌⨾◌, made, always, listed}
-use Rattle.processor.specs.Bytes.{page_size, ram_base}
+use Rattle.processor.specs.Bytes.{page_size, ram_base, is_ram_address}
 use Rattle.processor.specs.IntegerRegisters.{register_count}
 use Rattle.processor.specs.Requests.{reserved_bytes}
 use Rattle.processor.specs.Registers.{software_bit, legal_status, legal_interrupts, legal_tvec, legal_counteren, legal_epc, legal_satp}
@@ -54,9 +54,6 @@ address_of n = if n == 0 then None else Some n
 abbrev pub is_nonzero : Option ℕ → Bool
 is_nonzero None = true
 is_nonzero (Some address) = not (address == 0)
-
-abbrev pub is_ram_address : ℕ → ℕ → Bool
-is_ram_address ram_pages n = nat_le ram_base n && nat_lt n (ram_base + page_size * ram_pages)
 
 abbrev pub is_reservable : ℕ → ℕ → Bool
 is_reservable ram_pages n = n == 0 || (is_ram_address ram_pages n && n % reserved_bytes == 0)

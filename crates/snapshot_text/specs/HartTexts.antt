@@ -4,7 +4,7 @@ use Rattle.std.specs.Prelude.{ℕ, List, [], ◌∷◌, ◌++◌, drop, Bool, tr
 use Rattle.std.specs.Fmt.{decimal}
 use Rattle.processor.specs.declared.mode.Mode.{Mode}
 use Rattle.saved_machine.specs.declared.harts.SavedHart.{SavedHart}
-use Rattle.sv_types.specs.Output.{line_feed, address_text}
+use Rattle.sv_types.specs.Output.{line_end, address_text}
 use Rattle.snapshot_text.specs.Lines.{lines_of, named_line, named_lines}
 
 -- registers 1 to 31: The RISC-V ABIs Specification, 1.1
@@ -40,7 +40,7 @@ entry_text (Some place) = codes " entry " ++ decimal place
 unfoldable pub hart_head : ℕ → SavedHart → List ℕ
 hart_head number h =
     codes "hart " ++ (decimal number ++ (codes " " ++ (standing_name h.started ++ (codes " " ++ (mode_name h.mode ++
-    (codes " pc " ++ (address_text h.pc ++ (entry_text h.entry ++ line_feed))))))))
+    (codes " pc " ++ (address_text h.pc ++ (entry_text h.entry ++ line_end))))))))
 
 unfoldable pub reservation_line : Option ℕ → List ℕ
 reservation_line None = []

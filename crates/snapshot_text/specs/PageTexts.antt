@@ -2,7 +2,7 @@
 -- last page. This project's own.
 use Rattle.std.specs.Prelude.{ℕ, ◌+◌, List, [], ◌∷◌, ◌++◌, Bool, true, false, if◌then◌else◌, codes}
 use Rattle.std.specs.Fmt.{decimal}
-use Rattle.sv_types.specs.Output.{line_feed}
+use Rattle.sv_types.specs.Output.{line_end}
 use Rattle.sv_types.specs.declared.protection.Protection.{Protection}
 use Rattle.sv_types.specs.declared.protection.Protection.TheVariants.{Free, Held, Approved}
 use Rattle.snapshot_text.specs.declared.pages.PageRun.{PageRun}
@@ -20,7 +20,7 @@ is_same _ _ = false
 
 unfoldable pub run_line : PageRun → List ℕ
 run_line run =
-    codes "pages " ++ (decimal run.first ++ (codes " to " ++ (decimal run.last ++ (codes " " ++ (protection_name run.protection ++ line_feed)))))
+    codes "pages " ++ (decimal run.first ++ (codes " to " ++ (decimal run.last ++ (codes " " ++ (protection_name run.protection ++ line_end)))))
 
 -- the run that the next page is in
 unfoldable pub next_run : PageRun → Protection → PageRun

@@ -5,13 +5,13 @@ use Rattle.std.specs.Fmt.{decimal}
 use Rattle.reference.specs.Report.{report}
 use Rattle.report.specs.Journals.{journal_with}
 use Rattle.snapshot_form.specs.Snapshots.{Contents}
-use Rattle.sv_types.specs.Output.{line_feed}
+use Rattle.sv_types.specs.Output.{line_end}
 use Rattle.snapshot_text.specs.HartTexts.{hart_texts}
 use Rattle.snapshot_text.specs.PageTexts.{page_texts}
 use Rattle.snapshot_text.specs.DeviceTexts.{module_lines, load_line, init_line, console_line, port_line, disk_line}
 
 unfoldable pub head_line : (events time : ℕ) → List ℕ
-head_line events time = codes "events " ++ (decimal events ++ (codes " time " ++ (decimal time ++ line_feed)))
+head_line events time = codes "events " ++ (decimal events ++ (codes " time " ++ (decimal time ++ line_end)))
 
 unfoldable pub gate_lines : Contents → List ℕ
 gate_lines s = module_lines s.modules ++ load_line s.loading ++ init_line s.retired

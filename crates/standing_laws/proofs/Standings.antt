@@ -77,7 +77,7 @@ in_none rules User (Some i) known none = absurd known
 
 -- ---- walks
 
-entry_stage : (i : ℕ) → i < 64 → IsSv39x4 (0x8000300000000008 + 0x100000000004 * i)
+entry_stage : (i : ℕ) → i < 64 → IsSv39x4 (view_hgatp (View.Entry i))
 entry_stage i below = omega arith
 
 in_stage : (rules : Rules) (mode : Mode) (entry : Option ℕ) → rules_within rules ≡ true → IsSoundEntry rules mode entry → IsSv39x4 (hregs_in mode entry).hgatp

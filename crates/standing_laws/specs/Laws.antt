@@ -1,7 +1,7 @@
 -- What code may rely on in a machine that stands for a state of the reference machine. This project's own.
 use Rattle.std.specs.Prelude.{◌≡◌, ℕ, ◌*◌, ◌/◌, ◌%◌, ◌^◌, ◌<◌, ◌≤◌, List, [], map, drop, length, None, Some, IfSome, IsTrue, slice_get, slice_index_or}
 use Rattle.sv_types.specs.ApprovedPages.{approved_bytes}
-use Rattle.processor.specs.Bytes.{page_size}
+use Rattle.processor.specs.Bytes.{page_size, instruction_size}
 use Rattle.sv_types.specs.Policies.{Rules, rules_within}
 use Rattle.processor.specs.Regions.{Region, IsRegion}
 use Rattle.sv_types.specs.Views.{AreViews}
@@ -25,7 +25,7 @@ use Rattle.hart.specs.Conditions.{KeepsMode}
 
 -- a hart may make an attempt
 pub record MayAttempt (region : Region) (host : HostHart) : Type 0 where
-  pub aligned : host.core.pc % 4 ≡ 0
+  pub aligned : host.core.pc % instruction_size ≡ 0
   pub registers : host.core.hregs ≡ hregs_in host.core.hregs.mode host.entry
   pub keeps : KeepsMode host.core.hregs
   pub stage : IsSv39x4 host.core.hregs.hgatp

@@ -2,8 +2,8 @@
 
 ghost use Rattle.std.specs.Prelude.{◌≡◌, ◌+◌, ◌*◌, ◌/◌, ◌%◌, ◌^◌, ◌<◌, ◌≤◌, Some, None};
 ghost use Rattle.std.specs.Option.{ok_or};
-ghost use Rattle.processor.specs.Translation.{walk, root_of};
-ghost use Rattle.processor.specs.SecondStage.{host_entry, entry_in_region, permits_guest, address_at, walk_guest};
+ghost use Rattle.processor.specs.Translation.{walk, root_of, entry_size};
+ghost use Rattle.processor.specs.SecondStage.{host_entry, entry_in_region, permits_guest, address_at, walk_guest, guest_address_bits};
 ghost use Rattle.processor.specs.declared.access.Access.{Access as Kind};
 ghost use Rattle.sv39_walk.specs.Levels.{indices_of, IsTable};
 ghost use Rattle.sv39_walk.specs.Mappings.{mapping_answer, found_mapping};
@@ -14,7 +14,10 @@ use crate::entry::{
     PAGE_NUMBER, entry_page, index, is_leaf, is_pointer, leaf_address, permits_guest,
 };
 use host_mem::{HostMem, Steps};
-use processor::{Access, GuestFault, PAGE_BYTES, PAGE_SIZE, PteBits};
+use processor::{
+    Access, ENTRY_BYTES, ENTRY_WIDTH, GUEST_ADDRESS_BITS, GuestFault, PAGE_BYTES, PAGE_SIZE,
+    PteBits,
+};
 use std::marker::Brand;
 use std::sync::ledger::{Blank, Ledger};
 
@@ -118,7 +121,7 @@ pub fn find_mapping<L: Ledger>(
     ensures value { (access : Kind) → walk_guest mem.now hgatp gpa access ≡ mapping_answer result access }
     ensures steps { steps.new ≤ steps.old + 3 }
 {
-    if gpa >> 41 == 0 {
+    if gpa >> GUEST_ADDRESS_BITS == 0 {
         walk_levels(mem, root_table(hgatp, gpa), gpa, steps)
     } else {
         None
@@ -127,7 +130,7 @@ pub fn find_mapping<L: Ledger>(
 
 // The root is four tables in one; bits 40 and 39 of the address choose among them.
 fn root_table(hgatp: u64, gpa: u64) -> u64
-    requires { gpa < 2 ^ 41 }
+    requires { gpa < 2 ^ guest_address_bits }
     ensures value { result ≡ root_of hgatp + page_size * (gpa / 2 ^ 39) }
     ensures table { IsTable result }
 {
@@ -147,7 +150,7 @@ fn walk_levels<L: Ledger>(
 {
     let mut table = root;
     'levels: for below in (0..3).rev() {
-        let entry = host_entry(mem, table + 8 * index(gpa, below), steps);
+        let entry = host_entry(mem, table + ENTRY_BYTES * index(gpa, below), steps);
         if !is_pointer(entry) {
             return at_leaf(entry, below, gpa);
         }
@@ -174,14 +177,14 @@ fn at_leaf(entry: PteBits, below: u32, gpa: u64) -> Option<Mapping>
 // The entry at a host place, counted where it is read. One that isn't whole in the region counts as one with V clear.
 #[tactic(auto, unfolding(processor::specs::SecondStage::host_entry))]
 fn host_entry<L: Ledger>(mem: &HostMem, at: u64, steps: &mut Steps<L>) -> PteBits
-    requires aligned { at % 8 ≡ 0 }
+    requires aligned { at % entry_size ≡ 0 }
     requires small { at < 2 ^ 60 }
     ensures value { result.0 ≡ host_entry mem.now at }
     ensures steps { steps.new ≤ steps.old + 1 }
 {
     let size = mem.table_bytes() + PAGE_SIZE * mem.ram_pages();
     let at = at as usize;
-    if at + 8 <= size {
+    if at + usize::from(ENTRY_WIDTH) <= size {
         PteBits(mem.word(at, steps))
     } else {
         PteBits(0)

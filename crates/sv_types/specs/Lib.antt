@@ -1,4 +1,5 @@
 pub mod BlockNumbers
+pub mod VirtioResults
 pub mod ImageFaults
 pub mod RelocationKinds
 pub mod ApprovedPages

@@ -8,10 +8,11 @@ use Rattle.sv_types.specs.declared.event.Verdict.TheVariants.{Running, Shutdown,
 use Rattle.sv_types.specs.declared.event.Rule.{Rule}
 use Rattle.sv_types.specs.declared.event.Rule.TheVariants.{Entry, Write}
 use Rattle.sv_types.specs.declared.status.Status.{Status}
+use Rattle.sv_types.specs.Schedule.{line_feed}
 
--- ISO/IEC 646 (ASCII)
-abbrev pub line_feed : List ℕ
-line_feed = 10 ∷ []
+-- what ends a line
+abbrev pub line_end : List ℕ
+line_end = line_feed ∷ []
 
 -- the lowest n hexadecimal digits of a number, in lower case
 unfoldable pub hexadecimal : ℕ → ℕ → List ℕ
@@ -29,22 +30,22 @@ address_text a = codes "0x" ++ hexadecimal 16 a
 -- ---- counts
 
 unfoldable pub notes_line : Counts → List ℕ
-notes_line c = codes "notes " ++ (decimal c.notes ++ line_feed)
+notes_line c = codes "notes " ++ (decimal c.notes ++ line_end)
 
 unfoldable pub events_line : Counts → List ℕ
 events_line c =
     codes "turns " ++ (decimal c.turns ++ (codes " beats " ++ (decimal c.beats ++ (codes " keys " ++ (decimal c.keys ++
-    (codes " ticks " ++ (decimal c.ticks ++ line_feed)))))))
+    (codes " ticks " ++ (decimal c.ticks ++ line_end)))))))
 
 unfoldable pub retired_line : Counts → List ℕ
 retired_line c =
     codes "retired " ++ (decimal c.retired ++ (codes " traps " ++ (decimal c.traps ++ (codes " enters " ++ (decimal c.enters ++
-    (codes " leaves " ++ (decimal c.leaves ++ (codes " demotes " ++ (decimal c.demotes ++ line_feed)))))))))
+    (codes " leaves " ++ (decimal c.leaves ++ (codes " demotes " ++ (decimal c.demotes ++ line_end)))))))))
 
 unfoldable pub denied_line : Counts → List ℕ
 denied_line c =
     codes "denied " ++ (decimal c.denied ++ (codes " dropped " ++ (decimal c.dropped ++ (codes " loads " ++ (decimal c.loads ++
-    (codes " unloads " ++ (decimal c.unloads ++ (codes " refused " ++ (decimal c.refused ++ line_feed)))))))))
+    (codes " unloads " ++ (decimal c.unloads ++ (codes " refused " ++ (decimal c.refused ++ line_end)))))))))
 
 -- ---- the verdict
 
@@ -61,9 +62,9 @@ stop_head rule hart turn =
     codes "verdict stopped " ++ (rule_name rule ++ (codes " hart " ++ (decimal hart ++ (codes " turn " ++ decimal turn))))
 
 unfoldable pub verdict_line : Verdict → List ℕ
-verdict_line Running = codes "verdict ended" ++ line_feed
-verdict_line Shutdown = codes "verdict shutdown" ++ line_feed
-verdict_line (Stopped rule hart turn) = stop_head rule hart turn ++ rule_places rule ++ line_feed
+verdict_line Running = codes "verdict ended" ++ line_end
+verdict_line Shutdown = codes "verdict shutdown" ++ line_end
+verdict_line (Stopped rule hart turn) = stop_head rule hart turn ++ rule_places rule ++ line_end
 
 -- ---- the whole
 

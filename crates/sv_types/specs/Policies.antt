@@ -2,7 +2,7 @@
 use Rattle.std.specs.Prelude.{ℕ, ◌+◌, ◌-◌, slice_get, ◌*◌, ◌%◌, Bool, true, false, ◌&&◌, ◌||◌, not, ◌==◌, nat_le, nat_lt, List, [], ◌∷◌, ◌++◌, length, map, sum, if◌then◌else◌, Option, Some, None}
 use Rattle.std.specs.List.{list_any}
 use Rattle.std.specs.Str.{bytes_eq}
-use Rattle.processor.specs.Bytes.{page_size, ram_base}
+use Rattle.processor.specs.Bytes.{page_size, ram_base, is_ram_address, instruction_size}
 use Rattle.processor.specs.Regions.{most_ram_pages}
 use Rattle.sv_types.specs.Limits.{plain_format, bound_format, most_harts, fewest_ram_pages, most_entries, most_exports, most_modules, most_module_pages, most_module_sites, most_sites, first_export_base}
 use Rattle.sv_types.specs.declared.module.Span.{Span}
@@ -87,7 +87,7 @@ each_within fits before (x ∷ xs) = fits before x && each_within fits (before +
 
 -- an instruction's address
 abbrev pub entry_within : ℕ → Bool
-entry_within address = address % 4 == 0
+entry_within address = address % instruction_size == 0
 
 -- one of these exports has the name
 abbrev pub is_exported : List ℕ → List Export → Bool
@@ -115,7 +115,7 @@ init_within ram_pages (Some span) = span_within ram_pages span
 -- in RAM, at the place in its page that the entry has in its own
 abbrev pub bound_fits : (ram_pages entry gpa : ℕ) → Bool
 bound_fits ram_pages entry gpa =
-    nat_le ram_base gpa && nat_lt gpa (ram_base + page_size * ram_pages) && gpa % page_size == entry % page_size
+    is_ram_address ram_pages gpa && gpa % page_size == entry % page_size
 
 -- each entry has its address, and none stands twice
 abbrev pub all_bound : (ram_pages : ℕ) → (before entries bound : List ℕ) → Bool
@@ -147,7 +147,7 @@ module_bytes pages = page_size * pages
 
 -- an instruction of the module begins there
 abbrev pub place_within : ℕ → ℕ → Bool
-place_within pages offset = offset % 4 == 0 && nat_lt offset (module_bytes pages)
+place_within pages offset = offset % instruction_size == 0 && nat_lt offset (module_bytes pages)
 
 abbrev pub is_aligned : RelocationKind → ℕ → Bool
 is_aligned kind offset = offset % site_size kind == 0

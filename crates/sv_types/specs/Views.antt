@@ -12,7 +12,8 @@ use Rattle.sv_types.specs.declared.protection.Protection.{Protection}
 use Rattle.sv_types.specs.declared.protection.Protection.TheVariants.{Free, Held, Approved}
 use Rattle.processor.specs.declared.translation.Place.{Place}
 use Rattle.processor.specs.declared.translation.Fault.{Fault}
-use Rattle.processor.specs.SecondStage.{walk_guest, place_through, ReadsTablesAlone}
+use Rattle.processor.specs.SecondStage.{walk_guest, place_through, ReadsTablesAlone, guest_address_bits}
+use Rattle.processor.specs.Roots.{guest_root, root_pages, root_page_bits}
 
 -- ---- views
 
@@ -55,7 +56,7 @@ with_ram tables ram = record { tables = tables; ram = ram }
 pub record IsView (tables : List ℕ) (ram_pages : ℕ) (protections : ℕ → Protection) (sight : Sight) (hgatp : ℕ) : Type 0 where
   pub answers : (ram : List ℕ) (gpa : ℕ) (access : Access) → length ram ≡ page_size * ram_pages → gpa < 2 ^ 64 →
       walk_guest (with_ram tables ram) hgatp gpa access ≡ view_answer (length tables) ram_pages sight protections gpa access
-  pub reads : (ram : List ℕ) (gpa : ℕ) (access : Access) → length ram ≡ page_size * ram_pages → gpa < 2 ^ 41 →
+  pub reads : (ram : List ℕ) (gpa : ℕ) (access : Access) → length ram ≡ page_size * ram_pages → gpa < 2 ^ guest_address_bits →
       ReadsTablesAlone (with_ram tables ram) hgatp gpa access
 
 -- what a view makes of where the first stage leads
@@ -66,11 +67,11 @@ under_view table_bytes ram_pages sight protections access (Unreadable entry) = E
 
 -- ---- the roots
 
--- the hgatp values: mode 8 (Sv39x4), VMIDs 1, 2 and from 3 on, and roots at host places 0, 0x4000 and from 0x8000 on
+-- the hgatp values: each view has a VMID of its own, from 1 on, and the roots lie one behind the other from host page 0 on
 abbrev pub view_hgatp : View → ℕ
-view_hgatp Kernel = 0x8000100000000000
-view_hgatp User = 0x8000200000000004
-view_hgatp (Entry i) = 0x8000300000000008 + 0x100000000004 * i
+view_hgatp Kernel = guest_root 1 0
+view_hgatp User = guest_root 2 root_pages
+view_hgatp (Entry i) = guest_root 3 (2 * root_pages) + (2 ^ root_page_bits + root_pages) * i
 
 -- what each root lets a hart see, given the pages that entries are bound to. No entry, no root
 abbrev pub sight_of : (bound : List ℕ) → View → Option Sight

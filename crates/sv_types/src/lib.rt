@@ -48,5 +48,5 @@ pub use status::Status;
 pub use view::View;
 pub use virtio::{
     MOST_VIRTIO_PARTS, VirtioDescriptor, VirtioMove, VirtioPart, VirtioRegister, VirtioRequest,
-    VirtioState,
+    VirtioResult, VirtioState,
 };

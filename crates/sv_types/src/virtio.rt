@@ -1,5 +1,8 @@
 // The virtio block device's registers, the request under way, and its moves, as plain data.
 
+ghost use Rattle.std.specs.Prelude.{◌≡◌};
+ghost use Rattle.sv_types.specs.VirtioResults.{result_number, is_done};
+
 /// The most descriptors of a chain: the header, 32 of data, and the result.
 pub const MOST_VIRTIO_PARTS: usize = 34;
 
@@ -23,6 +26,37 @@ pub struct VirtioDescriptor {
     pub is_indirect: bool,
 }
 
+/// What a request came to, as the device tells the driver. VIRTIO 1.2, "Device Operation" of the block device.
+#[derive(Clone, Copy, PartialEq, Eq, Drop)]
+pub enum VirtioResult {
+    /// Its data was moved.
+    Done,
+    /// Its data can't be moved, or may not be.
+    Failed,
+    /// It is of a type that isn't known.
+    Unsupported,
+}
+
+impl VirtioResult {
+    /// The number that stands in the result's byte.
+    pub fn number(self) -> u64
+        ensures { result ≡ result_number self }
+    {
+        match self {
+            VirtioResult::Done => 0,
+            VirtioResult::Failed => 1,
+            VirtioResult::Unsupported => 2,
+        }
+    }
+
+    /// The data can be moved, as far as the request was judged.
+    pub fn is_done(self) -> bool
+        ensures { result ≡ is_done self }
+    {
+        matches!(self, VirtioResult::Done)
+    }
+}
+
 /// A request that was accepted and whose moves aren't all made.
 #[derive(Clone, Copy, Drop)]
 pub struct VirtioRequest {
@@ -42,8 +76,7 @@ pub struct VirtioRequest {
     pub offset: u32,
     /// How many of the last four moves are made.
     pub tail: u8,
-    /// 0 done, 1 failed, 2 of a type that isn't known.
-    pub result: u8,
+    pub result: VirtioResult,
     /// The bytes that data moves wrote into memory, modulo 2^32.
     pub written: u32,
 }

@@ -3,10 +3,11 @@
 ghost use Rattle.std.specs.Prelude.{◌≡◌, ◌%◌, Some, None, if◌then◌else◌};
 ghost use Rattle.processor.specs.Bytes.{in_ram};
 ghost use Rattle.machine_model.specs.Served.{is_implicit, exit_gpa, device_gpa};
+ghost use Rattle.processor.specs.SecondStage.{htval_unit};
 
 use hart::IMPLICIT_READ;
 use host_mem::HostMem;
-use processor::Exit;
+use processor::{Exit, HTVAL_UNIT};
 
 /// The access was an implicit read of a first-stage entry.
 pub(crate) fn is_implicit(exit: &Exit) -> bool
@@ -17,9 +18,13 @@ pub(crate) fn is_implicit(exit: &Exit) -> bool
 
 // The two low bits of the guest-physical address of an access.
 fn low_bits(exit: &Exit) -> u64
-    ensures { result ≡ (if is_implicit exit.now then 0 else exit.now.stval % 4) }
+    ensures { result ≡ (if is_implicit exit.now then 0 else exit.now.stval % htval_unit) }
 {
-    if is_implicit(exit) { 0 } else { exit.stval % 4 }
+    if is_implicit(exit) {
+        0
+    } else {
+        exit.stval % HTVAL_UNIT
+    }
 }
 
 /// The guest-physical address of `width` bytes to which an access was refused, where they all lie in RAM.
@@ -31,7 +36,7 @@ pub(crate) fn gpa_in_ram(mem: &HostMem, exit: &Exit, width: u64) -> Option<u64>
     if exit.htval >= 1 << 40 {
         return None;
     }
-    let gpa = 4 * exit.htval + low_bits(exit);
+    let gpa = HTVAL_UNIT * exit.htval + low_bits(exit);
     mem.place_in_ram(gpa, width)?;
     Some(gpa)
 }
@@ -40,5 +45,7 @@ pub(crate) fn gpa_in_ram(mem: &HostMem, exit: &Exit, width: u64) -> Option<u64>
 pub(crate) fn device_gpa(exit: &Exit) -> u64
     ensures { result ≡ device_gpa exit.now }
 {
-    exit.htval.saturating_mul(4).saturating_add(low_bits(exit))
+    exit.htval
+        .saturating_mul(HTVAL_UNIT)
+        .saturating_add(low_bits(exit))
 }

@@ -22,7 +22,7 @@ fn takes_interrupts(mode: Mode, vsstatus: u64) -> bool
 fn is_taken(csrs: &Csrs, regs: &HRegs, lines: &Lines, interrupt: Interrupt) -> bool
     ensures { result ≡ is_taken regs.now.hideleg regs.now.mode csrs.now lines.now interrupt }
 {
-    let place = interrupt.number() as u8 + 1;
+    let place = interrupt.virtual_place();
     has_bit(csrs.hip(lines), place)
         && has_bit(csrs.hie, place)
         && (!has_bit(regs.hideleg, place) || takes_interrupts(regs.mode, csrs.vsstatus))

@@ -10,6 +10,8 @@ use Rattle.virtio_blk.specs.Held.{padded_parts, new_of}
 use Rattle.sv_types.specs.declared.virtio.VirtioMove.{VirtioMove}
 use Rattle.sv_types.specs.declared.virtio.VirtioPart.{VirtioPart}
 use Rattle.virtio_blk.proofs.DataMoves.{between_none, behind_none, data_moves_none}
+use Rattle.sv_types.specs.VirtioResults.{is_done}
+use Rattle.sv_types.specs.declared.virtio.VirtioResult.{VirtioResult}
 
 -- ---- the parts with empty ones behind them
 
@@ -25,7 +27,7 @@ part_padded parts k inside = get_or_append_left parts (replicate (most_parts - l
 
 -- ---- its moves
 
-data_by : (sector : ℕ) (parts : List VirtioPart) (result : ℕ) (done : Bool) → 2 ≤ length parts → (result == 0) ≡ done
+data_by : (sector : ℕ) (parts : List VirtioPart) (result : VirtioResult) (done : Bool) → 2 ≤ length parts → is_done result ≡ done
     → data_moves (512 * sector + (bytes_in (between (padded_parts parts) 1 (if done then 1 else length parts - 1)) + 0))
     (behind 0 (between (padded_parts parts) (if done then 1 else length parts - 1) (length parts - 1)))
     ≡ (if done then data_moves (512 * sector) (data_of parts) else [])
@@ -40,13 +42,13 @@ data_by sector parts result false few is =
     ap (λ (xs : List VirtioPart). data_moves start (behind 0 xs)) (between_none (padded_parts parts) (length parts - 1))
     ∙ data_moves_none start
 
-pub new_moves : (accepted head sector size used result : ℕ) (parts : List VirtioPart) → 2 ≤ length parts
+pub new_moves : (accepted head sector size used : ℕ) (result : VirtioResult) (parts : List VirtioPart) → 2 ≤ length parts
     → moves_left accepted (new_of head sector size used result parts) ≡ moves_by result sector (data_of parts) ++ last_moves (result_of parts).gpa used size head accepted
 unfolding moves_left
 new_moves accepted head sector size used result parts few =
     let last = part_padded parts (length parts - 1) (omega (arith, few)) in
     ap (λ (moves : List VirtioMove). moves ++ last_moves (get_or (padded_parts parts) (length parts - 1) no_part).gpa used size head accepted)
-    (data_by sector parts result (result == 0) few refl)
+    (data_by sector parts result (is_done result) few refl)
     ∙ ap (λ (p : VirtioPart). moves_by result sector (data_of parts) ++ last_moves p.gpa used size head accepted) last
 
 -- ---- its place
@@ -55,11 +57,11 @@ pub first_between : (last : ℕ) (done : Bool) → 1 ≤ last → (1 ≤ (if don
 first_between last true some = (omega arith, some)
 first_between last false some = (some, omega arith)
 
--- a result of 0 says that the data can be moved
-pub zero_can : (known can : Bool) → ((if known then (if can then 0 else 1) else 2) == 0) ≡ true → can ≡ true
-zero_can true true is = refl
-zero_can true false is = absurd (cc)
-zero_can false can is = absurd (cc)
+-- a request that is done as far as it was judged has data that can be moved
+pub done_can : (known can : Bool) → is_done (if known then (if can then VirtioResult.Done else VirtioResult.Failed) else VirtioResult.Unsupported) ≡ true → can ≡ true
+done_can true true is = refl
+done_can true false is = absurd (cc)
+done_can false can is = absurd (cc)
 
 pub all_at : (p : VirtioPart → Bool) (xs : List VirtioPart) (k : ℕ) (b : Bool) → list_all p xs ≡ true → k < length xs → p (get_or xs k no_part) ≡ b → b ≡ true
 all_at p xs k true all inside is = refl

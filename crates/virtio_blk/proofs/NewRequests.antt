@@ -11,7 +11,8 @@ use Rattle.virtio_blk.specs.Held.{padded_parts, new_of, IsPlaced, IsOnDisk}
 use Rattle.sv_types.specs.declared.virtio.VirtioPart.{VirtioPart}
 use Rattle.virtio_blk.proofs.DataMoves.{between_none, behind_none}
 use Rattle.reference.specs.VirtioStores.{is_size}
-use Rattle.virtio_blk.proofs.Accepting.{part_padded, between_padded, first_between, zero_can, all_at}
+use Rattle.virtio_blk.proofs.Accepting.{part_padded, between_padded, first_between, done_can, all_at}
+use Rattle.sv_types.specs.VirtioResults.{is_done}
 
 all_three : (a b c : Bool) → a && b && c ≡ true → (a ≡ true) × ((b ≡ true) × (c ≡ true))
 all_three true true true is = (refl, (refl, refl))
@@ -19,15 +20,15 @@ all_three true true false is = absurd (cc)
 all_three true false c is = absurd (cc)
 all_three false b c is = absurd (cc)
 
--- what a result of 0 says
-can_of : (ram : List ℕ) (disk_size kind sector : ℕ) (parts : List VirtioPart) → (result_by ram disk_size kind sector parts == 0) ≡ true
+-- what the result of a request that is done says
+can_of : (ram : List ℕ) (disk_size kind sector : ℕ) (parts : List VirtioPart) → is_done (result_by ram disk_size kind sector parts) ≡ true
     → (are_sectors disk_size sector (bytes_in parts) ≡ true) × ((list_all (lies_in ram) parts ≡ true) × (list_all (fits_type kind) parts ≡ true))
 unfolding result_by can_move
 can_of ram disk_size kind sector parts is =
     let sectors = are_sectors disk_size sector (bytes_in parts) in
     let lie = list_all (lies_in ram) parts in
     let fit = list_all (fits_type kind) parts in
-    all_three sectors lie fit (zero_can (kind == 0 || kind == 1) (sectors && lie && fit) is)
+    all_three sectors lie fit (done_can (kind == 0 || kind == 1) (sectors && lie && fit) is)
 
 address_of : (ram : List ℕ) (gpa len : ℕ) → (len == 0 || in_ram ram gpa len) ≡ true → 0 < len → length ram < 2 ^ 62 → gpa + len < 2 ^ 63
 address_of ram gpa len lies some small = grind (arith, nat_tests)
@@ -44,7 +45,7 @@ data_length parts few =
     let size = length-drop 1 parts in
     length-take-le (length parts - 1 - 1) (drop 1 parts) (omega (arith, size, few))
 
-addresses_by : (ram : List ℕ) (disk_size kind sector : ℕ) (parts : List VirtioPart) (k : ℕ) (done : Bool) → (result_by ram disk_size kind sector (data_of parts) == 0) ≡ done
+addresses_by : (ram : List ℕ) (disk_size kind sector : ℕ) (parts : List VirtioPart) (k : ℕ) (done : Bool) → is_done (result_by ram disk_size kind sector (data_of parts)) ≡ done
     → 2 ≤ length parts → length ram < 2 ^ 62 → (if done then 1 else length parts - 1) ≤ k → k < length parts - 1 → 0 < (get_or parts k no_part).len
     → (get_or parts k no_part).gpa + (get_or parts k no_part).len < 2 ^ 63
 addresses_by ram disk_size kind sector parts k true is few small from to some =
@@ -60,7 +61,7 @@ pub new_placed : (ram : List ℕ) (disk_size kind head sector size used : ℕ) (
     → IsPlaced (new_of head sector size used (result_by ram disk_size kind sector (data_of parts)) parts)
 new_placed ram disk_size kind head sector size used parts few most some large aligned below small =
     let result = result_by ram disk_size kind sector (data_of parts) in
-    let between = first_between (length parts - 1) (result == 0) (omega (arith, few)) in
+    let between = first_between (length parts - 1) (is_done result) (omega (arith, few)) in
     let zeros = length-replicate (34 - length parts) no_part in
     let all = length-append parts (replicate (34 - length parts) no_part) in
     record {
@@ -76,7 +77,7 @@ new_placed ram disk_size kind head sector size used parts few most some large al
       addresses = λ k from to any.
           let same = part_padded parts k (omega (arith, to)) in
           subst (λ (p : VirtioPart). p.gpa + p.len < 2 ^ 63) (sym same)
-          (addresses_by ram disk_size kind sector parts k (result == 0) refl few small from to (subst (λ (p : VirtioPart). 0 < p.len) same any));
+          (addresses_by ram disk_size kind sector parts k (is_done result) refl few small from to (subst (λ (p : VirtioPart). 0 < p.len) same any));
       size_some = some;
       size_most = large;
       aligned = aligned;
@@ -88,7 +89,7 @@ new_placed ram disk_size kind head sector size used parts few most some large al
 on_disk_of : (disk_size sector size : ℕ) → are_sectors disk_size sector size ≡ true → 512 * sector + size ≤ disk_size
 on_disk_of disk_size sector size is = grind (arith, nat_tests)
 
-on_disk_by : (ram : List ℕ) (disk_size kind sector : ℕ) (parts : List VirtioPart) (done : Bool) → (result_by ram disk_size kind sector (data_of parts) == 0) ≡ done → 2 ≤ length parts
+on_disk_by : (ram : List ℕ) (disk_size kind sector : ℕ) (parts : List VirtioPart) (done : Bool) → is_done (result_by ram disk_size kind sector (data_of parts)) ≡ done → 2 ≤ length parts
     → (if done then 1 else length parts - 1) < length parts - 1
     → 512 * sector + (bytes_in (between (padded_parts parts) 1 (if done then 1 else length parts - 1)) + 0)
     + bytes_in (behind 0 (between (padded_parts parts) (if done then 1 else length parts - 1) (length parts - 1))) ≤ disk_size
@@ -103,7 +104,7 @@ on_disk_by ram disk_size kind sector parts false is few before = absurd (omega (
 pub new_on_disk : (ram : List ℕ) (disk_size kind head sector size used : ℕ) (parts : List VirtioPart) → 2 ≤ length parts
     → IsOnDisk disk_size (new_of head sector size used (result_by ram disk_size kind sector (data_of parts)) parts)
 new_on_disk ram disk_size kind head sector size used parts few before =
-    on_disk_by ram disk_size kind sector parts (result_by ram disk_size kind sector (data_of parts) == 0) refl few before
+    on_disk_by ram disk_size kind sector parts (is_done (result_by ram disk_size kind sector (data_of parts))) refl few before
 
 -- the sizes of a queue in use
 pub size_some : (size : ℕ) → is_size size ≡ true → 1 ≤ size

@@ -10,6 +10,7 @@ use Rattle.virtio_blk.proofs.DataMoves.{between_first, between_none, bytes_in_mo
 use Rattle.sv_types.specs.declared.virtio.VirtioMove.{VirtioMove}
 use Rattle.sv_types.specs.declared.virtio.VirtioPart.{VirtioPart}
 use Rattle.sv_types.specs.declared.virtio.VirtioRequest.{VirtioRequest}
+use Rattle.sv_types.specs.declared.virtio.VirtioResult.{VirtioResult}
 
 -- what is left begins with the part that is reached
 abbrev pub rest_of : VirtioRequest → List VirtioPart
@@ -132,7 +133,7 @@ last_moves_left accepted q end =
 -- ---- data that may not be written is dropped
 
 abbrev pub without_data : VirtioRequest → VirtioRequest
-without_data q = record q { part = last_place q; offset = 0; result = 1 }
+without_data q = record q { part = last_place q; offset = 0; result = VirtioResult.Failed }
 
 pub without_data_moves : (accepted : ℕ) (q : VirtioRequest) → filter is_last (last_left accepted q) ≡ last_left accepted q → moves_left accepted (without_data q) ≡ filter is_last (moves_left accepted q)
 unfolding moves_left

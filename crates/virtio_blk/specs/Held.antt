@@ -2,7 +2,7 @@
 use Rattle.std.specs.Prelude.{◌≡◌, ℕ, ◌+◌, ◌-◌, ◌*◌, ◌%◌, ◌^◌, ◌<◌, ◌≤◌, true, false, ◌==◌, if◌then◌else◌, List, [], ◌∷◌, ◌++◌, length, replicate, Option, Some, None, IfSome}
 use Rattle.processor.specs.Bytes.{page_size, ram_base, ram_place}
 use Rattle.reference.specs.BlockDisk.{beat_size}
-use Rattle.reference.specs.VirtioDevice.{VirtioDevice, done, index_values, most_places}
+use Rattle.reference.specs.VirtioDevice.{VirtioDevice, index_values, most_places}
 use Rattle.reference.specs.VirtioQueue.{ring_header_size, available_entry_size, used_entry_size}
 use Rattle.reference.specs.VirtioStores.{is_size, descriptors_alignment, available_alignment, used_alignment}
 use Rattle.reference.specs.VirtioChain.{descriptor_size, header_size, no_part, most_parts, header_of}
@@ -12,6 +12,8 @@ use Rattle.sv_types.specs.declared.virtio.VirtioMove.{VirtioMove}
 use Rattle.sv_types.specs.declared.virtio.VirtioPart.{VirtioPart}
 use Rattle.sv_types.specs.declared.virtio.VirtioRequest.{VirtioRequest}
 use Rattle.sv_types.specs.declared.virtio.VirtioState.{VirtioState}
+use Rattle.sv_types.specs.declared.virtio.VirtioResult.{VirtioResult}
+use Rattle.sv_types.specs.VirtioResults.{is_done}
 
 pub record Held : Type 0 where
   pub state : VirtioState
@@ -112,11 +114,11 @@ pub record HaveRings (d : VirtioDevice) (ram : List ℕ) : Type 0 where
   pub used_end : ram_place d.used + (ring_header_size + used_entry_size * d.size) ≤ length ram
 
 -- a request that is done as far as it was judged begins with its data, any other with its last moves
-abbrev pub first_part : (result last : ℕ) → ℕ
-first_part result last = if result == done then 1 else last
+abbrev pub first_part : VirtioResult → (last : ℕ) → ℕ
+first_part result last = if is_done result then 1 else last
 
 -- the request that a chain asks for, at its first move
-abbrev pub new_of : (head sector size used result : ℕ) → List VirtioPart → VirtioRequest
+abbrev pub new_of : (head sector size used : ℕ) → VirtioResult → List VirtioPart → VirtioRequest
 new_of head sector size used result parts = record {
   head = head;
   sector = sector;

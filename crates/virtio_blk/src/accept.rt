@@ -15,7 +15,7 @@ ghost use Rattle.reference.specs.VirtioDevice.{index_values};
 
 use crate::Virtio;
 use crate::chain::{DESCRIPTOR_BYTES, read_chain};
-use crate::requests::{DONE, is_good, lies_in_ram, result_by};
+use crate::requests::{is_good, lies_in_ram, result_by};
 use dma_guard::Beaten;
 use host_mem::{HostMem, word_at};
 use processor::ram_place;
@@ -86,7 +86,7 @@ fn new_request(
         used,
         count: parts.len() as u8,
         parts: padded(parts),
-        part: if result == DONE { 1 } else { last as u8 },
+        part: if result.is_done() { 1 } else { last as u8 },
         offset: 0,
         tail: 0,
         result,

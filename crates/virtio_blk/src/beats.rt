@@ -13,11 +13,11 @@ ghost use Rattle.virtio_blk.specs.Held.{IsPlaced, IsOnDisk, CanBeMade, device_of
 use crate::Virtio;
 use crate::bus::NEEDS_RESET;
 use crate::moves::take_move;
-use crate::requests::{FAILED, lies_in_ram};
+use crate::requests::lies_in_ram;
 use dma_guard::{Beaten, DmaGuard, DmaRefused};
 use host_mem::{HostMem, put_word};
 use processor::{has_bit, ram_place};
-use sv_types::{VirtioMove, VirtioRequest};
+use sv_types::{VirtioMove, VirtioRequest, VirtioResult};
 
 /// The place of the status bit that says that the driver is ready.
 const DRIVER_OK_PLACE: u8 = 2;
@@ -51,7 +51,7 @@ fn without_data(request: &VirtioRequest) -> VirtioRequest
     VirtioRequest {
         part: request.count - 1,
         offset: 0,
-        result: FAILED,
+        result: VirtioResult::Failed,
         ..*request
     }
 }
@@ -289,7 +289,7 @@ impl Virtio {
                 self.to_disk(request, gpa, place, size, mem)
             }
             VirtioMove::PutResult { gpa } => {
-                self.put_last(request, gpa, &low_1(request.result as u64), guard, mem)
+                self.put_last(request, gpa, &low_1(request.result.number()), guard, mem)
             }
             VirtioMove::PutHead { gpa, head } => {
                 self.put_last(request, gpa, &low_4(head as u64), guard, mem)

@@ -8,7 +8,7 @@ ghost use Rattle.virtio_blk.specs.Held.{HasHeader};
 ghost use Rattle.reference.specs.VirtioRequests.{bytes_in, lies_in, fits_type, are_sectors, can_move, result_by};
 
 use processor::is_in_ram;
-use sv_types::{SECTOR_BYTES, VirtioPart};
+use sv_types::{SECTOR_BYTES, VirtioPart, VirtioResult};
 
 /// The bytes of a request's header, and of its result.
 const HEADER_BYTES: u32 = 16;
@@ -19,13 +19,6 @@ const RESULT_BYTES: u32 = 1;
 const READ_DISK: u64 = 0;
 
 const WRITE_DISK: u64 = 1;
-
-/// The results: done, failed, of a type that isn't known.
-pub const DONE: u8 = 0;
-
-pub const FAILED: u8 = 1;
-
-const UNKNOWN_TYPE: u8 = 2;
 
 /// Whether so many bytes all lie in RAM, which is given whole.
 pub fn lies_in_ram(ram: &[u8], gpa: u64, len: u64) -> bool
@@ -97,16 +90,22 @@ fn can_move(ram: &[u8], disk_size: usize, kind: u64, sector: u64, parts: &[Virti
 
 /// The result that a request has as it is accepted.
 #[tactic(auto, unfolding(reference::specs::VirtioRequests::result_by))]
-pub fn result_by(ram: &[u8], disk_size: usize, kind: u64, sector: u64, parts: &[VirtioPart]) -> u8
+pub fn result_by(
+    ram: &[u8],
+    disk_size: usize,
+    kind: u64,
+    sector: u64,
+    parts: &[VirtioPart],
+) -> VirtioResult
     requires { length parts.now ≤ most_parts }
     ensures { result ≡ result_by ram.now disk_size kind sector parts.now }
 {
     if kind != READ_DISK && kind != WRITE_DISK {
-        UNKNOWN_TYPE
+        VirtioResult::Unsupported
     } else if can_move(ram, disk_size, kind, sector, parts) {
-        DONE
+        VirtioResult::Done
     } else {
-        FAILED
+        VirtioResult::Failed
     }
 }
 

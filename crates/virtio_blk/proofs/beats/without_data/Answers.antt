@@ -3,9 +3,10 @@ use Rattle.reference.specs.VirtioDevice.{Request}
 use Rattle.sv_types.specs.declared.virtio.VirtioMove.{VirtioMove}
 use Rattle.virtio_blk.proofs.Places.{last_all, without_data_moves, without_data_placed}
 use Rattle.virtio_blk.proofs.beats.without_data.Goals as goal
+use Rattle.sv_types.specs.declared.virtio.VirtioResult.{VirtioResult}
 
 refused_with : (n : ℕ) (moves : List VirtioMove) → Request
-refused_with n moves = record { moves = moves; result = 1; written = n }
+refused_with n moves = record { moves = moves; result = VirtioResult.Failed; written = n }
 
 pub returns-clause-request : goal.returns-clause-request
 unfolding refused_with
