@@ -8,6 +8,7 @@ ghost use Rattle.processor.specs.Bytes.{page_size};
 ghost use Rattle.processor.specs.Roots.{IsSv39x4};
 ghost use Rattle.gstage_cache.specs.Lookup.{line_for, is_held, place_by, place_held, line_of_mapping, IsKept};
 ghost use Rattle.gstage_cache.specs.Fills.{nothing_filled, filled_further};
+ghost use Rattle.gstage_cache.specs.CacheWalks.{MayWalk, Led};
 
 use host_mem::{HostMem, Steps};
 use processor::{Access, CacheLine, GuestFault, PAGE_BYTES};
@@ -100,13 +101,8 @@ impl Cache {
         gpa: u64,
         access: Access,
     ) -> Result<u64, GuestFault>
-        requires second { IsSv39x4 hgatp }
-        requires apart { WalksApart mem.now hgatp }
-        requires agrees { CacheAgrees mem.now.tables self.old }
-        ensures value { result ≡ ok_or (walk_guest mem.now hgatp gpa access) (record { gpa = gpa }) }
-        ensures agrees { CacheAgrees mem.now.tables self.new }
-        ensures filled { FilledUnder mem.now.tables hgatp self.old self.new }
-        ensures held { IfOk result (λ _. is_held (line_for self.new hgatp (gpa / page_size)) ≡ true) }
+        requires may { MayWalk mem.now hgatp self.old }
+        ensures led { Led mem.now hgatp gpa access self.old self.new result }
     {
         self.walk_on::<Brand>(mem, hgatp, gpa, access, Blank::new(1))
     }
@@ -123,13 +119,8 @@ impl Cache {
         requires name { blank.name ≡ L.name }
         requires parts { blank.parts ≡ L.parts }
         requires some { 0 < blank.parts }
-        requires second { IsSv39x4 hgatp }
-        requires apart { WalksApart mem.now hgatp }
-        requires agrees { CacheAgrees mem.now.tables self.old }
-        ensures value { result ≡ ok_or (walk_guest mem.now hgatp gpa access) (record { gpa = gpa }) }
-        ensures agrees { CacheAgrees mem.now.tables self.new }
-        ensures filled { FilledUnder mem.now.tables hgatp self.old self.new }
-        ensures held { IfOk result (λ _. is_held (line_for self.new hgatp (gpa / page_size)) ≡ true) }
+        requires may { MayWalk mem.now hgatp self.old }
+        ensures led { Led mem.now hgatp gpa access self.old self.new result }
     {
         let mut steps = Steps::<L>::new(blank);
         self.walk_counted(mem, hgatp, gpa, access, &mut steps)
@@ -144,13 +135,8 @@ impl Cache {
         access: Access,
         steps: &mut Steps<L>,
     ) -> Result<u64, GuestFault>
-        requires second { IsSv39x4 hgatp }
-        requires apart { WalksApart mem.now hgatp }
-        requires agrees { CacheAgrees mem.now.tables self.old }
-        ensures value { result ≡ ok_or (walk_guest mem.now hgatp gpa access) (record { gpa = gpa }) }
-        ensures agrees { CacheAgrees mem.now.tables self.new }
-        ensures filled { FilledUnder mem.now.tables hgatp self.old self.new }
-        ensures held { IfOk result (λ _. is_held (line_for self.new hgatp (gpa / page_size)) ≡ true) }
+        requires may { MayWalk mem.now hgatp self.old }
+        ensures led { Led mem.now hgatp gpa access self.old self.new result }
         ensures none { is_held (line_for self.old hgatp (gpa / page_size)) ≡ true → steps.new ≡ steps.old }
         ensures steps { steps.new ≤ steps.old + 3 }
     {
@@ -172,10 +158,7 @@ impl Cache {
     ) -> Result<u64, GuestFault>
         requires apart { WalksApart mem.now hgatp }
         requires agrees { CacheAgrees mem.now.tables self.old }
-        ensures value { result ≡ ok_or (walk_guest mem.now hgatp gpa access) (record { gpa = gpa }) }
-        ensures agrees { CacheAgrees mem.now.tables self.new }
-        ensures filled { FilledUnder mem.now.tables hgatp self.old self.new }
-        ensures held { IfOk result (λ _. is_held (line_for self.new hgatp (gpa / page_size)) ≡ true) }
+        ensures led { Led mem.now hgatp gpa access self.old self.new result }
         ensures steps { steps.new ≤ steps.old + 3 }
     {
         let Some(mapping) = find_mapping(mem, hgatp, gpa, steps) else {

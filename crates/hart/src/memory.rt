@@ -8,7 +8,7 @@ ghost use Rattle.processor.specs.HardwareMemory.{misaligned, page_fault, guest_p
 ghost use Rattle.processor.specs.Roots.{IsFirstStageRoot};
 ghost use Rattle.processor.specs.declared.access.Access.TheVariants as Access;
 ghost use Rattle.hart.specs.Cores.{core_of};
-ghost use Rattle.hart.specs.Conditions.{MayWalk, Walked};
+ghost use Rattle.gstage_cache.specs.CacheWalks.{MayWalk, Walked};
 ghost use Rattle.sv39_walk.specs.Regimes.{settings_of};
 
 use crate::hart::Core;
@@ -171,7 +171,7 @@ fn walked(
     mem: &HostMem,
     request: Request,
 ) -> Result<u64, Exception>
-    requires ready { MayWalk mem.now regs.now cache.old }
+    requires ready { MayWalk mem.now regs.now.hgatp cache.old }
     ensures value { result ≡ translated mem.now (core_of core.now regs.now) request.access request.address request.htinst }
     ensures place { (width : ℕ) → IsWidth width → request.address % width ≡ 0 → IfOk result (λ hpa. IsHostPlace mem.now hpa width) }
     ensures ram { IfOk result (λ hpa. length mem.now.tables ≤ hpa) }
@@ -223,7 +223,7 @@ pub(crate) fn translated(
     mem: &HostMem,
     request: Request,
 ) -> Result<u64, Exception>
-    requires ready { MayWalk mem.now regs.now cache.old }
+    requires ready { MayWalk mem.now regs.now.hgatp cache.old }
     ensures value { result ≡ translated mem.now (core_of core.now regs.now) request.access request.address request.htinst }
     ensures place { (width : ℕ) → IsWidth width → request.address % width ≡ 0 → IfOk result (λ hpa. IsHostPlace mem.now hpa width) }
     ensures ram { IfOk result (λ hpa. length mem.now.tables ≤ hpa) }
@@ -247,7 +247,7 @@ pub(crate) fn reached(
     request: Request,
     width: u8,
 ) -> Result<u64, Exception>
-    requires ready { MayWalk mem.now regs.now cache.old }
+    requires ready { MayWalk mem.now regs.now.hgatp cache.old }
     requires width { IsWidth width }
     ensures value { result ≡ reached mem.now (core_of core.now regs.now) request.access request.address width request.htinst }
     ensures place { IfOk result (λ hpa. IsHostPlace mem.now hpa width) }

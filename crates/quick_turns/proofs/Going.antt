@@ -15,7 +15,8 @@ use Rattle.processor.specs.declared.lines.Lines.{Lines}
 use Rattle.gstage_cache.proofs.WritesAndWalks.{write_behind}
 use Rattle.gstage_cache.specs.Fills.{nothing_filled, filled_further}
 use Rattle.hart.specs.Cores.{core_of}
-use Rattle.hart.specs.Conditions.{MayAttempt, Walked}
+use Rattle.gstage_cache.specs.CacheWalks.{Walked}
+use Rattle.hart.specs.Conditions.{MayAttempt}
 use Rattle.hart.specs.declared.hart.Core.{Core as Kept}
 use Rattle.quick_turns.specs.Quick.{Comes, Leads, GoesOn, SameCourse, Steers, is_made, keeps_course}
 use Rattle.quick_turns.proofs.Kept.{apart_kept, write_size}

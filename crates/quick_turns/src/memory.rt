@@ -6,7 +6,7 @@ ghost use Rattle.processor.specs.SecondStage.{WalksApart};
 ghost use Rattle.processor.specs.CachedWalks.{CacheAgrees};
 ghost use Rattle.processor.specs.HardwareMemory.{translated, reached};
 ghost use Rattle.hart.specs.Cores.{core_of};
-ghost use Rattle.hart.specs.Conditions.{MayWalk, Walked};
+ghost use Rattle.gstage_cache.specs.CacheWalks.{MayWalk, Walked};
 ghost use Rattle.reach.specs.Kept.{ReachAgrees};
 
 use gstage_cache::Cache;
@@ -35,7 +35,7 @@ fn walk_to(
     access: Access,
     address: u64,
 ) -> Option<u64>
-    requires ready { MayWalk mem.now regs.now cache.old }
+    requires ready { MayWalk mem.now regs.now.hgatp cache.old }
     requires reach { ReachAgrees mem.now.tables reach.old }
     ensures value { (htinst : ℕ) → IfSome result (λ hpa. translated mem.now (core_of core.now regs.now) access address htinst ≡ Ok hpa) }
     ensures place { (width : ℕ) → IsWidth width → address % width ≡ 0 → IfSome result (λ hpa. IsHostPlace mem.now hpa width) }
@@ -89,7 +89,7 @@ pub(crate) fn place(
     mem: &HostMem,
     reference: Reference,
 ) -> Option<u64>
-    requires ready { MayWalk mem.now regs.now cache.old }
+    requires ready { MayWalk mem.now regs.now.hgatp cache.old }
     requires reach { ReachAgrees mem.now.tables reach.old }
     ensures value { (htinst : ℕ) → IfSome result (λ hpa. translated mem.now (core_of core.now regs.now) reference.access reference.address htinst ≡ Ok hpa) }
     ensures place { (width : ℕ) → IsWidth width → reference.address % width ≡ 0 → IfSome result (λ hpa. IsHostPlace mem.now hpa width) }
@@ -138,7 +138,7 @@ pub(crate) fn aligned_place(
     mem: &HostMem,
     reference: Reference,
 ) -> Option<u64>
-    requires ready { MayWalk mem.now regs.now cache.old }
+    requires ready { MayWalk mem.now regs.now.hgatp cache.old }
     requires width { IsWidth reference.width }
     requires reach { ReachAgrees mem.now.tables reach.old }
     ensures value { (htinst : ℕ) → IfSome result (λ hpa. reached mem.now (core_of core.now regs.now) reference.access reference.address reference.width htinst ≡ Ok hpa) }

@@ -5,7 +5,7 @@ ghost use Rattle.processor.specs.Bytes.{page_size};
 ghost use Rattle.processor.specs.Regions.{host_word};
 ghost use Rattle.processor.specs.Roots.{IsBare};
 ghost use Rattle.hart.specs.Cores.{core_of};
-ghost use Rattle.hart.specs.Conditions.{MayWalk, Walked};
+ghost use Rattle.gstage_cache.specs.CacheWalks.{MayWalk, Walked};
 ghost use Rattle.quick_turns.specs.Quick.{Leads};
 ghost use Rattle.reach.specs.Kept.{ReachAgrees};
 
@@ -74,7 +74,7 @@ pub(crate) fn at_pc(
     mem: &HostMem,
     window: Window,
 ) -> Option<Window>
-    requires ready { MayWalk mem.now regs.now cache.old }
+    requires ready { MayWalk mem.now regs.now.hgatp cache.old }
     requires reach { ReachAgrees mem.now.tables reach.old }
     requires leads { Leads mem.now (core_of core.now regs.now) window.page window.host }
     ensures page { IfSome result (λ at. core.now.pc / page_size ≡ at.page) }
@@ -97,7 +97,7 @@ fn find_window(
     reach: &mut Reach,
     mem: &HostMem,
 ) -> Option<Window>
-    requires ready { MayWalk mem.now regs.now cache.old }
+    requires ready { MayWalk mem.now regs.now.hgatp cache.old }
     requires reach { ReachAgrees mem.now.tables reach.old }
     ensures page { IfSome result (λ at. core.now.pc / page_size ≡ at.page) }
     ensures leads { IfSome result (λ at. Leads mem.now (core_of core.now regs.now) at.page at.host) }

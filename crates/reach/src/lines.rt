@@ -3,8 +3,8 @@
 ghost use Rattle.std.specs.Prelude.{◌≡◌, ◌⊎◌, ◌+◌, ◌/◌, ◌%◌, ◌^◌, ◌<◌, IfSome, Some, length};
 ghost use Rattle.processor.specs.Bytes.{page_size};
 ghost use Rattle.processor.specs.SecondStage.{WalksApart};
-ghost use Rattle.processor.specs.CachedWalks.{CacheAgrees, FilledUnder};
-ghost use Rattle.processor.specs.Roots.{IsFirstStageRoot, IsSv39x4};
+ghost use Rattle.processor.specs.Roots.{IsFirstStageRoot};
+ghost use Rattle.gstage_cache.specs.CacheWalks.{MayWalk, Walked};
 ghost use Rattle.reach.specs.declared.line.Line.{Line as Kept};
 ghost use Rattle.reach.specs.Kept.{lines_of_reach, no_lines, line_at, line_place, leads_under, IsFor, IsKept, AreThere, LineAgrees, ReachAgrees};
 
@@ -145,15 +145,12 @@ impl Reach {
         va: u64,
         access: Access,
     ) -> Option<u64>
-        requires second { IsSv39x4 regime.now.hgatp }
+        requires may { MayWalk mem.now regime.now.hgatp cache.old }
         requires first { IsFirstStageRoot regime.now.vsatp }
-        requires apart { WalksApart mem.now regime.now.hgatp }
-        requires cached { CacheAgrees mem.now.tables cache.old }
         requires agrees { ReachAgrees mem.now.tables self.old }
         ensures value { result ≡ leads_under mem.now regime.now access va }
         ensures agrees { ReachAgrees mem.now.tables self.new }
-        ensures cached { CacheAgrees mem.now.tables cache.new }
-        ensures filled { FilledUnder mem.now.tables regime.now.hgatp cache.old cache.new }
+        ensures walked { Walked mem.now.tables regime.now.hgatp cache.old cache.new }
     {
         match translate_through(cache, mem, regime, va, access) {
             Ok(place) => {
@@ -175,14 +172,11 @@ impl Reach {
         access: Access,
         hpa: u64,
     )
-        requires second { IsSv39x4 regime.now.hgatp }
-        requires apart { WalksApart mem.now regime.now.hgatp }
+        requires may { MayWalk mem.now regime.now.hgatp cache.old }
         requires leads { leads_under mem.now regime.now access va ≡ Some hpa }
-        requires cached { CacheAgrees mem.now.tables cache.old }
         requires agrees { ReachAgrees mem.now.tables self.old }
         ensures agrees { ReachAgrees mem.now.tables self.new }
-        ensures cached { CacheAgrees mem.now.tables cache.new }
-        ensures filled { FilledUnder mem.now.tables regime.now.hgatp cache.old cache.new }
+        ensures walked { Walked mem.now.tables regime.now.hgatp cache.old cache.new }
     {
         if regime.vsatp >> ROOT_MODE_PLACE == BARE {
             return;

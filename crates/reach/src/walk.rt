@@ -2,11 +2,10 @@
 
 ghost use Rattle.std.specs.Prelude.{◌≡◌, ◌/◌, ◌%◌, ◌^◌, IfSome, Some};
 ghost use Rattle.processor.specs.Regions.{Region};
-ghost use Rattle.processor.specs.SecondStage.{walk_guest, WalksApart};
-ghost use Rattle.processor.specs.CachedWalks.{CacheAgrees, FilledUnder};
-ghost use Rattle.processor.specs.Roots.{IsSv39x4};
+ghost use Rattle.processor.specs.SecondStage.{walk_guest};
 ghost use Rattle.processor.specs.declared.access.Access.TheVariants as Access;
 ghost use Rattle.sv39_walk.specs.Levels.{IsTable};
+ghost use Rattle.gstage_cache.specs.CacheWalks.{MayWalk, Walked};
 ghost use Rattle.reach.specs.Kept.{IsThere, AreThere, ArePlaces, EndsAt};
 ghost use Rattle.processor.specs.Translation.{entry_size};
 
@@ -18,14 +17,11 @@ use sv39_walk::{SecondStage, entry_page, index, is_pointer};
 
 // The entry at a guest-physical address, read where the second stage leads as a load.
 fn read_entry(cache: &mut Cache, mem: &HostMem, hgatp: u64, gpa: u64) -> Option<Entry>
-    requires second { IsSv39x4 hgatp }
-    requires apart { WalksApart mem.now hgatp }
-    requires agrees { CacheAgrees mem.now.tables cache.old }
+    requires may { MayWalk mem.now hgatp cache.old }
     requires aligned { gpa % entry_size ≡ 0 }
     ensures there { IfSome result (λ seen. IsThere mem.now seen) }
     ensures leads { IfSome result (λ seen. (r : Region) → r.tables ≡ mem.now.tables → walk_guest r hgatp gpa Access.Load ≡ Some seen.at) }
-    ensures agrees { CacheAgrees mem.now.tables cache.new }
-    ensures filled { FilledUnder mem.now.tables hgatp cache.old cache.new }
+    ensures walked { Walked mem.now.tables hgatp cache.old cache.new }
 {
     let Some(at) = cache.lead(mem, hgatp, gpa, Access::Load) else {
         return None;
@@ -46,15 +42,12 @@ pub(crate) fn read_entries(
     root: u64,
     va: u64,
 ) -> Option<Entries>
-    requires second { IsSv39x4 hgatp }
+    requires may { MayWalk mem.now hgatp cache.old }
     requires table { IsTable root }
-    requires apart { WalksApart mem.now hgatp }
-    requires agrees { CacheAgrees mem.now.tables cache.old }
     ensures ends { IfSome result (λ entries. EndsAt mem.now.tables hgatp root va entries) }
     ensures there { IfSome result (λ entries. AreThere mem.now entries) }
     ensures places { IfSome result (λ entries. ArePlaces mem.now.tables hgatp entries) }
-    ensures agrees { CacheAgrees mem.now.tables cache.new }
-    ensures filled { FilledUnder mem.now.tables hgatp cache.old cache.new }
+    ensures walked { Walked mem.now.tables hgatp cache.old cache.new }
 {
     let mut table = root;
     let mut entries = Entries::none();

@@ -47,6 +47,8 @@ levels-preserved c =
           (with_more (IsThere c.args.mem.now) c.levels.below (c.levels.below - 1) c.levels.entries c.in-Some.seen more few c.levels.invariant.there c.in-Some.ensures.there);
       places = subst (λ (e : Entries). Above (c.levels.below - 1) (IsPlace c.args.mem.now.tables c.args.hgatp) e) (sym c.with_entry-entries.ensures)
           (with_more (IsPlace c.args.mem.now.tables c.args.hgatp) c.levels.below (c.levels.below - 1) c.levels.entries c.in-Some.seen more few c.levels.invariant.places place);
-      agrees = c.in-Some.ensures.agrees;
-      filled = filled_further c.args.mem.now.tables c.args.hgatp c.args.cache.now c.levels.cache c.read_entry.new.cache c.levels.invariant.filled c.in-Some.ensures.filled;
+      walked = record {
+        agrees = c.in-Some.ensures.walked.agrees;
+        filled = filled_further c.args.mem.now.tables c.args.hgatp c.args.cache.now c.levels.cache c.read_entry.new.cache c.levels.invariant.walked.filled c.in-Some.ensures.walked.filled;
+      };
     }

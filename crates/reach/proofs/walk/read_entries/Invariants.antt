@@ -1,5 +1,5 @@
-use Rattle.processor.specs.CachedWalks.{CacheAgrees, FilledUnder}
 use Rattle.sv39_walk.specs.Levels.{IsTable}
+use Rattle.gstage_cache.specs.CacheWalks.{Walked}
 use Rattle.reach.specs.Kept.{Above, IsThere, IsPlace}
 use Rattle.reach.proofs.Levels.{GoOn}
 use Rattle.reach.proofs.walk.read_entries.Given as goal
@@ -11,6 +11,5 @@ invariant-levels l = record {
   same : GoOn l.mem.tables l.hgatp l.root l.va l.below l.table l.entries;
   there : Above l.below (IsThere l.mem) l.entries;
   places : Above l.below (IsPlace l.mem.tables l.hgatp) l.entries;
-  agrees : CacheAgrees l.mem.tables l.cache;
-  filled : FilledUnder l.mem.tables l.hgatp l.initial.cache l.cache;
+  walked : Walked l.mem.tables l.hgatp l.initial.cache l.cache;
 }

@@ -16,8 +16,7 @@ levels-preserved g c =
           (c.levels.table + 8 * c.index.result) c.in-Some.word c.entry_page-table.result
           (first_at c.levels.below (c.levels.below - 1) c.levels.table c.args.va c.index.result more c.index.ensures.value)
           (sym c.entry_through.ensures.value ∙ c.in-Some.is) (sym c.is_pointer.ensures ∙ c.if-not-is_pointer.false) c.entry_page-table.ensures.value;
-      serves = search rules;
-      walked = search rules;
+      passed = search rules;
     }
 
 pub returns-then-not-is_pointer-clause-value : goal.returns-then-not-is_pointer-clause-value

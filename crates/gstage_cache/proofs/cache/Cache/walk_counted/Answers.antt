@@ -1,4 +1,5 @@
-use Rattle.std.proofs.Common.{◌/◌, ◌%◌, ◌∙◌, sym, refl}
+use Rattle.std.proofs.Common.{◌/◌, ◌%◌, ◌∙◌, sym, refl, rules}
+use Rattle.gstage_cache.specs.Fills.{nothing_filled}
 use Rattle.gstage_cache.proofs.Lines.{found_is}
 use Rattle.gstage_cache.proofs.cache.Cache.walk_counted.Goals as goal
 
@@ -8,10 +9,14 @@ hit-requires-clause-page g c =
 
 pub hit-requires-clause-agrees : goal.hit-requires-clause-agrees
 hit-requires-clause-agrees g c =
-    c.requires.agrees.held (c.args.gpa / 4096 % 256) c.in-Some.line
+    c.requires.may.agrees.held (c.args.gpa / 4096 % 256) c.in-Some.line
     (found_is c.args.self.now c.args.hgatp (c.args.gpa / 4096) c.in-Some.line (sym c.line.ensures ∙ c.in-Some.is)).1.1
 
-pub returns-in-Some-clause-value : goal.returns-in-Some-clause-value
-returns-in-Some-clause-value g c =
+pub returns-in-Some-clause-led : goal.returns-in-Some-clause-led
+returns-in-Some-clause-led g c =
     let tag = (found_is c.args.self.now c.args.hgatp (c.args.gpa / 4096) c.in-Some.line (sym c.line.ensures ∙ c.in-Some.is)).0 in
-    c.hit.ensures ∙ rw tag refl
+    record {
+      value = c.hit.ensures ∙ rw tag refl;
+      walked = record { agrees = c.requires.may.agrees; filled = nothing_filled c.args.mem.now.tables c.args.hgatp c.args.self.now };
+      held = search rules;
+    }
