@@ -23,6 +23,7 @@ use Rattle.run_laws.proofs.Sounds.{bytes_keep_load}
 use Rattle.run_laws.proofs.BeatsSound.{FreeMove, beat_page, beat_sound}
 use Rattle.attempt_laws.proofs.Stays.{KeepsLoad}
 use Rattle.answer_laws.proofs.ViewsMeet.{get_numbers}
+use Rattle.sv_types.specs.VirtioResults.{result_number}
 
 -- ---- bits and protections
 
@@ -83,7 +84,7 @@ make_meets : (d : VirtioDevice) (q : Request) (x : VirtioMove) (ram : List ℕ) 
 unfolding make to_memory
 make_meets d q (VirtioMove.ToMemory gpa place size) ram f g stays agree = memory_meets d q gpa place size f g (in_ram ram gpa size) (agree gpa size stays.0)
 make_meets d q (VirtioMove.ToDisk gpa place size) ram f g stays agree = refl
-make_meets d q (VirtioMove.PutResult gpa) ram f g stays agree = last_meets d (with_request d q) gpa 1 q.result ram f g stays.0 agree
+make_meets d q (VirtioMove.PutResult gpa) ram f g stays agree = last_meets d (with_request d q) gpa 1 (result_number q.result) ram f g stays.0 agree
 make_meets d q (VirtioMove.PutHead gpa head) ram f g stays agree = last_meets d (with_request d q) gpa 4 head ram f g (omega arith) agree
 make_meets d q (VirtioMove.PutLength gpa) ram f g stays agree = last_meets d (with_request d q) gpa 4 (q.written + 1) ram f g (omega arith) agree
 make_meets d q (VirtioMove.PutIndex gpa index) ram f g stays agree = last_meets d (finished d) gpa 2 index ram f g (omega arith) agree

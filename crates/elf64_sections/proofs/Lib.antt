@@ -2,3 +2,4 @@ pub mod Words
 pub mod Numbers
 pub mod Fronts
 pub mod Steps
+pub mod Refusals

@@ -1,6 +1,6 @@
 // The most segments that a file can name.
 
-ghost use Rattle.std.specs.Prelude.{◌≡◌, ◌*◌, ◌≤◌, length, IfOk};
+ghost use Rattle.std.specs.Prelude.{◌≤◌};
 ghost use Rattle.processor.specs.Regions.{most_ram_pages};
 
 use elf64_load::{ElfRefusal, read_kernel};

@@ -1,11 +1,10 @@
 // The cache: 256 lines, one for each number of a page modulo 256.
 
-ghost use Rattle.std.specs.Prelude.{◌≡◌, ◌+◌, ◌/◌, ◌%◌, ◌^◌, ◌<◌, ◌≤◌, Some, None, IfOk, IfSome, true};
+ghost use Rattle.std.specs.Prelude.{◌≡◌, ◌+◌, ◌/◌, ◌%◌, ◌<◌, ◌≤◌, Some, None, IfSome, true};
 ghost use Rattle.std.specs.Option.{ok_or};
 ghost use Rattle.processor.specs.SecondStage.{walk_guest, WalksApart};
 ghost use Rattle.processor.specs.CachedWalks.{line_permits, no_lines, LineAgrees, CacheAgrees, FilledUnder};
 ghost use Rattle.processor.specs.Bytes.{page_size};
-ghost use Rattle.processor.specs.Roots.{IsSv39x4};
 ghost use Rattle.gstage_cache.specs.Lookup.{line_for, is_held, place_by, place_held, line_of_mapping, IsKept};
 ghost use Rattle.gstage_cache.specs.Fills.{nothing_filled, filled_further};
 ghost use Rattle.gstage_cache.specs.CacheWalks.{MayWalk, Led};

@@ -40,6 +40,10 @@ abbrev pub is_whole : (ram_pages : ℕ) → (ℕ → Protection) → (block : �
 is_whole ram_pages protections block = lies_in_ram ram_pages block && taken_pages protections block == 0
 
 -- ---- counts of taken pages, by block
+-- the most that a count of 16 bits holds
+abbrev pub most_count : ℕ
+most_count = 65535
+
 
 -- whether one leaf maps a block, by the counts
 abbrev pub is_whole_by : (counts : List ℕ) → (ram_pages block : ℕ) → Bool
@@ -48,7 +52,7 @@ is_whole_by counts ram_pages block = lies_in_ram ram_pages block && slice_index_
 -- a count where a page was free before or not, and now is or isn't
 abbrev pub recounted : (count : ℕ) → (before after : Bool) → ℕ
 recounted count true true = count
-recounted count true false = min (count + 1) 65535
+recounted count true false = min (count + 1) most_count
 recounted count false true = count - 1
 recounted count false false = count
 

@@ -97,21 +97,53 @@ most_block_pages = block_pages * ((most_table_pages + last_in_block) / block_pag
 abbrev pub page_number_unit : ℕ
 page_number_unit = 2 ^ 10
 
--- an entry that names the next table: V
-abbrev pub pointer : ℕ → ℕ
-pointer page = page_number_unit * page + 1
+-- the flags of an entry, by their letters in the Privileged manual, "Sv39: Page-Based 39-bit Virtual-Memory System"
+abbrev pub flag_v : ℕ
+flag_v = 2 ^ 0
 
--- V, R, U and A; W and D for what may be written; X for what may be fetched
+abbrev pub flag_r : ℕ
+flag_r = 2 ^ 1
+
+abbrev pub flag_w : ℕ
+flag_w = 2 ^ 2
+
+abbrev pub flag_x : ℕ
+flag_x = 2 ^ 3
+
+abbrev pub flag_u : ℕ
+flag_u = 2 ^ 4
+
+abbrev pub flag_a : ℕ
+flag_a = 2 ^ 6
+
+abbrev pub flag_d : ℕ
+flag_d = 2 ^ 7
+
+-- an entry that names the next table
+abbrev pub pointer : ℕ → ℕ
+pointer page = page_number_unit * page + flag_v
+
+-- the flags of each page, and those that come to them for one that may be written
+abbrev pub readable_flags : ℕ
+readable_flags = flag_v + flag_r + flag_u + flag_a
+
+abbrev pub written_flags : ℕ
+written_flags = flag_w + flag_d
+
 abbrev pub flags : (store fetch : Bool) → ℕ
-flags store fetch = 0x53 + ((if store then 0x84 else 0) + (if fetch then 8 else 0))
+flags store fetch = readable_flags + ((if store then written_flags else 0) + (if fetch then flag_x else 0))
 
 -- the entry that maps a page of RAM to a host page, by what the tree shows
 abbrev pub leaf : Sight → (page : ℕ) → Protection → (host : ℕ) → ℕ
 leaf sight page protection host = page_number_unit * host + flags (view_permits sight page protection Store) (view_permits sight page protection Fetch)
 
--- entry i of a root: entry 2 is for the gigabyte in which RAM lies
+-- the gigabyte in which RAM lies
+abbrev pub ram_gigabyte : ℕ
+ram_gigabyte = 2
+
+-- entry i of a root, which is for a gigabyte
 unfoldable pub root_word : (trees tree i : ℕ) → ℕ
-root_word trees tree i = if i == 2 then pointer (middle_table trees tree) else 0
+root_word trees tree i = if i == ram_gigabyte then pointer (middle_table trees tree) else 0
 
 -- entry i of a level-1 table: it maps a block that is whole, and names the level-0 table of another
 unfoldable pub middle_word : (trees leaf_tables table_pages : ℕ) → Sight → (tree i : ℕ) → (whole : Bool) → ℕ

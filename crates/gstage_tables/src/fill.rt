@@ -2,9 +2,10 @@
 
 ghost use Rattle.std.specs.Prelude.{◌≡◌, ◌+◌, ◌*◌, ◌/◌, ◌%◌, ◌≤◌, length};
 ghost use Rattle.processor.specs.Bytes.{word, write_word, page_size};
-ghost use Rattle.gstage_tables.specs.Layout.{root_word, root_words, root_pages, most_trees};
+ghost use Rattle.gstage_tables.specs.Layout.{root_word, root_words, most_trees};
 ghost use Rattle.gstage_tables.specs.Written.{Wrote};
 ghost use Rattle.processor.specs.Translation.{entry_size};
+ghost use Rattle.processor.specs.Roots.{root_pages};
 
 use crate::words::{ROOT_WORDS, root_word};
 use host_mem::{HostMem, Steps};

@@ -3,11 +3,11 @@
 ghost use Rattle.std.specs.Prelude.{◌≡◌, ◌+◌, ◌*◌, ◌/◌, ◌<◌, ◌≤◌, ◌^◌};
 ghost use Rattle.processor.specs.Regions.{most_ram_pages};
 ghost use Rattle.gstage_tables.specs.Blocks.{table_words, block_pages};
-ghost use Rattle.gstage_tables.specs.Layout.{leaf_tables, leaf_table, pointer, flags, root_word, last_in_block, most_trees, most_table_pages, most_block_pages, page_number_unit};
+ghost use Rattle.gstage_tables.specs.Layout.{leaf_tables, leaf_table, pointer, flags, readable_flags, written_flags, root_word, last_in_block, most_trees, most_table_pages, most_block_pages, page_number_unit};
 ghost use Rattle.processor.specs.Roots.{root_page_bits};
 
 use bitflags::Flags;
-use processor::{PteBits, TABLE_ENTRIES};
+use processor::{PteBits, RAM_BASE, TABLE_ENTRIES};
 
 /// The words of a table.
 pub(crate) const TABLE_WORDS: u64 = TABLE_ENTRIES;
@@ -25,6 +25,9 @@ const UPPER_PAGES: u64 = ROOT_PAGES + 1;
 
 /// What the number of a page counts in an entry.
 const PAGE_NUMBER_UNIT: u64 = 1 << 10;
+
+/// The gigabyte in which RAM lies.
+const RAM_GIGABYTE: u64 = RAM_BASE >> 30;
 
 /// The level-0 tables of one tree.
 pub(crate) fn leaf_tables(ram_pages: u64) -> u64
@@ -58,7 +61,7 @@ pub(crate) fn up_to_blocks(pages: u64) -> u64
 
 // The flags of a page that may be read.
 fn readable() -> PteBits
-    ensures { result.0 ≡ 0x53 }
+    ensures { result.0 ≡ readable_flags }
 {
     PteBits::VALID
         .union(PteBits::READ)
@@ -68,7 +71,7 @@ fn readable() -> PteBits
 
 // The flags of a page that may be read and written.
 fn writable() -> PteBits
-    ensures { result.0 ≡ 0xD7 }
+    ensures { result.0 ≡ readable_flags + written_flags }
 {
     readable().union(PteBits::WRITE).union(PteBits::DIRTY)
 }
@@ -109,7 +112,7 @@ pub(crate) fn root_word(trees: u64, tree: u64, i: u64) -> u64
     requires tree { tree < trees }
     ensures { result ≡ root_word trees tree i }
 {
-    if i == 2 {
+    if i == RAM_GIGABYTE {
         pointer(ROOT_PAGES * trees + tree)
     } else {
         0

@@ -50,6 +50,7 @@ use Rattle.guarantee.proofs.Does.{IsMoving, Own, Same, Entered, Returned, Demote
 use Rattle.guarantee.proofs.Turns.{FetchedWrites, FetchedReturns, turn_does}
 use Rattle.processor_laws.proofs.GuestViews.{and_false}
 use Rattle.attempt_laws.proofs.AttemptsAgree.{turn_none, turn_stopped}
+use Rattle.sv_types.specs.VirtioResults.{result_number}
 
 -- ---- a turn, while the machine runs
 
@@ -155,7 +156,7 @@ denied_move : (d : VirtioDevice) (q : Request) (x : VirtioMove) (ram : List ℕ)
 unfolding make to_disk
 denied_move d q (VirtioMove.ToMemory gpa place size) ram may_write e = denied_data d q gpa place size ram may_write e
 denied_move d q (VirtioMove.ToDisk gpa place size) ram may_write e = choose_no_put (not (in_ram ram gpa size)) (broken d OutsideRam) _ tt tt
-denied_move d q (VirtioMove.PutResult gpa) ram may_write e = denied_last d (with_request d q) gpa (low_bytes 1 q.result) ram may_write e
+denied_move d q (VirtioMove.PutResult gpa) ram may_write e = denied_last d (with_request d q) gpa (low_bytes 1 (result_number q.result)) ram may_write e
 denied_move d q (VirtioMove.PutHead gpa head) ram may_write e = denied_last d (with_request d q) gpa (low_bytes 4 head) ram may_write e
 denied_move d q (VirtioMove.PutLength gpa) ram may_write e = denied_last d (with_request d q) gpa (low_bytes 4 (q.written + 1)) ram may_write e
 denied_move d q (VirtioMove.PutIndex gpa index) ram may_write e = denied_last d (finished d) gpa (low_bytes 2 index) ram may_write e

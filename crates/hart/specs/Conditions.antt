@@ -1,5 +1,5 @@
 -- What an attempt asks of a core, its cache and the host's memory, and what it keeps of them. This project's own.
-use Rattle.std.specs.Prelude.{◌≡◌, ℕ, ◌/◌, ◌%◌, ◌^◌, List, Option, true}
+use Rattle.std.specs.Prelude.{◌≡◌, ◌%◌, List, Option, true}
 use Rattle.processor.specs.Regions.{Region}
 use Rattle.processor.specs.declared.cached.CacheLine.{CacheLine}
 use Rattle.processor.specs.declared.hregs.HRegs.{HRegs}

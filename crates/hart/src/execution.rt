@@ -23,7 +23,7 @@ use crate::wires::Wires;
 use crate::words::{Decoded, Words};
 use gstage_cache::Cache;
 use host_mem::HostMem;
-use processor::{Access, Cause, Effect, HRegs, Interrupt, Outcome};
+use processor::{Access, Cause, Effect, HRegs, INSTRUCTION_BYTES, Interrupt, Outcome};
 use rv64_exec::effect;
 use trap_entry::pending;
 
@@ -78,7 +78,7 @@ fn fetch<W: Wires>(
 {
     match translated(core, regs, cache, mem, Request::fetch(core.pc)) {
         Ok(hpa) => {
-            let word = mem.read(hpa as usize, 4) as u32;
+            let word = mem.read(hpa as usize, INSTRUCTION_BYTES as u8) as u32;
             let decoded = words.decoded(core.pc, word);
             carry_out(core, regs, cache, mem, wires, decoded)
         }

@@ -20,6 +20,7 @@ use Rattle.dma_guard.specs.Transfers.{told, after_move}
 use Rattle.run_laws.proofs.Lookups.{part_short}
 use Rattle.machine.specs.Beats.{LiesInRam, ToldInRam}
 use Rattle.run_laws.proofs.BeatsSound.{room_of}
+use Rattle.sv_types.specs.VirtioResults.{result_number}
 
 begins : (ram : List ℕ) (gpa size : ℕ) → in_ram ram gpa size ≡ true → ram_base ≤ gpa
 begins ram gpa size e = grind (arith, nat_tests)
@@ -79,7 +80,7 @@ move_fits : (d : VirtioDevice) (q : Request) (x : VirtioMove) (ram : List ℕ) (
 unfolding make to_memory to_disk
 move_fits d q (VirtioMove.ToMemory gpa place size) ram may_write = data_fits d q gpa place size ram (in_ram ram gpa size) (may_write (page_of gpa)) refl
 move_fits d q (VirtioMove.ToDisk gpa place size) ram may_write = choose_fits ram (not (in_ram ram gpa size)) (broken d OutsideRam) _ tt tt
-move_fits d q (VirtioMove.PutResult gpa) ram may_write = last_fits d (with_request d q) gpa (low_bytes 1 q.result) ram may_write
+move_fits d q (VirtioMove.PutResult gpa) ram may_write = last_fits d (with_request d q) gpa (low_bytes 1 (result_number q.result)) ram may_write
 move_fits d q (VirtioMove.PutHead gpa head) ram may_write = last_fits d (with_request d q) gpa (low_bytes 4 head) ram may_write
 move_fits d q (VirtioMove.PutLength gpa) ram may_write = last_fits d (with_request d q) gpa (low_bytes 4 (q.written + 1)) ram may_write
 move_fits d q (VirtioMove.PutIndex gpa index) ram may_write = last_fits d (finished d) gpa (low_bytes 2 index) ram may_write

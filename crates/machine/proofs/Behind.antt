@@ -10,7 +10,6 @@ use Rattle.processor.specs.declared.exit.Exit.{Exit}
 use Rattle.processor.specs.declared.mode.Mode.{Mode}
 use Rattle.processor.specs.declared.mode.Mode.TheVariants.{Kernel}
 use Rattle.processor.specs.declared.outcome.Outcome.{Outcome}
-use Rattle.sv_types.specs.declared.event.Event.{Event}
 use Rattle.sv_types.specs.declared.event.Event.TheVariants.{Turn}
 use Rattle.sv_types.specs.declared.event.Rule.TheVariants.{Entry}
 use Rattle.sv_types.specs.declared.event.Verdict.{Verdict}
@@ -27,18 +26,17 @@ use Rattle.machine_model.specs.Served.{Seen, answer_in, exit_answer, is_again, i
 use Rattle.machine_model.specs.StandsFor.{StandsFor}
 use Rattle.machine_model.specs.Steps.{AttemptsServed, IsStep, IsTurn, StepsUnder, WithTables}
 use Rattle.machine_model.specs.declared.exits.ExitAnswer.{ExitAnswer}
-use Rattle.quick_turns.specs.Ends.{is_left, with_leaving}
+use Rattle.quick_turns.specs.Ends.{with_leaving}
 use Rattle.quick_turns.specs.Rows.{Leaves, LeavesBy, call_exit, return_exit}
 use Rattle.quick_turns.specs.declared.leaving.Leaving.{Leaving}
 use Rattle.quick_turns.specs.declared.leaving.Leaving.TheVariants.{Stays, Calls, Returns}
-use Rattle.machine.proofs.Repeated.{counts_on, counts_within, repeats_on}
+use Rattle.machine.proofs.Repeated.{counts_within}
 use Rattle.machine.proofs.Rows.{Rowed, one_step, row_printed, row_verdict, rowed, still_there, there_updated, updated_twice}
 use Rattle.machine.proofs.Stepped.{Bounded}
 use Rattle.machine.proofs.Turns.{carried, exit_served, turn_served}
 use Rattle.machine.specs.Attempts.{hart_in}
 use Rattle.machine.specs.Limits.{most_counts}
 use Rattle.machine.specs.Machines.{HaveAddresses}
-use Rattle.machine.specs.Repeats.{IsQuiet, Repeats}
 use Rattle.machine.specs.Rows.{AnswersLeaving, EndsRow, MayRow, after_row, call_answer, counted_leaving, counted_row}
 use Rattle.machine.specs.Turns.{MayTrap, answered_exit}
 use Rattle.answer_laws.proofs.TurnsServed.{forgets_none}

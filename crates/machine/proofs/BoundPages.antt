@@ -5,11 +5,9 @@ use Rattle.std.proofs.lemmas.Bool.{eqb-true}
 use Rattle.std.proofs.lemmas.Bool.Decides.{nat_tests}
 use Rattle.processor.specs.Bytes.{page_of}
 use Rattle.processor.specs.Regions.{most_ram_pages}
-use Rattle.gstage_tables.specs.Layout.{most_bound}
+use Rattle.sv_types.specs.Limits.{plain_format}
 use Rattle.sv_types.specs.Policies.{Rules, rules_within, bound_fits, all_bound}
-use Rattle.sv_types.proofs.PolicyLimits.{bound_rules, few_entries, few_pages, first_bound}
-
--- ---- what the limits say
+use Rattle.sv_types.proofs.PolicyLimits.{bound_rules, few_pages, first_bound}
 
 small_page : (n va gpa : ℕ) → bound_fits n va gpa ≡ true → n ≤ most_ram_pages → page_of gpa < 2 ^ 32
 small_page n va gpa fits most = grind (arith, nat_tests)
@@ -32,29 +30,4 @@ page_by rules i d false each most below = page_within rules.ram_pages [] rules.e
 -- the number of each page is one of 32 bits
 pub page_fits : (rules : Rules) (i d : ℕ) → IsTrue (rules_within rules) → i < length rules.bound → page_of (get_or rules.bound i d) < 2 ^ 32
 page_fits rules i d within below =
-    page_by rules i d (rules.format == 1) (bound_rules rules within) (few_pages rules within) below
-
--- ---- how many
-
-within_entries : (n : ℕ) (before entries bound : List ℕ) → all_bound n before entries bound ≡ true → length bound ≤ length entries
-within_entries n before [] [] within = omega arith
-within_entries n before [] (gpa ∷ bound) within = absurd cc
-within_entries n before (va ∷ entries) [] within = absurd cc
-within_entries n before (va ∷ entries) (gpa ∷ bound) within =
-    let rest = within_entries n (before ++ va ∷ []) entries bound (first_bound n before va gpa entries bound within).1 in
-    omega (arith, rest)
-
-along_by : (rules : Rules) (b : Bool) → IsTrue (if b then length rules.bound == 0 else all_bound rules.ram_pages [] rules.entries rules.bound)
-    → length rules.bound ≤ length rules.entries
-along_by rules true none = let empty : length rules.bound ≡ 0 = eqb-true (length rules.bound) 0 none in omega (arith, empty)
-along_by rules false each = within_entries rules.ram_pages [] rules.entries rules.bound each
-
--- no more are bound than there are
-pub bound_along : (rules : Rules) → IsTrue (rules_within rules) → length rules.bound ≤ length rules.entries
-bound_along rules within = along_by rules (rules.format == 1) (bound_rules rules within)
-
-pub bound_few : (rules : Rules) → IsTrue (rules_within rules) → length rules.bound ≤ most_bound
-bound_few rules within =
-    let along = bound_along rules within in
-    let entries = few_entries rules within in
-    omega (arith, along, entries)
+    page_by rules i d (rules.format == plain_format) (bound_rules rules within) (few_pages rules within) below

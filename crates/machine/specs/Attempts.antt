@@ -1,5 +1,5 @@
 -- What an attempt of a hart asks for, and the caches of second-stage walks. This project's own.
-use Rattle.std.specs.Prelude.{◌≡◌, ◌/◌, ◌%◌, ◌^◌, ℕ, zero, suc, true, false, List}
+use Rattle.std.specs.Prelude.{◌≡◌, ◌%◌, ℕ, zero, suc, true, false, List}
 use Rattle.std.specs.Prelude.{[], ◌∷◌, length, replicate, Some, None, slice_get, slice_index_or}
 use Rattle.processor.specs.CachedWalks.{CacheAgrees, no_lines}
 use Rattle.processor.specs.HardwareAttempt.{attempt}

@@ -10,7 +10,6 @@ ghost use Rattle.standing_laws.specs.Starts.{IsGuarded};
 ghost use Rattle.resumption.specs.Judgements.{resume_refusal};
 ghost use Rattle.resumption.specs.ResumedStates.{resumed_state};
 ghost use Rattle.resumed_start.specs.Resuming.{resumed_machine};
-ghost use Rattle.resumed_parts.specs.Parts.{AreResumed};
 ghost use Rattle.machine.specs.Attempts.{nothing_kept};
 ghost use Rattle.machine.specs.Resumed.{RefusesSnapshot};
 ghost use Rattle.machine.specs.declared.resume.ResumeFailure.TheVariants.{Memory};

@@ -1,2 +1,3 @@
 mod ModuleNames
 mod Bound
+pub mod InRam

@@ -3,7 +3,7 @@
 ghost use Rattle.std.specs.Prelude.{◌≡◌, ◌≤◌, Some};
 ghost use Rattle.sv_types.specs.Policies as limits;
 
-use processor::{PAGE_BYTES, RAM_BASE};
+use processor::{PAGE_BYTES, is_in_ram};
 use sv_types::{RelocationKind, Site};
 
 /// The bytes of a field.
@@ -72,10 +72,9 @@ pub fn is_behind(before: &[Site], site: &Site) -> bool
 
 /// An entry may be bound to this guest-physical address in RAM of so many pages: it is in RAM, and it stands in its page
 /// where the entry stands in its own.
+#[tactic(auto, using(crate::proofs::InRam::byte_in_ram))]
 pub fn bound_fits(ram_pages: u32, entry: u64, gpa: u64) -> bool
     ensures { result ≡ limits.bound_fits ram_pages entry gpa }
 {
-    RAM_BASE <= gpa
-        && gpa < RAM_BASE + PAGE_BYTES * u64::from(ram_pages)
-        && gpa % PAGE_BYTES == entry % PAGE_BYTES
+    is_in_ram(gpa, 1, PAGE_BYTES * u64::from(ram_pages)) && gpa % PAGE_BYTES == entry % PAGE_BYTES
 }

@@ -1,5 +1,5 @@
 -- The words of a policy that is to be made, and their ranges. This project's own.
-use Rattle.std.specs.Prelude.{ℕ, ◌-◌, ◌/◌, ◌%◌, Bool, false, ◌&&◌, not, List, [], map, length, ◌==◌, if◌then◌else◌, nat_le, Option, Some, None, unwrap_or}
+use Rattle.std.specs.Prelude.{ℕ, ◌%◌, Bool, false, ◌&&◌, not, List, [], map, length, ◌==◌, if◌then◌else◌, nat_le, Option, Some, None, unwrap_or}
 use Rattle.std.specs.List.{list_all, list_any, slice_split, before_first, after_first}
 use Rattle.std.specs.Option.{option_map_or}
 use Rattle.std.specs.Str.{bytes_eq}

@@ -3,7 +3,7 @@
 ghost use Rattle.std.specs.Prelude.{◌≡◌, ◌≤◌};
 ghost use Rattle.policy_making.specs.WordRanges as spec;
 
-use processor::{PAGE_BYTES, RAM_BASE, page_of};
+use processor::{PAGE_BYTES, is_in_ram, page_of};
 use sv_types::Span;
 use text_numbers::{address_of, number_within};
 
@@ -12,15 +12,12 @@ fn span_at(ram_pages: u32, address: u64, count: u64) -> Option<Span>
     requires few { count ≤ ram_pages }
     ensures { result ≡ spec.span_at ram_pages address count }
 {
-    if address < RAM_BASE || address % PAGE_BYTES != 0 {
-        return None;
-    }
-    let first = page_of(address);
-    if first + count > u64::from(ram_pages) {
+    let ram_bytes = PAGE_BYTES * u64::from(ram_pages);
+    if address % PAGE_BYTES != 0 || !is_in_ram(address, PAGE_BYTES * count, ram_bytes) {
         return None;
     }
     Some(Span {
-        first: first as u32,
+        first: page_of(address) as u32,
         count: count as u32,
     })
 }

@@ -1,7 +1,7 @@
 -- A cache of second-stage translations, and when it agrees with the tables.
 -- RISC-V Privileged manual, H extension: "Hypervisor Guest Address Translation and Protection (hgatp) Register" for the
 -- VMID, "Hypervisor Memory-Management Fence Instructions" for what a cache may keep of the tables.
-use Rattle.std.specs.Prelude.{◌≡◌, ℕ, ◌+◌, ◌*◌, ◌^◌, ◌<◌, ◌⊎◌, Bool, if◌then◌else◌, List, replicate, Option, Some, None, slice_index_or}
+use Rattle.std.specs.Prelude.{◌≡◌, ℕ, ◌+◌, ◌*◌, ◌<◌, ◌⊎◌, Bool, if◌then◌else◌, List, replicate, Option, Some, None, slice_index_or}
 use Rattle.processor.specs.Bytes.{page_size}
 use Rattle.processor.specs.Translation.{Destination, At, PageFault}
 use Rattle.processor.specs.SecondStage.{entry_in_tables, guest_destination, guest_pages}

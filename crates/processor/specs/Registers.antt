@@ -1,7 +1,7 @@
 -- The supervisor registers as a guest reads and writes them.
 -- RISC-V Privileged manual, "CSR Listing" for the numbers and "Supervisor CSRs"; Unprivileged manual, "Zicntr" for
 -- time.
-use Rattle.std.specs.Prelude.{◌≡◌, ℕ, ◌+◌, ◌-◌, ◌*◌, ◌/◌, ◌^◌, Bool, true, false, ◌||◌, ◌==◌, if◌then◌else◌, bit_and, Option, Some, None}
+use Rattle.std.specs.Prelude.{◌≡◌, ℕ, ◌+◌, ◌-◌, ◌*◌, ◌^◌, Bool, true, false, ◌||◌, ◌==◌, if◌then◌else◌, bit_and, Option, Some, None}
 use Rattle.processor.specs.Bits.{bit, flag}
 use Rattle.processor.specs.Roots.{root_mode, root_mode_place, root_page_bits, bare_mode, sv39_mode}
 use Rattle.processor.specs.declared.csr.Csr.{Csr}

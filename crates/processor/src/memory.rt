@@ -1,6 +1,6 @@
 // Where guest RAM lies, and its pages.
 
-ghost use Rattle.std.specs.Prelude.{◌≡◌, ◌+◌, ◌≤◌, ◌&&◌, IsTrue, nat_le};
+ghost use Rattle.std.specs.Prelude.{◌≡◌, ◌+◌, ◌≤◌, ◌&&◌, IsTrue};
 ghost use Rattle.processor.specs.Bytes.{ram_base, ram_place, page_of, is_in_ram};
 
 /// Where guest RAM begins, as a guest-physical address.

@@ -1,5 +1,5 @@
 -- Fields of flat instructions, and what such an instruction does.
-use Rattle.std.proofs.Common.{◌≡◌, ℕ, ◌+◌, ◌<◌, pos, Bool, true, false, if◌then◌else◌, arith, ◌∙◌, List, Option, Some, None, IsTrue, sym, subst, ap, ◌%◌}
+use Rattle.std.proofs.Common.{◌≡◌, ℕ, ◌<◌, pos, Bool, true, false, arith, ◌∙◌, List, Option, Some, None, IsTrue, sym, subst, ap, ◌%◌}
 use Rattle.std.proofs.lemmas.Bool.Decides.{nat_tests}
 use Rattle.processor.specs.Effects.{effect_of}
 use Rattle.processor.specs.Encoding.{fits}
@@ -12,26 +12,26 @@ use Rattle.processor.specs.declared.effect.Effect.{Effect}
 use Rattle.processor.specs.declared.instruction.Instr.{Instr}
 use Rattle.processor.specs.declared.lines.Lines.{Lines}
 use Rattle.processor_laws.proofs.EffectRequests.{is_request}
-use Rattle.quick_turns.specs.Flat.{effect_of_found, number, width, word_effect, acquires, releases}
+use Rattle.quick_turns.specs.Flat.{effect_of_found, number, order_number, width, width_values, word_effect, acquires, releases}
 
 -- the number of a register comes back from the immediate's place
 pub number_of : (csr : ℕ) → csr < 65536 → number (pos csr) ≡ csr
 number_of csr small = omega arith
 
 -- and so do an atomic operation's width and bits
-pub width_of : (w : ℕ) (aq rl : Bool) → w < 16 → width (pos (w + ((if aq then 16 else 0) + (if rl then 32 else 0)))) ≡ w
+pub width_of : (w : ℕ) (aq rl : Bool) → w < width_values → width (pos (order_number w aq rl)) ≡ w
 width_of w false false small = omega arith
 width_of w false true small = omega arith
 width_of w true false small = omega arith
 width_of w true true small = omega arith
 
-pub acquires_of : (w : ℕ) (aq rl : Bool) → w < 16 → acquires (pos (w + ((if aq then 16 else 0) + (if rl then 32 else 0)))) ≡ aq
+pub acquires_of : (w : ℕ) (aq rl : Bool) → w < width_values → acquires (pos (order_number w aq rl)) ≡ aq
 acquires_of w false false small = grind (arith, nat_tests)
 acquires_of w false true small = grind (arith, nat_tests)
 acquires_of w true false small = grind (arith, nat_tests)
 acquires_of w true true small = grind (arith, nat_tests)
 
-pub releases_of : (w : ℕ) (aq rl : Bool) → w < 16 → releases (pos (w + ((if aq then 16 else 0) + (if rl then 32 else 0)))) ≡ rl
+pub releases_of : (w : ℕ) (aq rl : Bool) → w < width_values → releases (pos (order_number w aq rl)) ≡ rl
 releases_of w false false small = grind (arith, nat_tests)
 releases_of w false true small = grind (arith, nat_tests)
 releases_of w true false small = grind (arith, nat_tests)

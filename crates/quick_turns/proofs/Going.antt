@@ -18,7 +18,7 @@ use Rattle.hart.specs.Cores.{core_of}
 use Rattle.gstage_cache.specs.CacheWalks.{Walked}
 use Rattle.hart.specs.Conditions.{MayAttempt}
 use Rattle.hart.specs.declared.hart.Core.{Core as Kept}
-use Rattle.quick_turns.specs.Quick.{Comes, Leads, GoesOn, SameCourse, Steers, is_made, keeps_course}
+use Rattle.quick_turns.specs.Quick.{Comes, Leads, GoesOn, SameCourse, Steers, is_made, keeps_course, no_page}
 use Rattle.quick_turns.proofs.Kept.{apart_kept, write_size}
 use Rattle.quick_turns.proofs.Windows.{leads_core, leads_kept, no_window}
 use Rattle.quick_turns.specs.declared.tried.Tried.{Tried}
@@ -138,7 +138,7 @@ stayed_leads r after core next regs page host same course leads =
 
 pub stored_leads : (r after : Region) (core next : Kept) (regs : HRegs) (x y : List (Option CacheLine)) (here there : Window) → GoesOn r after core next regs x y
     → SameCourse core.csrs next.csrs → WalksApart r regs.hgatp → Leads r (core_of core regs) here.page here.host → (IsBare next.csrs.vsatp → there ≡ here)
-    → ((IsBare next.csrs.vsatp → ⊥) → there.page ≡ 18446744073709551615) → Leads after (core_of next regs) there.page there.host
+    → ((IsBare next.csrs.vsatp → ⊥) → there.page ≡ no_page) → Leads after (core_of next regs) there.page there.host
 stored_leads r after core next regs x y here there on course apart leads bare paged = elim (eqb_tells (next.csrs.vsatp / 2 ^ 60) 0) [
   | inl same ↦
       let was : IsBare core.csrs.vsatp = ap (λ (n : ℕ). n / 2 ^ 60) (sym course.first) ∙ same.1 in

@@ -15,7 +15,7 @@ use Rattle.processor.specs.declared.mode.Mode.{Mode}
 use Rattle.processor.specs.declared.translation.Fault.{Fault}
 use Rattle.processor.specs.declared.translation.Place.{Place}
 use Rattle.gstage_cache.proofs.Walks.{moved, page_moves, answer_near, answer_is, choose_moves, walk_moves}
-use Rattle.quick_turns.specs.Quick.{Leads, SameCourse}
+use Rattle.quick_turns.specs.Quick.{Leads, SameCourse, no_page}
 use Rattle.quick_turns.proofs.Kept.{walks_kept}
 use Rattle.hart.proofs.Places.{second_leads}
 use Rattle.reach.proofs.Stages.{moved_address, same_canonical}
@@ -149,7 +149,7 @@ leads_kept r after core page host bare same size apart leads = record {
 }
 
 -- no page of an address has this number
-pub no_window : (r : Region) (core : Core) (host : ℕ) → Leads r core 18446744073709551615 host
+pub no_window : (r : Region) (core : Core) (host : ℕ) → Leads r core no_page host
 no_window r core host = record {
   fetches = λ va small at. absurd (omega arith);
   places = λ va small at aligned. absurd (omega arith);

@@ -1,5 +1,5 @@
 -- Instructions in a flat form: one operation, its registers and one number. This project's own.
-use Rattle.std.specs.Prelude.{ℕ, ◌/◌, ◌%◌, ◌^◌, ◌==◌, Bool, ℤ, List, Option, Some, None}
+use Rattle.std.specs.Prelude.{ℕ, ◌+◌, ◌/◌, ◌%◌, ◌^◌, ◌==◌, Bool, if◌then◌else◌, ℤ, List, Option, Some, None}
 use Rattle.std.specs.Int.{w64, cast_unsigned}
 use Rattle.processor.specs.Effects.{effect_of}
 use Rattle.processor.specs.Instructions.{instruction_of}
@@ -26,19 +26,33 @@ effect_of_found registers pc (Some instr) = Some (effect_of instr registers pc)
 abbrev pub word_effect : ℕ → List ℕ → ℕ → Option Effect
 word_effect word registers pc = effect_of_found registers pc (instruction_of word)
 
--- the number of a register of the system, which stands in the place of an immediate
+-- the number of a register of the system, one of 16 bits, which stands in the place of an immediate
 abbrev pub number : ℤ → ℕ
 number imm = cast_unsigned w64 imm % 2 ^ 16
 
--- the width of an atomic operation, and its acquire and release bits, which stand in the place of an immediate
+-- the width of an atomic operation, and its acquire and release bits, stand in the place of an immediate too: how many
+-- values the width has there, and what each bit above it counts
+abbrev pub width_values : ℕ
+width_values = 16
+
+abbrev pub acquire_unit : ℕ
+acquire_unit = 16
+
+abbrev pub release_unit : ℕ
+release_unit = 32
+
 abbrev pub width : ℤ → ℕ
-width imm = cast_unsigned w64 imm % 16
+width imm = cast_unsigned w64 imm % width_values
 
 abbrev pub acquires : ℤ → Bool
-acquires imm = cast_unsigned w64 imm / 16 % 2 == 1
+acquires imm = cast_unsigned w64 imm / acquire_unit % 2 == 1
 
 abbrev pub releases : ℤ → Bool
-releases imm = cast_unsigned w64 imm / 32 % 2 == 1
+releases imm = cast_unsigned w64 imm / release_unit % 2 == 1
+
+-- all three, packed
+abbrev pub order_number : (width : ℕ) → (aq rl : Bool) → ℕ
+order_number width aq rl = width + ((if aq then acquire_unit else 0) + (if rl then release_unit else 0))
 
 -- the instruction of a flat form, none for another one. A shift's count stands in the place of rs2
 unfoldable pub flat_instr : FlatOp → (rd rs1 rs2 : ℕ) → (imm : ℤ) → Option Instr

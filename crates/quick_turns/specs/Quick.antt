@@ -1,5 +1,5 @@
 -- Turns that are made by a shorter way, and what they keep. This project's own.
-use Rattle.std.specs.Prelude.{◌≡◌, ℕ, ◌+◌, ◌<◌, ◌/◌, ◌%◌, ◌^◌, Bool, true, false, List, length, Option, None, Ok}
+use Rattle.std.specs.Prelude.{◌≡◌, ℕ, ◌+◌, ◌-◌, ◌<◌, ◌/◌, ◌%◌, ◌^◌, Bool, true, false, List, length, Option, None, Ok}
 use Rattle.processor.specs.Bytes.{page_size, instruction_size}
 use Rattle.processor.specs.CachedWalks.{FilledUnder}
 use Rattle.processor.specs.Hardware.{Core, Attempted}
@@ -14,6 +14,10 @@ use Rattle.hart.specs.declared.hart.Core.{Core as Kept}
 use Rattle.quick_turns.specs.Rows.{Carries}
 use Rattle.quick_turns.specs.declared.tried.Tried.{Tried}
 use Rattle.quick_turns.specs.declared.tried.Tried.TheVariants.{Stopped, Retired, Stored, Steered}
+
+-- what no page of an address has for its number
+abbrev pub no_page : ℕ
+no_page = 2 ^ 64 - 1
 
 -- instructions at the addresses of a page are fetched at the same places of a page of host memory
 pub record Leads (r : Region) (core : Core) (page host : ℕ) : Type 0 where

@@ -29,32 +29,41 @@ pub(crate) struct Flat {
     ghost fields: { ForSome (flat_instr op rd rs1 rs2 imm) (λ i. IsTrue (fits i)) },
 }
 
+/// How many values a width has in the place of an immediate.
+pub(crate) const WIDTH_VALUES: u8 = 16;
+
+/// What the acquire bit above it counts there.
+pub(crate) const ACQUIRE_UNIT: u8 = WIDTH_VALUES;
+
+/// What the release bit above both counts there.
+pub(crate) const RELEASE_UNIT: u8 = 2 * ACQUIRE_UNIT;
+
 // The number of a register of the system in the place of an immediate.
 fn number(imm: i64) -> u16
     ensures { result ≡ number imm }
 {
-    (imm.cast_unsigned() % 0x1_0000) as u16
+    imm.cast_unsigned() as u16
 }
 
 // The width of an atomic operation in the place of an immediate.
 fn width(imm: i64) -> u8
     ensures { result ≡ width imm }
 {
-    (imm.cast_unsigned() % 16) as u8
+    (imm.cast_unsigned() % u64::from(WIDTH_VALUES)) as u8
 }
 
 // Its acquire bit there.
 fn acquires(imm: i64) -> bool
     ensures { result ≡ acquires imm }
 {
-    imm.cast_unsigned() / 16 % 2 == 1
+    imm.cast_unsigned() / u64::from(ACQUIRE_UNIT) % 2 == 1
 }
 
 // Its release bit there.
 fn releases(imm: i64) -> bool
     ensures { result ≡ releases imm }
 {
-    imm.cast_unsigned() / 32 % 2 == 1
+    imm.cast_unsigned() / u64::from(RELEASE_UNIT) % 2 == 1
 }
 
 impl Flat {

@@ -1,13 +1,13 @@
 // The flat instructions of words.
 
-ghost use Rattle.std.specs.Prelude.{◌≡◌, ◌<◌, ℕ, ℤ, Bool, if◌then◌else◌, ◌+◌, pos, IsTrue, Some};
+ghost use Rattle.std.specs.Prelude.{◌≡◌, ◌<◌, ℕ, ℤ, pos, IsTrue, Some};
 ghost use Rattle.std.specs.Option.{ForSome};
 ghost use Rattle.processor.specs.Encoding.{fits};
 ghost use Rattle.processor.specs.Instructions.{instruction_of};
 ghost use Rattle.processor.specs.declared.instruction.Instr.TheVariants as Instr;
-ghost use Rattle.quick_turns.specs.Flat.{flat_instr, number, width, acquires, releases};
+ghost use Rattle.quick_turns.specs.Flat.{flat_instr, number, order_number, width, width_values, acquires, releases};
 
-use crate::flat::Flat;
+use crate::flat::{ACQUIRE_UNIT, Flat, RELEASE_UNIT, WIDTH_VALUES};
 use crate::flat_op::FlatOp;
 use rv64_decode::{
     AmoOp, BranchOp, CsrOp, Instr, LoadOp, Op32Op, OpImm32Op, OpImmOp, OpOp, StoreOp, decode,
@@ -219,12 +219,12 @@ struct Ordered {
 impl Ordered {
     // Width and bits in the place of an immediate.
     fn packed(self) -> i64
-        requires { self.width < 16 }
-        ensures { result ≡ pos (self.width + ((if self.aq then 16 else 0) + (if self.rl then 32 else 0))) }
+        requires { self.width < width_values }
+        ensures { result ≡ pos (order_number self.width self.aq self.rl) }
     {
-        let acquire = if self.aq { 16 } else { 0 };
-        let release = if self.rl { 32 } else { 0 };
-        i64::from(self.width) + (acquire + release)
+        let acquire = if self.aq { ACQUIRE_UNIT } else { 0 };
+        let release = if self.rl { RELEASE_UNIT } else { 0 };
+        i64::from(self.width + (acquire + release))
     }
 }
 
@@ -233,7 +233,7 @@ impl Ordered {
 fn operation(word: u32, op: AmoOp, rd: u8, rs1: u8, rs2: u8, ordered: Ordered) -> Flat
     requires decodes { instruction_of word ≡ Some (Instr.Amo op rd rs1 rs2 ordered.width ordered.aq ordered.rl) }
     requires fields { ForSome (instruction_of word) (λ i. IsTrue (fits i)) }
-    requires width { ordered.width < 16 }
+    requires width { ordered.width < width_values }
     ensures { result.word ≡ word }
 {
     form(word, amo(op), rd, rs1, rs2, ordered.packed())
@@ -291,7 +291,7 @@ fn request(word: u32, instr: Instr) -> Flat
             width,
             aq,
             rl,
-        } if width < 16 => operation(word, op, rd, rs1, rs2, Ordered { width, aq, rl }),
+        } if width < WIDTH_VALUES => operation(word, op, rd, rs1, rs2, Ordered { width, aq, rl }),
         _ => computation(word, instr),
     }
 }

@@ -1,6 +1,6 @@
 // The turn behind a row, where its hart leaves the guest.
 
-ghost use Rattle.std.specs.Prelude.{◌≡◌, ◌%◌, ℕ, None};
+ghost use Rattle.std.specs.Prelude.{◌≡◌, ◌%◌, None};
 ghost use Rattle.processor.specs.Hardware.{exit_of, plain_exception};
 ghost use Rattle.processor.specs.HardwareAttempt.{after_word, attempt};
 ghost use Rattle.processor.specs.HypervisorRegisters.{pending, registers_at_exit};

@@ -1,20 +1,23 @@
 // The page that instructions are fetched from.
 
-ghost use Rattle.std.specs.Prelude.{◌≡◌, ◌/◌, ◌%◌, ◌+◌, ◌^◌, IfSome};
+ghost use Rattle.std.specs.Prelude.{◌≡◌, ◌/◌, ◌%◌, ◌+◌, IfSome};
 ghost use Rattle.processor.specs.Bytes.{page_size};
 ghost use Rattle.processor.specs.Regions.{host_word};
 ghost use Rattle.processor.specs.Roots.{IsBare};
 ghost use Rattle.hart.specs.Cores.{core_of};
 ghost use Rattle.gstage_cache.specs.CacheWalks.{MayWalk, Walked};
-ghost use Rattle.quick_turns.specs.Quick.{Leads};
+ghost use Rattle.quick_turns.specs.Quick.{Leads, no_page};
 ghost use Rattle.reach.specs.Kept.{ReachAgrees};
 
 use crate::memory::{Reference, place};
 use gstage_cache::Cache;
 use hart::Core;
 use host_mem::HostMem;
-use processor::{Access, BARE, HRegs, PAGE_BYTES, ROOT_MODE_PLACE};
+use processor::{Access, BARE, HRegs, INSTRUCTION_BYTES, PAGE_BYTES, ROOT_MODE_PLACE};
 use reach::Reach;
+
+/// What no page of an address has for its number.
+const NO_PAGE: u64 = u64::MAX;
 
 /// A page of virtual addresses, and the host place of its first byte, from where its instructions are fetched.
 #[derive(Clone, Copy, Drop)]
@@ -26,10 +29,10 @@ pub(crate) struct Window {
 impl Window {
     /// That of no page: no address has a page of this number.
     pub(crate) fn none() -> Window
-        ensures { result ≡ record { page = 18446744073709551615; host = 0 } }
+        ensures { result ≡ record { page = no_page; host = 0 } }
     {
         Window {
-            page: u64::MAX,
+            page: NO_PAGE,
             host: 0,
         }
     }
@@ -38,13 +41,13 @@ impl Window {
     #[inline(always)]
     pub(crate) fn behind_store(self, core: &Core) -> Window
         ensures bare { IsBare core.now.csrs.vsatp → result ≡ self }
-        ensures paged { (IsBare core.now.csrs.vsatp → ⊥) → result.page ≡ 18446744073709551615 }
+        ensures paged { (IsBare core.now.csrs.vsatp → ⊥) → result.page ≡ no_page }
     {
         if core.csrs.vsatp >> ROOT_MODE_PLACE == BARE {
             self
         } else {
             Window {
-                page: u64::MAX,
+                page: NO_PAGE,
                 host: self.host,
             }
         }
@@ -59,7 +62,10 @@ impl Window {
         ensures { result ≡ host_word mem.now (self.host + core.now.pc % page_size) 4 }
     {
         let _table_bytes = mem.table_bytes();
-        mem.read((self.host + core.pc % PAGE_BYTES) as usize, 4) as u32
+        mem.read(
+            (self.host + core.pc % PAGE_BYTES) as usize,
+            INSTRUCTION_BYTES as u8,
+        ) as u32
     }
 }
 
@@ -108,7 +114,7 @@ fn find_window(
     let fetch = Reference {
         access: Access::Fetch,
         address: core.pc,
-        width: 4,
+        width: INSTRUCTION_BYTES as u8,
     };
     match place(core, regs, cache, reach, mem, fetch) {
         Some(hpa) => Some(Window {

@@ -1,6 +1,6 @@
 // All translations that are kept: 256 for fetches, 64 for loads and 64 for stores, by the number of the page.
 
-ghost use Rattle.std.specs.Prelude.{◌≡◌, ◌⊎◌, ◌+◌, ◌/◌, ◌%◌, ◌^◌, ◌<◌, IfSome, Some, length};
+ghost use Rattle.std.specs.Prelude.{◌≡◌, ◌+◌, ◌/◌, ◌%◌, ◌^◌, ◌<◌, IfSome, Some, length};
 ghost use Rattle.processor.specs.Bytes.{page_size};
 ghost use Rattle.processor.specs.SecondStage.{WalksApart};
 ghost use Rattle.processor.specs.Roots.{IsFirstStageRoot};

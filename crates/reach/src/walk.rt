@@ -1,6 +1,6 @@
 // The entries that a walk of the first stage reads.
 
-ghost use Rattle.std.specs.Prelude.{◌≡◌, ◌/◌, ◌%◌, ◌^◌, IfSome, Some};
+ghost use Rattle.std.specs.Prelude.{◌≡◌, ◌%◌, IfSome, Some};
 ghost use Rattle.processor.specs.Regions.{Region};
 ghost use Rattle.processor.specs.SecondStage.{walk_guest};
 ghost use Rattle.processor.specs.declared.access.Access.TheVariants as Access;

@@ -1,5 +1,5 @@
 -- A run that is broken off and goes on is the whole run.
-use Rattle.std.proofs.Common.{◌≡◌, ℕ, zero, suc, ◌≤◌, List, ◌∷◌, ◌++◌, drop, take, refl, sym, ◌∙◌, ap, subst, arith, Option, Some, None}
+use Rattle.std.proofs.Common.{◌≡◌, ℕ, zero, suc, ◌≤◌, List, ◌∷◌, drop, take, refl, sym, ◌∙◌, ap, subst, arith, Option, Some, None}
 use Rattle.sv_types.specs.Schedule.{Schedule, next_event, after_event, begun_with, first_events}
 use Rattle.sv_types.specs.declared.event.Event.{Event}
 use Rattle.reference.specs.Run.{run}

@@ -5,7 +5,7 @@ use Rattle.std.specs.List.{list_all}
 use Rattle.std.proofs.lemmas.Bool.{eqb-true, not-true}
 use Rattle.std.proofs.lemmas.List.{length-map, length-replicate}
 use Rattle.std.proofs.lemmas.Option.{same_Some}
-use Rattle.processor.specs.Bytes.{page_size, ram_base, ram_place}
+use Rattle.processor.specs.Bytes.{page_size, ram_base, ram_place, is_ram_address}
 use Rattle.processor.specs.Registers.{IsLegalSupervisor, software_bit, legal_status, legal_interrupts, legal_tvec, legal_counteren, legal_epc, legal_satp}
 use Rattle.processor.specs.Requests.{reserved_bytes}
 use Rattle.processor.specs.declared.mode.Mode.{Mode}
@@ -22,7 +22,7 @@ use Rattle.reference.specs.States.{Hart, Binding, binding_at}
 use Rattle.saved_machine.specs.declared.harts.SavedHart.{SavedHart}
 use Rattle.saved_machine.specs.declared.whole.SavedLoad.{SavedLoad}
 use Rattle.snapshot_form.specs.Forms.{is_word, has_all}
-use Rattle.snapshot_form.specs.HartForms.{is_user, flag, mode, place, place_number, is_ram_address, is_reservable, reservation, aligned, legal, side, trap_status, status, registers, begins_with_0, hart, harts}
+use Rattle.snapshot_form.specs.HartForms.{is_user, flag, mode, place, place_number, is_reservable, reservation, aligned, legal, side, trap_status, status, registers, begins_with_0, hart, harts}
 use Rattle.snapshot_form.specs.JournalForms.{hart_number, demote, load_note, unload, retire, answer, note_behind, note, notes, stopped_entry, stopped_write, verdict_behind, verdict}
 use Rattle.snapshot_form.specs.PageForms.{may_load, module_within, is_above, load, load_behind, loading}
 use Rattle.snapshot_form.proofs.FormLaws.{first_true, second_true}

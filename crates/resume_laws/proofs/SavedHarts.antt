@@ -1,11 +1,11 @@
 -- The harts that were saved of a state have a spelling.
-use Rattle.std.proofs.Common.{◌≡◌, ℕ, zero, suc, ◌+◌, ◌-◌, ◌*◌, ◌%◌, ◌^◌, ◌<◌, ◌≤◌, List, [], ◌∷◌, ◌++◌, length, drop, refl, ◌∙◌, ap, subst, Bool, true, false, not, ◌&&◌, ◌||◌, arith, slice_get}
+use Rattle.std.proofs.Common.{◌≡◌, ℕ, zero, suc, ◌+◌, ◌-◌, ◌*◌, ◌%◌, ◌<◌, ◌≤◌, List, [], ◌∷◌, ◌++◌, length, drop, refl, ◌∙◌, ap, subst, Bool, true, false, not, ◌&&◌, ◌||◌, arith, slice_get}
 use Rattle.std.specs.Prelude.{Option, Some, None, option_map, ◌==◌, nat_le, IsTrue}
 use Rattle.std.specs.List.{list_all}
 use Rattle.std.proofs.lemmas.Bool.{eq-eqb, ne_eqb, or_right}
 use Rattle.std.proofs.lemmas.List.{length-drop}
 use Rattle.processor.specs.Bits.{flag as bit_of}
-use Rattle.processor.specs.Bytes.{page_size, ram_base}
+use Rattle.processor.specs.Bytes.{page_size, ram_base, is_ram_address}
 use Rattle.processor.specs.Registers.{software_bit, legal_status, legal_interrupts, legal_tvec, legal_counteren, legal_epc, legal_satp}
 use Rattle.processor.specs.Requests.{reserved_bytes}
 use Rattle.processor.specs.declared.mode.Mode.{Mode}
@@ -17,7 +17,7 @@ use Rattle.reference.specs.States.{Hart, Binding, binding_at, binding_of}
 use Rattle.saved_machine.specs.SavedStates.{gpa_at, saved_hart, saved_harts}
 use Rattle.saved_machine.specs.declared.harts.SavedHart.{SavedHart}
 use Rattle.snapshot_form.specs.Forms.{number, is_word, has_all}
-use Rattle.snapshot_form.specs.HartForms.{aligned, begins_with_0, flag, hart, legal, mode, place, registers, reservation, is_reservable, is_ram_address, side, status, trap_status}
+use Rattle.snapshot_form.specs.HartForms.{aligned, begins_with_0, flag, hart, legal, mode, place, registers, reservation, is_reservable, side, status, trap_status}
 use Rattle.snapshot_form.specs.Typed.{are_registers, are_words, is_typed_hart, supervisor_numbers}
 use Rattle.snapshot_form.proofs.FormLaws.{both_true, first_true, second_true}
 use Rattle.resume_laws.specs.Keepable.{AreKeepable, IsKeepableHart, IsReservable}

@@ -1,13 +1,12 @@
 -- What a snapshot that isn't refused gives its parts.
-use Rattle.std.proofs.Common.{◌≡◌, ℕ, ◌+◌, ◌*◌, ◌<◌, ◌≤◌, List, [], ◌∷◌, ◌++◌, length, min, ◌∙◌, ap, subst, Bool, true, false, not, ◌&&◌, arith, slice_get}
-use Rattle.std.specs.Prelude.{Option, Some, None, IfSome, IsTrue, nat_le, ◌==◌, if◌then◌else◌}
-use Rattle.std.specs.List.{list_all, list_any}
-use Rattle.std.proofs.lemmas.Bool.{eqb-true}
+use Rattle.std.proofs.Common.{◌≡◌, ℕ, ◌+◌, ◌*◌, ◌<◌, ◌≤◌, List, [], ◌∷◌, length, min, ◌∙◌, ap, subst, true, not, ◌&&◌, arith, slice_get}
+use Rattle.std.specs.Prelude.{Option, Some, None, IfSome, IsTrue, nat_le}
+use Rattle.std.specs.List.{list_all}
 use Rattle.std.proofs.lemmas.Bool.Decides.{nat_tests}
 use Rattle.std.proofs.lemmas.List.{length-map}
 use Rattle.processor.specs.Bytes.{page_of, page_size}
 use Rattle.sv_types.specs.Limits.{most_harts, most_modules, most_notes}
-use Rattle.sv_types.specs.Policies.{Rules, rules_within, all_bound, bound_fits}
+use Rattle.sv_types.specs.Policies.{Rules, rules_within}
 use Rattle.sv_types.specs.declared.saved.SavedModule.{SavedModule}
 use Rattle.reference.specs.Origins.{AllAbove, Ascends}
 use Rattle.reference.specs.States.{pages_in_rule}
@@ -27,9 +26,9 @@ use Rattle.resume_laws.proofs.ResumedSoundHolds.{accepted}
 use Rattle.gstage_tables.specs.Layout.{most_bound}
 use Rattle.resumed_parts.specs.Counting.{IsWithin}
 use Rattle.resumed_parts.specs.Seating.{CanAllSit}
-use Rattle.resumed_parts.proofs.Seated.{all_sit, bound_rules}
+use Rattle.resumed_parts.proofs.Seated.{all_sit}
 use Rattle.resumption.proofs.ModuleSites.{of_policy}
-use Rattle.sv_types.proofs.PolicyLimits.{few_modules}
+use Rattle.sv_types.proofs.PolicyLimits.{bound_few, few_modules}
 
 -- ---- loaded modules
 
@@ -109,29 +108,6 @@ known rules s within has none =
     }
 
 -- ---- entries
-
-each_bound : (n : ℕ) (before entries bound : List ℕ) → all_bound n before entries bound ≡ true → length bound ≤ length entries
-each_bound n before [] [] within = omega arith
-each_bound n before [] (gpa ∷ bound) within = absurd cc
-each_bound n before (va ∷ entries) [] within = absurd cc
-each_bound n before (va ∷ entries) (gpa ∷ bound) within =
-    let rest = each_bound n (before ++ va ∷ []) entries bound (second_true (bound_fits n va gpa && not (list_any (λ e. e == va) before)) (all_bound n (before ++ va ∷ []) entries bound) within) in
-    omega (arith, rest)
-
-along_by : (rules : Rules) (b : Bool) → IsTrue (if b then length rules.bound == 0 else all_bound rules.ram_pages [] rules.entries rules.bound)
-    → length rules.bound ≤ length rules.entries
-along_by rules true none = let empty : length rules.bound ≡ 0 = eqb-true (length rules.bound) 0 none in omega (arith, empty)
-along_by rules false each = each_bound rules.ram_pages [] rules.entries rules.bound each
-
--- no more are bound than there are
-pub bound_along : (rules : Rules) → IsTrue (rules_within rules) → length rules.bound ≤ length rules.entries
-bound_along rules within = along_by rules (rules.format == 1) (bound_rules rules within)
-
-pub bound_few : (rules : Rules) → IsTrue (rules_within rules) → length rules.bound ≤ most_bound
-bound_few rules within =
-    let along = bound_along rules within in
-    let entries : length rules.entries ≤ 64 = grind (arith, nat_tests) in
-    omega (arith, along, entries)
 
 -- one for each that is bound
 pub bound_pages_few : (rules : Rules) (pages : List ℕ) → IsTrue (rules_within rules) → pages ≡ bound_pages rules → length pages ≤ most_bound

@@ -3,16 +3,16 @@ use Rattle.std.proofs.Common.{◌≡◌, ℕ, zero, suc, ◌+◌, ◌-◌, ◌*�
 use Rattle.std.specs.Prelude.{Option, Some, None, option_map, ◌==◌, nat_le, slice_index, IfSome, IsTrue, if◌then◌else◌}
 use Rattle.std.specs.List.{list_any, list_all}
 use Rattle.std.proofs.lemmas.Bool.{eqb-true, eq-eqb, not-true, or_parts}
-use Rattle.std.proofs.lemmas.Bool.Decides.{nat_tests}
 use Rattle.processor.specs.Bits.{flag}
-use Rattle.processor.specs.Bytes.{page_size, ram_base, ram_place}
+use Rattle.processor.specs.Bytes.{page_size, ram_base, ram_place, is_ram_address}
 use Rattle.processor.specs.GuestView.{with_guest}
 use Rattle.processor.specs.HypervisorRegisters.{HypervisorRegisters, IsLegal, registers_at_boot, at_hypervisor_places, virtual_software_bit}
 use Rattle.processor.specs.Registers.{IsLegalSupervisor, software_bit}
 use Rattle.processor.specs.Requests.{reserved_bytes}
 use Rattle.processor.specs.declared.mode.Mode.{Mode}
 use Rattle.processor.specs.declared.mode.Mode.TheVariants.{Kernel, User}
-use Rattle.sv_types.specs.Policies.{Rules, rules_within, bound_within, bound_fits, all_bound}
+use Rattle.sv_types.specs.Policies.{Rules, rules_within, bound_fits, all_bound}
+use Rattle.sv_types.proofs.PolicyLimits.{bound_rules}
 use Rattle.reference.specs.States.{Binding, binding_at, binding_of, has_number, place_of_entry}
 use Rattle.reference.specs.Trapping.{may_enter}
 use Rattle.machine_model.specs.StandsFor.{host_reservation, hregs_in, kernel_view}
@@ -26,7 +26,7 @@ use Rattle.processor_laws.proofs.GuestViews.{shown_is_legal}
 use Rattle.processor_laws.proofs.RegisterBits.{boot_is_legal}
 use Rattle.saved_machine.specs.declared.harts.SavedHart.{SavedHart}
 use Rattle.snapshot_form.specs.Forms.{is_word, has_all}
-use Rattle.snapshot_form.specs.HartForms.{is_user, flag as flag_form, mode, place, is_ram_address, is_reservable, reservation, aligned, side, status, registers, begins_with_0, hart, harts}
+use Rattle.snapshot_form.specs.HartForms.{is_user, flag as flag_form, mode, place, is_reservable, reservation, aligned, side, status, registers, begins_with_0, hart, harts}
 use Rattle.snapshot_form.proofs.FormLaws.{first_true, second_true}
 use Rattle.resumption.specs.Judgements.{is_bound}
 use Rattle.resumption.specs.ResumedStates.{resumed_hart}
@@ -195,9 +195,6 @@ place_by : (rules : Rules) (i : ℕ) (entry : Binding) (b : Bool) → IsTrue (if
     → binding_of (slice_get rules.entries i) (slice_get rules.bound i) ≡ Some entry → place_of_entry rules.entries rules.bound entry.va ≡ Some i
 place_by rules i entry true none at = absurd (no_binding rules.entries rules.bound i entry (eqb-true (length rules.bound) 0 none) at)
 place_by rules i entry false each at = (first_place rules.ram_pages [] rules.entries rules.bound i entry each at).0
-
-pub bound_rules : (rules : Rules) → IsTrue (rules_within rules) → IsTrue (bound_within rules)
-bound_rules rules within = grind (arith, nat_tests)
 
 abbrev entries_of : Rules → Permitted
 entries_of rules = record { entries = rules.entries; bound = rules.bound }

@@ -14,7 +14,7 @@ use csr_file::{Csrs, at_hypervisor_places};
 use hart::{Core, Hart};
 use hart_answers::Seat;
 use page_guard::{Entries, Guard, Side};
-use processor::{Mode, RAM_BASE};
+use processor::{Mode, ram_place};
 use rv64_exec::Regs;
 use saved_machine::SavedHart;
 use std::alloc::{AllocError, Global};
@@ -89,7 +89,7 @@ fn reserved_place(reservation: Option<u64>, tables: usize) -> Option<u64>
     ensures { result ≡ host_reservation tables (option_map ram_place reservation) }
 {
     let address = reservation?;
-    Some(tables as u64 + (address - RAM_BASE))
+    Some(tables as u64 + ram_place(address))
 }
 
 // The side of a hart in a mode, which in kernel mode may be in an entry.

@@ -11,7 +11,7 @@ ghost use Rattle.resumption.specs.Judgements.{fits, has_modules, is_of_policy};
 ghost use Rattle.resumption.specs.ModuleSites.{LieIn};
 
 use page_measure::{Silent, measure};
-use processor::{PAGE_SIZE, RAM_BASE};
+use processor::{PAGE_SIZE, ram_place};
 use relocated_fields::{fields_right, mask};
 use snapshot_form::Snapshot;
 use std::alloc::{AllocError, Global};
@@ -102,7 +102,7 @@ fn module_text<'a>(ram: &'a [u8], about: &SavedModule, pages: u32) -> &'a [u8]
     ensures text { result.now ≡ module_text ram.now about.now pages }
     ensures size { length result.now ≡ page_size * pages }
 {
-    let start = (about.gpa - RAM_BASE) as usize;
+    let start = ram_place(about.gpa) as usize;
     &ram[start..start + PAGE_SIZE * pages as usize]
 }
 

@@ -1,14 +1,13 @@
 // Whether a snapshot is of a machine under a policy: its harts and pages, the entries that harts are in, and its modules.
 
-ghost use Rattle.std.specs.Prelude.{◌≡◌, ◌+◌, ◌*◌, ◌≤◌, is_some, nat_le};
+ghost use Rattle.std.specs.Prelude.{◌≡◌, is_some};
 ghost use Rattle.std.specs.List.{list_all};
-ghost use Rattle.processor.specs.Bytes.{page_size, ram_base, ram_place};
 ghost use Rattle.sv_types.specs.Policies.{rules_of};
 ghost use Rattle.reference.specs.States.{binding_at};
 ghost use Rattle.snapshot_form.specs.Snapshots.{contents};
 ghost use Rattle.resumption.specs.Judgements.{fits, is_bound, is_loaded, is_of_policy, load_fits};
 
-use processor::{PAGE_BYTES, RAM_BASE};
+use processor::{PAGE_BYTES, is_in_ram};
 use reference::pages_of;
 use saved_machine::{SavedHart, SavedLoad};
 use snapshot_form::Snapshot;
@@ -63,23 +62,13 @@ fn all_fit(policy: &Policy, modules: &[SavedModule]) -> bool
     modules.iter().all(|about| fits(policy, about))
 }
 
-// So many pages from an address on end in RAM.
-fn ends_in_ram(gpa: u64, pages: u32, ram_pages: u32) -> bool
-    requires { ram_base ≤ gpa }
-    ensures { result ≡ nat_le (ram_place gpa + page_size * pages) (page_size * ram_pages) }
-{
-    let place = u128::from(gpa - RAM_BASE);
-    let page = u128::from(PAGE_BYTES);
-    place + page * u128::from(pages) <= page * u128::from(ram_pages)
-}
-
 // A module of the policy, whose pages lie in RAM.
 fn fits(policy: &Policy, about: &SavedModule) -> bool
     ensures { result ≡ fits (rules_of policy.now) about.now }
 {
-    about.id < policy.modules.len() as u64
-        && about.gpa >= RAM_BASE
-        && ends_in_ram(about.gpa, pages_of(policy, about.id), policy.ram_pages)
+    let bytes = PAGE_BYTES * u64::from(pages_of(policy, about.id));
+    let ram_bytes = PAGE_BYTES * u64::from(policy.ram_pages);
+    about.id < policy.modules.len() as u64 && is_in_ram(about.gpa, bytes, ram_bytes)
 }
 
 fn is_loaded(modules: &[SavedModule], id: u64) -> bool

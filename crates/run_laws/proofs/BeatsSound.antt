@@ -21,6 +21,7 @@ use Rattle.reference.specs.Soundness.{IsSound, IsSoundBlock, IsSoundDisk, IsSoun
 use Rattle.run_laws.proofs.Lookups.{unprotected, unheld, part_short}
 use Rattle.run_laws.proofs.Sounds.{InFreePage}
 use Rattle.run_laws.proofs.VirtioSound.{sound_last, request_sound}
+use Rattle.sv_types.specs.VirtioResults.{result_number}
 
 -- what a beat writes: no more bytes than there is room for in RAM and in a page that isn't protected
 pub record IsFreeBeat (r : State) (gpa : ℕ) (bytes : List ℕ) : Type 0 where
@@ -187,7 +188,7 @@ unfolding make to_memory to_disk
 make_sound r d q (VirtioMove.ToMemory gpa place size) k moves stays =
     into_memory r d q gpa place size (in_ram r.ram gpa size) (not (is_protected r (page_of gpa))) k moves stays refl refl
 make_sound r d q (VirtioMove.ToDisk gpa place size) k moves stays = onto_disk r d q gpa place size (in_ram r.ram gpa size) k moves
-make_sound r d q (VirtioMove.PutResult gpa) k moves stays = last_put r d (with_request d q) gpa 1 q.result k (going_sound d q d.bytes k moves) stays
+make_sound r d q (VirtioMove.PutResult gpa) k moves stays = last_put r d (with_request d q) gpa 1 (result_number q.result) k (going_sound d q d.bytes k moves) stays
 make_sound r d q (VirtioMove.PutHead gpa head) k moves stays = last_put r d (with_request d q) gpa 4 head k (going_sound d q d.bytes k moves) stays
 make_sound r d q (VirtioMove.PutLength gpa) k moves stays = last_put r d (with_request d q) gpa 4 (q.written + 1) k (going_sound d q d.bytes k moves) stays
 make_sound r d q (VirtioMove.PutIndex gpa index) k moves stays = last_put r d (finished d) gpa 2 index k (finished_sound d k) stays

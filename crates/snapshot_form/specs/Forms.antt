@@ -25,12 +25,16 @@ pub record Form (A : Type 0) : Type 0 where
   pub has : A → Bool
   pub taken : List ℕ → Taken A
 
--- eight bytes, the low one first
+-- the bytes of a number
+abbrev pub number_size : ℕ
+number_size = 8
+
+-- a number's bytes, the low one first
 unfoldable pub spell_number : ℕ → List ℕ
 spell_number n = to_le_bytes w64 n
 
 unfoldable pub number_at : List ℕ → Taken ℕ
-number_at bytes = if nat_lt (length bytes) 8 then Err OtherLength else Ok (from_le_bytes w64 (take 8 bytes), drop 8 bytes)
+number_at bytes = if nat_lt (length bytes) number_size then Err OtherLength else Ok (from_le_bytes w64 (take number_size bytes), drop number_size bytes)
 
 abbrev pub is_word : ℕ → Bool
 is_word n = nat_lt n (2 ^ 64)

@@ -1,8 +1,8 @@
 -- The form of a hart. This project's own; the registers are those of the RISC-V Privileged manual, "Supervisor CSRs".
-use Rattle.std.specs.Prelude.{ℕ, ◌+◌, ◌-◌, ◌*◌, ◌%◌, List, [], ◌∷◌, drop, Bool, true, false, not, ◌&&◌, ◌||◌, Option, Some, None, nat_lt, nat_le, ◌==◌, if◌then◌else◌}
+use Rattle.std.specs.Prelude.{ℕ, ◌+◌, ◌-◌, ◌%◌, List, [], ◌∷◌, drop, Bool, true, false, not, ◌&&◌, ◌||◌, Option, Some, None, nat_le, ◌==◌, if◌then◌else◌}
 use Rattle.saved_machine.specs.declared.harts.SavedHart.{SavedHart}
 use Rattle.snapshot_form.specs.Forms.{Form, number, within, and_then, ◌⨾◌, made, always, listed}
-use Rattle.processor.specs.Bytes.{page_size, ram_base, is_ram_address}
+use Rattle.processor.specs.Bytes.{instruction_size, is_ram_address}
 use Rattle.processor.specs.IntegerRegisters.{register_count}
 use Rattle.processor.specs.Requests.{reserved_bytes}
 use Rattle.processor.specs.Registers.{software_bit, legal_status, legal_interrupts, legal_tvec, legal_counteren, legal_epc, legal_satp}
@@ -61,7 +61,7 @@ is_reservable ram_pages n = n == 0 || (is_ram_address ram_pages n && n % reserve
 unfoldable pub reservation : ℕ → Form (Option ℕ)
 reservation ram_pages = made address_of address_number is_nonzero (within (is_reservable ram_pages) number)
 
--- a multiple of a size, as an instruction's address of 4
+-- a multiple of a size, as an instruction's address
 unfoldable pub aligned : ℕ → Form ℕ
 aligned size = within (λ n. n % size == 0) number
 
@@ -163,7 +163,7 @@ begins_with_0 (n ∷ rest) = n == 0
 unfoldable pub hart : ℕ → Form SavedHart
 hart ram_pages =
     made hart_of hart_parts (λ h. begins_with_0 h.registers)
-    (side ⨾ (aligned 4 ⨾ (registers ⨾ (status ⨾ (reservation ram_pages ⨾ number)))))
+    (side ⨾ (aligned instruction_size ⨾ (registers ⨾ (status ⨾ (reservation ram_pages ⨾ number)))))
 
 unfoldable pub harts : (ram_pages count : ℕ) → Form (List SavedHart)
 harts ram_pages count = listed (λ before. hart ram_pages) [] count

@@ -1,5 +1,6 @@
 -- The forms of what a machine recorded: its counts, notes and verdict. This project's own.
 use Rattle.std.specs.Prelude.{ℕ, List, [], ◌∷◌, min, Bool, false, ◌||◌, nat_lt, nat_le, ◌==◌, if◌then◌else◌}
+use Rattle.processor.specs.Bytes.{instruction_size}
 use Rattle.sv_types.specs.Limits.{most_notes}
 use Rattle.snapshot_form.specs.Forms.{Form, number, nothing, within, and_then, ◌⨾◌, made, always, counted}
 use Rattle.snapshot_form.specs.HartForms.{aligned}
@@ -136,7 +137,7 @@ demote_parts (Note.Unload h turn id c) = (0, (0, (0, 0)))
 demote_parts (Note.Retire h turn c) = (0, (0, (0, 0)))
 
 unfoldable pub demote : ℕ → Form Note
-demote harts = made demote_of demote_parts (is_kind demote_kind) (hart_number harts ⨾ (number ⨾ (aligned 4 ⨾ number)))
+demote harts = made demote_of demote_parts (is_kind demote_kind) (hart_number harts ⨾ (number ⨾ (aligned instruction_size ⨾ number)))
 
 abbrev pub denied_of : ℕ → Note
 denied_of gpa = Note.Denied gpa
@@ -258,7 +259,7 @@ write_parts (Verdict.Stopped (Rule.Entry target) h turn) = (0, (0, (0, 0)))
 write_parts (Verdict.Stopped (Rule.Write pc gpa) h turn) = (pc, (gpa, (h, turn)))
 
 unfoldable pub stopped_write : ℕ → Form Verdict
-stopped_write harts = made write_of write_parts (is_verdict write_kind) (aligned 4 ⨾ (number ⨾ (hart_number harts ⨾ number)))
+stopped_write harts = made write_of write_parts (is_verdict write_kind) (aligned instruction_size ⨾ (number ⨾ (hart_number harts ⨾ number)))
 
 unfoldable pub verdict_behind : ℕ → ℕ → Form Verdict
 verdict_behind harts kind =

@@ -27,10 +27,13 @@ use Rattle.sv_types.specs.declared.protection.Protection.{Protection}
 abbrev pub magic : List ℕ
 magic = codes "SVSNAP01"
 
+abbrev pub magic_size : ℕ
+magic_size = 8
+
 unfoldable pub magic_at : List ℕ → Taken (List ℕ)
 magic_at bytes =
-    if nat_lt (length bytes) 8 then Err OtherLength
-    else if bytes_eq (take 8 bytes) magic then Ok (take 8 bytes, drop 8 bytes) else Err OtherBeginning
+    if nat_lt (length bytes) magic_size then Err OtherLength
+    else if bytes_eq (take magic_size bytes) magic then Ok (take magic_size bytes, drop magic_size bytes) else Err OtherBeginning
 
 abbrev pub beginning : Form (List ℕ)
 beginning = record { spell = λ b. b; has = λ b. bytes_eq b magic; taken = magic_at }

@@ -7,7 +7,7 @@ ghost use Rattle.snapshot_reader.specs.Reading.{Gives, Reads};
 use crate::read_error::ReadError;
 use crate::supervisor::read_status;
 use crate::values::{in_range, read_flag, read_number, read_pc, read_place};
-use processor::{Mode, PAGE_BYTES, RAM_BASE, REGISTERS, RESERVED_BYTES};
+use processor::{Mode, PAGE_BYTES, REGISTERS, RESERVED_BYTES, is_in_ram};
 use saved_machine::SavedHart;
 use snapshot_form::SnapRefusal;
 use std::alloc::Global;
@@ -119,13 +119,13 @@ fn read_registers(bytes: &[u8]) -> Result<([u64; REGISTERS], &[u8]), SnapRefusal
 }
 
 // Address 0 stands for none.
-#[tactic(auto, unfolding(snapshot_form::specs::HartForms::reservation))]
+#[tactic(auto, unfolding(snapshot_form::specs::HartForms::reservation), using(policy_limits::proofs::InRam::byte_in_ram))]
 fn read_reservation(bytes: &[u8], ram_pages: u32) -> Result<(Option<u64>, &[u8]), SnapRefusal>
     ensures { Gives (λ x. (x.0, x.1.now)) result ((reservation ram_pages).taken bytes.now) }
 {
     let (n, rest) = read_number(bytes)?;
-    let end = RAM_BASE + PAGE_BYTES * u64::from(ram_pages);
-    in_range(n == 0 || (RAM_BASE <= n && n < end && n % RESERVED_BYTES == 0))?;
+    let ram_bytes = PAGE_BYTES * u64::from(ram_pages);
+    in_range(n == 0 || (is_in_ram(n, 1, ram_bytes) && n % RESERVED_BYTES == 0))?;
     if n == 0 {
         return Ok((None, rest));
     }

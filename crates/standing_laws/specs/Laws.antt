@@ -1,5 +1,5 @@
 -- What code may rely on in a machine that stands for a state of the reference machine. This project's own.
-use Rattle.std.specs.Prelude.{◌≡◌, ℕ, ◌*◌, ◌/◌, ◌%◌, ◌^◌, ◌<◌, ◌≤◌, List, [], map, drop, length, None, Some, IfSome, IsTrue, slice_get, slice_index_or}
+use Rattle.std.specs.Prelude.{◌≡◌, ℕ, ◌*◌, ◌%◌, ◌<◌, ◌≤◌, List, [], map, drop, length, None, Some, IfSome, IsTrue, slice_get, slice_index_or}
 use Rattle.sv_types.specs.ApprovedPages.{approved_bytes}
 use Rattle.processor.specs.Bytes.{page_size, instruction_size}
 use Rattle.sv_types.specs.Policies.{Rules, rules_within}

@@ -1,6 +1,6 @@
 // The second stage, as a translation goes through it.
 
-ghost use Rattle.std.specs.Prelude.{◌≡◌, ℕ, ◌/◌, ◌^◌};
+ghost use Rattle.std.specs.Prelude.{◌≡◌, ℕ};
 ghost use Rattle.processor.specs.Regions.{Region};
 ghost use Rattle.processor.specs.SecondStage.{walk_guest};
 ghost use Rattle.processor.specs.Roots.{IsSv39x4};

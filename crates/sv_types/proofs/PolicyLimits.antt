@@ -1,12 +1,12 @@
 -- What the limits of a policy say of its numbers, of its lists, and of one of its modules.
-use Rattle.std.proofs.Common.{◌≡◌, ℕ, zero, suc, ◌≤◌, List, [], ◌∷◌, ◌++◌, length, subst, arith, true, not, ◌&&◌, slice_get}
-use Rattle.std.specs.Prelude.{Some, IsTrue, ◌==◌}
+use Rattle.std.proofs.Common.{◌≡◌, ℕ, zero, suc, ◌≤◌, List, [], ◌∷◌, ◌++◌, length, subst, arith, Bool, true, false, not, ◌&&◌, slice_get}
+use Rattle.std.specs.Prelude.{Some, IsTrue, ◌==◌, if◌then◌else◌}
 use Rattle.std.specs.List.{list_any}
-use Rattle.std.proofs.lemmas.Bool.{and_parts}
+use Rattle.std.proofs.lemmas.Bool.{and_parts, eqb-true}
 use Rattle.std.proofs.lemmas.Bool.Decides.{nat_tests}
 use Rattle.processor.specs.Regions.{most_ram_pages}
 use Rattle.sv_types.specs.Policies.{Rules, ModuleRule, rules_within, numbers_within, lists_within, init_within, bound_within, bound_fits, all_bound, modules_count_within, modules_within, module_within, module_pages_within, sites_count_within, sites_within, sites_of, is_module, each_within}
-use Rattle.sv_types.specs.Limits.{most_modules}
+use Rattle.sv_types.specs.Limits.{plain_format, most_entries, most_modules}
 
 -- ---- numbers
 
@@ -18,7 +18,7 @@ few_pages rules within = grind (arith, nat_tests)
 
 -- ---- entries
 
-pub few_entries : (rules : Rules) → IsTrue (rules_within rules) → length rules.entries ≤ 64
+pub few_entries : (rules : Rules) → IsTrue (rules_within rules) → length rules.entries ≤ most_entries
 few_entries rules within = grind (arith, nat_tests)
 
 pub bound_rules : (rules : Rules) → IsTrue (rules_within rules) → IsTrue (bound_within rules)
@@ -30,6 +30,29 @@ pub first_bound : (ram_pages : ℕ) (before : List ℕ) (va gpa : ℕ) (entries 
 first_bound ram_pages before va gpa entries bound within =
     let both = and_parts (bound_fits ram_pages va gpa && not (list_any (λ e. e == va) before)) (all_bound ram_pages (before ++ va ∷ []) entries bound) within in
     ((and_parts (bound_fits ram_pages va gpa) (not (list_any (λ e. e == va) before)) both.0).0, both.1)
+
+-- no more are bound than there are
+within_entries : (ram_pages : ℕ) (before entries bound : List ℕ) → all_bound ram_pages before entries bound ≡ true → length bound ≤ length entries
+within_entries ram_pages before [] [] within = omega arith
+within_entries ram_pages before [] (gpa ∷ bound) within = absurd cc
+within_entries ram_pages before (va ∷ entries) [] within = absurd cc
+within_entries ram_pages before (va ∷ entries) (gpa ∷ bound) within =
+    let rest = within_entries ram_pages (before ++ va ∷ []) entries bound (first_bound ram_pages before va gpa entries bound within).1 in
+    omega (arith, rest)
+
+along_by : (rules : Rules) (b : Bool) → IsTrue (if b then length rules.bound == 0 else all_bound rules.ram_pages [] rules.entries rules.bound)
+    → length rules.bound ≤ length rules.entries
+along_by rules true none = let empty : length rules.bound ≡ 0 = eqb-true (length rules.bound) 0 none in omega (arith, empty)
+along_by rules false each = within_entries rules.ram_pages [] rules.entries rules.bound each
+
+pub bound_along : (rules : Rules) → IsTrue (rules_within rules) → length rules.bound ≤ length rules.entries
+bound_along rules within = along_by rules (rules.format == plain_format) (bound_rules rules within)
+
+pub bound_few : (rules : Rules) → IsTrue (rules_within rules) → length rules.bound ≤ most_entries
+bound_few rules within =
+    let along = bound_along rules within in
+    let entries = few_entries rules within in
+    omega (arith, along, entries)
 
 -- ---- modules
 

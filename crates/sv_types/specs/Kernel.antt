@@ -3,7 +3,7 @@
 use Rattle.std.specs.Prelude.{ℕ, ◌+◌, ◌-◌, ◌*◌, ◌%◌, Bool, false, not, ◌&&◌, ◌||◌, List, [], ◌∷◌, ◌++◌, length, replicate, map, filter, flat_map, fold, find, ◌==◌, if◌then◌else◌, nat_le, nat_lt, Option, Some, None}
 use Rattle.std.specs.List.{list_any}
 use Rattle.processor.specs.Bits.{bit}
-use Rattle.processor.specs.Bytes.{word, part, padded, overwrite, ram_base, ram_place, page_size, page_of, is_in_ram}
+use Rattle.processor.specs.Bytes.{word, part, padded, overwrite, ram_place, page_size, page_of, is_in_ram}
 use Rattle.sv_types.specs.ApprovedPages.{numbers_from}
 use Rattle.processor.specs.Regions.{most_ram_pages}
 use Rattle.sv_types.specs.Elf.{file_header_size, ei_class, ei_data, ei_version, e_type, e_machine, e_version, e_entry, e_phoff, e_flags, e_phentsize, e_phnum, elf_magic, elfclass64, elfdata2lsb, ev_current, et_exec, em_riscv, ef_riscv_tso, program_header_size, p_flags, p_offset, p_vaddr, p_paddr, p_filesz, p_memsz, pt_load, pf_x_bit, pf_w_bit}

@@ -2,7 +2,7 @@
 use Rattle.std.specs.Prelude.{ℕ, ◌+◌, ◌-◌, slice_get, ◌*◌, ◌%◌, Bool, true, false, ◌&&◌, ◌||◌, not, ◌==◌, nat_le, nat_lt, List, [], ◌∷◌, ◌++◌, length, map, sum, if◌then◌else◌, Option, Some, None}
 use Rattle.std.specs.List.{list_any}
 use Rattle.std.specs.Str.{bytes_eq}
-use Rattle.processor.specs.Bytes.{page_size, ram_base, is_ram_address, instruction_size}
+use Rattle.processor.specs.Bytes.{page_size, is_ram_address, instruction_size}
 use Rattle.processor.specs.Regions.{most_ram_pages}
 use Rattle.sv_types.specs.Limits.{plain_format, bound_format, most_harts, fewest_ram_pages, most_entries, most_exports, most_modules, most_module_pages, most_module_sites, most_sites, first_export_base}
 use Rattle.sv_types.specs.declared.module.Span.{Span}

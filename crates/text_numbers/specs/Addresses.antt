@@ -5,9 +5,13 @@ use Rattle.std.specs.Str.{bytes_eq}
 use Rattle.std.specs.Str.Parse.{digits_value}
 use Rattle.std.specs.Char.{is_ascii_hexdigit}
 
+-- the most hexadecimal digits of an address, which has 64 bits
+abbrev pub most_hexadecimal_digits : ℕ
+most_hexadecimal_digits = 16
+
 -- 1 to 16 hexadecimal digits of either case
 abbrev pub is_hexadecimal : List ℕ → Bool
-is_hexadecimal digits = nat_le 1 (length digits) && nat_le (length digits) 16 && list_all is_ascii_hexdigit digits
+is_hexadecimal digits = nat_le 1 (length digits) && nat_le (length digits) most_hexadecimal_digits && list_all is_ascii_hexdigit digits
 
 -- the number that such digits write
 abbrev pub hexadecimal_number : List ℕ → Option ℕ

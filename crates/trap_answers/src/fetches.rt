@@ -11,7 +11,7 @@ use crate::addresses::{gpa_in_ram, is_implicit};
 use hart::Hart;
 use host_mem::HostMem;
 use machine_model::ExitAnswer;
-use processor::{Cause, Exit, ExitCause, Mode, SRET};
+use processor::{Cause, Exit, ExitCause, INSTRUCTION_BYTES, Mode, SRET};
 
 /// The guest has an exception, with the value that `stval` takes.
 pub(crate) fn raises(cause: Cause, tval: u64) -> ExitAnswer
@@ -32,7 +32,7 @@ pub(crate) fn fetch_answer(mem: &HostMem, mode: Mode, exit: &Exit) -> ExitAnswer
     if mode == Mode::User || is_implicit(exit) {
         return raises(Cause::InstrAccess, exit.stval);
     }
-    match gpa_in_ram(mem, exit, 4) {
+    match gpa_in_ram(mem, exit, INSTRUCTION_BYTES) {
         Some(gpa) => ExitAnswer::Demotes { gpa },
         None => raises(Cause::InstrAccess, exit.stval),
     }
@@ -59,7 +59,7 @@ fn exit_ram_gpa(mem: &HostMem, exit: &Exit) -> u64
     if is_implicit(exit) {
         return 0;
     }
-    match gpa_in_ram(mem, exit, 4) {
+    match gpa_in_ram(mem, exit, INSTRUCTION_BYTES) {
         Some(gpa) => gpa,
         None => 0,
     }

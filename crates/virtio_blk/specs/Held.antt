@@ -1,5 +1,5 @@
 -- The device as the code holds it, and what holds of it at each moment.
-use Rattle.std.specs.Prelude.{◌≡◌, ℕ, ◌+◌, ◌-◌, ◌*◌, ◌%◌, ◌^◌, ◌<◌, ◌≤◌, true, false, ◌==◌, if◌then◌else◌, List, [], ◌∷◌, ◌++◌, length, replicate, Option, Some, None, IfSome}
+use Rattle.std.specs.Prelude.{◌≡◌, ℕ, ◌+◌, ◌-◌, ◌*◌, ◌%◌, ◌^◌, ◌<◌, ◌≤◌, true, false, if◌then◌else◌, List, [], ◌∷◌, ◌++◌, length, replicate, Option, Some, None, IfSome}
 use Rattle.processor.specs.Bytes.{page_size, ram_base, ram_place}
 use Rattle.reference.specs.BlockDisk.{beat_size}
 use Rattle.reference.specs.VirtioDevice.{VirtioDevice, index_values, most_places}

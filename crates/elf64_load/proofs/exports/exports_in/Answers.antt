@@ -1,14 +1,14 @@
-use Rattle.std.proofs.Common.{◌≡◌, ◌∙◌, ◌+◌, ◌<◌, ◌≤◌, ℕ, List, [], ◌∷◌, ◌++◌, length, drop, get_or, Option, Result, Ok, Err, IfErr, IsErrAnd, refl, ap, sym, subst}
+use Rattle.std.proofs.Common.{◌≡◌, ◌∙◌, ◌+◌, ◌<◌, ◌≤◌, ℕ, List, [], ◌∷◌, ◌++◌, length, drop, get_or, Option, Ok, Err, refl, ap, sym}
 use Rattle.std.proofs.lemmas.List.{at_drop_more, at_drop_all}
 use Rattle.sv_types.specs.declared.image_fault.ImageFault.{ImageFault}
 use Rattle.sv_types.specs.declared.policy.Export.{Export}
+use Rattle.elf64_sections.proofs.Refusals.{refusal_known}
 use Rattle.elf64_sections.specs.Judged.{◌>>=◌, each}
 use Rattle.elf64_sections.specs.Sections.{Tables}
 use Rattle.elf64_sections.specs.Views.{tables_view}
 use Rattle.elf64_load.specs.Addresses as at_name
 use Rattle.elf64_load.specs.Exports.{address_of, export_at, export_of}
 use Rattle.elf64_load.specs.Refusals.{Judged, Refuses, answered}
-use Rattle.elf64_load.specs.declared.read.ElfRefusal.{ElfRefusal}
 use Rattle.elf64_load.specs.declared.read.ElfRefusal.TheVariants.{Fault, Memory}
 use Rattle.elf64_load.proofs.exports.exports_in.Goals as goal
 
@@ -43,12 +43,6 @@ module _ (tables : Tables) (exports : List Export) (names : List (List ℕ)) (i 
   refused_next fault name within item known is so_far not_memory =
       ap (λ (judged : Judged (List Export)). answered judged) (sym so_far ∙ at_next name (Err fault) within item known is)
 
--- a refusal that is handed on
-refusing : {T : Type 0} (result : Result T ElfRefusal) (refusal : ElfRefusal) (judged : Judged (List Export)) → IsErrAnd result (λ e. e ≡ refusal)
-    → Refuses judged refusal → IfErr result (Refuses judged)
-refusing (Ok found) refusal judged is why = absurd is
-refusing (Err e) refusal judged is why = subst (λ (r : ElfRefusal). Refuses judged r) (sym is) why
-
 pub names-preserved : goal.names-preserved
 names-preserved c =
     let l = c.names in
@@ -63,12 +57,12 @@ returns-clause-ok c =
 pub returns-in_err-export-clause-refused : goal.returns-in_err-export-clause-refused
 returns-in_err-export-clause-refused c =
     let l = c.names in
-    refusing c.from_residual-in_err-export.result (Fault c.in_err-export.field-0.0) (each (export_of (tables_view c.args.tables.now)) [] c.args.names.now)
+    refusal_known (Refuses (each (export_of (tables_view c.args.tables.now)) [] c.args.names.now)) c.from_residual-in_err-export.result (Fault c.in_err-export.field-0.0)
     c.from_residual-in_err-export.ensures.1
     (refused_next (tables_view c.args.tables.now) l.exports.items c.args.names.now l.name-index (at_name.found c.in_ok-addresses.addresses) c.in_err-export.field-0.0
     c.name-item.result c.names-test.true c.name-item.is c.in_ok-addresses.ensures c.in_err-export.ensures l.invariant)
 
 pub returns-in_err-push-clause-refused : goal.returns-in_err-push-clause-refused
 returns-in_err-push-clause-refused c =
-    refusing c.from_residual-in_err-push.result Memory (each (export_of (tables_view c.args.tables.now)) [] c.args.names.now) c.from_residual-in_err-push.ensures.1
+    refusal_known (Refuses (each (export_of (tables_view c.args.tables.now)) [] c.args.names.now)) c.from_residual-in_err-push.result Memory c.from_residual-in_err-push.ensures.1
     (λ not_memory. absurd (not_memory refl))

@@ -1,12 +1,12 @@
-use Rattle.std.proofs.Common.{◌≡◌, ◌+◌, ◌<◌, ℕ, List, [], ◌++◌, length, drop, get_or, Result, Ok, Err, IfErr, IsErrAnd, refl, ap, sym, subst, ◌∙◌}
+use Rattle.std.proofs.Common.{◌≡◌, ◌+◌, ◌<◌, ℕ, List, [], ◌++◌, length, drop, get_or, Err, refl, ap, sym, ◌∙◌}
 use Rattle.std.proofs.lemmas.List.{at_drop_all, drop_more}
 use Rattle.sv_types.specs.declared.module.Site.{Site}
+use Rattle.elf64_sections.proofs.Refusals.{refusal_known}
 use Rattle.elf64_sections.specs.Judged.{◌>>=◌}
 use Rattle.elf64_reloc.specs.JudgingViews.{judging_view}
 use Rattle.elf64_reloc.specs.Modules.{Judging, each_judged, fields_judged, found_sites}
 use Rattle.elf64_reloc.specs.Refusals.{Judged, Refuses, answered}
 use Rattle.elf64_reloc.specs.declared.fault.ObjectFault.{ObjectFault}
-use Rattle.elf64_reloc.specs.declared.refusal.RelocRefusal.{RelocRefusal}
 use Rattle.elf64_reloc.specs.declared.refusal.RelocRefusal.TheVariants.{Fault, Memory}
 use Rattle.elf64_reloc.specs.declared.relocations.Relocation.{Relocation}
 use Rattle.elf64_reloc.specs.declared.sites.Found.{Found}
@@ -22,12 +22,6 @@ refused_next j sites fault relocations i d within bad so_far not_memory =
     (sym so_far
     ∙ ap (λ (rs : List Relocation). each_judged j sites rs) (drop_more relocations i d within)
     ∙ ap (λ (judged : Judged Found). judged >>= λ f. each_judged j (sites ++ found_sites f) (drop (i + 1) relocations)) (sym bad))
-
--- a refusal that is handed on
-refusing : {T : Type 0} (result : Result T RelocRefusal) (refusal : RelocRefusal) (judged : Judged (List Site)) → IsErrAnd result (λ e. e ≡ refusal)
-    → Refuses judged refusal → IfErr result (Refuses judged)
-refusing (Ok found) refusal judged is why = absurd is
-refusing (Err e) refusal judged is why = subst (λ (r : RelocRefusal). Refuses judged r) (sym is) why
 
 pub relocations-preserved : goal.relocations-preserved
 relocations-preserved c =
@@ -45,11 +39,11 @@ returns-clause-ok c =
 pub returns-in_err-found-clause-refused : goal.returns-in_err-found-clause-refused
 returns-in_err-found-clause-refused c =
     let l = c.relocations in
-    refusing c.from_residual.result (Fault c.in_err-found.field-0.0) (each_judged (judging_view c.args.judging.now) [] c.args.relocations.now) c.from_residual.ensures.1
+    refusal_known (Refuses (each_judged (judging_view c.args.judging.now) [] c.args.relocations.now)) c.from_residual.result (Fault c.in_err-found.field-0.0) c.from_residual.ensures.1
     (refused_next (judging_view c.args.judging.now) l.sites.items c.in_err-found.field-0.0 c.args.relocations.now l.relocation-index _ c.relocations-test.true
     c.in_err-found.ensures l.invariant)
 
 pub returns-in_err-push_found-clause-refused : goal.returns-in_err-push_found-clause-refused
 returns-in_err-push_found-clause-refused c =
-    refusing c.from_residual-in_err-push_found.result Memory (each_judged (judging_view c.args.judging.now) [] c.args.relocations.now)
+    refusal_known (Refuses (each_judged (judging_view c.args.judging.now) [] c.args.relocations.now)) c.from_residual-in_err-push_found.result Memory
     c.from_residual-in_err-push_found.ensures.1 (λ not_memory. absurd (not_memory refl))

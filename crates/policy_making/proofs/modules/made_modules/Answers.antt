@@ -1,5 +1,6 @@
-use Rattle.std.proofs.Common.{◌≡◌, ◌∙◌, ◌+◌, ◌<◌, ◌≤◌, ℕ, List, [], ◌∷◌, ◌++◌, length, map, drop, get_or, Ok, Err, Result, IfErr, IsErrAnd, refl, ap, sym, subst}
+use Rattle.std.proofs.Common.{◌≡◌, ◌∙◌, ◌+◌, ◌<◌, ◌≤◌, ℕ, List, [], ◌∷◌, ◌++◌, length, map, drop, get_or, Ok, refl, ap, sym}
 use Rattle.std.proofs.lemmas.List.{at_drop_more, at_drop_all, map-append}
+use Rattle.elf64_sections.proofs.Refusals.{refusal_known}
 use Rattle.elf64_sections.specs.Judged.{◌>>=◌, each}
 use Rattle.sv_types.specs.Policies.{ModuleRule, module_rule}
 use Rattle.sv_types.specs.declared.policy.Export.{Export}
@@ -46,12 +47,6 @@ module _ (exports : List Export) (before : List ModulePolicy) (objects : List Ob
       ap (λ (judged : Judged (List ModuleRule)). answered judged) (sym so_far ∙ at_next object within is)
       ∙ refused_on (module_made exports (file_of object)) behind_next refusal (why not_memory)
 
--- a refusal that is handed on
-refusing : {T : Type 0} (result : Result T MakingRefusal) (refusal : MakingRefusal) (judged : Judged (List ModuleRule)) → IsErrAnd result (λ e. e ≡ refusal)
-    → Refuses judged refusal → IfErr result (Refuses judged)
-refusing (Ok made) refusal judged is why = absurd is
-refusing (Err e) refusal judged is why = subst (λ (r : MakingRefusal). Refuses judged r) (sym is) why
-
 pub objects-preserved : goal.objects-preserved
 objects-preserved g c =
     let l = c.objects in
@@ -65,11 +60,11 @@ returns-clause-made g c =
 pub returns-in_err-one-clause-refused : goal.returns-in_err-one-clause-refused
 returns-in_err-one-clause-refused g c =
     let l = c.objects in
-    refusing c.from_residual.result c.in_err-one.field-0.0 (modules_made c.args.exports.now (map file_of c.args.objects.now)) c.from_residual.ensures.1
+    refusal_known (Refuses (modules_made c.args.exports.now (map file_of c.args.objects.now))) c.from_residual.result c.in_err-one.field-0.0 c.from_residual.ensures.1
     (refused_next c.args.exports.now l.made.items c.args.objects.now l.object-index c.object-item.result c.in_err-one.field-0.0 c.objects-test.true c.object-item.is
     c.in_err-one.ensures.refused l.invariant)
 
 pub returns-in_err-push-clause-refused : goal.returns-in_err-push-clause-refused
 returns-in_err-push-clause-refused g c =
-    refusing c.from_residual-in_err-push.result Memory (modules_made c.args.exports.now (map file_of c.args.objects.now)) c.from_residual-in_err-push.ensures.1
+    refusal_known (Refuses (modules_made c.args.exports.now (map file_of c.args.objects.now))) c.from_residual-in_err-push.result Memory c.from_residual-in_err-push.ensures.1
     (λ not_memory. absurd (not_memory refl))

@@ -1,6 +1,7 @@
 use Rattle.std.proofs.Common.{◌≡◌, ◌∙◌, ◌≤◌, ℕ, List, ap, arith, length, map, subst, sym, true}
 use Rattle.std.specs.Prelude.{option_map}
 use Rattle.sv_types.specs.Limits.{most_harts, most_notes}
+use Rattle.sv_types.proofs.PolicyLimits.{bound_along}
 use Rattle.sv_types.specs.Policies.{rules_of}
 use Rattle.sv_types.specs.Views.{with_ram}
 use Rattle.sv_types.specs.declared.event.Note.{Note}
@@ -13,7 +14,7 @@ use Rattle.module_gate.specs.Gates.{Records}
 use Rattle.resumption.specs.ResumedStates.{resumed_state}
 use Rattle.resumed_start.specs.Resuming.{host_resumed, load_resumed}
 use Rattle.resumed_parts.specs.Seating.{CanAllSit}
-use Rattle.resumed_parts.proofs.Accepted.{bound_along, known}
+use Rattle.resumed_parts.proofs.Accepted.{known}
 use Rattle.resumed_parts.proofs.Approved.{guard_is, load_free}
 use Rattle.resumed_parts.proofs.Assembled.{devices_by, journal_by, listed, pages_guarded, sits_in, tables_stay}
 use Rattle.resumed_parts.proofs.parts.assemble.Goals as goal
