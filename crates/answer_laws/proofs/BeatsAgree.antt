@@ -14,7 +14,7 @@ use Rattle.reference.specs.VirtioBeats.{VirtioBeat, nothing, broken, with_reques
 use Rattle.reference.specs.Disk.{block_beaten, virtio_beaten, disk_beat, is_writable}
 use Rattle.reference.specs.Move.{Move, Idle, FromRam, IntoRam, DeniedAt, OutsideRam}
 use Rattle.reference.specs.Devices.{beat, after_beaten, after_move, with_bytes}
-use Rattle.reference.specs.Protections.{is_free}
+use Rattle.sv_types.specs.Protections.{is_free}
 use Rattle.machine_model.specs.HostEvents.{beat_served, after_host_beaten, after_host_move}
 use Rattle.machine_model.specs.StandsFor.{Unseen, machine_of, protections_of}
 use Rattle.reference.specs.Soundness.{IsSound, IsSoundDisk, IsSoundVirtio, IsSoundRequest, IsSoundMove, AreSoundMoves}

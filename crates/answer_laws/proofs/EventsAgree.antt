@@ -21,7 +21,7 @@ use Rattle.reference.specs.Counting.{count, counted, count_beat, count_key, coun
 use Rattle.reference.specs.Disk.{disk_beat, Beaten}
 use Rattle.reference.specs.Move.{Move, Idle, FromRam, IntoRam, DeniedAt, OutsideRam}
 use Rattle.reference.specs.Devices.{beat, key, tick, after_move, with_bytes, with_disk, hart_after_write}
-use Rattle.reference.specs.Protections.{is_free}
+use Rattle.sv_types.specs.Protections.{is_free}
 use Rattle.machine_model.specs.Machine.{Machine, raised}
 use Rattle.machine_model.specs.HardwareEvent.{recorded, IsPermitted, OnlyDisk, IsEvent, Happens, HappensUnder}
 use Rattle.machine_model.specs.HostEvents.{beat_served, key_served, tick_served, event_served}

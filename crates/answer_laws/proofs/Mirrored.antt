@@ -8,7 +8,7 @@ use Rattle.sv_types.specs.ApprovedPages.{ApprovedPage}
 use Rattle.sv_types.specs.declared.protection.Protection.{Protection}
 use Rattle.sv_types.specs.declared.saved.SavedModule.{SavedModule}
 use Rattle.reference.specs.States.{State, Hart, Loading, Devices, Journal}
-use Rattle.reference.specs.Protections.{is_free}
+use Rattle.sv_types.specs.Protections.{is_free}
 use Rattle.machine_model.specs.Machine.{Machine, HostHart, HostLoad, update}
 use Rattle.machine_model.specs.StandsFor.{Unseen, IsRightFor, machine_of, host_hart, host_harts, load_kept, protections_of, without_printed}
 use Rattle.attempt_laws.specs.Agree.{IsAt}

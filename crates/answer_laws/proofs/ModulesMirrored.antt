@@ -16,14 +16,15 @@ use Rattle.sv_types.specs.declared.protection.Protection.{Protection}
 use Rattle.sv_types.specs.declared.protection.Protection.TheVariants.{Free, Held, Approved}
 use Rattle.processor_laws.proofs.ByteLemmas.{lt_or_le}
 use Rattle.sv_types.specs.declared.saved.SavedModule.{SavedModule}
-use Rattle.machine_model.specs.HostCalls.{host_pages_beside, is_approved_one, host_init, host_facts}
+use Rattle.sv_types.specs.Protections.{is_approved, is_free}
+use Rattle.machine_model.specs.HostCalls.{host_pages_beside, host_init, host_facts}
 use Rattle.machine_model.specs.Machine.{Machine, HostHart, HostLoad}
 use Rattle.reference.specs.Answers.{pages_beside, span_pages, init_text}
 use Rattle.reference.specs.Calls.{Facts, facts_of}
 use Rattle.reference.specs.declared.answers.Beside.{Beside}
 use Rattle.reference.specs.declared.answers.Beside.TheVariants.{BeginsLoad, ApprovesModule, ReleasesModule, UnloadsModule, RetiresInit}
 use Rattle.reference.specs.Origins.{AllAbove, Ascends, IsOwned, ownership, is_kernel_text}
-use Rattle.reference.specs.Protections.{protection_at, or_free, with_pages, with_each, is_free}
+use Rattle.reference.specs.Protections.{protection_at, or_free, with_pages, with_each}
 use Rattle.reference.specs.States.{State, Hart, Loading, has_number, is_approved_in, is_protected, module_pages, find_module, with_module, without_module, without_pages, pages_in_rule, protection_in, protection_by}
 use Rattle.reference.specs.Relocations.{fields_right}
 use Rattle.machine_model.specs.StandsFor.{Unseen, IsRightFor, machine_of, host_harts, load_kept, load_kept_by, kept_digests, kept_answer, protections_of, without_printed}
@@ -71,17 +72,17 @@ protected_same r page s = elim (lt_or_le page r.rules.ram_pages) [
   | inr past ↦ ap (λ (p : Protection). not (is_free p)) (past_page r page past) ∙ rw (not_approved r page s past, not_held_past r r.loading page s.load past) refl
 ]
 
-approved_by : (a b : Bool) → is_approved_one (protection_by a b) ≡ a
+approved_by : (a b : Bool) → is_approved (protection_by a b) ≡ a
 unfolding protection_by
 approved_by true b = refl
 approved_by false true = refl
 approved_by false false = refl
 
-approved_is : (r : State) (page : ℕ) → IsSound r → is_approved_one (protection_at (protections_of r) page) ≡ is_approved_in r.approved page
+approved_is : (r : State) (page : ℕ) → IsSound r → is_approved (protection_at (protections_of r) page) ≡ is_approved_in r.approved page
 unfolding protection_in
 approved_is r page s = elim (lt_or_le page r.rules.ram_pages) [
-  | inl below ↦ ap is_approved_one (at_page r page below) ∙ approved_by (is_approved_in r.approved page) (has_number r.held page)
-  | inr past ↦ ap is_approved_one (past_page r page past) ∙ sym (not_approved r page s past)
+  | inl below ↦ ap is_approved (at_page r page below) ∙ approved_by (is_approved_in r.approved page) (has_number r.held page)
+  | inr past ↦ ap is_approved (past_page r page past) ∙ sym (not_approved r page s past)
 ]
 
 -- ---- a load that begins
@@ -186,7 +187,7 @@ same_filter p q (x ∷ xs) same = rw (same x, same_filter p q xs same) refl
 same_init : (o : Unseen) (r : State) (span : Span) → IsSound r → r.retired ≡ false → host_init (machine_of o r) span ≡ init_text r span
 unfolding machine_of
 same_init o r span s before =
-    same_filter (λ page. is_approved_one (protection_at (protections_of r) page) && not (in_modules r page)) (has_number r.text) (span_pages span)
+    same_filter (λ page. is_approved (protection_at (protections_of r) page) && not (in_modules r page)) (has_number r.text) (span_pages span)
     (λ page. ap (λ (b : Bool). b && not (in_modules r page)) (approved_is r page s) ∙ text_pages r page s before)
 
 -- ---- the machine's facts are the state's

@@ -1,7 +1,7 @@
 -- Steps of which the first refuses.
 use Rattle.std.proofs.Common.{◌≡◌, ap}
 use Rattle.std.specs.Prelude.{Ok, Err}
-use Rattle.elf64_sections.specs.Judged.{◌>>=◌}
+use Rattle.sv_types.specs.Steps.{◌>>=◌}
 use Rattle.elf64_load.specs.Refusals.{Judged, answered}
 use Rattle.elf64_load.specs.declared.read.ElfRefusal.{ElfRefusal}
 use Rattle.elf64_load.specs.declared.read.ElfRefusal.TheVariants.{Fault}

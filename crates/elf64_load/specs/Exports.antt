@@ -5,7 +5,8 @@ use Rattle.sv_types.specs.Kernel.{first_refusal, file_checks}
 use Rattle.sv_types.specs.declared.image_fault.HeaderFault.{HeaderFault}
 use Rattle.sv_types.specs.declared.image_fault.ImageFault.{ImageFault}
 use Rattle.sv_types.specs.declared.policy.Export.{Export}
-use Rattle.elf64_sections.specs.Judged.{◌>>=◌, each}
+use Rattle.sv_types.specs.Steps.{◌>>=◌}
+use Rattle.elf64_sections.specs.Judged.{each}
 use Rattle.elf64_sections.specs.Sections.{Tables, sections_in_file, sections_of, tables_of, symbols_of, name_at}
 use Rattle.elf64_sections.specs.declared.tables.Symbol.{Symbol}
 use Rattle.elf64_load.specs.Refusals.{Judged}

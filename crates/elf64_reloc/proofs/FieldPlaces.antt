@@ -12,7 +12,7 @@ use Rattle.sv_types.specs.declared.module.Site.{Site}
 use Rattle.sv_types.specs.declared.policy.Export.{Export}
 use Rattle.sv_types.specs.declared.relocation_kind.RelocationKind.{RelocationKind}
 use Rattle.sv_types.specs.declared.relocation_kind.RelocationKind.TheVariants.{Word64, Branch, Jal, PcrelHi20, PcrelLo12I, PcrelLo12S, Hi20, Lo12I, Lo12S}
-use Rattle.elf64_sections.specs.Judged.{◌>>=◌}
+use Rattle.sv_types.specs.Steps.{◌>>=◌}
 use Rattle.elf64_sections.specs.Sections.{symbol_count, symbol_at, name_at}
 use Rattle.elf64_sections.specs.declared.tables.Symbol.{Symbol}
 use Rattle.elf64_sections.proofs.Steps.{ok_same}

@@ -14,7 +14,7 @@ use Rattle.sv_types.specs.Policies.{is_low_part, site_size, module_pages_within,
 use Rattle.sv_types.specs.declared.image_fault.HeaderFault.{HeaderFault}
 use Rattle.sv_types.specs.declared.module.Site.{Site}
 use Rattle.sv_types.specs.declared.policy.Export.{Export}
-use Rattle.elf64_sections.specs.Judged.{◌>>=◌}
+use Rattle.sv_types.specs.Steps.{◌>>=◌}
 use Rattle.elf64_sections.specs.Sections.{Tables, sections_in_file, sections_among, sections_of, sections_count, sections_place, section_at, tables_of}
 use Rattle.elf64_sections.proofs.Steps.{ok_same}
 use Rattle.elf64_reloc.specs.Layouts.{is_good_alignment, padding, no_ends, placed_sections, text_size}

@@ -11,7 +11,7 @@ use Rattle.sv_types.specs.Policies.{is_low_part, site_size, module_pages_within,
 use Rattle.sv_types.specs.declared.module.Site.{Site}
 use Rattle.sv_types.specs.declared.policy.Export.{Export}
 use Rattle.sv_types.specs.declared.relocation_kind.RelocationKind.{RelocationKind}
-use Rattle.elf64_sections.specs.Judged.{◌>>=◌}
+use Rattle.sv_types.specs.Steps.{◌>>=◌}
 use Rattle.elf64_sections.specs.Sections.{Tables, section_bytes, symbol_count, symbol_at, name_at}
 use Rattle.elf64_sections.specs.declared.sections.SectionHeader.{SectionHeader}
 use Rattle.elf64_sections.specs.declared.tables.Symbol.{Symbol}

@@ -1,11 +1,6 @@
--- Steps that may refuse.
-use Rattle.std.specs.Prelude.{List, [], ◌∷◌, ◌++◌, Result, Ok, Err}
-
--- the second step, if the first gave a value
-infixl 10 ◌>>=◌
-abbrev pub ◌>>=◌ : {A B E : Type 0} → Result A E → (A → Result B E) → Result B E
-Ok x >>= f = f x
-Err e >>= f = Err e
+-- Items that are judged one after another.
+use Rattle.std.specs.Prelude.{List, [], ◌∷◌, ◌++◌, Result, Ok}
+use Rattle.sv_types.specs.Steps.{◌>>=◌}
 
 -- each item is judged, and joins those before it
 abbrev pub each : {A B E : Type 0} → (A → Result B E) → List B → List A → Result (List B) E

@@ -8,7 +8,8 @@ use Rattle.sv_types.specs.Limits.{plain_format, bound_format}
 use Rattle.sv_types.specs.Kernel.{LoadedSegment, text_of}
 use Rattle.sv_types.specs.Measure.{measure}
 use Rattle.sv_types.specs.Policies.{Rules}
-use Rattle.elf64_sections.specs.Judged.{◌>>=◌, each}
+use Rattle.sv_types.specs.Steps.{◌>>=◌}
+use Rattle.elf64_sections.specs.Judged.{each}
 use Rattle.entry_binding.specs.Faults.{Judged}
 use Rattle.entry_binding.specs.declared.fault.BindFault.TheVariants.{Convert, Measure}
 use Rattle.entry_binding.specs.declared.fault.ConvertFault.TheVariants.{OtherFormat, NoPlace, OtherByte}

@@ -8,7 +8,8 @@ use Rattle.sv_types.specs.declared.protection.Protection.{Protection}
 use Rattle.sv_types.specs.declared.protection.Protection.TheVariants.{Free, Held, Approved}
 use Rattle.processor_laws.proofs.ByteLemmas.{lt_or_le}
 use Rattle.gstage_tables.specs.Layout.{leaf}
-use Rattle.gstage_tables.specs.Blocks.{lies_in_ram, is_free, taken, taken_among, taken_pages, is_whole, is_whole_by, recounted, CountsTaken}
+use Rattle.sv_types.specs.Protections.{is_free}
+use Rattle.gstage_tables.specs.Blocks.{lies_in_ram, taken, taken_among, taken_pages, is_whole, is_whole_by, recounted, CountsTaken}
 
 pub data Same (a b : ℕ) : Type 0 where
   equal : a ≡ b → Same a b

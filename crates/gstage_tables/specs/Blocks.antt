@@ -1,8 +1,8 @@
 -- Blocks of RAM of 2 MiB: what one level-0 table maps, or one level-1 leaf.
 -- RISC-V Privileged manual, "Sv39: Page-Based 39-bit Virtual-Memory System": megapages.
 use Rattle.std.specs.Prelude.{◌≡◌, ℕ, zero, suc, ◌+◌, ◌-◌, ◌*◌, ◌≤◌, min, Bool, true, false, ◌&&◌, ◌==◌, if◌then◌else◌, nat_le, List, slice_index_or}
+use Rattle.sv_types.specs.Protections.{is_free}
 use Rattle.sv_types.specs.declared.protection.Protection.{Protection}
-use Rattle.sv_types.specs.declared.protection.Protection.TheVariants.{Free, Held, Approved}
 use Rattle.processor.specs.Translation.{table_entries}
 
 -- the words of a table, each an entry
@@ -12,11 +12,6 @@ table_words = table_entries
 -- the pages of a block: one for each word of a level-0 table
 abbrev pub block_pages : ℕ
 block_pages = table_words
-
-abbrev pub is_free : Protection → Bool
-is_free Free = true
-is_free Held = false
-is_free Approved = false
 
 -- a page that isn't free is taken: it counts as one
 abbrev pub taken : Protection → ℕ
@@ -40,14 +35,14 @@ abbrev pub is_whole : (ram_pages : ℕ) → (ℕ → Protection) → (block : �
 is_whole ram_pages protections block = lies_in_ram ram_pages block && taken_pages protections block == 0
 
 -- ---- counts of taken pages, by block
--- the most that a count of 16 bits holds
-abbrev pub most_count : ℕ
-most_count = 65535
-
 
 -- whether one leaf maps a block, by the counts
 abbrev pub is_whole_by : (counts : List ℕ) → (ram_pages block : ℕ) → Bool
 is_whole_by counts ram_pages block = lies_in_ram ram_pages block && slice_index_or counts block 0 == 0
+
+-- the most that a count of 16 bits holds
+abbrev pub most_count : ℕ
+most_count = 65535
 
 -- a count where a page was free before or not, and now is or isn't
 abbrev pub recounted : (count : ℕ) → (before after : Bool) → ℕ

@@ -5,12 +5,14 @@
 ghost use Rattle.std.specs.Prelude.{◌≡◌, ℕ, ◌+◌, ◌*◌, ◌/◌, ◌%◌, ◌<◌, ◌≤◌, ◌^◌, ◌≢◌, ◌==◌, ◌&&◌, length, replicate, true};
 ghost use Rattle.processor.specs.Bytes.{page_size, word};
 ghost use Rattle.processor.specs.Regions.{most_ram_pages};
-ghost use Rattle.sv_types.specs.Views.{AreViews, view_hgatp, view_permits, protect, all_free};
+ghost use Rattle.sv_types.specs.Views.{AreViews, view_hgatp, view_permits, all_free};
 ghost use Rattle.processor.specs.declared.access.Access.TheVariants.{Fetch};
 ghost use Rattle.sv_types.specs.declared.protection.Protection.{Protection as Kind};
-ghost use Rattle.gstage_tables.specs.Blocks.{is_free, lies_in_ram, is_whole_by, recounted, table_words, block_pages};
+ghost use Rattle.sv_types.specs.Protections.{is_free};
+ghost use Rattle.gstage_tables.specs.Blocks.{lies_in_ram, is_whole_by, recounted, table_words, block_pages};
 ghost use Rattle.gstage_tables.specs.Layout.{most_bound, tree_count, sight_in, leaf_tables, middle_table, leaf_table, table_pages, table_size, leaf, middle_word, leaf_word, HoldsTrees, AreDrawn, MapsBlocks, root_words, most_trees, most_table_pages, most_block_pages, upper_words};
 ghost use Rattle.gstage_tables.specs.Written.{Wrote};
+ghost use Rattle.gstage_tables.specs.Protecting.{MayProtect, Protects};
 ghost use Rattle.processor.specs.Translation.{entry_size};
 
 mod fill;
@@ -121,13 +123,8 @@ impl Trees {
 
     /// Protects a page of RAM in every tree, where pages are counted from 0. All others keep their protection.
     pub fn set(&mut self, mem: &mut HostMem, page: u32, protection: Protection)
-        requires page { page < self.old.ram_pages }
-        requires size { length mem.old.tables ≡ table_size self.old.ram_pages (length self.old.bound) }
-        ensures same { self.new ≡ record self.old { counts = self.new.counts } }
-        ensures ram { mem.new.ram ≡ mem.old.ram }
-        ensures drawn { (old : ℕ → Kind) → AreDrawn mem.old.tables self.old old → AreDrawn mem.new.tables self.new (protect old page protection) }
-        ensures views { (old : ℕ → Kind) → AreDrawn mem.old.tables self.old old → AreViews mem.new.tables self.old.ram_pages self.old.bound (protect old page protection) }
-        ensures blocks { (old : ℕ → Kind) → AreDrawn mem.old.tables self.old old → MapsBlocks mem.new.tables self.old.ram_pages self.old.bound (protect old page protection) }
+        requires may { MayProtect mem.old.tables self.old page }
+        ensures protects { Protects mem.old mem.new self.old self.new page protection }
     {
         self.set_on::<Brand>(mem, page, protection, Blank::new(1));
     }
@@ -143,13 +140,8 @@ impl Trees {
         requires name { blank.name ≡ L.name }
         requires parts { blank.parts ≡ L.parts }
         requires some { 0 < blank.parts }
-        requires page { page < self.old.ram_pages }
-        requires size { length mem.old.tables ≡ table_size self.old.ram_pages (length self.old.bound) }
-        ensures same { self.new ≡ record self.old { counts = self.new.counts } }
-        ensures ram { mem.new.ram ≡ mem.old.ram }
-        ensures drawn { (old : ℕ → Kind) → AreDrawn mem.old.tables self.old old → AreDrawn mem.new.tables self.new (protect old page protection) }
-        ensures views { (old : ℕ → Kind) → AreDrawn mem.old.tables self.old old → AreViews mem.new.tables self.old.ram_pages self.old.bound (protect old page protection) }
-        ensures blocks { (old : ℕ → Kind) → AreDrawn mem.old.tables self.old old → MapsBlocks mem.new.tables self.old.ram_pages self.old.bound (protect old page protection) }
+        requires may { MayProtect mem.old.tables self.old page }
+        ensures protects { Protects mem.old mem.new self.old self.new page protection }
     {
         let mut steps = Steps::<L>::new(blank);
         self.set_counted(mem, page, protection, &mut steps);
@@ -163,13 +155,8 @@ impl Trees {
         protection: Protection,
         steps: &mut Steps<L>,
     )
-        requires page { page < self.old.ram_pages }
-        requires size { length mem.old.tables ≡ table_size self.old.ram_pages (length self.old.bound) }
-        ensures same { self.new ≡ record self.old { counts = self.new.counts } }
-        ensures ram { mem.new.ram ≡ mem.old.ram }
-        ensures drawn { (old : ℕ → Kind) → AreDrawn mem.old.tables self.old old → AreDrawn mem.new.tables self.new (protect old page protection) }
-        ensures views { (old : ℕ → Kind) → AreDrawn mem.old.tables self.old old → AreViews mem.new.tables self.old.ram_pages self.old.bound (protect old page protection) }
-        ensures blocks { (old : ℕ → Kind) → AreDrawn mem.old.tables self.old old → MapsBlocks mem.new.tables self.old.ram_pages self.old.bound (protect old page protection) }
+        requires may { MayProtect mem.old.tables self.old page }
+        ensures protects { Protects mem.old mem.new self.old self.new page protection }
         ensures cost { steps.new ≤ steps.old + 2 * tree_count (length self.old.bound) }
     {
         let block = self.block_of(page);

@@ -10,7 +10,7 @@ use processor::{
     T2, T3, T4, X0,
 };
 use rv64_encode::Instr;
-use sv_types::{BLOCK_ADDRESS, BLOCK_COMMAND, BLOCK_COUNT, BlockCommand, DISK_BASE};
+use sv_types::{BLOCK_ADDRESS, BLOCK_COMMAND, BLOCK_COUNT, BlockCommand, DISK_BASE, LOW_VALUES};
 
 /// A page, as an immediate.
 const PAGE: i64 = PAGE_BYTES as i64;
@@ -27,9 +27,6 @@ pub const MOST_CALLS: u64 = 1_000_000;
 
 /// The trap vector's place in the text.
 pub const TRAP_PLACE: usize = 256;
-
-/// The values of an instruction's low 12 bits.
-const LOW_VALUES: u64 = 4096;
 
 // The upper bits of a number, rounded so that the rest is one of 12 bits with a sign.
 #[tactic(auto, unfolding(crate::specs::GuestCode::upper))]

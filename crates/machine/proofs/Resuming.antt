@@ -8,7 +8,7 @@ use Rattle.sv_types.specs.Policies.{Rules, rules_within}
 use Rattle.sv_types.specs.Views.{with_ram}
 use Rattle.sv_types.specs.declared.protection.Protection.{Protection}
 use Rattle.sv_types.specs.declared.saved.SavedModule.{SavedModule}
-use Rattle.reference.specs.Protections.{is_free}
+use Rattle.sv_types.specs.Protections.{is_free}
 use Rattle.reference.specs.States.{Hart, Devices, Journal}
 use Rattle.machine_model.specs.Machine.{Machine, HostHart, HostLoad}
 use Rattle.machine_model.specs.Reaches.{IsNew}

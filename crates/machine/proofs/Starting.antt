@@ -10,7 +10,8 @@ use Rattle.module_answers.specs.Conditions.{AreJoined, TakesItsPages}
 use Rattle.module_answers.specs.declared.modules.Modules.{Modules}
 use Rattle.module_answers.specs.declared.modules.UnderWay.{UnderWay}
 use Rattle.module_gate.specs.Gates.{Records, no_modules}
-use Rattle.reference.specs.Protections.{is_free, protection_at}
+use Rattle.sv_types.specs.Protections.{is_free}
+use Rattle.reference.specs.Protections.{protection_at}
 use Rattle.reference.specs.Start.{block_disk, flat_rules}
 use Rattle.standing_laws.specs.Starts.{host_at_boot, hosts_at_boot, machine_at_boot, flat_machine, flat_protections, flat_ram}
 use Rattle.sv_types.specs.ApprovedPages.{numbers_from}

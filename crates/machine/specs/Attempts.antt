@@ -1,5 +1,5 @@
 -- What an attempt of a hart asks for, and the caches of second-stage walks. This project's own.
-use Rattle.std.specs.Prelude.{◌≡◌, ◌%◌, ℕ, zero, suc, true, false, List}
+use Rattle.std.specs.Prelude.{◌≡◌, ◌<◌, ◌%◌, ℕ, zero, suc, true, false, List}
 use Rattle.std.specs.Prelude.{[], ◌∷◌, length, replicate, Some, None, slice_get, slice_index_or}
 use Rattle.processor.specs.CachedWalks.{CacheAgrees, no_lines}
 use Rattle.processor.specs.HardwareAttempt.{attempt}
@@ -51,6 +51,20 @@ pub record IsUsable (tables : List ℕ) (own : HartCaches) : Type 0 where
 -- what each hart keeps does
 pub record AreUsable (tables : List ℕ) (caches : List HartCaches) : Type 0 where
   pub each : (h : ℕ) (own : HartCaches) → slice_get caches h ≡ Some own → IsUsable tables own
+
+-- a hart among all harts may make turns: it is there, and there are as many caches as harts, all of which are usable
+pub record MayTakeTurns {S : Type 0} (tables : List ℕ) (seats : List S) (caches : List HartCaches) (which : ℕ) : Type 0 where
+  pub there : which < length seats
+  pub number : length caches ≡ length seats
+  pub usable : AreUsable tables caches
+
+-- what turns keep: the numbers of harts and caches, the tables and RAM's size; and the caches are usable
+pub record KeepsTurns {S : Type 0} (before after : Region) (seats left : List S) (caches held : List HartCaches) : Type 0 where
+  pub seats_count : length left ≡ length seats
+  pub caches_count : length held ≡ length caches
+  pub tables : after.tables ≡ before.tables
+  pub ram : length after.ram ≡ length before.ram
+  pub usable : AreUsable after.tables held
 
 abbrev pub nothing_kept : HartCaches
 nothing_kept = record { second = no_lines; both = none_led }

@@ -2,7 +2,7 @@
 use Rattle.std.specs.Prelude.{◌≡◌, ◌+◌, ◌≤◌, map, length}
 use Rattle.sv_types.specs.Limits.{most_harts}
 use Rattle.sv_types.specs.Policies.{rules_of}
-use Rattle.reference.specs.Protections.{is_free}
+use Rattle.sv_types.specs.Protections.{is_free}
 use Rattle.machine_model.specs.Machine.{Machine}
 use Rattle.machine_model.specs.StandsFor.{bound_pages}
 use Rattle.page_guard.specs.Guarded.{IsTheirs}

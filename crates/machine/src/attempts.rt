@@ -4,7 +4,7 @@ ghost use Rattle.std.specs.Prelude.{◌≡◌, ◌+◌, ◌-◌, ◌<◌, ◌%�
 ghost use Rattle.processor.specs.HardwareAttempt.{attempt};
 ghost use Rattle.machine_model.specs.Machine.{with_core, update, all_forget};
 ghost use Rattle.hart_answers.specs.Hosts.{host_at, hosts_of};
-ghost use Rattle.machine.specs.Attempts.{hart_in, IsReady, IsUsable, AreUsable};
+ghost use Rattle.machine.specs.Attempts.{hart_in, IsReady, IsUsable, KeepsTurns, MayTakeTurns};
 
 use crate::caches::HartCaches;
 use hart::{Cpu, Wires};
@@ -48,21 +48,15 @@ pub(crate) fn attempt<W: Wires>(
     mem: &mut HostMem,
     wires: &W,
 ) -> Outcome
-    requires there { which < length seats.old }
-    requires number { length caches.old ≡ length seats.old }
+    requires may { MayTakeTurns mem.old.tables seats.old caches.old which }
     requires count { cpu.old < 2 ^ 64 - 1 }
     requires ready { IsReady mem.old (hart_in (hosts_of seats.old) which) (W.seen wires.now) }
-    requires usable { AreUsable mem.old.tables caches.old }
     ensures counted { cpu.new ≡ cpu.old + 1 }
     ensures harts { hosts_of seats.new ≡ all_forget result (update (hosts_of seats.old) which (with_core (attempt mem.old (hart_in (hosts_of seats.old) which).core (W.seen wires.now)).core)) }
     ensures region { mem.new ≡ (attempt mem.old (hart_in (hosts_of seats.old) which).core (W.seen wires.now)).region }
     ensures outcome { result ≡ (attempt mem.old (hart_in (hosts_of seats.old) which).core (W.seen wires.now)).outcome }
     ensures aligned { (hart_in (hosts_of seats.new) which).core.pc % 4 ≡ 0 }
-    ensures seats { length seats.new ≡ length seats.old }
-    ensures caches { length caches.new ≡ length caches.old }
-    ensures tables { mem.new.tables ≡ mem.old.tables }
-    ensures ram { length mem.new.ram ≡ length mem.old.ram }
-    ensures usable { AreUsable mem.new.tables caches.new }
+    ensures kept { KeepsTurns mem.old mem.new seats.old seats.new caches.old caches.new }
 {
     let seat = &mut seats[which as usize];
     let own = &mut caches[which as usize];

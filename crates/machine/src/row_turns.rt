@@ -11,7 +11,7 @@ ghost use Rattle.hart_answers.specs.Hosts.{host_at, hosts_of};
 ghost use Rattle.quick_turns.specs.Ends.{turns_of};
 ghost use Rattle.quick_turns.specs.Rows.{EndsBy};
 ghost use Rattle.quick_turns.specs.declared.leaving.Leaving.TheVariants.{Returns};
-ghost use Rattle.machine.specs.Attempts.{hart_in, IsReady, IsUsable, AreUsable};
+ghost use Rattle.machine.specs.Attempts.{hart_in, IsReady, IsUsable, KeepsTurns, MayTakeTurns};
 ghost use Rattle.machine.specs.Limits.{most_counts};
 ghost use Rattle.machine.specs.Rows.{AnswersLeaving, AreFree, EndsRow, WalksUnderRoot, IsQuietAt, counted_leaving, counted_row, MayRow};
 ghost use Rattle.machine.specs.Turns.{MayTrap};
@@ -69,21 +69,15 @@ fn row(
     mem: &mut HostMem,
     most: u64,
 ) -> Row
-    requires there { which < length seats.old }
-    requires number { length caches.old ≡ length seats.old }
+    requires may { MayTakeTurns mem.old.tables seats.old caches.old which }
     requires walks { WalksUnderRoot mem.old (hart_in (hosts_of seats.old) which) }
     requires free { AreFree (hosts_of seats.old) }
-    requires usable { AreUsable mem.old.tables caches.old }
     ensures ends { (lines : Lines) → pending (hart_in (hosts_of seats.old) which).core.hregs (hart_in (hosts_of seats.old) which).core.csrs lines ≡ None → EndsBy result.left result.made mem.old (hart_in (hosts_of seats.old) which).core lines mem.new (hart_in (hosts_of seats.new) which).core }
     ensures harts { hosts_of seats.new ≡ update (hosts_of seats.old) which (with_core (hart_in (hosts_of seats.new) which).core) }
     ensures aligned { (hart_in (hosts_of seats.new) which).core.pc % 4 ≡ 0 }
     ensures free { AreFree (hosts_of seats.new) }
     ensures most { turns_of result ≤ most }
-    ensures seats { length seats.new ≡ length seats.old }
-    ensures caches { length caches.new ≡ length caches.old }
-    ensures tables { mem.new.tables ≡ mem.old.tables }
-    ensures ram { length mem.new.ram ≡ length mem.old.ram }
-    ensures usable { AreUsable mem.new.tables caches.new }
+    ensures kept { KeepsTurns mem.old mem.new seats.old seats.new caches.old caches.new }
 {
     let seat = &mut seats[which as usize];
     let own = &mut caches[which as usize];

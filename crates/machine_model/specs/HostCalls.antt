@@ -1,5 +1,5 @@
 -- What the answers to calls from kernel mode make of the machine. This project's own.
-use Rattle.std.specs.Prelude.{ℕ, Bool, true, false, not, ◌&&◌, List, [], map, filter, Some, None, slice_get, is_some}
+use Rattle.std.specs.Prelude.{ℕ, Bool, true, not, ◌&&◌, List, [], map, filter, Some, None, slice_get, is_some}
 use Rattle.std.specs.List.{list_any}
 use Rattle.processor.specs.Bytes.{page_of}
 use Rattle.processor.specs.IntegerRegisters as abi
@@ -11,7 +11,8 @@ use Rattle.reference.specs.States.{has_number, module_pages, pages_in_rule, with
 use Rattle.reference.specs.Calls.{Facts, asked_by, mask_names}
 use Rattle.reference.specs.ModuleCalls.{answer_of}
 use Rattle.reference.specs.Answers.{devices_beside, journal_beside, span_pages}
-use Rattle.reference.specs.Protections.{protection_at, with_pages, with_each, is_free}
+use Rattle.sv_types.specs.Protections.{is_approved, is_free}
+use Rattle.reference.specs.Protections.{protection_at, with_pages, with_each}
 use Rattle.reference.specs.declared.answers.Answer.{Answer}
 use Rattle.reference.specs.declared.answers.Beside.{Beside}
 use Rattle.reference.specs.declared.answers.Beside.TheVariants.{SendsInterrupts, StartsHart, BeginsLoad, ApprovesModule, ReleasesModule, UnloadsModule, RetiresInit}
@@ -50,13 +51,8 @@ with_pages_of m about p = with_protections m (with_pages m.protections (page_of 
 abbrev pub is_modules : Machine → ℕ → Bool
 is_modules m page = list_any (λ (about : SavedModule). has_number (module_pages m.rules about) page) m.loaded
 
-abbrev pub is_approved_one : Protection → Bool
-is_approved_one Free = false
-is_approved_one Held = false
-is_approved_one Approved = true
-
 abbrev pub is_kernels : Machine → ℕ → Bool
-is_kernels m page = is_approved_one (protection_at m.protections page) && not (is_modules m page)
+is_kernels m page = is_approved (protection_at m.protections page) && not (is_modules m page)
 
 abbrev pub host_init : Machine → Span → List ℕ
 host_init m span = filter (is_kernels m) (span_pages span)

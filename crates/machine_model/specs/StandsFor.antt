@@ -20,7 +20,7 @@ use Rattle.sv_types.specs.declared.saved.SavedModule.{SavedModule}
 use Rattle.reference.specs.States.{State, Hart, Journal, Loading, protection_in}
 use Rattle.reference.specs.Loads.{module_text, module_bases}
 use Rattle.reference.specs.Soundness.{IsSound}
-use Rattle.reference.specs.Protections.{is_free}
+use Rattle.sv_types.specs.Protections.{is_free}
 use Rattle.machine_model.specs.Machine.{Machine, HostHart, HostLoad}
 use Rattle.reference.specs.Relocations.{masked, fields_right}
 

@@ -6,7 +6,8 @@ use Rattle.processor.specs.Regions.{Region}
 use Rattle.sv_types.specs.declared.protection.Protection.{Protection}
 use Rattle.sv_types.specs.declared.protection.Protection.TheVariants.{Free}
 use Rattle.reference.specs.Calls.{Facts}
-use Rattle.reference.specs.Protections.{is_free, protection_at}
+use Rattle.sv_types.specs.Protections.{is_free}
+use Rattle.reference.specs.Protections.{protection_at}
 use Rattle.machine_model.specs.Machine.{Machine, HostLoad}
 use Rattle.page_guard.specs.Guarded.{with_span}
 use Rattle.module_gate.specs.Gates.{host_load, load_span}

@@ -6,7 +6,7 @@ use Rattle.sv_types.specs.declared.protection.Protection.{Protection}
 use Rattle.sv_types.specs.declared.protection.Protection.TheVariants.{Free, Held, Approved}
 use Rattle.reference.specs.Protections.{or_free, protection_at, freed_one, freed_by, with_each, with_pages}
 use Rattle.sv_types.specs.declared.module.Span.{Span}
-use Rattle.machine_model.specs.HostCalls.{is_approved_one}
+use Rattle.sv_types.specs.Protections.{is_approved}
 use Rattle.page_guard.specs.Guarded.{AllAre, with_span}
 use Rattle.sv_types.proofs.PageNumbers.{numbers_more}
 use Rattle.sv_types.proofs.SetElements.{set_other}
@@ -78,13 +78,13 @@ freed_each picks guard first (suc count) =
 abbrev pub one_page : ℕ → Span
 one_page page = record { first = page; count = 1 }
 
-approved_is : (o : Option Protection) → is_approved_one (or_free o) ≡ true → o ≡ Some Approved
+approved_is : (o : Option Protection) → is_approved (or_free o) ≡ true → o ≡ Some Approved
 approved_is None e = cc
 approved_is (Some Free) e = cc
 approved_is (Some Held) e = cc
 approved_is (Some Approved) e = refl
 
-pub one_approved : (guard : List Protection) (page : ℕ) → is_approved_one (protection_at guard page) ≡ true → AllAre guard (one_page page) Approved
+pub one_approved : (guard : List Protection) (page : ℕ) → is_approved (protection_at guard page) ≡ true → AllAre guard (one_page page) Approved
 one_approved guard page approved = record {
   each = λ i below. let here : page + i ≡ page = omega (arith, below) in ap (λ (k : ℕ). slice_get guard k) here ∙ approved_is (slice_get guard page) approved;
 }

@@ -5,7 +5,7 @@ ghost use Rattle.sv_types.specs.Policies.{rules_of};
 ghost use Rattle.sv_types.specs.declared.protection.Protection.TheVariants.{Free};
 ghost use Rattle.reference.specs.Protections.{protection_at, freed_one, with_each};
 ghost use Rattle.reference.specs.States.{has_number, module_pages};
-ghost use Rattle.machine_model.specs.HostCalls.{is_approved_one};
+ghost use Rattle.sv_types.specs.Protections.{is_approved};
 ghost use Rattle.page_guard.specs.Guarded.{IsTheirs, StaysTheirs, IsInRam};
 ghost use Rattle.module_gate.specs.Retiring.{is_modules, is_kernels, kernel_pages};
 
@@ -45,7 +45,7 @@ fn is_kernels(guard: &Guard, policy: &Policy, loaded: &[SavedModule], page: u32)
 }
 
 fn is_approved(protection: Protection) -> bool
-    ensures { result ≡ is_approved_one protection }
+    ensures { result ≡ is_approved protection }
 {
     matches!(protection, Protection::Approved)
 }

@@ -14,7 +14,7 @@ use Rattle.gstage_tables.specs.Layout.{HoldsTrees}
 use Rattle.sv_types.specs.declared.protection.Protection.{Protection}
 use Rattle.sv_types.specs.declared.protection.Protection.TheVariants.{Free}
 use Rattle.reference.specs.Protections.{protection_at, or_free, with_pages}
-use Rattle.reference.specs.Protections.{is_free}
+use Rattle.sv_types.specs.Protections.{is_free}
 use Rattle.page_guard.specs.Guarded.{IsTheirs}
 use Rattle.page_guard.proofs.Sets.{get_same}
 use Rattle.sv_types.proofs.PageNumbers.{numbers_more}

@@ -9,7 +9,7 @@ use Rattle.sv_types.specs.declared.module.Span.{Span}
 use Rattle.sv_types.specs.declared.protection.Protection.{Protection}
 use Rattle.gstage_tables.specs.Layout.{HoldsTrees}
 use Rattle.reference.specs.Protections.{protection_at, with_pages}
-use Rattle.reference.specs.Protections.{is_free}
+use Rattle.sv_types.specs.Protections.{is_free}
 
 -- what is guarded: the protection of each page of RAM, and the page that each entry is bound to
 pub record Guarded : Type 0 where

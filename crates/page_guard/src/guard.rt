@@ -5,7 +5,7 @@ ghost use Rattle.processor.specs.Bytes.{page_size};
 ghost use Rattle.sv_types.specs.Views.{view_hgatp};
 ghost use Rattle.sv_types.specs.declared.protection.Protection.TheVariants.{Free, Held, Approved};
 ghost use Rattle.gstage_tables.specs.Layout.{most_bound, table_size};
-ghost use Rattle.reference.specs.Protections.{is_free};
+ghost use Rattle.sv_types.specs.Protections.{is_free};
 ghost use Rattle.page_guard.specs.Guarded.{with_span, IsInRam, AllAre, first_taken, IsTheirs, StaysTheirs};
 
 use dma_guard::DmaGuard;
@@ -32,7 +32,8 @@ impl Model for Guard {
     ghost use Rattle.std.specs.Prelude.{◌≡◌, ◌≤◌, length, map};
     ghost use Rattle.processor.specs.Regions.{most_ram_pages};
     ghost use Rattle.gstage_tables.specs.Blocks.{CountsTaken};
-    ghost use Rattle.reference.specs.Protections.{is_free, protection_at};
+    ghost use Rattle.sv_types.specs.Protections.{is_free};
+    ghost use Rattle.reference.specs.Protections.{protection_at};
 
     ghost view = { λ g. record { pages = g.protections.items; bound = g.trees.bound } };
 

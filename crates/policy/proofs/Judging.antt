@@ -3,7 +3,8 @@ use Rattle.std.proofs.Common.{◌≡◌, Bool, true, false, Ok, Err, if◌then�
 use Rattle.policy_limits.specs.declared.policy_fault.PolicyFault.{PolicyFault}
 use Rattle.policy.specs.declared.refusal.PolicyRefusal.{PolicyRefusal}
 use Rattle.policy.specs.declared.refusal.PolicyRefusal.TheVariants.{Fault}
-use Rattle.policy.specs.Refusals.{Judged, ◌>>=◌, answered}
+use Rattle.sv_types.specs.Steps.{◌>>=◌}
+use Rattle.policy.specs.Refusals.{Judged, answered}
 use Rattle.policy.specs.Values.{limited}
 
 pub then_ok : {A B : Type 0} (r : Judged A) (f : A → Judged B) (a : A) (b : Judged B) → r ≡ Ok a → f a ≡ b → (r >>= f) ≡ b

@@ -9,7 +9,8 @@ use Rattle.toml.specs.Data.{Data}
 use Rattle.toml.specs.View.{view, items_view}
 use Rattle.toml.specs.declared.value.Value.{Value}
 use Rattle.policy_limits.specs.declared.policy_fault.PolicyFault.{PolicyFault}
-use Rattle.policy.specs.Refusals.{Judged, ◌>>=◌}
+use Rattle.sv_types.specs.Steps.{◌>>=◌}
+use Rattle.policy.specs.Refusals.{Judged}
 use Rattle.policy.specs.Values.{each_item, items_length}
 
 pub items_length_view : (vs : List Value) → items_length (items_view vs) ≡ length vs

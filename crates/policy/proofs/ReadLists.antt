@@ -4,7 +4,8 @@ use Rattle.std.proofs.lemmas.List.{append_assoc, append-nil}
 use Rattle.std.specs.Cmp.Derive.{both_true}
 use Rattle.toml.specs.Data.{Data, Items, no_items, item}
 use Rattle.sv_types.specs.Policies.{each_within}
-use Rattle.policy.specs.Refusals.{Judged, ◌>>=◌}
+use Rattle.sv_types.specs.Steps.{◌>>=◌}
+use Rattle.policy.specs.Refusals.{Judged}
 use Rattle.policy.specs.Values.{limited, each_item, items_in, items_length}
 use Rattle.policy.proofs.Judging.{bind_ok, ok_same, limited_ok}
 

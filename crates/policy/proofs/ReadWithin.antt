@@ -9,7 +9,7 @@ use Rattle.sv_types.specs.declared.module.Span.{Span}
 use Rattle.sv_types.specs.declared.module.Site.{Site}
 use Rattle.sv_types.specs.declared.relocation_kind.RelocationKind.{RelocationKind}
 use Rattle.sv_types.specs.declared.policy.Export.{Export}
-use Rattle.policy.specs.Refusals.{◌>>=◌}
+use Rattle.sv_types.specs.Steps.{◌>>=◌}
 use Rattle.policy.specs.Values.{required, integer_of, members_in, with_known, limited, number_of, natural_of, items_in, items_length, address_of, entry_of, name_of}
 use Rattle.policy.specs.Text.{kernel_of, key_name, key_pages, key_measure, key_harts, key_ram_pages, key_entries, known_keys, module_keys, module_pages_of, module_rule_of, format_number, format_of, each_entry, plain_entries, bound_entries, entries_by, entries_of, export_of_two, export_of, export_of_items, exports_of, unrepeated, page_span, page_address_of, page_count_of, init_of_two, init_of_items, init_of, kernel_rule, fitting, offset_of, kind_of, base_of, anchor_of, site_of_five, site_of_items, site_of, sites_in, module_of_members, module_of, modules_of, rules_behind, rules_of_members}
 use Rattle.policy.specs.Bindings.{each_binding, entries_in, bound_in}

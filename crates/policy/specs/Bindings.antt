@@ -3,7 +3,8 @@ use Rattle.std.specs.Prelude.{ℕ, ◌==◌, Bool, List, map, if◌then◌else�
 use Rattle.std.specs.List.{list_any, zip}
 use Rattle.toml.specs.Data.{Data, Items, no_items, item}
 use Rattle.sv_types.specs.Policies.{bound_fits}
-use Rattle.policy.specs.Refusals.{Judged, ◌>>=◌}
+use Rattle.sv_types.specs.Steps.{◌>>=◌}
+use Rattle.policy.specs.Refusals.{Judged}
 use Rattle.policy.specs.Values.{items_in, limited, address_of, entry_of, each_item}
 use Rattle.policy.specs.declared.binding.Binding.{Binding}
 use Rattle.policy_limits.specs.declared.policy_fault.PolicyFault.{PolicyFault}

@@ -8,12 +8,6 @@ use Rattle.policy.specs.declared.refusal.PolicyRefusal.TheVariants.{Fault, Memor
 abbrev pub Judged : Type 0 → Type 0
 Judged A = Result A PolicyFault
 
--- the second step, if the first gave a value
-infixl 10 ◌>>=◌
-abbrev pub ◌>>=◌ : {A B : Type 0} → Judged A → (A → Judged B) → Judged B
-Ok x >>= f = f x
-Err e >>= f = Err e
-
 -- what was judged, as it is answered
 abbrev pub answered : {A : Type 0} → Judged A → Result A PolicyRefusal
 answered (Ok a) = Ok a

@@ -13,7 +13,8 @@ use Rattle.sv_types.specs.declared.module.Span.{Span}
 use Rattle.sv_types.specs.declared.module.Site.{Site}
 use Rattle.sv_types.specs.declared.policy.Export.{Export}
 use Rattle.sv_types.specs.declared.relocation_kind.RelocationKind.{RelocationKind}
-use Rattle.policy.specs.Refusals.{Judged, ◌>>=◌}
+use Rattle.sv_types.specs.Steps.{◌>>=◌}
+use Rattle.policy.specs.Refusals.{Judged}
 use Rattle.policy.specs.Values.{required, integer_of, natural_of, members_in, items_in, limited, number_of, name_of, address_of, entry_of, measure_of, with_known, items_length, each_item}
 use Rattle.policy.specs.Bindings.{each_binding, entries_in, bound_in}
 use Rattle.policy_limits.specs.declared.policy_fault.PolicyFault.{PolicyFault}

@@ -8,7 +8,8 @@ use Rattle.sv_types.specs.Limits.{most_name_bytes}
 use Rattle.sv_types.specs.Numbers.{digest_of}
 use Rattle.sv_types.specs.Policies.{entry_within}
 use Rattle.text_numbers.specs.Addresses as addresses
-use Rattle.policy.specs.Refusals.{Judged, ◌>>=◌}
+use Rattle.sv_types.specs.Steps.{◌>>=◌}
+use Rattle.policy.specs.Refusals.{Judged}
 use Rattle.policy_limits.specs.declared.policy_fault.PolicyFault.{PolicyFault}
 
 abbrev pub required : List ℕ → Members → Judged Data

@@ -10,7 +10,8 @@ use Rattle.std.proofs.lemmas.List.Elements.{All-nil, All-cons, All-head, All-tai
 use Rattle.sv_types.specs.Policies.{Rules, ModuleRule, each_within, is_module, modules_count_within, rules_of, rules_within, sites_of}
 use Rattle.sv_types.specs.declared.policy.Export.{Export}
 use Rattle.sv_types.specs.declared.policy.Policy.{Policy}
-use Rattle.elf64_sections.specs.Judged.{◌>>=◌, each}
+use Rattle.sv_types.specs.Steps.{◌>>=◌}
+use Rattle.elf64_sections.specs.Judged.{each}
 use Rattle.elf64_sections.proofs.Steps.{ok_same}
 use Rattle.elf64_reloc.specs.Modules.{Module, module_judged}
 use Rattle.elf64_reloc.specs.declared.fault.ObjectFault.{ObjectFault}

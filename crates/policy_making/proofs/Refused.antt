@@ -9,7 +9,7 @@ use Rattle.elf64_reloc.specs.declared.fault.ObjectFault.{ObjectFault}
 use Rattle.elf64_reloc.specs.declared.refusal.RelocRefusal.{RelocRefusal}
 use Rattle.elf64_reloc.specs.declared.refusal.RelocRefusal.TheVariants as OfReloc
 use Rattle.elf64_reloc.specs.Refusals as objects
-use Rattle.elf64_sections.specs.Judged.{◌>>=◌}
+use Rattle.sv_types.specs.Steps.{◌>>=◌}
 use Rattle.policy_making.specs.Refusals.{Judged, Refuses, answered, in_image, in_module, of_image, of_module}
 use Rattle.policy_making.specs.declared.refusal.MakingFault.TheVariants.{Image, Module}
 use Rattle.policy_making.specs.declared.refusal.MakingRefusal.{MakingRefusal}

@@ -10,7 +10,7 @@ use Rattle.sv_types.specs.ApprovedPages.{numbers_from}
 use Rattle.processor.specs.Regions.{most_ram_pages}
 use Rattle.sv_types.specs.declared.module.Site.{Site}
 use Rattle.sv_types.specs.declared.policy.Export.{Export}
-use Rattle.elf64_sections.specs.Judged.{◌>>=◌}
+use Rattle.sv_types.specs.Steps.{◌>>=◌}
 use Rattle.elf64_sections.proofs.Steps.{ok_same}
 use Rattle.elf64_reloc.specs.Layouts.{padding, is_good_alignment, text_size}
 use Rattle.elf64_reloc.specs.Objects.{Object, object_judged}

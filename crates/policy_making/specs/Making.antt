@@ -13,7 +13,8 @@ use Rattle.sv_types.specs.declared.image_fault.ImageFault.{ImageFault}
 use Rattle.sv_types.specs.declared.module.Span.{Span}
 use Rattle.sv_types.specs.declared.policy.Export.{Export}
 use Rattle.reference.specs.Relocations.{masked}
-use Rattle.elf64_sections.specs.Judged.{◌>>=◌, each}
+use Rattle.sv_types.specs.Steps.{◌>>=◌}
+use Rattle.elf64_sections.specs.Judged.{each}
 use Rattle.elf64_load.specs.Exports.{exports_judged}
 use Rattle.elf64_reloc.specs.Modules.{Module, pages_of, names_judged, module_judged}
 use Rattle.policy_making.specs.Refusals.{Judged, in_image, in_module}

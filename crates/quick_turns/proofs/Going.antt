@@ -16,9 +16,10 @@ use Rattle.gstage_cache.proofs.WritesAndWalks.{write_behind}
 use Rattle.gstage_cache.specs.Fills.{nothing_filled, filled_further}
 use Rattle.hart.specs.Cores.{core_of}
 use Rattle.gstage_cache.specs.CacheWalks.{Walked}
+use Rattle.reach.specs.declared.line.Line.{Line}
 use Rattle.hart.specs.Conditions.{MayAttempt}
 use Rattle.hart.specs.declared.hart.Core.{Core as Kept}
-use Rattle.quick_turns.specs.Quick.{Comes, Leads, GoesOn, SameCourse, Steers, is_made, keeps_course, no_page}
+use Rattle.quick_turns.specs.Quick.{Comes, Leads, GoesOn, SameCourse, Steers, Translated, Turned, is_made, keeps_course, no_page}
 use Rattle.quick_turns.proofs.Kept.{apart_kept, write_size}
 use Rattle.quick_turns.proofs.Windows.{leads_core, leads_kept, no_window}
 use Rattle.quick_turns.specs.declared.tried.Tried.{Tried}
@@ -114,16 +115,22 @@ row_stays t n r mid after core before next course hregs row stopped same = λ li
     subst (λ (x : Region). RetiresThrough n r core lines x next) (sym both.0)
     (subst (λ (x : Core). RetiresThrough n r core lines mid x) (sym both.1) (row lines none))
 
--- behind walks
-pub goes_behind : (r after : Region) (core next : Kept) (regs : HRegs) (x y z : List (Option CacheLine)) → Walked r.tables regs.hgatp x y
-    → GoesOn r after core next regs y z → GoesOn r after core next regs x z
-goes_behind r after core next regs x y z walked on = record {
-  ready = on.ready;
-  free = on.free;
-  tables = on.tables;
-  ram = on.ram;
-  filled = filled_further r.tables regs.hgatp x y z walked.filled on.filled;
-}
+-- behind translations
+pub turned_behind : (t : Tried) (r after : Region) (core next : Kept) (regs : HRegs) (x y z : List (Option CacheLine)) (here kept : List (Option Line))
+    → Translated r.tables regs.hgatp x y here → Turned t r after core next regs y z kept → Turned t r after core next regs x z kept
+turned_behind t r after core next regs x y z here kept translated turned =
+    let on = turned.on in
+    record {
+      on = record {
+        ready = on.ready;
+        free = on.free;
+        tables = on.tables;
+        ram = on.ram;
+        filled = filled_further r.tables regs.hgatp x y z translated.walked.filled on.filled;
+      };
+      course = turned.course;
+      reach = turned.reach;
+    }
 
 -- ---- windows behind a turn
 

@@ -9,11 +9,28 @@ use Rattle.processor.specs.Regions.{Region, IsHostPlace}
 use Rattle.processor.specs.declared.access.Access.TheVariants.{Fetch}
 use Rattle.processor.specs.declared.cached.CacheLine.{CacheLine}
 use Rattle.processor.specs.declared.hregs.HRegs.{HRegs}
+use Rattle.gstage_cache.specs.CacheWalks.{MayWalk, Walked}
+use Rattle.reach.specs.Kept.{ReachAgrees}
+use Rattle.reach.specs.declared.line.Line.{Line}
 use Rattle.hart.specs.Conditions.{MayAttempt}
 use Rattle.hart.specs.declared.hart.Core.{Core as Kept}
 use Rattle.quick_turns.specs.Rows.{Carries}
 use Rattle.quick_turns.specs.declared.tried.Tried.{Tried}
 use Rattle.quick_turns.specs.declared.tried.Tried.TheVariants.{Stopped, Retired, Stored, Steered}
+
+-- ---- translations
+
+-- accesses may be translated: walks may go through the cache, and every translation that is kept agrees with the tables
+pub record MayTranslate (r : Region) (hgatp : ℕ) (lines : List (Option CacheLine)) (kept : List (Option Line)) : Type 0 where
+  pub walk : MayWalk r hgatp lines
+  pub reach : ReachAgrees r.tables kept
+
+-- translations left the cache and what is kept in agreement with the tables
+pub record Translated (tables : List ℕ) (hgatp : ℕ) (before after : List (Option CacheLine)) (kept : List (Option Line)) : Type 0 where
+  pub walked : Walked tables hgatp before after
+  pub reach : ReachAgrees tables kept
+
+-- ---- turns
 
 -- what no page of an address has for its number
 abbrev pub no_page : ℕ
@@ -67,3 +84,15 @@ pub record GoesOn (before after : Region) (core next : Kept) (regs : HRegs) (lin
   pub tables : after.tables ≡ before.tables
   pub ram : length after.ram ≡ length before.ram
   pub filled : FilledUnder before.tables regs.hgatp lines held
+
+-- a turn may be tried: an attempt may be made, the hart has no reservation, and every translation that is kept agrees with the tables
+pub record MayTurn (r : Region) (core : Kept) (regs : HRegs) (lines : List (Option CacheLine)) (kept : List (Option Line)) : Type 0 where
+  pub ready : MayAttempt r core regs lines
+  pub free : core.reservation ≡ None
+  pub reach : ReachAgrees r.tables kept
+
+-- what a turn that was tried leaves: the hart may go on, by the same registers if it wasn't steered, and what is kept agrees with the tables
+pub record Turned (tried : Tried) (before after : Region) (core next : Kept) (regs : HRegs) (lines held : List (Option CacheLine)) (kept : List (Option Line)) : Type 0 where
+  pub on : GoesOn before after core next regs lines held
+  pub course : Steers tried core.csrs next.csrs
+  pub reach : ReachAgrees after.tables kept

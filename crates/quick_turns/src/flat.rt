@@ -29,6 +29,9 @@ pub(crate) struct Flat {
     ghost fields: { ForSome (flat_instr op rd rs1 rs2 imm) (λ i. IsTrue (fits i)) },
 }
 
+/// How many values the number of a register of the system has, one of 16 bits.
+const NUMBER_VALUES: u64 = 1 << 16;
+
 /// How many values a width has in the place of an immediate.
 pub(crate) const WIDTH_VALUES: u8 = 16;
 
@@ -42,7 +45,7 @@ pub(crate) const RELEASE_UNIT: u8 = 2 * ACQUIRE_UNIT;
 fn number(imm: i64) -> u16
     ensures { result ≡ number imm }
 {
-    imm.cast_unsigned() as u16
+    (imm.cast_unsigned() % NUMBER_VALUES) as u16
 }
 
 // The width of an atomic operation in the place of an immediate.

@@ -6,8 +6,8 @@ ghost use Rattle.processor.specs.SecondStage.{WalksApart};
 ghost use Rattle.processor.specs.CachedWalks.{CacheAgrees};
 ghost use Rattle.processor.specs.HardwareMemory.{translated, reached};
 ghost use Rattle.hart.specs.Cores.{core_of};
-ghost use Rattle.gstage_cache.specs.CacheWalks.{MayWalk, Walked};
 ghost use Rattle.reach.specs.Kept.{ReachAgrees};
+ghost use Rattle.quick_turns.specs.Quick.{MayTranslate, Translated};
 
 use gstage_cache::Cache;
 use hart::{Core, regime};
@@ -35,13 +35,11 @@ fn walk_to(
     access: Access,
     address: u64,
 ) -> Option<u64>
-    requires ready { MayWalk mem.now regs.now.hgatp cache.old }
-    requires reach { ReachAgrees mem.now.tables reach.old }
+    requires may { MayTranslate mem.now regs.now.hgatp cache.old reach.old }
     ensures value { (htinst : ℕ) → IfSome result (λ hpa. translated mem.now (core_of core.now regs.now) access address htinst ≡ Ok hpa) }
     ensures place { (width : ℕ) → IsWidth width → address % width ≡ 0 → IfSome result (λ hpa. IsHostPlace mem.now hpa width) }
     ensures ram { IfSome result (λ hpa. length mem.now.tables ≤ hpa) }
-    ensures walked { Walked mem.now.tables regs.now.hgatp cache.old cache.new }
-    ensures reach { ReachAgrees mem.now.tables reach.new }
+    ensures translated { Translated mem.now.tables regs.now.hgatp cache.old cache.new reach.new }
 {
     let _table_bytes = mem.table_bytes();
     reach.walk(cache, mem, &regime(core, regs), address, access)
@@ -89,13 +87,11 @@ pub(crate) fn place(
     mem: &HostMem,
     reference: Reference,
 ) -> Option<u64>
-    requires ready { MayWalk mem.now regs.now.hgatp cache.old }
-    requires reach { ReachAgrees mem.now.tables reach.old }
+    requires may { MayTranslate mem.now regs.now.hgatp cache.old reach.old }
     ensures value { (htinst : ℕ) → IfSome result (λ hpa. translated mem.now (core_of core.now regs.now) reference.access reference.address htinst ≡ Ok hpa) }
     ensures place { (width : ℕ) → IsWidth width → reference.address % width ≡ 0 → IfSome result (λ hpa. IsHostPlace mem.now hpa width) }
     ensures ram { IfSome result (λ hpa. length mem.now.tables ≤ hpa) }
-    ensures walked { Walked mem.now.tables regs.now.hgatp cache.old cache.new }
-    ensures reach { ReachAgrees mem.now.tables reach.new }
+    ensures translated { Translated mem.now.tables regs.now.hgatp cache.old cache.new reach.new }
 {
     match held_place(core, regs, cache, reach, mem, reference) {
         Some(hpa) => Some(hpa),
@@ -138,14 +134,12 @@ pub(crate) fn aligned_place(
     mem: &HostMem,
     reference: Reference,
 ) -> Option<u64>
-    requires ready { MayWalk mem.now regs.now.hgatp cache.old }
+    requires may { MayTranslate mem.now regs.now.hgatp cache.old reach.old }
     requires width { IsWidth reference.width }
-    requires reach { ReachAgrees mem.now.tables reach.old }
     ensures value { (htinst : ℕ) → IfSome result (λ hpa. reached mem.now (core_of core.now regs.now) reference.access reference.address reference.width htinst ≡ Ok hpa) }
     ensures place { IfSome result (λ hpa. IsHostPlace mem.now hpa reference.width) }
     ensures ram { IfSome result (λ hpa. length mem.now.tables ≤ hpa) }
-    ensures walked { Walked mem.now.tables regs.now.hgatp cache.old cache.new }
-    ensures reach { ReachAgrees mem.now.tables reach.new }
+    ensures translated { Translated mem.now.tables regs.now.hgatp cache.old cache.new reach.new }
 {
     if is_aligned(reference.address, reference.width) {
         place(core, regs, cache, reach, mem, reference)

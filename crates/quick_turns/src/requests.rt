@@ -10,9 +10,8 @@ ghost use Rattle.processor.specs.IntegerRegisters.{register_count};
 ghost use Rattle.processor.specs.declared.access.Access.TheVariants as Access;
 ghost use Rattle.processor.specs.declared.lines.Lines.{Lines};
 ghost use Rattle.hart.specs.Cores.{core_of};
-ghost use Rattle.hart.specs.Conditions.{MayAttempt, MayStep};
-ghost use Rattle.quick_turns.specs.Quick.{Comes, GoesOn, Steers};
-ghost use Rattle.reach.specs.Kept.{ReachAgrees};
+ghost use Rattle.hart.specs.Conditions.{MayStep};
+ghost use Rattle.quick_turns.specs.Quick.{Comes, MayTurn, Steers, Turned};
 
 use crate::flat::Flat;
 use crate::memory::{Reference, aligned_place};
@@ -45,15 +44,11 @@ fn load(
     mem: &HostMem,
     load: Loading,
 ) -> Tried
-    requires ready { MayAttempt mem.now core.old regs.now cache.old }
-    requires free { core.old.reservation ≡ None }
+    requires may { MayTurn mem.now core.old regs.now cache.old reach.old }
     requires register { load.rd < register_count }
     requires width { IsWidth load.width }
-    requires reach { ReachAgrees mem.now.tables reach.old }
     ensures comes { (htinst : ℕ) → Comes result (with_region mem.now (after_load mem.now (core_of core.old regs.now) load.rd load.width load.signed (reached mem.now (core_of core.old regs.now) Access.Load load.address load.width htinst))) mem.now mem.now (core_of core.old regs.now) (core_of core.new regs.now) }
-    ensures on { GoesOn mem.now mem.now core.old core.new regs.now cache.old cache.new }
-    ensures course { Steers result core.old.csrs core.new.csrs }
-    ensures reach { ReachAgrees mem.now.tables reach.new }
+    ensures turned { Turned result mem.now mem.now core.old core.new regs.now cache.old cache.new reach.new }
 {
     let reference = Reference {
         access: Access::Load,
@@ -91,14 +86,10 @@ fn store(
     mem: &mut HostMem,
     store: Storing,
 ) -> Tried
-    requires ready { MayAttempt mem.old core.old regs.now cache.old }
-    requires free { core.old.reservation ≡ None }
+    requires may { MayTurn mem.old core.old regs.now cache.old reach.old }
     requires width { IsWidth store.width }
-    requires reach { ReachAgrees mem.old.tables reach.old }
     ensures comes { (htinst : ℕ) → Comes result (after_store mem.old (core_of core.old regs.now) store.width store.value (reached mem.old (core_of core.old regs.now) Access.Store store.address store.width htinst)) mem.old mem.new (core_of core.old regs.now) (core_of core.new regs.now) }
-    ensures on { GoesOn mem.old mem.new core.old core.new regs.now cache.old cache.new }
-    ensures course { Steers result core.old.csrs core.new.csrs }
-    ensures reach { ReachAgrees mem.new.tables reach.new }
+    ensures turned { Turned result mem.old mem.new core.old core.new regs.now cache.old cache.new reach.new }
 {
     let reference = Reference {
         access: Access::Store,
@@ -136,16 +127,12 @@ fn atomic(
     mem: &mut HostMem,
     operation: Operation,
 ) -> Tried
-    requires ready { MayAttempt mem.old core.old regs.now cache.old }
-    requires free { core.old.reservation ≡ None }
-    requires reach { ReachAgrees mem.old.tables reach.old }
+    requires may { MayTurn mem.old core.old regs.now cache.old reach.old }
     requires register { operation.rd < register_count }
     requires width { IsWidth operation.width }
     requires word { (operation.width ≡ 4) ⊎ (operation.width ≡ 8) }
     ensures comes { (htinst : ℕ) → Comes result (after_amo mem.old (core_of core.old regs.now) operation.rd operation.width operation.op operation.value (reached mem.old (core_of core.old regs.now) Access.Store operation.address operation.width htinst)) mem.old mem.new (core_of core.old regs.now) (core_of core.new regs.now) }
-    ensures reach { ReachAgrees mem.new.tables reach.new }
-    ensures on { GoesOn mem.old mem.new core.old core.new regs.now cache.old cache.new }
-    ensures course { Steers result core.old.csrs core.new.csrs }
+    ensures turned { Turned result mem.old mem.new core.old core.new regs.now cache.old cache.new reach.new }
 {
     // Its word is read where stores may go, and never where loads alone may.
     let access = Access::Store;
@@ -201,14 +188,10 @@ fn apply(
     mem: &mut HostMem,
     effect: Effect,
 ) -> Tried
-    requires ready { MayAttempt mem.old core.old regs.now cache.old }
-    requires free { core.old.reservation ≡ None }
-    requires reach { ReachAgrees mem.old.tables reach.old }
+    requires may { MayTurn mem.old core.old regs.now cache.old reach.old }
     requires request { IsRequest effect }
     ensures comes { (lines : Lines) → (word : ℕ) → Comes result (after_effect mem.old (core_of core.old regs.now) lines word effect) mem.old mem.new (core_of core.old regs.now) (core_of core.new regs.now) }
-    ensures on { GoesOn mem.old mem.new core.old core.new regs.now cache.old cache.new }
-    ensures course { Steers result core.old.csrs core.new.csrs }
-    ensures reach { ReachAgrees mem.new.tables reach.new }
+    ensures turned { Turned result mem.old mem.new core.old core.new regs.now cache.old cache.new reach.new }
 {
     match effect {
         Effect::Set { rd, value, next } => {
@@ -303,13 +286,9 @@ pub(crate) fn carry_out(
     mem: &mut HostMem,
     flat: &Flat,
 ) -> Tried
-    requires ready { MayAttempt mem.old core.old regs.now cache.old }
-    requires free { core.old.reservation ≡ None }
-    requires reach { ReachAgrees mem.old.tables reach.old }
+    requires may { MayTurn mem.old core.old regs.now cache.old reach.old }
     ensures comes { (lines : Lines) → Comes result (after_word mem.old (core_of core.old regs.now) lines flat.now.word) mem.old mem.new (core_of core.old regs.now) (core_of core.new regs.now) }
-    ensures on { GoesOn mem.old mem.new core.old core.new regs.now cache.old cache.new }
-    ensures course { Steers result core.old.csrs core.new.csrs }
-    ensures reach { ReachAgrees mem.new.tables reach.new }
+    ensures turned { Turned result mem.old mem.new core.old core.new regs.now cache.old cache.new reach.new }
 {
     match flat.effect(&core.regs, core.pc) {
         Some(effect) => apply(core, regs, cache, reach, mem, effect),

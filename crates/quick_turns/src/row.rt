@@ -5,8 +5,7 @@ ghost use Rattle.processor.specs.HardwareAttempt.{attempt};
 ghost use Rattle.processor.specs.HypervisorRegisters.{pending};
 ghost use Rattle.processor.specs.declared.lines.Lines.{Lines};
 ghost use Rattle.hart.specs.Cores.{core_of};
-ghost use Rattle.hart.specs.Conditions.{MayAttempt};
-ghost use Rattle.quick_turns.specs.Quick.{Comes, GoesOn, Leads, Steers};
+ghost use Rattle.quick_turns.specs.Quick.{Comes, GoesOn, Leads, MayTurn, Turned};
 ghost use Rattle.quick_turns.specs.Ends.{turns_of};
 ghost use Rattle.quick_turns.specs.Rows.{EndsBy};
 ghost use Rattle.reach.specs.Kept.{ReachAgrees};
@@ -34,15 +33,11 @@ fn turn(
     mem: &mut HostMem,
     window: &mut Window,
 ) -> Tried
-    requires ready { MayAttempt mem.old core.old regs.now cache.old }
-    requires free { core.old.reservation ≡ None }
+    requires may { MayTurn mem.old core.old regs.now cache.old reach.old }
     requires leads { Leads mem.old (core_of core.old regs.now) window.old.page window.old.host }
-    requires reach { ReachAgrees mem.old.tables reach.old }
     ensures comes { (lines : Lines) → pending regs.now core.old.csrs lines ≡ None → Comes result (attempt mem.old (core_of core.old regs.now) lines) mem.old mem.new (core_of core.old regs.now) (core_of core.new regs.now) }
-    ensures on { GoesOn mem.old mem.new core.old core.new regs.now cache.old cache.new }
-    ensures course { Steers result core.old.csrs core.new.csrs }
+    ensures turned { Turned result mem.old mem.new core.old core.new regs.now cache.old cache.new reach.new }
     ensures leads { Leads mem.new (core_of core.new regs.now) window.new.page window.new.host }
-    ensures reach { ReachAgrees mem.new.tables reach.new }
 {
     let Some(here) = at_pc(core, regs, cache, reach, mem, *window) else {
         return Tried::Stopped;
@@ -120,9 +115,7 @@ pub fn quick_turns(
     mem: &mut HostMem,
     most: u64,
 ) -> Row
-    requires ready { MayAttempt mem.old core.old regs.now cache.old }
-    requires free { core.old.reservation ≡ None }
-    requires reach { ReachAgrees mem.old.tables reach.old }
+    requires may { MayTurn mem.old core.old regs.now cache.old reach.old }
     ensures ends { (lines : Lines) → pending regs.now core.old.csrs lines ≡ None → EndsBy result.left result.made mem.old (core_of core.old regs.now) lines mem.new (core_of core.new regs.now) }
     ensures most { turns_of result ≤ most }
     ensures on { GoesOn mem.old mem.new core.old core.new regs.now cache.old cache.new }

@@ -5,9 +5,7 @@ ghost use Rattle.processor.specs.Bytes.{page_size};
 ghost use Rattle.processor.specs.Regions.{host_word};
 ghost use Rattle.processor.specs.Roots.{IsBare};
 ghost use Rattle.hart.specs.Cores.{core_of};
-ghost use Rattle.gstage_cache.specs.CacheWalks.{MayWalk, Walked};
-ghost use Rattle.quick_turns.specs.Quick.{Leads, no_page};
-ghost use Rattle.reach.specs.Kept.{ReachAgrees};
+ghost use Rattle.quick_turns.specs.Quick.{Leads, MayTranslate, Translated, no_page};
 
 use crate::memory::{Reference, place};
 use gstage_cache::Cache;
@@ -80,13 +78,11 @@ pub(crate) fn at_pc(
     mem: &HostMem,
     window: Window,
 ) -> Option<Window>
-    requires ready { MayWalk mem.now regs.now.hgatp cache.old }
-    requires reach { ReachAgrees mem.now.tables reach.old }
+    requires may { MayTranslate mem.now regs.now.hgatp cache.old reach.old }
     requires leads { Leads mem.now (core_of core.now regs.now) window.page window.host }
     ensures page { IfSome result (λ at. core.now.pc / page_size ≡ at.page) }
     ensures leads { IfSome result (λ at. Leads mem.now (core_of core.now regs.now) at.page at.host) }
-    ensures walked { Walked mem.now.tables regs.now.hgatp cache.old cache.new }
-    ensures reach { ReachAgrees mem.now.tables reach.new }
+    ensures translated { Translated mem.now.tables regs.now.hgatp cache.old cache.new reach.new }
 {
     if core.pc / PAGE_BYTES == window.page {
         Some(window)
@@ -103,12 +99,10 @@ fn find_window(
     reach: &mut Reach,
     mem: &HostMem,
 ) -> Option<Window>
-    requires ready { MayWalk mem.now regs.now.hgatp cache.old }
-    requires reach { ReachAgrees mem.now.tables reach.old }
+    requires may { MayTranslate mem.now regs.now.hgatp cache.old reach.old }
     ensures page { IfSome result (λ at. core.now.pc / page_size ≡ at.page) }
     ensures leads { IfSome result (λ at. Leads mem.now (core_of core.now regs.now) at.page at.host) }
-    ensures walked { Walked mem.now.tables regs.now.hgatp cache.old cache.new }
-    ensures reach { ReachAgrees mem.now.tables reach.new }
+    ensures translated { Translated mem.now.tables regs.now.hgatp cache.old cache.new reach.new }
 {
     let _table_bytes = mem.table_bytes();
     let fetch = Reference {

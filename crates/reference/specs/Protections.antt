@@ -1,12 +1,7 @@
 -- The protections of all pages of RAM, as a list, and the list with those of some pages changed. This project's own.
-use Rattle.std.specs.Prelude.{ℕ, zero, suc, ◌+◌, Bool, List, [], ◌∷◌, if◌then◌else◌, Option, Some, None, slice_get, slice_set, true, false}
+use Rattle.std.specs.Prelude.{ℕ, zero, suc, ◌+◌, Bool, List, [], ◌∷◌, if◌then◌else◌, Option, Some, None, slice_get, slice_set}
 use Rattle.sv_types.specs.declared.protection.Protection.{Protection}
-use Rattle.sv_types.specs.declared.protection.Protection.TheVariants.{Free, Held, Approved}
-
-abbrev pub is_free : Protection → Bool
-is_free Free = true
-is_free Held = false
-is_free Approved = false
+use Rattle.sv_types.specs.declared.protection.Protection.TheVariants.{Free}
 
 -- a page past the end counts as free
 abbrev pub or_free : Option Protection → Protection

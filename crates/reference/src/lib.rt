@@ -3,7 +3,7 @@
 
 ghost use Rattle.std.specs.Prelude.{◌≡◌, ℕ, List, ◌++◌, not};
 ghost use Rattle.sv_types.specs.declared.event.Event.{Event};
-ghost use Rattle.reference.specs.Protections.{is_free};
+ghost use Rattle.sv_types.specs.Protections.{is_free};
 ghost use Rattle.reference.specs.Run.{HasEnded, run};
 ghost use Rattle.reference.specs.States.{State, is_protected, protection};
 

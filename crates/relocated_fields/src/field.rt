@@ -6,10 +6,8 @@ ghost use Rattle.processor.specs.Regions.{IsWidth};
 ghost use Rattle.reference.specs.Relocations as spec;
 ghost use Rattle.relocated_fields.specs.Fields.{field_view};
 
-use sv_types::RelocationKind;
+use sv_types::{LOW_VALUES, RelocationKind};
 
-/// How many values the low part of an address has: the 12 bits of an immediate.
-const LOW_VALUES: u64 = 1 << 12;
 /// How many values the upper part has: the 20 bits of `lui` and `auipc`.
 const UPPER_VALUES: u64 = 1 << 20;
 /// The distances that a branch reaches: 13 signed bits, and even.

@@ -6,7 +6,7 @@ use Rattle.sv_types.specs.Schedule.{Schedule}
 use Rattle.policy.specs.Refusals.{Judged}
 use Rattle.policy.specs.Text.{rules_of_text}
 use Rattle.script.specs.AutoScripts.{events_of_text, first_refused}
-use Rattle.snapshot_form.specs.Forms.{◌>>=◌}
+use Rattle.sv_types.specs.Steps.{◌>>=◌}
 use Rattle.snapshot_form.specs.Snapshots.{Contents, ended, most_snapshot_bytes, snapshot, snapshot_read}
 use Rattle.snapshot_form.specs.declared.refusal.SnapRefusal.{SnapRefusal}
 use Rattle.snapshot_form.specs.declared.refusal.SnapRefusal.TheVariants.{TooLong}

@@ -18,7 +18,8 @@ use Rattle.sv_types.specs.declared.protection.Protection.TheVariants.{Free, Held
 use Rattle.sv_types.specs.declared.saved.SavedModule.{SavedModule}
 use Rattle.reference.specs.Loads.{is_good}
 use Rattle.reference.specs.Origins.{is_kernel_text, ownership}
-use Rattle.reference.specs.Protections.{is_free, protection_at}
+use Rattle.sv_types.specs.Protections.{is_free}
+use Rattle.reference.specs.Protections.{protection_at}
 use Rattle.reference.specs.Soundness.{IsSound, IsSoundEntry, IsSoundHart, IsSoundLoad}
 use Rattle.reference.specs.States.{State, Hart, Loading, find_module, has_number, is_approved_in, module_pages, pages_in_rule, protection_in}
 use Rattle.saved_machine.specs.SavedStates.{saved_harts, saved_load, saved_protections}

@@ -6,7 +6,8 @@ use Rattle.sv_types.specs.Policies.{Rules}
 use Rattle.sv_types.specs.declared.protection.Protection.{Protection}
 use Rattle.sv_types.specs.declared.saved.SavedModule.{SavedModule}
 use Rattle.reference.specs.Origins.{AllAbove, Ascends}
-use Rattle.reference.specs.Protections.{is_free, protection_at}
+use Rattle.sv_types.specs.Protections.{is_free}
+use Rattle.reference.specs.Protections.{protection_at}
 use Rattle.reference.specs.States.{has_number, module_pages}
 use Rattle.resumption.specs.Judgements.{loaded_pages, taken}
 use Rattle.resumption.proofs.TakenSpans.{set_beside}

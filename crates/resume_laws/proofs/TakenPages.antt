@@ -4,7 +4,8 @@ use Rattle.std.specs.Prelude.{Some, None, if◌then◌else◌, ◌==◌}
 use Rattle.std.proofs.lemmas.Bool.{eqb-true, eqb-false}
 use Rattle.std.proofs.lemmas.List.{length-set}
 use Rattle.sv_types.specs.declared.protection.Protection.{Protection}
-use Rattle.reference.specs.Protections.{is_free, protection_at}
+use Rattle.sv_types.specs.Protections.{is_free}
+use Rattle.reference.specs.Protections.{protection_at}
 use Rattle.reference.specs.States.{has_number}
 use Rattle.resumption.specs.Judgements.{taken}
 use Rattle.resumption.proofs.TakenSpans.{set_beside}

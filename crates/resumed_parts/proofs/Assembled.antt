@@ -1,5 +1,5 @@
 -- The parts put together.
-use Rattle.std.proofs.Common.{◌≡◌, ℕ, List, [], length, replicate, sym, ◌∙◌, ap, subst}
+use Rattle.std.proofs.Common.{◌≡◌, ℕ, List, [], length, replicate, sym, ◌∙◌, ap, false}
 use Rattle.processor.specs.Regions.{Region}
 use Rattle.sv_types.specs.Policies.{Rules}
 use Rattle.sv_types.specs.declared.protection.Protection.{Protection}
@@ -10,13 +10,15 @@ use Rattle.page_guard.specs.Permitted.{Permitted}
 use Rattle.saved_machine.specs.declared.harts.SavedHart.{SavedHart}
 use Rattle.snapshot_form.specs.Snapshots.{Contents}
 use Rattle.sv_types.specs.declared.event.Note.{Note}
+use Rattle.sv_types.specs.declared.saved.SavedModule.{SavedModule}
+use Rattle.saved_machine.specs.declared.whole.Saved.{Saved}
+use Rattle.module_gate.specs.Gates.{Records}
 use Rattle.reference.specs.States.{Devices, Journal}
 use Rattle.saved_machine.specs.SavedStates.{disk_of}
 use Rattle.resumption.specs.ResumedStates.{timers_of}
 use Rattle.resumption.specs.Judgements.{approved_of}
 use Rattle.resume_laws.proofs.TakenPages.{length_taken}
 use Rattle.resumed_parts.specs.Approving.{Approves}
-use Rattle.resumed_parts.specs.Seating.{CanAllSit}
 use Rattle.resumed_parts.proofs.Approved.{length_free}
 
 -- the tables are as long as before
@@ -31,10 +33,6 @@ tables_stay before after old new theirs stays =
 pub pages_guarded : (rules : Rules) (s : Contents) (guard : List Protection) → Approves (replicate rules.ram_pages Free) guard (approved_of rules s) → length guard ≡ rules.ram_pages
 pages_guarded rules s guard is = length_taken Approved (replicate rules.ram_pages Free) guard (approved_of rules s) is ∙ length_free rules.ram_pages
 
-pub sits_in : (n pages : ℕ) (e entries : Permitted) (hs : List SavedHart) → n ≡ pages → e ≡ entries → CanAllSit n e hs → CanAllSit pages entries hs
-sits_in n pages e entries hs size same all =
-    subst (λ (x : Permitted). CanAllSit pages x hs) same (subst (λ (k : ℕ). CanAllSit k e hs) size all)
-
 -- ---- values as they are made
 
 abbrev pub listed : (entries bound : List ℕ) → Permitted
@@ -43,5 +41,8 @@ listed entries bound = record { entries = entries; bound = bound }
 abbrev pub devices_by : Contents → List ℕ → List SavedHart → Devices
 devices_by s input hs = record { console = input; disk = disk_of s.port s.disk; clock = record { time = s.time; timers = timers_of hs } }
 
-abbrev pub journal_by : Contents → List Note → Journal
-journal_by s notes = record { printed = []; notes = notes; counts = s.counts; verdict = s.verdict }
+abbrev pub journal_by : Saved → List Note → Journal
+journal_by m notes = record { printed = []; notes = notes; counts = m.counts; verdict = m.verdict }
+
+abbrev pub gate_by : Saved → List SavedModule → Records
+gate_by m modules = record { loaded = modules; loading = false; retired = m.retired }

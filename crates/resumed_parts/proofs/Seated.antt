@@ -17,7 +17,6 @@ use Rattle.reference.specs.States.{Binding, binding_at, binding_of, has_number, 
 use Rattle.reference.specs.Trapping.{may_enter}
 use Rattle.machine_model.specs.StandsFor.{host_reservation, hregs_in, kernel_view}
 use Rattle.machine_model.specs.Machine.{HostHart}
-use Rattle.hart_answers.specs.declared.seats.Seat.{Seat}
 use Rattle.processor.specs.declared.hregs.HRegs.{HRegs}
 use Rattle.sv_types.specs.declared.view.View.{View}
 use Rattle.page_guard.specs.Permitted.{Permitted}
@@ -279,9 +278,3 @@ room_of tables pages (Some address) inside room = let less = inside.1 in (inside
 
 pub reservable : (tables pages : ℕ) (h : SavedHart) → HartRanges pages h → tables + page_size * pages < 2 ^ 63 → IfSome h.reservation (IsReservable tables)
 reservable tables pages h k room = room_of tables pages h.reservation k.reservation room
-
--- ---- one hart more
-
-pub length_next : (seats : List Seat) (next : Seat) → length (seats ++ next ∷ []) ≡ length seats + 1
-length_next [] next = refl
-length_next (x ∷ seats) next = let n = length_next seats next in omega (arith, n)

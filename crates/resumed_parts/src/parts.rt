@@ -1,17 +1,22 @@
 // All that goes on of a snapshot.
 
-ghost use Rattle.std.specs.Prelude.{◌≡◌, ◌*◌, ◌≤◌, None, IfOk, IsTrue, length, replicate, true};
+ghost use Rattle.std.specs.Prelude.{◌≡◌, ◌+◌, ◌*◌, ◌^◌, ◌<◌, ◌≤◌, [], None, IfOk, IsTrue, false, length, map, replicate, true};
 ghost use Rattle.processor.specs.Bytes.{page_size};
 ghost use Rattle.processor.specs.Regions.{most_ram_pages};
+ghost use Rattle.sv_types.specs.Limits.{most_notes};
 ghost use Rattle.sv_types.specs.Policies.{rules_of, rules_within};
 ghost use Rattle.gstage_tables.specs.Layout.{most_bound, table_size};
 ghost use Rattle.machine_model.specs.StandsFor.{bound_pages};
+ghost use Rattle.hart_answers.specs.Hosts.{hosts_of};
+ghost use Rattle.module_gate.specs.Ascending.{AscendsFrom};
 ghost use Rattle.page_guard.specs.Guarded.{IsTheirs};
 ghost use Rattle.snapshot_form.specs.Snapshots as form;
 ghost use Rattle.resumption.specs.Judgements.{approved_of, resume_refusal};
+ghost use Rattle.resumed_start.specs.Resuming.{host_resumed};
 ghost use Rattle.sv_types.specs.declared.protection.Protection.TheVariants.{Free};
 ghost use Rattle.resumed_parts.specs.Approving.{Approves};
 ghost use Rattle.resumed_parts.specs.Parts.{AreResumed};
+ghost use Rattle.resumed_parts.specs.Seating.{CanAllSit};
 
 use crate::device_states::devices_of;
 use crate::guard::approved_guard;
@@ -26,6 +31,7 @@ use journal_records::Journal;
 use module_answers::Modules;
 use module_gate::Gate;
 use page_guard::{Entries, Guard};
+use saved_machine::Saved;
 use snapshot_form::Snapshot;
 use std::alloc::{AllocError, Global};
 use sv_types::Policy;
@@ -74,6 +80,46 @@ fn region_of(alloc: Global, ram: &[u8], ram_pages: u32, bound: usize) -> Result<
     Ok(mem)
 }
 
+/// The parts that are copies of the values of a snapshot and of its policy.
+struct CopiedParts {
+    entries: Entries,
+    seats: Vec<Seat>,
+    journal: Journal,
+    gate: Gate,
+}
+
+// The copies, where RAM lies behind so many bytes of tables.
+fn copied_parts(
+    alloc: Global,
+    machine: &Saved,
+    policy: &Policy,
+    guard: &Guard,
+    tables: usize,
+) -> Result<CopiedParts, AllocError>
+    requires within { IsTrue (rules_within (rules_of policy.now)) }
+    requires each { CanAllSit (length guard.now.pages) (record { entries = (rules_of policy.now).entries; bound = (rules_of policy.now).bound }) machine.now.harts.items }
+    requires room { tables + page_size * length guard.now.pages < 2 ^ 63 }
+    requires notes { length machine.now.notes.items ≤ most_notes }
+    requires ascends { AscendsFrom 0 machine.now.modules.items }
+    ensures entries { IfOk result (λ p. p.entries ≡ record { entries = (rules_of policy.now).entries; bound = (rules_of policy.now).bound }) }
+    ensures hosts { IfOk result (λ p. hosts_of p.seats.items ≡ map (host_resumed tables) machine.now.harts.items) }
+    ensures number { IfOk result (λ p. length p.seats.items ≡ length machine.now.harts.items) }
+    ensures journal { IfOk result (λ p.
+        p.journal ≡ record { printed = []; notes = machine.now.notes.items; counts = machine.now.counts; verdict = machine.now.verdict }) }
+    ensures gate { IfOk result (λ p. p.gate ≡ record { loaded = machine.now.modules.items; loading = false; retired = machine.now.retired }) }
+{
+    let entries = Entries::new(alloc, &policy.entries, &policy.bound)?;
+    let seats = seats_of(alloc, guard, &entries, tables, &machine.harts)?;
+    let journal = Journal::from_values(alloc, machine.counts, &machine.notes, machine.verdict)?;
+    let gate = Gate::from_values(alloc, &machine.modules, machine.retired)?;
+    Ok(CopiedParts {
+        entries,
+        seats,
+        journal,
+        gate,
+    })
+}
+
 // The parts over a region and its guard. The load comes last: it can't be dropped.
 fn assemble(
     alloc: Global,
@@ -96,10 +142,13 @@ fn assemble(
         machine,
         text: _,
     } = snapshot;
-    let entries = Entries::new(alloc, &policy.entries, &policy.bound)?;
-    let seats = seats_of(alloc, &guard, &entries, mem.table_bytes(), &machine.harts)?;
-    let journal = Journal::from_values(alloc, machine.counts, &machine.notes, machine.verdict)?;
-    let mut gate = Gate::from_values(alloc, &machine.modules, machine.retired)?;
+    let copied = copied_parts(alloc, &machine, policy, &guard, mem.table_bytes())?;
+    let CopiedParts {
+        entries,
+        seats,
+        journal,
+        mut gate,
+    } = copied;
     let loading = resume_loading(&mut gate, &mut guard, &mut mem, policy, &machine.loading);
     let devices = devices_of(
         machine.port,

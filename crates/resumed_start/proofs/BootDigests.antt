@@ -25,7 +25,8 @@ use Rattle.resume_laws.proofs.TakenPages.{or_true}
 use Rattle.run_laws.proofs.StateLawsHold.{reached_sound}
 use Rattle.run_laws.proofs.Lookups.{same_number, length_pages}
 use Rattle.resumed_start.specs.SnapLaws.{BootDigestsLaw, IsMeasuredBoot}
-use Rattle.resumed_start.specs.TextPages.{approved_among, digest_in, digested_text, is_approved, text_in}
+use Rattle.sv_types.specs.Protections.{is_approved}
+use Rattle.resumed_start.specs.TextPages.{approved_among, digest_in, digested_text, text_in}
 use Rattle.resumed_start.proofs.Ascending.{picked, picked_same}
 
 -- ---- digests of pages

@@ -6,7 +6,8 @@ use Rattle.sv_types.specs.ApprovedPages.{numbers_from}
 use Rattle.sv_types.specs.declared.protection.Protection.{Protection}
 use Rattle.reference.specs.Protections.{protection_at}
 use Rattle.snapshot_form.specs.declared.whole.TextPage.{TextPage}
-use Rattle.resumed_start.specs.TextPages.{digest_in, is_approved, text_among}
+use Rattle.sv_types.specs.Protections.{is_approved}
+use Rattle.resumed_start.specs.TextPages.{digest_in, text_among}
 
 -- the bytes of a page, between its ends
 pub page_between : (ram : List ℕ) (page : ℕ) → take (page_size * (page + 1) - page_size * page) (drop (page_size * page) ram) ≡ page_bytes ram page

@@ -4,7 +4,7 @@ use Rattle.processor.specs.Bytes.{ram_place}
 use Rattle.processor.specs.HypervisorRegisters.{HypervisorRegisters, at_hypervisor_places, registers_at_boot}
 use Rattle.sv_types.specs.Policies.{Rules, rules_within}
 use Rattle.sv_types.specs.Views.{with_ram}
-use Rattle.reference.specs.Protections.{is_free}
+use Rattle.sv_types.specs.Protections.{is_free}
 use Rattle.reference.specs.Start.{AreWords}
 use Rattle.machine_model.specs.Machine.{Machine, HostHart, HostLoad}
 use Rattle.machine_model.specs.Reaches.{IsNew}

@@ -1,19 +1,14 @@
 -- The text of a machine before its first event: its approved pages, each with the digest of its bytes. This project's own.
-use Rattle.std.specs.Prelude.{ℕ, Bool, true, false, List, filter, length, map}
+use Rattle.std.specs.Prelude.{ℕ, List, filter, length, map}
 use Rattle.processor.specs.Bytes.{page_bytes}
 use Rattle.sv_types.specs.ApprovedPages.{numbers_from}
 use Rattle.sv_types.specs.Measure.{page_digest}
+use Rattle.sv_types.specs.Protections.{is_approved}
 use Rattle.sv_types.specs.declared.protection.Protection.{Protection}
-use Rattle.sv_types.specs.declared.protection.Protection.TheVariants.{Free, Held, Approved}
 use Rattle.reference.specs.Protections.{protection_at}
 use Rattle.reference.specs.States.{State}
 use Rattle.saved_machine.specs.SavedStates.{saved_protections}
 use Rattle.snapshot_form.specs.declared.whole.TextPage.{TextPage}
-
-abbrev pub is_approved : Protection → Bool
-is_approved Free = false
-is_approved Held = false
-is_approved Approved = true
 
 -- the approved ones among the first pages
 abbrev pub approved_among : List Protection → (count : ℕ) → List ℕ

@@ -3,7 +3,8 @@
 ghost use Rattle.std.specs.Prelude.{◌≡◌, ◌+◌, ◌*◌, ◌≤◌, length, IfOk};
 ghost use Rattle.processor.specs.Bytes.{page_size};
 ghost use Rattle.processor.specs.Regions.{most_ram_pages};
-ghost use Rattle.resumed_start.specs.TextPages.{digest_in, is_approved, text_in};
+ghost use Rattle.sv_types.specs.Protections.{is_approved};
+ghost use Rattle.resumed_start.specs.TextPages.{digest_in, text_in};
 
 use page_measure::page_digest;
 use processor::PAGE_SIZE;

@@ -5,7 +5,8 @@ use Rattle.std.proofs.lemmas.Bool.{eqb-true, eq-eqb, or_right}
 use Rattle.std.proofs.lemmas.List.{set-set, set_comm}
 use Rattle.sv_types.specs.ApprovedPages.{numbers_from}
 use Rattle.sv_types.specs.declared.protection.Protection.{Protection}
-use Rattle.reference.specs.Protections.{is_free, protection_at, with_pages}
+use Rattle.sv_types.specs.Protections.{is_free}
+use Rattle.reference.specs.Protections.{protection_at, with_pages}
 use Rattle.reference.specs.States.{has_number}
 use Rattle.resumption.specs.Judgements.{taken}
 use Rattle.sv_types.proofs.PageNumbers.{numbers_more}

@@ -4,7 +4,8 @@ ghost use Rattle.std.specs.Prelude.{◌≡◌, ◌≤◌, ◌^◌, [], ◌∷◌
 ghost use Rattle.sv_types.specs.ApprovedPages.{numbers_from};
 ghost use Rattle.sv_types.specs.Policies.{rules_of};
 ghost use Rattle.sv_types.specs.declared.protection.Protection.TheVariants as protected;
-ghost use Rattle.reference.specs.Protections.{is_free, protection_at};
+ghost use Rattle.sv_types.specs.Protections.{is_free};
+ghost use Rattle.reference.specs.Protections.{protection_at};
 ghost use Rattle.reference.specs.States.{module_pages};
 ghost use Rattle.snapshot_form.specs.Snapshots.{contents};
 ghost use Rattle.resumption.specs.Judgements.{are_same, is_guarded_right, is_same, load_pages, loaded_pages};

@@ -1,7 +1,8 @@
 // Whether a snapshot is of a machine under a policy: its harts and pages, the entries that harts are in, and its modules.
 
-ghost use Rattle.std.specs.Prelude.{◌≡◌, is_some};
+ghost use Rattle.std.specs.Prelude.{◌≡◌, ◌+◌, ◌*◌, ◌&&◌, is_some, nat_le};
 ghost use Rattle.std.specs.List.{list_all};
+ghost use Rattle.processor.specs.Bytes.{page_size, ram_base, ram_place};
 ghost use Rattle.sv_types.specs.Policies.{rules_of};
 ghost use Rattle.reference.specs.States.{binding_at};
 ghost use Rattle.snapshot_form.specs.Snapshots.{contents};
@@ -62,13 +63,23 @@ fn all_fit(policy: &Policy, modules: &[SavedModule]) -> bool
     modules.iter().all(|about| fits(policy, about))
 }
 
+// So many pages from an address on lie in RAM.
+fn are_in_ram(gpa: u64, pages: u32, ram_pages: u32) -> bool
+    ensures { result ≡ (nat_le ram_base gpa && nat_le (ram_place gpa + page_size * pages) (page_size * ram_pages)) }
+{
+    is_in_ram(
+        gpa,
+        PAGE_BYTES * u64::from(pages),
+        PAGE_BYTES * u64::from(ram_pages),
+    )
+}
+
 // A module of the policy, whose pages lie in RAM.
 fn fits(policy: &Policy, about: &SavedModule) -> bool
     ensures { result ≡ fits (rules_of policy.now) about.now }
 {
-    let bytes = PAGE_BYTES * u64::from(pages_of(policy, about.id));
-    let ram_bytes = PAGE_BYTES * u64::from(policy.ram_pages);
-    about.id < policy.modules.len() as u64 && is_in_ram(about.gpa, bytes, ram_bytes)
+    about.id < policy.modules.len() as u64
+        && are_in_ram(about.gpa, pages_of(policy, about.id), policy.ram_pages)
 }
 
 fn is_loaded(modules: &[SavedModule], id: u64) -> bool

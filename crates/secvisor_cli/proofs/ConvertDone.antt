@@ -5,7 +5,8 @@ use Rattle.sv_types.specs.declared.image_fault.ImageFault.{ImageFault}
 use Rattle.sv_types.specs.declared.status.Status.{Status}
 use Rattle.sv_types.specs.Kernel.{kernel_refusal, kernel_segments}
 use Rattle.sv_types.specs.Policies.{Rules, rules_within}
-use Rattle.policy.specs.Refusals.{◌>>=◌, Judged}
+use Rattle.sv_types.specs.Steps.{◌>>=◌}
+use Rattle.policy.specs.Refusals.{Judged}
 use Rattle.policy.specs.Text.{rules_of_members, rules_of_text, table_of_text}
 use Rattle.policy.proofs.ReadWithin.{rules_read}
 use Rattle.entry_binding.specs.Binding.{bound_rules}

@@ -8,7 +8,8 @@ use Rattle.std.proofs.lemmas.Nat.{le_bytes_8, from_le_bytes-to_le_bytes_8}
 use Rattle.snapshot_form.specs.declared.refusal.SnapRefusal.{SnapRefusal}
 use Rattle.snapshot_form.specs.declared.refusal.SnapRefusal.TheVariants.{OtherLength, OutOfRange}
 use Rattle.snapshot_form.specs.FormLaw.{IsBytes, IsForm}
-use Rattle.snapshot_form.specs.Forms.{◌>>=◌, Form, spell_number, number_at, is_word, number, byte_at, byte, bytes_at, plain, nothing, judged, within, paired, and_then, ◌⨾◌, renamed, made, always, spell_all, has_all, put_first, all_taken, listed, counted, measured}
+use Rattle.sv_types.specs.Steps.{◌>>=◌}
+use Rattle.snapshot_form.specs.Forms.{Form, spell_number, number_at, is_word, number, byte_at, byte, bytes_at, plain, nothing, judged, within, paired, and_then, ◌⨾◌, renamed, made, always, spell_all, has_all, put_first, all_taken, listed, counted, measured}
 pub use Rattle.sv_types.proofs.TruthValues.{and_first as first_true, and_second as second_true}
 pub use Rattle.std.proofs.lemmas.Bool.{and_from as both_true}
 

@@ -10,7 +10,8 @@ use Rattle.sv_types.specs.Policies.{harts_within, ram_pages_within}
 use Rattle.snapshot_form.specs.declared.refusal.SnapRefusal.{SnapRefusal}
 use Rattle.snapshot_form.specs.declared.refusal.SnapRefusal.TheVariants.{TooLong, OtherLength, OtherBeginning}
 use Rattle.snapshot_form.specs.FormLaw.{IsBytes, IsForm}
-use Rattle.snapshot_form.specs.Forms.{◌>>=◌, and_then, always}
+use Rattle.sv_types.specs.Steps.{◌>>=◌}
+use Rattle.snapshot_form.specs.Forms.{and_then, always}
 use Rattle.snapshot_form.specs.HartForms.{harts}
 use Rattle.snapshot_form.specs.PageForms.{pages}
 use Rattle.snapshot_form.specs.SnapshotLaw.{SnapshotLaw}

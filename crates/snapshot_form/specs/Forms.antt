@@ -2,6 +2,7 @@
 -- value stands at the front of some bytes. Forms are put together from small ones. This project's own.
 use Rattle.std.specs.Int.{w64, to_le_bytes, from_le_bytes}
 use Rattle.std.specs.Prelude.{ℕ, zero, suc, ◌^◌, List, [], ◌∷◌, ◌++◌, length, take, drop, Bool, true, false, ◌&&◌, Result, Ok, Err, nat_lt, ◌==◌, if◌then◌else◌}
+use Rattle.sv_types.specs.Steps.{◌>>=◌}
 use Rattle.snapshot_form.specs.declared.refusal.SnapRefusal.TheVariants.{OtherLength, OutOfRange}
 use Rattle.snapshot_form.specs.declared.refusal.SnapRefusal.{SnapRefusal}
 
@@ -10,12 +11,6 @@ use Rattle.snapshot_form.specs.declared.refusal.SnapRefusal.{SnapRefusal}
 -- a value and the bytes behind it, or why there is none
 abbrev pub Taken : Type 0 → Type 0
 Taken A = Result (A × List ℕ) SnapRefusal
-
--- the second step, if the first gave a value
-infixl 10 ◌>>=◌
-abbrev pub ◌>>=◌ : {A B : Type 0} → Result A SnapRefusal → (A → Result B SnapRefusal) → Result B SnapRefusal
-(Ok x) >>= f = f x
-(Err e) >>= f = Err e
 
 -- ---- forms
 

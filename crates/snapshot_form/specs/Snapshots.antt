@@ -4,7 +4,8 @@ use Rattle.std.specs.Str.{bytes_eq}
 use Rattle.saved_machine.specs.declared.harts.SavedHart.{SavedHart}
 use Rattle.saved_machine.specs.declared.whole.SavedLoad.{SavedLoad}
 use Rattle.snapshot_form.specs.DeviceForms.{Devices, devices}
-use Rattle.snapshot_form.specs.Forms.{Taken, ◌>>=◌, Form, number, plain, within, and_then, ◌⨾◌, renamed, made, always}
+use Rattle.sv_types.specs.Steps.{◌>>=◌}
+use Rattle.snapshot_form.specs.Forms.{Taken, Form, number, plain, within, and_then, ◌⨾◌, renamed, made, always}
 use Rattle.snapshot_form.specs.HartForms.{harts}
 use Rattle.snapshot_form.specs.JournalForms.{JournalParts, journal}
 use Rattle.snapshot_form.specs.PageForms.{Pages, pages, Gate, gate}

@@ -7,7 +7,8 @@ use Rattle.snapshot_form.specs.declared.refusal.SnapRefusal.{SnapRefusal}
 use Rattle.snapshot_reader.specs.declared.read_error.ReadError.{ReadError}
 use Rattle.snapshot_reader.specs.declared.read_error.ReadError.TheVariants.{Refused}
 use Rattle.snapshot_reader.specs.Reading.{Gives, Reads}
-use Rattle.snapshot_form.specs.Forms.{Form, Taken, ◌>>=◌, put_first, all_taken}
+use Rattle.sv_types.specs.Steps.{◌>>=◌}
+use Rattle.snapshot_form.specs.Forms.{Form, Taken, put_first, all_taken}
 
 abbrev given : {A : Type 0} → List A → List ℕ → Taken (List A)
 given values rest = Ok (values, rest)

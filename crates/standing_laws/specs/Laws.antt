@@ -12,7 +12,8 @@ use Rattle.sv_types.specs.declared.saved.SavedModule.{SavedModule}
 use Rattle.sv_types.specs.declared.protection.Protection.{Protection}
 use Rattle.sv_types.specs.declared.protection.Protection.TheVariants.{Held}
 use Rattle.reference.specs.Origins.{is_kernel_text, ownership}
-use Rattle.reference.specs.Protections.{is_free, protection_at}
+use Rattle.sv_types.specs.Protections.{is_free}
+use Rattle.reference.specs.Protections.{protection_at}
 use Rattle.reference.specs.Start.{AreWords}
 use Rattle.reference.specs.States.{State, find_module, pages_in_rule}
 use Rattle.machine_model.specs.Machine.{Machine, HostHart, HostLoad}

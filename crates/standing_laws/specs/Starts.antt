@@ -13,7 +13,8 @@ use Rattle.sv_types.specs.declared.event.Verdict.TheVariants.{Running}
 use Rattle.processor.specs.declared.mode.Mode.TheVariants.{Kernel}
 use Rattle.sv_types.specs.declared.protection.Protection.{Protection}
 use Rattle.sv_types.specs.declared.protection.Protection.TheVariants.{Free, Held, Approved}
-use Rattle.reference.specs.Protections.{is_free, protection_at, with_pages, with_each}
+use Rattle.sv_types.specs.Protections.{is_free}
+use Rattle.reference.specs.Protections.{protection_at, with_pages, with_each}
 use Rattle.reference.specs.Start.{AreWords, block_disk, virtio_disk, flat_rules, flat_start, boot_start, virtio_start}
 use Rattle.reference.specs.States.{State, Disk, Journal, has_number}
 use Rattle.machine_model.specs.Machine.{Machine, HostHart}

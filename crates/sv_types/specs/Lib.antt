@@ -16,5 +16,7 @@ pub mod Elf
 pub mod Limits
 pub mod Kernel
 pub mod Policies
+pub mod Protections
 pub mod SbiCodes
+pub mod Steps
 pub mod Views

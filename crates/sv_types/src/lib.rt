@@ -41,7 +41,7 @@ pub use places::{CONSOLE_BASE, DISK_BASE, DISK_END};
 pub use policy::{Export, ModulePolicy, Policy};
 pub use port::PortState;
 pub use protection::Protection;
-pub use relocation_kind::RelocationKind;
+pub use relocation_kind::{LOW_VALUES, RelocationKind};
 pub use saved::SavedModule;
 pub use sbi::{IMPLEMENTATION, SbiCode};
 pub use status::Status;

@@ -3,6 +3,9 @@
 ghost use Rattle.std.specs.Prelude.{◌≡◌};
 ghost use Rattle.sv_types.specs.RelocationKinds.{kind_number, kind_of};
 
+/// How many values the low part of an address has, which stands in an instruction's immediate of 12 bits.
+pub const LOW_VALUES: u64 = 1 << 12;
+
 /// How a field of a module's text is relocated: the types of the RISC-V ELF psABI that a policy may name, without their
 /// prefix `R_RISCV_`. S is the symbol's value, A the addend and P the field's place.
 #[derive(Clone, Copy, PartialEq, Eq, Drop)]

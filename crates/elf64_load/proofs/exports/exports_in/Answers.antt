@@ -3,7 +3,8 @@ use Rattle.std.proofs.lemmas.List.{at_drop_more, at_drop_all}
 use Rattle.sv_types.specs.declared.image_fault.ImageFault.{ImageFault}
 use Rattle.sv_types.specs.declared.policy.Export.{Export}
 use Rattle.elf64_sections.proofs.Refusals.{refusal_known}
-use Rattle.elf64_sections.specs.Judged.{◌>>=◌, each}
+use Rattle.sv_types.specs.Steps.{◌>>=◌}
+use Rattle.elf64_sections.specs.Judged.{each}
 use Rattle.elf64_sections.specs.Sections.{Tables}
 use Rattle.elf64_sections.specs.Views.{tables_view}
 use Rattle.elf64_load.specs.Addresses as at_name

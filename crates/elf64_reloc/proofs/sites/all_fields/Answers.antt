@@ -2,7 +2,7 @@ use Rattle.std.proofs.Common.{◌≡◌, ◌+◌, ◌<◌, ℕ, List, [], ◌++�
 use Rattle.std.proofs.lemmas.List.{at_drop_all, drop_more}
 use Rattle.sv_types.specs.declared.module.Site.{Site}
 use Rattle.elf64_sections.proofs.Refusals.{refusal_known}
-use Rattle.elf64_sections.specs.Judged.{◌>>=◌}
+use Rattle.sv_types.specs.Steps.{◌>>=◌}
 use Rattle.elf64_reloc.specs.JudgingViews.{judging_view}
 use Rattle.elf64_reloc.specs.Modules.{Judging, each_judged, fields_judged, found_sites}
 use Rattle.elf64_reloc.specs.Refusals.{Judged, Refuses, answered}

@@ -1,11 +1,13 @@
-use Rattle.std.proofs.Common.{◌≡◌, ℕ, ◌+◌, ◌*◌, ◌/◌, ◌<◌, ◌∙◌, Bool, List, length, sym, ap, subst}
+use Rattle.std.proofs.Common.{◌≡◌, ℕ, ◌+◌, ◌*◌, ◌/◌, ◌<◌, ◌∙◌, Bool, List, length, sym, ap, subst, rules}
 use Rattle.std.specs.Prelude.{◌==◌, ◌&&◌, slice_set, slice_index_or}
 use Rattle.processor.specs.Regions.{Region}
 use Rattle.sv_types.specs.Views.{protect}
 use Rattle.sv_types.specs.declared.protection.Protection.{Protection}
-use Rattle.gstage_tables.specs.Blocks.{is_free, is_whole_by, lies_in_ram, recounted, CountsTaken}
-use Rattle.gstage_tables.specs.Layout.{Shape, leaf_tables, tree_count, table_pages, sight_in, middle_word, HoldsTrees}
+use Rattle.sv_types.specs.Protections.{is_free}
+use Rattle.gstage_tables.specs.Blocks.{is_whole_by, lies_in_ram, recounted, CountsTaken}
+use Rattle.gstage_tables.specs.Layout.{Shape, AreDrawn, leaf_tables, tree_count, table_pages, sight_in, middle_word, HoldsTrees}
 use Rattle.gstage_tables.specs.Written.{Wrote}
+use Rattle.gstage_tables.specs.Protecting.{Protects}
 use Rattle.gstage_tables.proofs.Counts.{whole_by_counts, whole_after, counts_set}
 use Rattle.gstage_tables.proofs.MapsBlocks.{maps_blocks}
 use Rattle.gstage_tables.proofs.Walks.{are_views}
@@ -19,8 +21,24 @@ count_is count block page was x w y counts e b f g =
     e ∙ ap (λ (i : ℕ). recounted (slice_index_or counts i 0) w y) b ∙ ap (λ (v : Bool). recounted (slice_index_or counts (page / 512) 0) v y) f
     ∙ ap (recounted (slice_index_or counts (page / 512) 0) was) g
 
-pub returns-clause-drawn : goal.returns-clause-drawn
-returns-clause-drawn g c = λ old drawn.
+-- what is drawn is seen and mapped
+protects_by : (before after : Region) (trees new : Shape) (page : ℕ) (protection : Protection) → new ≡ record trees { counts = new.counts } → after.ram ≡ before.ram
+    → ((old : ℕ → Protection) → AreDrawn before.tables trees old → AreDrawn after.tables new (protect old page protection)) → Protects before after trees new page protection
+protects_by before after trees new page protection same ram drawn =
+    let holds : (old : ℕ → Protection) → AreDrawn before.tables trees old → HoldsTrees after.tables trees.ram_pages trees.bound (protect old page protection) =
+    λ old was. subst (λ (t : Shape). HoldsTrees after.tables t.ram_pages t.bound (protect old page protection)) same (drawn old was).holds in
+    record {
+      same = same;
+      ram = ram;
+      drawn = drawn;
+      views = λ old was. are_views after.tables trees.ram_pages trees.bound (protect old page protection) (holds old was);
+      blocks = λ old was. maps_blocks after.tables trees.ram_pages trees.bound (protect old page protection) (holds old was);
+    }
+
+pub returns-clause-protects : goal.returns-clause-protects
+returns-clause-protects g c =
+    protects_by c.args.mem.now c.set_block.new.mem c.args.self.now _ c.args.page c.args.protection (search rules) (search rules)
+    (λ old drawn.
     let h = drawn.holds in
     let k = drawn.counts in
     let pages : ℕ = c.args.self.now.ram_pages in
@@ -34,7 +52,7 @@ returns-clause-drawn g c = λ old drawn.
     (c.recounted-count.ensures ∙ ap (λ (list : List ℕ). recounted (slice_index_or list c.block_of-block.result 0) c.is_free-was_free.result c.is_free.result) seen) block (c.is_free-was_free.ensures old h) c.is_free.ensures in
     let holds : HoldsTrees c.set_block.new.mem.tables pages bound (protect old page c.args.protection) =
     holds_pages_set c.args.mem.now.tables c.set_leaves.new.mem.tables c.set_block.new.mem.tables pages bound old page c.args.protection
-    c.is_whole-before.result c.is_whole_with-after.result h c.requires.page c.set_leaves.ensures.words
+    c.is_whole-before.result c.is_whole_with-after.result h c.requires.may.inside c.set_leaves.ensures.words
     (c.is_whole-before.ensures ∙ ap (is_whole_by counts pages) block ∙ whole_by_counts counts pages old (page / 512) k)
     (c.is_whole_with-after.ensures ∙ ap (λ (b : ℕ). lies_in_ram pages b && c.recounted-count.result == 0) block
     ∙ ap (λ (n : ℕ). lies_in_ram pages (page / 512) && n == 0) count ∙ whole_after counts pages old page c.args.protection k reach)
@@ -48,17 +66,4 @@ returns-clause-drawn g c = λ old drawn.
     record {
       holds = subst (λ (trees : Shape). HoldsTrees c.set_block.new.mem.tables trees.ram_pages trees.bound (protect old page c.args.protection)) (sym c.self.view_is) holds;
       counts = subst (λ (trees : Shape). CountsTaken (slice_set trees.counts c.block_of-block.result c.recounted-count.result) trees.ram_pages (protect old page c.args.protection)) (sym c.self.view_is) counted;
-    }
-
-holds_after : (trees now : Shape) (tables : List ℕ) (ps : ℕ → Protection) → trees ≡ now → HoldsTrees tables trees.ram_pages trees.bound ps → HoldsTrees tables now.ram_pages now.bound ps
-holds_after trees now tables ps e h = subst (λ (t : Shape). HoldsTrees tables t.ram_pages t.bound ps) e h
-
-pub returns-clause-views : goal.returns-clause-views
-returns-clause-views g c = λ old drawn.
-    are_views c.set_block.new.mem.tables c.args.self.now.ram_pages c.args.self.now.bound (protect old c.args.page c.args.protection)
-    (holds_after _ c.args.self.now _ _ c.self.view_is (returns-clause-drawn g c old drawn).holds)
-
-pub returns-clause-blocks : goal.returns-clause-blocks
-returns-clause-blocks g c = λ old drawn.
-    maps_blocks c.set_block.new.mem.tables c.args.self.now.ram_pages c.args.self.now.bound (protect old c.args.page c.args.protection)
-    (holds_after _ c.args.self.now _ _ c.self.view_is (returns-clause-drawn g c old drawn).holds)
+    })

@@ -10,4 +10,4 @@ returns-clause-views c =
     let sixteen : c.new-trees.result.ram_pages ≡ 16 = omega (arith, size, ram) in
     subst (λ (bound : List ℕ). AreViews c.set.new.mem.tables 16 bound (protect all_free 0 Approved)) c.new-trees.ensures.bound
     (subst (λ (n : ℕ). AreViews c.set.new.mem.tables n c.new-trees.result.bound (protect all_free 0 Approved)) sixteen
-    (c.set.ensures.views all_free c.new-trees.ensures.drawn))
+    (c.set.ensures.protects.views all_free c.new-trees.ensures.drawn))

@@ -2,7 +2,7 @@ use Rattle.std.proofs.Common.{rules, ◌≡◌, ◌∙◌, true, false, not}
 use Rattle.std.proofs.lemmas.Bool.{and_parts}
 use Rattle.sv_types.specs.Policies.{rules_of}
 use Rattle.reference.specs.Protections.{protection_at}
-use Rattle.machine_model.specs.HostCalls.{is_approved_one}
+use Rattle.sv_types.specs.Protections.{is_approved}
 use Rattle.module_gate.specs.Retiring.{is_modules, is_kernels}
 use Rattle.module_gate.proofs.Retired.{one_approved, one_freed, freed_where, kept_where}
 use Rattle.module_gate.proofs.init.free_page.Goals as goal
@@ -13,7 +13,7 @@ unapprove-requires-clause-approved c =
     let page = c.args.page in
     let law = rules_of c.args.policy.now in
     let picked : is_kernels law c.args.loaded.now page (protection_at guard page) ≡ true = search rules in
-    one_approved guard page (and_parts (is_approved_one (protection_at guard page)) (not (is_modules law c.args.loaded.now page)) picked).0
+    one_approved guard page (and_parts (is_approved (protection_at guard page)) (not (is_modules law c.args.loaded.now page)) picked).0
 
 pub returns-then-is_kernels-clause-guard : goal.returns-then-is_kernels-clause-guard
 returns-then-is_kernels-clause-guard c =

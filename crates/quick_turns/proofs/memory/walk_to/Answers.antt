@@ -12,13 +12,13 @@ returns-clause-value c = λ htinst.
 
 pub returns-clause-place : goal.returns-clause-place
 returns-clause-place c =
-    let apart : WalksApart c.args.mem.now c.regime.result.hgatp = rw c.regime.ensures.hgatp c.requires.ready.apart in
+    let apart : WalksApart c.args.mem.now c.regime.result.hgatp = rw c.regime.ensures.hgatp c.requires.may.walk.apart in
     λ width is_width aligned. some_where c.walk.result
     (λ hpa is. leads_place c.args.mem.now c.regime.result c.args.access c.args.address hpa width c.table_bytes-table_bytes.ensures.region apart
     (omega arith) (sym c.walk.ensures.value ∙ is) is_width aligned)
 
 pub returns-clause-ram : goal.returns-clause-ram
 returns-clause-ram c =
-    let apart : WalksApart c.args.mem.now c.regime.result.hgatp = rw c.regime.ensures.hgatp c.requires.ready.apart in
+    let apart : WalksApart c.args.mem.now c.regime.result.hgatp = rw c.regime.ensures.hgatp c.requires.may.walk.apart in
     some_where c.walk.result
     (λ hpa is. leads_behind c.args.mem.now c.regime.result c.args.access c.args.address hpa apart (sym c.walk.ensures.value ∙ is))

@@ -3,9 +3,9 @@ use Rattle.processor.specs.Hardware.{Attempted}
 use Rattle.processor.specs.HardwareAttempt.{after_word}
 use Rattle.hart.specs.Cores.{core_of}
 use Rattle.quick_turns.specs.Quick.{Comes, Leads}
-use Rattle.quick_turns.specs.declared.tried.Tried.TheVariants.{Retired, Stored, Steered}
+use Rattle.quick_turns.specs.declared.tried.Tried.TheVariants.{Stopped, Retired, Stored, Steered}
 use Rattle.quick_turns.specs.declared.window.Window.{Window}
-use Rattle.quick_turns.proofs.Going.{attempt_at, goes_behind, low, stayed_leads, stored_leads}
+use Rattle.quick_turns.proofs.Going.{attempt_at, low, stayed_leads, stored_leads, turned_behind}
 use Rattle.quick_turns.proofs.Windows.{no_window}
 use Rattle.quick_turns.proofs.row.turn.Goals as goal
 
@@ -15,17 +15,17 @@ returns-in-Stopped-clause-comes c = λ lines none. c.in-Stopped.ensures.comes li
 pub returns-in-Stopped-clause-leads : goal.returns-in-Stopped-clause-leads
 returns-in-Stopped-clause-leads c =
     stayed_leads c.args.mem.now c.carry_out.new.mem c.args.core.now c.carry_out.new.core c.args.regs.now c.in-Some.here.page c.in-Some.here.host
-    (c.in-Stopped.ensures.comes low).0 c.in-Stopped.ensures.course c.in-Some.ensures.leads
+    (c.in-Stopped.ensures.comes low).0 c.in-Stopped.ensures.turned.course c.in-Some.ensures.leads
 
 pub returns-in-Retired-clause-leads : goal.returns-in-Retired-clause-leads
 returns-in-Retired-clause-leads c =
     stayed_leads c.args.mem.now c.carry_out.new.mem c.args.core.now c.carry_out.new.core c.args.regs.now c.in-Some.here.page c.in-Some.here.host
-    (c.in-Retired.ensures.comes low).0 c.in-Retired.ensures.course c.in-Some.ensures.leads
+    (c.in-Retired.ensures.comes low).0 c.in-Retired.ensures.turned.course c.in-Some.ensures.leads
 
 pub returns-in-Stored-clause-leads : goal.returns-in-Stored-clause-leads
 returns-in-Stored-clause-leads c =
     stored_leads c.args.mem.now c.carry_out.new.mem c.args.core.now c.carry_out.new.core c.args.regs.now c.at_pc.new.cache c.carry_out.new.cache c.in-Some.here c.behind_store.result
-    c.carry_out.ensures.on c.in-Stored.ensures.course c.requires.ready.walk.apart c.in-Some.ensures.leads c.behind_store.ensures.bare c.behind_store.ensures.paged
+    c.carry_out.ensures.turned.on c.in-Stored.ensures.turned.course c.requires.may.ready.walk.apart c.in-Some.ensures.leads c.behind_store.ensures.bare c.behind_store.ensures.paged
 
 pub returns-in-Steered-clause-leads : goal.returns-in-Steered-clause-leads
 returns-in-Steered-clause-leads c =
@@ -53,22 +53,22 @@ returns-in-Steered-clause-comes c = λ lines none.
     ∙ sym (attempt_at c.args.mem.now (core_of c.args.core.now c.args.regs.now) lines c.in-Some.here.page c.in-Some.here.host none (omega arith) c.in-Some.ensures.page c.in-Some.ensures.leads))
     (c.in-Steered.ensures.comes lines)
 
-pub returns-in-Stopped-clause-on : goal.returns-in-Stopped-clause-on
-returns-in-Stopped-clause-on c =
-    goes_behind c.args.mem.now c.carry_out.new.mem c.args.core.now c.carry_out.new.core c.args.regs.now c.args.cache.now c.at_pc.new.cache c.carry_out.new.cache
-    c.at_pc.ensures.walked c.carry_out.ensures.on
+pub returns-in-Stopped-clause-turned : goal.returns-in-Stopped-clause-turned
+returns-in-Stopped-clause-turned c =
+    turned_behind Stopped c.args.mem.now c.carry_out.new.mem c.args.core.now c.carry_out.new.core c.args.regs.now c.args.cache.now c.at_pc.new.cache c.carry_out.new.cache
+    c.at_pc.new.reach c.carry_out.new.reach c.at_pc.ensures.translated c.in-Stopped.ensures.turned
 
-pub returns-in-Retired-clause-on : goal.returns-in-Retired-clause-on
-returns-in-Retired-clause-on c =
-    goes_behind c.args.mem.now c.carry_out.new.mem c.args.core.now c.carry_out.new.core c.args.regs.now c.args.cache.now c.at_pc.new.cache c.carry_out.new.cache
-    c.at_pc.ensures.walked c.carry_out.ensures.on
+pub returns-in-Retired-clause-turned : goal.returns-in-Retired-clause-turned
+returns-in-Retired-clause-turned c =
+    turned_behind Retired c.args.mem.now c.carry_out.new.mem c.args.core.now c.carry_out.new.core c.args.regs.now c.args.cache.now c.at_pc.new.cache c.carry_out.new.cache
+    c.at_pc.new.reach c.carry_out.new.reach c.at_pc.ensures.translated c.in-Retired.ensures.turned
 
-pub returns-in-Stored-clause-on : goal.returns-in-Stored-clause-on
-returns-in-Stored-clause-on c =
-    goes_behind c.args.mem.now c.carry_out.new.mem c.args.core.now c.carry_out.new.core c.args.regs.now c.args.cache.now c.at_pc.new.cache c.carry_out.new.cache
-    c.at_pc.ensures.walked c.carry_out.ensures.on
+pub returns-in-Stored-clause-turned : goal.returns-in-Stored-clause-turned
+returns-in-Stored-clause-turned c =
+    turned_behind Stored c.args.mem.now c.carry_out.new.mem c.args.core.now c.carry_out.new.core c.args.regs.now c.args.cache.now c.at_pc.new.cache c.carry_out.new.cache
+    c.at_pc.new.reach c.carry_out.new.reach c.at_pc.ensures.translated c.in-Stored.ensures.turned
 
-pub returns-in-Steered-clause-on : goal.returns-in-Steered-clause-on
-returns-in-Steered-clause-on c =
-    goes_behind c.args.mem.now c.carry_out.new.mem c.args.core.now c.carry_out.new.core c.args.regs.now c.args.cache.now c.at_pc.new.cache c.carry_out.new.cache
-    c.at_pc.ensures.walked c.carry_out.ensures.on
+pub returns-in-Steered-clause-turned : goal.returns-in-Steered-clause-turned
+returns-in-Steered-clause-turned c =
+    turned_behind Steered c.args.mem.now c.carry_out.new.mem c.args.core.now c.carry_out.new.core c.args.regs.now c.args.cache.now c.at_pc.new.cache c.carry_out.new.cache
+    c.at_pc.new.reach c.carry_out.new.reach c.at_pc.ensures.translated c.in-Steered.ensures.turned

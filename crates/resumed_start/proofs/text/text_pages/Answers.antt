@@ -1,7 +1,8 @@
 use Rattle.std.proofs.Common.{◌≡◌, ◌∙◌, ℕ, ◌++◌, List, [], ◌∷◌, sym, ap, append-nil, arith, length, true, false, Vec, Global}
 use Rattle.reference.specs.Protections.{protection_at}
 use Rattle.snapshot_form.specs.declared.whole.TextPage.{TextPage}
-use Rattle.resumed_start.specs.TextPages.{digest_in, is_approved, text_among, text_in}
+use Rattle.sv_types.specs.Protections.{is_approved}
+use Rattle.resumed_start.specs.TextPages.{digest_in, text_among, text_in}
 use Rattle.resumed_start.proofs.TextPages.{page_listed, read_at}
 use Rattle.resumed_start.proofs.text.text_pages.Goals as goal
 use Rattle.resumed_start.proofs.text.text_pages.Goals.{then-is_approved+in_ok-push, else-is_approved}

@@ -15,25 +15,20 @@ invariant_of-wires c =
     let there = c.requires.there in
     omega (arith, number, few, there)
 
-pub attempt-requires-clause-there : goal.attempt-requires-clause-there
-attempt-requires-clause-there c =
-    let number = harts_number c.self.inside c.args.self.now c.self.view_is in
-    let same = ap (λ (seats : List Seat). length seats) c.deref_mut.ensures.value in
-    let there = c.requires.there in
-    omega (arith, number, same, there)
-
-pub attempt-requires-clause-number : goal.attempt-requires-clause-number
-attempt-requires-clause-number c =
-    ap (λ (caches : List HartCaches). length caches) c.deref_mut-2.ensures.value
-    ∙ c.self.invariant.caches
-    ∙ sym (ap (λ (seats : List Seat). length seats) c.deref_mut.ensures.value)
-
 pub attempt-requires-clause-ready : goal.attempt-requires-clause-ready
 attempt-requires-clause-ready c =
     subst (λ (seats : List Seat). IsReady c.self.inside.mem (hart_in (hosts_of seats) c.args.which) (lines_at c.self.inside.devices c.args.which))
     (sym c.deref_mut.ensures.value)
     (subst (λ (m : Machine). IsReady m.region (hart_in m.harts c.args.which) (lines_at m.devices c.args.which)) (sym c.self.view_is) c.requires.ready)
 
-pub attempt-requires-clause-usable : goal.attempt-requires-clause-usable
-attempt-requires-clause-usable c =
-    subst (λ (caches : List HartCaches). AreUsable c.self.inside.mem.tables caches) (sym c.deref_mut-2.ensures.value) c.self.invariant.usable
+pub attempt-requires-clause-may : goal.attempt-requires-clause-may
+attempt-requires-clause-may c =
+    let seats = ap (λ (seats : List Seat). length seats) c.deref_mut.ensures.value in
+    let caches = ap (λ (caches : List HartCaches). length caches) c.deref_mut-2.ensures.value in
+    let number = harts_number c.self.inside c.args.self.now c.self.view_is in
+    let there = c.requires.there in
+    record {
+      there = omega (arith, number, seats, there);
+      number = caches ∙ c.self.invariant.caches ∙ sym seats;
+      usable = subst (λ (caches : List HartCaches). AreUsable c.self.inside.mem.tables caches) (sym c.deref_mut-2.ensures.value) c.self.invariant.usable;
+    }

@@ -1,7 +1,7 @@
 use Rattle.std.proofs.Common.{rules, ◌≡◌, ◌+◌, ◌-◌, ◌∙◌, sym, ap, arith, ℕ, true, false, not, get_or}
 use Rattle.std.specs.Prelude.{find}
 use Rattle.sv_types.specs.ApprovedPages.{numbers_from}
-use Rattle.reference.specs.Protections.{is_free}
+use Rattle.sv_types.specs.Protections.{is_free}
 use Rattle.page_guard.specs.Guarded.{first_taken}
 use Rattle.page_guard.proofs.Spans.{is_taken, taken_by, found_at, none_more}
 use Rattle.page_guard.proofs.guard.Guard.all_free.Goals as goal

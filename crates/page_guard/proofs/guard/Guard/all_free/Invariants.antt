@@ -2,7 +2,7 @@ use Rattle.std.proofs.Common.{◌≡◌, not}
 use Rattle.std.specs.Prelude.{find, None}
 use Rattle.sv_types.specs.ApprovedPages.{numbers_from}
 use Rattle.reference.specs.Protections.{protection_at}
-use Rattle.reference.specs.Protections.{is_free}
+use Rattle.sv_types.specs.Protections.{is_free}
 use Rattle.page_guard.proofs.guard.Guard.all_free.Given as goal
 
 -- no page so far is taken

@@ -5,7 +5,8 @@ use Rattle.sv_types.specs.declared.protection.Protection.TheVariants.{Free}
 use Rattle.sv_types.specs.declared.protection.Protection.{Protection}
 use Rattle.gstage_tables.specs.Blocks.{CountsTaken}
 use Rattle.gstage_tables.specs.Layout.{HoldsTrees}
-use Rattle.reference.specs.Protections.{is_free, protection_at}
+use Rattle.sv_types.specs.Protections.{is_free}
+use Rattle.reference.specs.Protections.{protection_at}
 use Rattle.page_guard.specs.Guarded.{IsTheirs}
 use Rattle.page_guard.proofs.Spans.{free_bits, new_theirs, none_held}
 use Rattle.page_guard.proofs.guard.Guard.new.Goals as goal

@@ -3,7 +3,8 @@ use Rattle.std.proofs.lemmas.List.{map-set, length-set}
 use Rattle.sv_types.specs.Views.{protect, AreViews}
 use Rattle.gstage_tables.specs.Blocks.{CountsTaken}
 use Rattle.gstage_tables.specs.Layout.{Shape}
-use Rattle.reference.specs.Protections.{is_free, protection_at}
+use Rattle.sv_types.specs.Protections.{is_free}
+use Rattle.reference.specs.Protections.{protection_at}
 use Rattle.page_guard.specs.Guarded.{Guarded, IsTheirs}
 use Rattle.page_guard.proofs.Sets.{drawn_by, drawn_for, set_is_protect, set_theirs}
 use Rattle.page_guard.proofs.guard.Guard.set.Goals as goal
@@ -17,20 +18,20 @@ returns-clause-theirs c =
     let theirs : IsTheirs c.args.mem.now (record { pages = guard; bound = trees.bound }) = subst (IsTheirs c.args.mem.now) view c.requires.theirs in
     let inside : c.args.page < length guard = subst (λ (g : Guarded). c.args.page < length g.pages) view c.requires.inside in
     let pages : trees.ram_pages ≡ length guard = c.self.invariant.0 in
-    let bound : c.set.new.self.bound ≡ trees.bound = ap (λ (t : Shape). t.bound) c.set.ensures.same in
+    let bound : c.set.new.self.bound ≡ trees.bound = ap (λ (t : Shape). t.bound) c.set.ensures.protects.same in
     let drawn = drawn_by c.args.mem.now.tables trees guard pages theirs.trees c.self.invariant.1.0 in
     let after = drawn_for c.set.new.mem.tables c.set.new.self (length guard) trees.bound (protect (protection_at guard) c.args.page c.args.protection)
-    (ap (λ (t : Shape). t.ram_pages) c.set.ensures.same ∙ pages) bound (c.set.ensures.drawn (protection_at guard) drawn) in
+    (ap (λ (t : Shape). t.ram_pages) c.set.ensures.protects.same ∙ pages) bound (c.set.ensures.protects.drawn (protection_at guard) drawn) in
     let views : AreViews c.set.new.mem.tables (length guard) trees.bound (protect (protection_at guard) c.args.page c.args.protection) =
     subst (λ (n : ℕ). AreViews c.set.new.mem.tables n trees.bound (protect (protection_at guard) c.args.page c.args.protection)) pages
-    (c.set.ensures.views (protection_at guard) drawn) in
+    (c.set.ensures.protects.views (protection_at guard) drawn) in
     record {
       size = length-set guard c.args.page c.args.protection ∙ ap (λ (g : Guarded). length g.pages) (sym view);
       bound = bound ∙ ap (λ (g : Guarded). g.bound) (sym view);
       theirs = subst (λ (b : List ℕ). IsTheirs c.set.new.mem (record { pages = slice_set guard c.args.page c.args.protection; bound = b })) (sym bound)
           (set_theirs c.set.new.mem guard trees.bound c.args.page c.args.protection inside after.0 views
-          (ap (λ (xs : List ℕ). length xs) c.set.ensures.ram ∙ theirs.ram));
-      ram = c.set.ensures.ram;
+          (ap (λ (xs : List ℕ). length xs) c.set.ensures.protects.ram ∙ theirs.ram));
+      ram = c.set.ensures.protects.ram;
     }
 
 pub invariant_of-self : goal.invariant_of-self
@@ -43,7 +44,7 @@ invariant_of-self c =
     let pages : trees.ram_pages ≡ length guard = c.self.invariant.0 in
     let drawn = drawn_by c.args.mem.now.tables trees guard pages theirs.trees c.self.invariant.1.0 in
     let after = drawn_for c.set.new.mem.tables c.set.new.self (length guard) trees.bound (protect (protection_at guard) c.args.page c.args.protection)
-    (ap (λ (t : Shape). t.ram_pages) c.set.ensures.same ∙ pages) (ap (λ (t : Shape). t.bound) c.set.ensures.same) (c.set.ensures.drawn (protection_at guard) drawn) in
+    (ap (λ (t : Shape). t.ram_pages) c.set.ensures.protects.same ∙ pages) (ap (λ (t : Shape). t.bound) c.set.ensures.protects.same) (c.set.ensures.protects.drawn (protection_at guard) drawn) in
     let counts : CountsTaken c.set.new.self.counts (length guard) (protection_at (slice_set guard c.args.page c.args.protection)) =
     subst (CountsTaken c.set.new.self.counts (length guard)) (set_is_protect guard c.args.page c.args.protection inside) after.1 in (
       search rules,

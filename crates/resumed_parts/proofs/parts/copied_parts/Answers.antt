@@ -1,0 +1,62 @@
+use Rattle.std.proofs.Common.{◌≡◌, ◌∙◌, ◌≤◌, ℕ, List, ap, arith, length, map, subst, sym}
+use Rattle.sv_types.specs.Limits.{most_notes}
+use Rattle.sv_types.specs.Policies.{rules_of}
+use Rattle.sv_types.specs.declared.event.Note.{Note}
+use Rattle.sv_types.specs.declared.saved.SavedModule.{SavedModule}
+use Rattle.saved_machine.specs.declared.harts.SavedHart.{SavedHart}
+use Rattle.module_gate.specs.Ascending.{AscendsFrom}
+use Rattle.page_guard.specs.Permitted.{Permitted}
+use Rattle.resumed_start.specs.Resuming.{host_resumed}
+use Rattle.resumed_parts.specs.Seating.{CanAllSit}
+use Rattle.resumed_parts.proofs.Assembled.{gate_by, journal_by, listed}
+use Rattle.resumed_parts.proofs.parts.copied_parts.Goals as goal
+use Rattle.sv_types.proofs.PolicyLimits.{bound_along, bound_few}
+
+pub new-requires-clause-along : goal.new-requires-clause-along
+new-requires-clause-along c =
+    let along = bound_along (rules_of c.args.policy.now) c.requires.within in
+    let entries = ap length c.deref.ensures.value in
+    let bound = ap length c.deref-2.ensures.value in
+    omega (arith, along, entries, bound)
+
+pub new-requires-clause-few : goal.new-requires-clause-few
+new-requires-clause-few c =
+    let few = bound_few (rules_of c.args.policy.now) c.requires.within in
+    let bound = ap length c.deref-2.ensures.value in
+    omega (arith, few, bound)
+
+pub seats_of-requires-clause-each : goal.seats_of-requires-clause-each
+seats_of-requires-clause-each c =
+    let rules = rules_of c.args.policy.now in
+    let pages = length c.args.guard.now.pages in
+    let entries : c.in_ok-entries.entries ≡ listed rules.entries rules.bound =
+    c.in_ok-entries.ensures
+    ∙ ap (λ (xs : List ℕ). listed xs c.deref-2.result.now) c.deref.ensures.value
+    ∙ ap (listed rules.entries) c.deref-2.ensures.value in
+    subst (λ (hs : List SavedHart). CanAllSit pages c.in_ok-entries.entries hs) (sym c.deref-3.ensures.value)
+    (subst (λ (e : Permitted). CanAllSit pages e c.args.machine.now.harts.items) (sym entries) c.requires.each)
+
+pub from_values-requires : goal.from_values-requires
+from_values-requires c = record { few = subst (λ (notes : List Note). length notes ≤ most_notes) (sym c.deref-4.ensures.value) c.requires.notes }
+
+pub from_values-requires-2 : goal.from_values-requires-2
+from_values-requires-2 c = record { ascends = subst (λ (modules : List SavedModule). AscendsFrom 0 modules) (sym c.deref-5.ensures.value) c.requires.ascends }
+
+pub returns-clause-entries : goal.returns-clause-entries
+returns-clause-entries c =
+    let rules = rules_of c.args.policy.now in
+    c.in_ok-entries.ensures
+    ∙ ap (λ (xs : List ℕ). listed xs c.deref-2.result.now) c.deref.ensures.value
+    ∙ ap (listed rules.entries) c.deref-2.ensures.value
+
+pub returns-clause-hosts : goal.returns-clause-hosts
+returns-clause-hosts c = c.in_ok-seats.ensures.hosts ∙ ap (λ (hs : List SavedHart). map (host_resumed c.args.tables) hs) c.deref-3.ensures.value
+
+pub returns-clause-number : goal.returns-clause-number
+returns-clause-number c = c.in_ok-seats.ensures.number ∙ ap length c.deref-3.ensures.value
+
+pub returns-clause-journal : goal.returns-clause-journal
+returns-clause-journal c = c.in_ok-journal.ensures ∙ ap (λ (notes : List Note). journal_by c.args.machine.now notes) c.deref-4.ensures.value
+
+pub returns-clause-gate : goal.returns-clause-gate
+returns-clause-gate c = c.in_ok-gate.ensures ∙ ap (λ (modules : List SavedModule). gate_by c.args.machine.now modules) c.deref-5.ensures.value
