@@ -1,5 +1,5 @@
 -- Events that are made one behind another, and what of the console is written.
-use Rattle.std.proofs.Common.{◌≡◌, ◌≤◌, ◌<◌, ◌+◌, ◌-◌, ◌^◌, ℕ, IsTrue, OnOk, OnErr, IsErr, Result, Ok, Err, true, false, List, [], ◌∷◌, ◌++◌, length, drop, sym, ◌∙◌, ap, subst, arith, length-append}
+use Rattle.std.proofs.Common.{◌≡◌, ◌≤◌, ◌<◌, ◌+◌, ◌-◌, ◌^◌, ℕ, IsTrue, OnOk, OnErr, IsErr, Result, Ok, Err, true, false, List, [], ◌∷◌, ◌++◌, length, drop, refl, sym, ◌∙◌, ap, subst, arith, length-append}
 use Rattle.std.proofs.lemmas.List.{length-drop}
 use Rattle.std.specs.Result.{is_err}
 use Rattle.sv_types.specs.Limits.{most_events, most_printed}
@@ -23,9 +23,10 @@ use Rattle.console_run.proofs.ConsoleLemmas.{reaches_more, stands_next}
 use Rattle.machine.proofs.Repeated.{counts_within}
 use Rattle.machine.specs.Limits.{most_counts}
 use Rattle.machine.specs.Repeats.{Makes}
+use Rattle.atomic_table.specs.Seated.{TableId}
 use Rattle.live_drive.specs.declared.live_run.LiveRun.{LiveRun}
 use Rattle.live_drive.specs.LiveRuns.{harts_of, events_made, IsUnderWay, MayStep, count_of}
-use Rattle.live_drive.specs.Drives.{GoesOn, Breaks}
+use Rattle.live_drive.specs.Drives.{GoesOn, Breaks, BrokeOff, MayDrive, Driven, StaysUnderWay, Drives}
 use Rattle.live_drive.proofs.DrawnEvents.{same_harts}
 
 -- ---- printed bytes that are taken away twice
@@ -145,6 +146,10 @@ pub ok_map : {T E : Type 0} (r : Result T E) (P Q : Type 0) → (P → Q) → On
 ok_map (Ok x) P Q f p = f p
 ok_map (Err e) P Q f p = tt
 
+pub ok_both : {T E : Type 0} (r : Result T E) (P Q S : Type 0) → (P → Q → S) → OnOk r P → OnOk r Q → OnOk r S
+ok_both (Ok x) P Q S f p q = f p q
+ok_both (Err e) P Q S f p q = tt
+
 pub err_map : {T E : Type 0} (r : Result T E) (P Q : Type 0) → (P → Q) → OnErr r P → OnErr r Q
 err_map (Ok x) P Q f p = tt
 err_map (Err e) P Q f p = f p
@@ -152,6 +157,29 @@ err_map (Err e) P Q f p = f p
 pub err_both : {T E : Type 0} (r : Result T E) (P Q S : Type 0) → (P → Q → S) → OnErr r P → OnErr r Q → OnErr r S
 err_both (Ok x) P Q S f p q = tt
 err_both (Err e) P Q S f p q = f p q
+
+-- ---- one drive behind another, and what fails behind it
+
+pub stays_then : {a b c : LiveRun} → StaysUnderWay a b → StaysUnderWay b c → StaysUnderWay a c
+stays_then x y = record { way = y.way; line = y.line ∙ x.line; all = y.all ∙ x.all; harts = y.harts ∙ x.harts; events = y.events ∙ x.events }
+
+pub driven_then : {a b c : LiveRun} {s t u : SinkState} → Driven a b s t → Driven b c t u → Driven a c s u
+driven_then x y = record { went = on_then x.went y.went; room = y.room }
+
+-- a run that was driven may be driven on
+pub may_drive : {a b : LiveRun} {line : TableId} {s t : SinkState} → MayDrive a line s → Driven a b s t → StaysUnderWay a b → MayDrive b line t
+may_drive may x stays = record { sink = may_write x.went may.sink; on = record { way = stays.way; room = x.room }; line = stays.line ∙ may.line }
+
+pub drives_then : {T E : Type 0} (r : Result T E) {a b c : LiveRun} {s t u : SinkState} → Driven a b s t → StaysUnderWay a b → Drives r b c t u → Drives r a c s u
+drives_then r x stays y = record {
+  on = ok_map r _ _ (λ more. driven_then x more) y.on;
+  broke = err_map r _ _ (λ off. on_breaks x.went off) y.broke;
+  stays = stays_then stays y.stays;
+}
+
+pub drives_off : {T E : Type 0} (r : Result T E) {a b : LiveRun} {s t : SinkState} → IsErr r → BrokeOff a b s t → StaysUnderWay a b → Drives r a b s t
+drives_off (Ok x) failed off stays = absurd (cc failed)
+drives_off (Err e) failed off stays = record { on = tt; broke = off; stays = stays }
 
 -- ---- a live run between two events
 
@@ -164,6 +192,23 @@ may_step l way room autos =
       counts = counts_within (count_of l.journal) (most_counts - 1) l.machine.journal.counts (omega arith) way.counts;
       room = room;
     }
+
+-- a run of which some of the console was shown
+pub cleared_way : (l : LiveRun) (after : Machine) → IsUnderWay l → Cleared l.machine after → StaysUnderWay l (record l { machine = after })
+cleared_way l after way cleared = record {
+  way = record {
+    keys = way.keys;
+    few = way.few;
+    places = way.places;
+    drawn = way.drawn;
+    state = cleared_state l.machine after way.state cleared;
+    counts = cleared_counts (count_of l.journal) l.machine after way.counts cleared;
+  };
+  line = refl;
+  all = refl;
+  harts = refl;
+  events = refl;
+}
 
 -- a key is counted, and so is another event
 pub key_counted : (old new : Journal) (byte : ℕ) (c : Counts) → key_bytes new ≡ key_bytes old ++ byte ∷ [] → new.autos ≡ old.autos → CountsAtMost (count_of old + 1) c →

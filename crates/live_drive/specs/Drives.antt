@@ -1,14 +1,16 @@
 -- What becomes of a run while more events are made, and the console's bytes are written.
-use Rattle.std.specs.Prelude.{ℕ, List}
+use Rattle.std.specs.Prelude.{◌≡◌, ◌<◌, ℕ, List, length, Result, OnOk, OnErr}
+use Rattle.atomic_table.specs.Seated.{TableId}
+use Rattle.sv_types.specs.Limits.{most_printed}
 use Rattle.sv_types.specs.declared.event.Event.{Event}
 use Rattle.reference.specs.States.{State}
 use Rattle.reference.specs.Run.{run}
 use Rattle.machine_model.specs.Machine.{Machine}
 use Rattle.machine_model.specs.Reaches.{ReachesFrom}
-use Rattle.outside.specs.Outside.{SinkState, after_taking, BreaksOff}
+use Rattle.outside.specs.Outside.{SinkState, MayWrite, after_taking, BreaksOff}
 use Rattle.console_run.specs.Standing.{Stands}
 use Rattle.console_run.specs.Console.{HasTaken, HasRun}
-use Rattle.live_drive.specs.LiveRuns.{events_made}
+use Rattle.live_drive.specs.LiveRuns.{harts_of, events_made, IsUnderWay, MayGoOn}
 use Rattle.live_drive.specs.declared.live_run.LiveRun.{LiveRun}
 
 -- Whichever run had made the events so far has made these; of its console the sink took what isn't left in the machine.
@@ -34,3 +36,29 @@ WentOn old new before after = GoesOn (events_made old) (events_made new) old.mac
 -- it has, and then a write failed
 abbrev pub BrokeOff : (old new : LiveRun) (before after : SinkState) → Type 0
 BrokeOff old new before after = Breaks (events_made old) (events_made new) old.machine new.machine before after
+
+-- a live run may be driven: the sink may take its console, it may make events, and its keys come by this line
+pub record MayDrive (l : LiveRun) (line : TableId) (to : SinkState) : Type 0 where
+  pub sink : MayWrite to
+  pub on : MayGoOn l
+  pub line : l.taker.line ≡ line
+
+-- it has made events, and may make more
+pub record Driven (old new : LiveRun) (before after : SinkState) : Type 0 where
+  pub went : WentOn old new before after
+  pub room : length new.machine.journal.printed < most_printed
+
+-- The keys of its journal are those that were taken, and its other events were drawn. Its line, what was sent there, the number of
+-- harts and that of events are as before.
+pub record StaysUnderWay (old new : LiveRun) : Type 0 where
+  pub way : IsUnderWay new
+  pub line : new.taker.line ≡ old.taker.line
+  pub all : new.taker.all ≡ old.taker.all
+  pub harts : harts_of new.script ≡ harts_of old.script
+  pub events : new.events ≡ old.events
+
+-- what driving it answers: it has made events, or did up to a write that failed, behind which nothing was made
+pub record Drives {T E : Type 0} (answer : Result T E) (old new : LiveRun) (before after : SinkState) : Type 0 where
+  pub on : OnOk answer (Driven old new before after)
+  pub broke : OnErr answer (BrokeOff old new before after)
+  pub stays : StaysUnderWay old new

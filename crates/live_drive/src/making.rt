@@ -8,8 +8,8 @@ ghost use Rattle.machine_model.specs.Reaches.{Cleared};
 ghost use Rattle.live_keys.specs.Line.{most_keys, TookAllOf};
 ghost use Rattle.live_keys.specs.Journal.{events_of, key_bytes, HasRoom};
 ghost use Rattle.console_run.specs.Standing.{HasState};
-ghost use Rattle.live_drive.specs.LiveRuns.{harts_of, IsUnderWay, MayGoOn, MayStep};
-ghost use Rattle.live_drive.specs.Drives.{GoesOn, Breaks, WentOn, BrokeOff};
+ghost use Rattle.live_drive.specs.LiveRuns.{MayGoOn, MayStep};
+ghost use Rattle.live_drive.specs.Drives.{GoesOn, Breaks, Drives, MayDrive};
 ghost use Rattle.outside.specs.Outside.{MayWrite};
 
 use crate::live_run::LiveRun;
@@ -80,20 +80,11 @@ pub fn make_keys<R: Wait, O: Sink>(
     out: &mut O,
     line: &KeyLine,
 ) -> Result<(), Failed>
-    requires sink { MayWrite (O.state out.old) }
-    requires on { MayGoOn live.old }
+    requires may { MayDrive live.old line.now (O.state out.old) }
     requires autos { live.old.journal.autos ≤ most_events }
-    requires line { live.old.taker.line ≡ line.now }
-    ensures on { OnOk result (WentOn live.old live.new (O.state out.old) (O.state out.new)) }
-    ensures broke { OnErr result (BrokeOff live.old live.new (O.state out.old) (O.state out.new)) }
-    ensures way { IsUnderWay live.new }
-    ensures room { OnOk result (length live.new.machine.journal.printed < most_printed) }
-    ensures line { live.new.taker.line ≡ line.now }
-    ensures all { live.new.taker.all ≡ live.old.taker.all }
+    ensures drives { Drives result live.old live.new (O.state out.old) (O.state out.new) }
     // A settled taker was given all that was sent.
     ensures whole { OnOk result (TookAllOf live.new.taker.all live.new.taker.bytes) }
-    ensures script { live.new.script ≡ live.old.script }
-    ensures events { live.new.events ≡ live.old.events }
     ensures autos { live.new.journal.autos ≡ live.old.journal.autos }
     ensures ended { live.old.machine.journal.verdict ≢ Running → live.new.machine.journal.verdict ≢ Running }
 {
@@ -108,13 +99,7 @@ pub fn make_auto<O: Sink>(live: &mut LiveRun, out: &mut O) -> Result<(), Failed>
     requires sink { MayWrite (O.state out.old) }
     requires on { MayGoOn live.old }
     requires autos { live.old.journal.autos < most_events }
-    ensures on { OnOk result (WentOn live.old live.new (O.state out.old) (O.state out.new)) }
-    ensures broke { OnErr result (BrokeOff live.old live.new (O.state out.old) (O.state out.new)) }
-    ensures way { IsUnderWay live.new }
-    ensures room { OnOk result (length live.new.machine.journal.printed < most_printed) }
-    ensures taker { live.new.taker ≡ live.old.taker }
-    ensures harts { harts_of live.new.script ≡ harts_of live.old.script }
-    ensures events { live.new.events ≡ live.old.events }
+    ensures drives { Drives result live.old live.new (O.state out.old) (O.state out.new) }
     ensures autos { live.new.journal.autos ≡ live.old.journal.autos + 1 }
 {
     let Some(event) = live.script.next() else {

@@ -6,8 +6,8 @@ ghost use Rattle.sv_types.specs.Schedule.{Schedule, first_events};
 ghost use Rattle.live_keys.specs.Feeding.{Feeds};
 ghost use Rattle.live_keys.specs.Line.{TookAllOf};
 ghost use Rattle.live_keys.specs.Placed.{keys_among, others_among};
-ghost use Rattle.live_drive.specs.LiveRuns.{harts_of, events_made, IsUnderWay, MakesFew, MayGoOn};
-ghost use Rattle.live_drive.specs.Drives.{WentOn, BrokeOff};
+ghost use Rattle.live_drive.specs.LiveRuns.{harts_of, events_made, IsUnderWay, MakesFew};
+ghost use Rattle.live_drive.specs.Drives.{WentOn, BrokeOff, Drives, MayDrive, StaysUnderWay};
 ghost use Rattle.live_drive.specs.Inputs.{HasKeys};
 ghost use Rattle.outside.specs.Outside.{MayWrite};
 
@@ -53,10 +53,7 @@ impl LiveRun {
         ensures on { OnOk result (WentOn self.old self.new (O.state out.old) (O.state out.new)) }
         ensures console { OnOk result (self.new.machine.journal.printed ≡ []) }
         ensures broke { OnOk driven (OnErr result (BrokeOff self.old self.new (O.state out.old) (O.state out.new))) }
-        ensures way { IsUnderWay self.new }
-        ensures all { self.new.taker.all ≡ self.old.taker.all }
-        ensures harts { harts_of self.new.script ≡ harts_of self.old.script }
-        ensures events { self.new.events ≡ self.old.events }
+        ensures under { StaysUnderWay self.old self.new }
         ensures autos { self.new.journal.autos ≤ self.old.events }
         ensures end { OnOk result ((self.new.journal.autos ≡ self.old.events) ⊎ (self.new.machine.journal.verdict ≢ Running)) }
         ensures whole { OnOk result (TookAllOf self.new.taker.all self.new.taker.bytes) }
@@ -76,19 +73,12 @@ impl LiveRun {
         pace: &P,
     ) -> (Fed, Result<(), Failed>)
         requires feeder { (feeder.line ≡ line.now) × (feeder.bytes ≡ []) }
-        requires line { self.old.taker.line ≡ line.now }
         requires reads { (K.state keys.old).faults < 2 ^ 64 - 1 }
-        requires sink { MayWrite (O.state out.old) }
-        requires on { MayGoOn self.old }
+        requires may { MayDrive self.old line.now (O.state out.old) }
         requires few { MakesFew self.old }
         ensures fed { Feeds line.now (K.state keys.old) (K.state keys.new) result.0.feeder result.0.failed }
-        ensures on { OnOk result.1 (WentOn self.old self.new (O.state out.old) (O.state out.new)) }
+        ensures drives { Drives result.1 self.old self.new (O.state out.old) (O.state out.new) }
         ensures console { OnOk result.1 (self.new.machine.journal.printed ≡ []) }
-        ensures broke { OnErr result.1 (BrokeOff self.old self.new (O.state out.old) (O.state out.new)) }
-        ensures way { IsUnderWay self.new }
-        ensures line { self.new.taker.line ≡ line.now }
-        ensures harts { harts_of self.new.script ≡ harts_of self.old.script }
-        ensures events { self.new.events ≡ self.old.events }
         ensures autos { self.new.journal.autos ≤ self.old.events }
     {
         line.feed_beside(
@@ -111,10 +101,8 @@ impl LiveRun {
         pace: &P,
     ) -> LiveEnd
         requires source { (source.feeder.line ≡ source.line) × (source.feeder.bytes ≡ []) }
-        requires line { self.old.taker.line ≡ source.line }
         requires reads { (K.state keys.old).faults < 2 ^ 64 - 1 }
-        requires sink { MayWrite (O.state out.old) }
-        requires on { MayGoOn self.old }
+        requires may { MayDrive self.old source.line (O.state out.old) }
         requires few { MakesFew self.old }
         // However the threads run, the machine has run over the events of the journal, and the sink took the console's bytes.
         ensures on { result.write_failed ≡ false → WentOn self.old self.new (O.state out.old) (O.state out.new) }

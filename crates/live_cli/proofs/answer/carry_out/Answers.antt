@@ -8,10 +8,14 @@ returns g c = λ start new.
     runs_live c.args.ready c.run-end.new.self c.run-end.result start _ _ _ _ _ _ _ _ _ c.requires.fresh new (record { on = c.run-end.ensures.on; broke = c.run-end.ensures.broke })
     c.run-end.ensures.keys c.run-end.ensures.others c.run-end.ensures.autos c.run-end.ensures.end c.run-end.ensures.harts c.report-result.ensures
 
-pub run-end-requires-clause-on : goal.run-end-requires-clause-on
-run-end-requires-clause-on g c κs within = record {
-  way = c.requires.fresh.way;
-  room = let none = ap (λ (bytes : List ℕ). length bytes) c.requires.fresh.console in omega arith;
+pub run-end-requires-clause-may : goal.run-end-requires-clause-may
+run-end-requires-clause-may g c κs within = record {
+  sink = c.requires.sink;
+  on = record {
+    way = c.requires.fresh.way;
+    room = let none = ap (λ (bytes : List ℕ). length bytes) c.requires.fresh.console in omega arith;
+  };
+  line = c.requires.fresh.line;
 }
 
 pub run-end-requires-clause-few : goal.run-end-requires-clause-few

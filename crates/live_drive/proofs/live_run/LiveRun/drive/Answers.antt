@@ -1,38 +1,40 @@
-use Rattle.std.proofs.Common.{◌≡◌, ◌≢◌, ◌⊎◌, ℕ, ◌∙◌, sym, inl, inr}
+use Rattle.std.proofs.Common.{◌≡◌, ◌≢◌, ◌⊎◌, ◌<◌, ℕ, List, [], length, ◌∙◌, ap, sym, inl, inr, rules, arith}
+use Rattle.sv_types.specs.Limits.{most_printed}
 use Rattle.sv_types.specs.declared.event.Verdict.{Verdict}
 use Rattle.sv_types.specs.declared.event.Verdict.TheVariants.{Running}
-use Rattle.outside.proofs.SinkLemmas.{on_err}
 use Rattle.live_drive.specs.LiveRuns.{events_made}
-use Rattle.live_drive.proofs.MadeEvents.{on_then, on_breaks, may_write, on_ok, ok_map, err_map, cleared_state, cleared_counts, cleared_verdict}
+use Rattle.live_drive.proofs.MadeEvents.{on_breaks, may_write, on_ok, on_then, ok_both, err_map, cleared_way, cleared_verdict, may_drive, driven_then, stays_then, drives_off}
 use Rattle.live_drive.proofs.live_run.LiveRun.drive.Goals as goal
 
-pub make_keys-requires-clause-sink : goal.make_keys-requires-clause-sink
-make_keys-requires-clause-sink g c = may_write c.in_ok-make_autos.ensures.on c.requires.sink
+none_printed : {bytes : List ℕ} → bytes ≡ [] → length bytes < most_printed
+none_printed {bytes = bytes} none = let none_of : length bytes ≡ 0 = ap (λ (b : List ℕ). length b) none in omega arith
 
-pub returns-in_err-make_keys-clause-broke : goal.returns-in_err-make_keys-clause-broke
-returns-in_err-make_keys-clause-broke g c = on_err c.from_residual-in_err-make_keys.result _ (on_breaks c.in_ok-make_autos.ensures.on c.in_err-make_keys.ensures.broke)
+pub make_keys-requires-clause-may : goal.make_keys-requires-clause-may
+make_keys-requires-clause-may g c = may_drive c.requires.may c.in_ok-make_autos.ensures.drives.on c.in_ok-make_autos.ensures.drives.stays
+
+pub returns-in_err-make_autos-clause-drives : goal.returns-in_err-make_autos-clause-drives
+returns-in_err-make_autos-clause-drives g c =
+    drives_off c.from_residual.result (search rules) c.in_err-make_autos.ensures.drives.broke c.in_err-make_autos.ensures.drives.stays
+
+pub returns-in_err-make_keys-clause-drives : goal.returns-in_err-make_keys-clause-drives
+returns-in_err-make_keys-clause-drives g c =
+    drives_off c.from_residual-in_err-make_keys.result (search rules) (on_breaks c.in_ok-make_autos.ensures.drives.on.went c.in_err-make_keys.ensures.drives.broke)
+    (stays_then c.in_ok-make_autos.ensures.drives.stays c.in_err-make_keys.ensures.drives.stays)
 
 pub show_console-requires : goal.show_console-requires
-show_console-requires g c = record { sink = may_write (on_then c.in_ok-make_autos.ensures.on c.in_ok-make_keys.ensures.on) c.requires.sink }
+show_console-requires g c = record {
+  sink = may_write (driven_then c.in_ok-make_autos.ensures.drives.on c.in_ok-make_keys.ensures.drives.on).went c.requires.may.sink;
+}
 
-pub returns-clause-on : goal.returns-clause-on
-returns-clause-on g c =
-    ok_map c.show_console.result _ _ (λ on. on_then (on_then c.in_ok-make_autos.ensures.on c.in_ok-make_keys.ensures.on) (on (events_made c.make_keys.new.live))) c.show_console.ensures.on
-
-pub returns-clause-broke : goal.returns-clause-broke
-returns-clause-broke g c =
-    err_map c.show_console.result _ _ (λ off. on_breaks (on_then c.in_ok-make_autos.ensures.on c.in_ok-make_keys.ensures.on) (off (events_made c.make_keys.new.live))) c.show_console.ensures.broke
-
-pub returns-clause-way : goal.returns-clause-way
-returns-clause-way g c =
-    let way = c.make_keys.ensures.way in
+pub returns-clause-drives : goal.returns-clause-drives
+returns-clause-drives g c =
+    let autos = c.in_ok-make_autos.ensures.drives in
+    let keys = c.in_ok-make_keys.ensures.drives in
+    let driven = driven_then autos.on keys.on in
     record {
-      keys = way.keys;
-      few = way.few;
-      places = way.places;
-      drawn = way.drawn;
-      state = cleared_state _ _ way.state c.show_console.ensures.cleared;
-      counts = cleared_counts _ _ _ way.counts c.show_console.ensures.cleared;
+      on = ok_both c.show_console.result _ _ _ (λ on none. record { went = on_then driven.went (on (events_made c.make_keys.new.live)); room = none_printed none }) c.show_console.ensures.on c.show_console.ensures.none;
+      broke = err_map c.show_console.result _ _ (λ off. on_breaks driven.went (off (events_made c.make_keys.new.live))) c.show_console.ensures.broke;
+      stays = stays_then (stays_then autos.stays keys.stays) (cleared_way c.make_keys.new.live c.show_console.new.machine keys.stays.way c.show_console.ensures.cleared);
     }
 
 end_then : (autos events now : ℕ) (old mid new : Verdict) → (autos ≡ events) ⊎ (old ≢ Running) → now ≡ autos → (old ≢ Running → mid ≢ Running) → new ≡ mid → (now ≡ events) ⊎ (new ≢ Running)
